@@ -1,0 +1,26 @@
+-- Whole lists of moves.
+use Rattle.std.specs.Prelude.{◌≡◌, ℕ, ◌<◌, ◌≤◌, ◌^◌, List, [], ◌∷◌, length, slice_index, Option, None, Some}
+use Rattle.lk_locks.specs.State.{start, word_count}
+use Rattle.lk_locks.specs.Steps.{refusal_of}
+use Rattle.lk_locks.specs.Play.{Played, after_play}
+use Rattle.lk_locks.specs.Sequential.{nobody}
+use Rattle.lk_locks.specs.Legal.{Legal}
+use Rattle.lk_locks.specs.declared.kinds.Refusal.{Refusal}
+use Rattle.lk_locks.specs.declared.kinds.LockKind.{LockKind}
+use Rattle.lk_locks.specs.declared.kinds.Move.{Move}
+
+abbrev pub played_unless : Option Refusal → Played → Played → Played
+played_unless None next k = next
+played_unless (Some r) next k = k
+
+-- moves one after another. A refused one changes nothing
+abbrev pub after_moves : Played → List (ℕ × Move) → Played
+after_moves k [] = k
+after_moves k (m ∷ ms) = after_moves (played_unless (refusal_of k.state m.0 m.1) (after_play k m.0 m.1) k) ms
+
+abbrev pub new_lock : LockKind → ℕ → List ℕ → ℕ → Played
+new_lock kind bits ws n = record { state = start kind bits ws n; sequential = nobody kind; entries = [] }
+
+-- whatever moves are played, the history of a new lock is legal
+abbrev pub EveryHistoryIsLegal : Type 0
+EveryHistoryIsLegal = (kind : LockKind) (bits : ℕ) (ws : List ℕ) (n : ℕ) (ms : List (ℕ × Move)) → n ≤ 64 → n < 2 ^ bits → word_count kind n ≤ length ws → ((i : ℕ) → i < length ws → slice_index ws i ≡ 0) → Legal kind n (after_moves (new_lock kind bits ws n) ms).entries

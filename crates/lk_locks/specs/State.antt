@@ -1,0 +1,28 @@
+-- The state of a lock: its kind, its words, and what each thread does.
+use Rattle.std.specs.Prelude.{ℕ, ◌+◌, ◌*◌, List, get_or, replicate}
+use Rattle.lk_locks.specs.declared.kinds.LockKind.{LockKind}
+use Rattle.lk_locks.specs.declared.kinds.LockKind.TheVariants.{Ticket, Mcs, RwSimple, RwFifo}
+use Rattle.lk_locks.specs.declared.kinds.Phase.{Phase}
+use Rattle.lk_locks.specs.declared.kinds.Phase.TheVariants.{Idle}
+
+-- the words are below 2 ^ bits. There is a phase for each thread
+pub record State : Type 0 where
+  pub kind : LockKind
+  pub bits : ℕ
+  pub words : List ℕ
+  pub phases : List Phase
+
+-- how many words a lock of this kind has
+abbrev pub word_count : LockKind → ℕ → ℕ
+word_count Ticket n = 2
+word_count Mcs n = 1 + 2 * n
+word_count RwSimple n = 2
+word_count RwFifo n = 3
+
+-- what thread t does
+abbrev pub phase_at : List Phase → ℕ → Phase
+phase_at phases t = get_or phases t Idle
+
+-- all words are 0, and all threads are idle
+abbrev pub start : LockKind → ℕ → List ℕ → ℕ → State
+start kind bits words n = record { kind = kind; bits = bits; words = words; phases = replicate n Idle }

@@ -1,0 +1,123 @@
+//! A lock with its history.
+
+use crate::entries::entries_for;
+use crate::holders::{alone, copy_of, is_inside};
+use crate::{
+    Entry, History, Holders, LockKind, Machine, Move, Outcome, PlayFault, SeqLock, StepKind,
+};
+use arrayvec::ArrayVec;
+use lk_words::Words;
+use std::alloc::Global;
+use std::marker::Model;
+
+#[derive(Drop)]
+pub struct Keeper<W: Words> {
+    machine: Machine<W>,
+    sequential: SeqLock,
+    history: History,
+}
+
+impl<W: Words> Model for Keeper<W> {
+    ghost use Rattle.lk_locks.specs.Play.{Played};
+
+    ghost Value = { Played };
+
+    ghost use Rattle.lk_locks.specs.Kept.{Kept};
+
+    ghost view = { λ a. record { state = a.machine; sequential = a.sequential; entries = a.history.entries } };
+
+    ghost invariant = { λ a. Kept a.machine a.sequential a.history.entries };
+}
+
+impl<W: Words> Keeper<W> {
+    ghost use Rattle.std.specs.Prelude.{◌≡◌, ℕ, ◌<◌, ◌≤◌, ◌^◌, length, slice_index, OnOk, OnErr, []};
+    ghost use Rattle.lk_locks.specs.State.{start, word_count, phase_at};
+    ghost use Rattle.lk_locks.specs.Steps.{step_due, refusal_of, change_of};
+    ghost use Rattle.lk_locks.specs.Sequential.{nobody};
+    ghost use Rattle.lk_locks.specs.Legal.{Legal};
+    ghost use Rattle.lk_locks.specs.Play.{after_play, IsPlayAnswer};
+    ghost use Rattle.lk_locks.specs.Holding.{holding, holding_of, waiting_of, IsListed};
+
+    pub fn new(alloc: Global, kind: LockKind, threads: u8, words: W) -> Keeper<W>
+        requires some { 0 < threads }
+        requires few { threads ≤ 64 }
+        requires narrow { threads < 2 ^ W.width words }
+        requires room { word_count kind threads ≤ length (W.list words) }
+        requires clear { (i : ℕ) → i < length (W.list words) → slice_index (W.list words) i ≡ 0 }
+        ensures { result ≡ record { state = start kind (W.width words) (W.list words) threads; sequential = nobody kind; entries = [] } }
+    {
+        Keeper {
+            machine: Machine::new(kind, threads, words),
+            sequential: SeqLock::new(kind),
+            history: History::new(alloc),
+        }
+    }
+
+    /// Plays a move. What is kept after it is legal.
+    pub fn play(&mut self, t: u8, m: Move) -> Result<Outcome, PlayFault>
+        ensures answer { IsPlayAnswer (refusal_of self.old.state t m) (change_of self.old.state t m).outcome result }
+        ensures played { OnOk result (self.new ≡ after_play self.old t m) }
+        ensures kept { OnErr result (self.new ≡ self.old) }
+    {
+        if let Some(refusal) = self.machine.refusal(t, m) {
+            return Err(PlayFault::Refused(refusal));
+        }
+        if self.history.make_room().is_err() {
+            return Err(PlayFault::OutOfMemory);
+        }
+        let kind = self.machine.kind();
+        let phase = self.machine.phase(t);
+        let outcome = self.machine.make(t, m);
+        let added = entries_for(kind, t, phase, m, outcome);
+        self.sequential.follow(added.as_slice());
+        self.history.append(added.as_slice());
+        Ok(outcome)
+    }
+
+    /// What happened. It is legal, whatever was played.
+    pub fn entries(&self) -> &[Entry]
+        ensures entries { result.now ≡ self.now.entries }
+        ensures legal { Legal self.now.state.kind (length self.now.state.phases) result.now }
+    {
+        self.history.entries()
+    }
+
+    pub fn next_step(&self, t: u8) -> Option<StepKind>
+        requires { t < length self.now.state.phases }
+        ensures { result ≡ step_due (phase_at self.now.state.phases t) }
+    {
+        self.machine.next_step(t)
+    }
+
+    /// Who holds now.
+    pub fn holders(&self) -> Holders
+        ensures holding { holding result ≡ holding_of self.now.state.kind self.now.entries }
+        ensures listed { IsListed (holding result) }
+    {
+        match self.machine.kind() {
+            LockKind::Ticket | LockKind::Mcs => match self.sequential.oldest() {
+                Some(t) if is_inside(self.machine.phase(t)) => Holders::Holder(t),
+                _ => Holders::Nobody,
+            },
+            LockKind::RwSimple | LockKind::RwFifo => match self.sequential.writer() {
+                Some(t) => Holders::Writer(t),
+                None if self.sequential.readers().is_empty() => Holders::Nobody,
+                None => Holders::Readers(copy_of(self.sequential.readers())),
+            },
+        }
+    }
+
+    /// Who waits in line, the holder of a queue lock too.
+    pub fn queue(&self) -> ArrayVec<u8, 64>
+        ensures { result.items ≡ waiting_of self.now.state.kind self.now.entries }
+    {
+        match self.machine.kind() {
+            LockKind::Ticket | LockKind::Mcs => copy_of(self.sequential.queue()),
+            LockKind::RwSimple => ArrayVec::new(),
+            LockKind::RwFifo => match self.sequential.announced() {
+                Some(t) => alone(t),
+                None => ArrayVec::new(),
+            },
+        }
+    }
+}
