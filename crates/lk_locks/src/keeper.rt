@@ -1,7 +1,8 @@
 //! A lock with its history.
 
-use crate::entries::entries_for;
-use crate::holders::{alone, copy_of, is_inside};
+use crate::entries::{Added, add_entries};
+use crate::holders::{alone, copy_of};
+use crate::steps::is_inside;
 use crate::{
     Entry, History, Holders, LockKind, Machine, Move, Outcome, PlayFault, SeqLock, StepKind,
 };
@@ -22,7 +23,7 @@ impl<W: Words> Model for Keeper<W> {
 
     ghost Value = { Played };
 
-    ghost use Rattle.lk_locks.specs.Kept.{Kept};
+    ghost use Rattle.lk_locks.specs.invariants.Kept.{Kept};
 
     ghost view = { λ a. record { state = a.machine; sequential = a.sequential; entries = a.history.entries } };
 
@@ -68,7 +69,8 @@ impl<W: Words> Keeper<W> {
         let kind = self.machine.kind();
         let phase = self.machine.phase(t);
         let outcome = self.machine.make(t, m);
-        let added = entries_for(kind, t, phase, m, outcome);
+        let mut added = Added::none();
+        add_entries(&mut added, kind, t, phase, m, outcome);
         self.sequential.follow(added.as_slice());
         self.history.append(added.as_slice());
         Ok(outcome)
@@ -84,7 +86,7 @@ impl<W: Words> Keeper<W> {
 
     pub fn next_step(&self, t: u8) -> Option<StepKind>
         requires { t < length self.now.state.phases }
-        ensures { result ≡ step_due (phase_at self.now.state.phases t) }
+        ensures { result ≡ step_due self.now.state.kind (phase_at self.now.state.phases t) }
     {
         self.machine.next_step(t)
     }
@@ -96,7 +98,7 @@ impl<W: Words> Keeper<W> {
     {
         match self.machine.kind() {
             LockKind::Ticket | LockKind::Mcs => match self.sequential.oldest() {
-                Some(t) if is_inside(self.machine.phase(t)) => Holders::Holder(t),
+                Some(t) if is_inside(self.machine.kind(), self.machine.phase(t)) => Holders::Holder(t),
                 _ => Holders::Nobody,
             },
             LockKind::RwSimple | LockKind::RwFifo => match self.sequential.writer() {
