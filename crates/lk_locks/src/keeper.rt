@@ -34,6 +34,7 @@ impl<W: Words> Keeper<W> {
     ghost use Rattle.std.specs.Prelude.{◌≡◌, ℕ, ◌<◌, ◌≤◌, ◌^◌, length, slice_index, OnOk, OnErr, []};
     ghost use Rattle.lk_locks.specs.State.{start, word_count, phase_at};
     ghost use Rattle.lk_locks.specs.Steps.{step_due, refusal_of, change_of};
+    ghost use Rattle.lk_locks.specs.invariants.Inside.{is_inside};
     ghost use Rattle.lk_locks.specs.Sequential.{nobody};
     ghost use Rattle.lk_locks.specs.Legal.{Legal};
     ghost use Rattle.lk_locks.specs.Play.{after_play, IsPlayAnswer};
@@ -91,6 +92,14 @@ impl<W: Words> Keeper<W> {
         self.machine.next_step(t)
     }
 
+    // Whether a thread is inside a queue lock.
+    fn is_inside(&self, t: u8) -> bool
+        requires { t < length self.now.state.phases }
+        ensures { result ≡ is_inside self.now.state.kind (phase_at self.now.state.phases t) }
+    {
+        is_inside(self.machine.kind(), self.machine.phase(t))
+    }
+
     /// Who holds now.
     pub fn holders(&self) -> Holders
         ensures holding { holding result ≡ holding_of self.now.state.kind self.now.entries }
@@ -98,7 +107,7 @@ impl<W: Words> Keeper<W> {
     {
         match self.machine.kind() {
             LockKind::Ticket | LockKind::Mcs => match self.sequential.oldest() {
-                Some(t) if is_inside(self.machine.kind(), self.machine.phase(t)) => Holders::Holder(t),
+                Some(t) if self.is_inside(t) => Holders::Holder(t),
                 _ => Holders::Nobody,
             },
             LockKind::RwSimple | LockKind::RwFifo => match self.sequential.writer() {

@@ -91,11 +91,7 @@ pub fn is_inside(phase: Phase) -> bool
 {
     matches!(
         phase,
-        Phase::McsInside
-            | Phase::ReadNext
-            | Phase::CasTail
-            | Phase::AwaitLink
-            | Phase::Grant(_)
+        Phase::McsInside | Phase::ReadNext | Phase::CasTail | Phase::AwaitLink | Phase::Grant(_)
     )
 }
 

@@ -17,7 +17,9 @@ use lk_words::Words;
 pub const WORDS: usize = 3;
 
 const READ_ACQUIRES: usize = 0;
+
 const READ_RELEASES: usize = 1;
+
 const FLAG: usize = 2;
 
 /// The step that a thread takes next.

@@ -17,6 +17,7 @@ use lk_words::{Words, greatest_of, sum_of};
 pub const WORDS: usize = 2;
 
 const READERS: usize = 0;
+
 const FLAG: usize = 1;
 
 /// The step that a thread takes next.

@@ -5,8 +5,10 @@ ghost use Rattle.lk_locks.specs.Steps.{has_op, has_step, may_give_up, after_call
 ghost use Rattle.lk_locks.specs.invariants.Inside.{is_inside};
 ghost use Rattle.lk_locks.specs.invariants.WellFormed.{IsReady};
 
-use crate::{LockKind, Move, Op, Outcome, Phase, Refusal, StepKind};
-use crate::{mcs, read_write, rw_fifo, rw_simple, ticket};
+use crate::{
+    LockKind, Move, Op, Outcome, Phase, Refusal, StepKind, mcs, read_write, rw_fifo, rw_simple,
+    ticket,
+};
 use lk_words::Words;
 
 /// Whether the operation or the kind of step is one of the lock's.
@@ -102,12 +104,7 @@ pub fn refusal_in(kind: LockKind, phase: Phase, action: Move) -> Option<Refusal>
     }
 }
 
-fn take_step<W: Words>(
-    words: &mut W,
-    kind: LockKind,
-    thread: u8,
-    phase: Phase,
-) -> (Phase, Outcome)
+fn take_step<W: Words>(words: &mut W, kind: LockKind, thread: u8, phase: Phase) -> (Phase, Outcome)
     requires { IsReady kind (W.width words.old) (W.list words.old) thread phase }
     ensures words { W.list words.new ≡ (step_of kind (W.width words.old) (W.list words.old) thread phase).words }
     ensures phase { result.0 ≡ (step_of kind (W.width words.old) (W.list words.old) thread phase).phase }

@@ -18,6 +18,7 @@ use lk_words::{Words, sum_of};
 pub const WORDS: usize = 2;
 
 const NEXT_TICKET: usize = 0;
+
 const NOW_SERVING: usize = 1;
 
 pub fn has_op(op: Op) -> bool
