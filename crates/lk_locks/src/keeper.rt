@@ -1,4 +1,4 @@
-//! A lock with its history.
+//! A lock with its sequential object and its history: the machine steps, and what it does is recorded and is legal.
 
 use crate::entries::{Added, add_entries};
 use crate::holders::{alone, copy_of};
@@ -11,6 +11,7 @@ use lk_words::Words;
 use std::alloc::Global;
 use std::marker::Model;
 
+/// Machine, sequential lock and history together. A contract sees the state, the sequential object and the entries.
 #[derive(Drop)]
 pub struct Keeper<W: Words> {
     machine: Machine<W>,
@@ -40,6 +41,7 @@ impl<W: Words> Keeper<W> {
     ghost use Rattle.lk_locks.specs.Play.{after_play, IsPlayAnswer};
     ghost use Rattle.lk_locks.specs.Holding.{holding, holding_of, waiting_of, IsListed};
 
+    /// A new lock with 1 to 64 threads, fewer than its words, which are all 0. It keeps the allocator and takes no memory yet.
     pub fn new(alloc: Global, kind: LockKind, threads: u8, words: W) -> Keeper<W>
         requires some { 0 < threads }
         requires few { threads ≤ 64 }
@@ -55,7 +57,10 @@ impl<W: Words> Keeper<W> {
         }
     }
 
-    /// Plays a move. What is kept after it is legal.
+    /// Plays a move, in this order: the refusal is decided, room for three entries is made, the move is made and recorded.
+    ///
+    /// After either fault nothing has changed. `OutOfMemory` is answered only where a growth of the history was refused; a refused
+    /// move asks for no memory.
     pub fn play(&mut self, t: u8, m: Move) -> Result<Outcome, PlayFault>
         ensures answer { IsPlayAnswer (refusal_of self.old.state t m) (change_of self.old.state t m).outcome result }
         ensures played { OnOk result (self.new ≡ after_play self.old t m) }
@@ -77,7 +82,7 @@ impl<W: Words> Keeper<W> {
         Ok(outcome)
     }
 
-    /// What happened. It is legal, whatever was played.
+    /// What happened, oldest first. It is a legal history of the lock's sequential object, whatever was played.
     pub fn entries(&self) -> &[Entry]
         ensures entries { result.now ≡ self.now.entries }
         ensures legal { Legal self.now.state.kind (length self.now.state.phases) result.now }
@@ -85,6 +90,7 @@ impl<W: Words> Keeper<W> {
         self.history.entries()
     }
 
+    /// The step that thread `t` takes next. There is none exactly where it has no pending call.
     pub fn next_step(&self, t: u8) -> Option<StepKind>
         requires { t < length self.now.state.phases }
         ensures { result ≡ step_due self.now.state.kind (phase_at self.now.state.phases t) }
@@ -100,7 +106,7 @@ impl<W: Words> Keeper<W> {
         is_inside(self.machine.kind(), self.machine.phase(t))
     }
 
-    /// Who holds now.
+    /// Who holds now, by the history. A pending release of a queue lock still holds. This does not depend on how long the history is.
     pub fn holders(&self) -> Holders
         ensures holding { holding result ≡ holding_of self.now.state.kind self.now.entries }
         ensures listed { IsListed (holding result) }
@@ -118,7 +124,8 @@ impl<W: Words> Keeper<W> {
         }
     }
 
-    /// Who waits in line, the holder of a queue lock too.
+    /// Who is in line, by the history: the requests of a queue lock, oldest first, the holder's too; the announced writer of a FIFO
+    /// lock; nobody of a simple lock.
     pub fn queue(&self) -> ArrayVec<u8, 64>
         ensures { result.items ≡ waiting_of self.now.state.kind self.now.entries }
     {
