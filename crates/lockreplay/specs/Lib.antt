@@ -1,0 +1,3 @@
+pub mod Batches
+pub mod Faults
+pub mod Jobs
