@@ -1,0 +1,4 @@
+pub mod Sums
+pub mod Below
+pub mod DrawSteps
+pub mod DrawLists
