@@ -1,9 +1,7 @@
 -- Numbers below a number.
-use Rattle.std.proofs.Common.{add-one, ◌≡◌, ℕ, zero, suc, ◌+◌, ◌<◌, ◌≤◌, List, [], ◌∷◌, ◌++◌, length, get_or, All, refl, ap, ◌∙◌, sym, arith, lt_of_not-le}
+use Rattle.std.proofs.Common.{add-one, ◌≡◌, ℕ, zero, suc, ◌+◌, ◌<◌, ◌≤◌, List, [], ◌∷◌, All, refl, ap, ◌∙◌, arith, lt_of_not-le}
 use Rattle.std.proofs.lemmas.List.Elements.{All-cons}
 use native.Mathlib.Decide.{dec_le}
-use mathlib.Core.Option.{some, some-injective, some-ne-none}
-use lib.ListN.{get_elem?}
 use Rattle.lk_workers.specs.Counting.{total, gathered, same, times, once_below, IsEachBelow}
 use Rattle.lk_workers.proofs.Sums.{total-append}
 

@@ -1,7 +1,5 @@
 -- The rule of the draw counter, in the words of its lists.
-use Rattle.std.proofs.Common.{◌≡◌, ◌≢◌, ℕ, ◌+◌, ◌≤◌, List, get_or, sym, ◌∙◌, arith}
-use mathlib.Core.Option.{some}
-use lib.ListN.{get_elem?}
+use Rattle.std.proofs.Common.{ℕ, ◌∙◌, arith}
 use Rattle.atomic_table.specs.Table.{State}
 use Rattle.lk_workers.specs.declared.draws.Hand.{Hand}
 use Rattle.lk_workers.specs.Counting.{times, gathered}

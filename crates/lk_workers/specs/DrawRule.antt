@@ -1,5 +1,5 @@
 -- Invariants. The rule of the draw counter in counting form, and what its steps tell.
-use Rattle.std.specs.Prelude.{◌≡◌, ℕ, ◌+◌, ◌-◌, ◌^◌, ◌<◌, ◌≤◌, List, [], ◌∷◌, ◌++◌, length, slice_index, All}
+use Rattle.std.specs.Prelude.{◌≡◌, ℕ, ◌+◌, ◌-◌, ◌^◌, ◌<◌, ◌≤◌, [], ◌∷◌, ◌++◌, length, slice_index, All}
 use Rattle.atomic_table.specs.Table.{State, Me, Step}
 use Rattle.lk_workers.specs.Counting.{total, times, once_below}
 use Rattle.lk_workers.specs.declared.draws.Hand.{Hand}

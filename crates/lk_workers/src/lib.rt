@@ -6,5 +6,11 @@
 
 mod amount;
 mod draws;
+mod live;
 
 pub use draws::{DrawSeat, Draws, each_number_once};
+pub use live::laws::{
+    look_is_the_read, pass_is_the_write, read_serving_is_the_read, rule_is_the_lock,
+    take_is_the_add,
+};
+pub use live::{LivePhase, LiveSeat, LiveTicket};
