@@ -1,8 +1,10 @@
 -- Numbers below a number.
 use Rattle.std.proofs.Common.{add-one, ◌≡◌, ℕ, zero, suc, ◌+◌, ◌<◌, ◌≤◌, List, [], ◌∷◌, All, refl, ap, ◌∙◌, arith, lt_of_not-le}
 use Rattle.std.proofs.lemmas.List.Elements.{All-cons}
+use Rattle.std.proofs.lemmas.List.Concat.{flat_map-cons}
+use Rattle.std.specs.List.{flat_map}
 use native.Mathlib.Decide.{dec_le}
-use Rattle.lk_workers.specs.Counting.{total, gathered, same, times, once_below, IsEachBelow}
+use Rattle.lk_workers.specs.Counting.{total, same, times, once_below, IsEachBelow}
 use Rattle.lk_workers.proofs.Sums.{total-append}
 
 pub below_suc : (x n : ℕ) → once_below x (n + 1) ≡ once_below x n + same x n
@@ -42,9 +44,9 @@ once_there x (suc n) h = go (dec_le n x) (once_there x n)
 pub each_below : (n : ℕ) (xs : List ℕ) → ((x : ℕ) → times x xs ≡ once_below x n) → IsEachBelow n xs
 each_below n xs h = (λ x l. h x ∙ once_there x n l, λ x l. h x ∙ none_there x n l)
 
-pub times_gathered : {A : Type 0} (f : A → List ℕ) (x : ℕ) (vs : List A) → times x (gathered f vs) ≡ total (λ v. times x (f v)) vs
-times_gathered f x [] = refl
-times_gathered f x (v ∷ vs) = let r = times_gathered f x vs in let a = total-append (same x) (f v) (gathered f vs) in omega arith
+pub times-flat_map : {A : Type 0} (f : A → List ℕ) (x : ℕ) (vs : List A) → times x (flat_map f vs) ≡ total (λ v. times x (f v)) vs
+times-flat_map f x [] = refl
+times-flat_map f x (v ∷ vs) = let r = times-flat_map f x vs in let a = total-append (same x) (f v) (flat_map f vs) in ap (times x) (flat_map-cons f v vs) ∙ omega arith
 
 -- where only numbers below n stand in a list, all are below n
 pub all_below : (n : ℕ) (xs : List ℕ) → ((x : ℕ) → 1 ≤ times x xs → x < n) → All (λ x. x < n) xs

@@ -7,3 +7,5 @@ pub mod SeatMoves
 pub mod SeatJoins
 pub mod LockStates
 pub mod LiveEvents
+pub mod DrawnWork
+pub mod Places

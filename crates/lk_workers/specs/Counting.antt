@@ -1,15 +1,10 @@
 -- Definitions. How often a number stands in a list, and sums along a list. This project's own.
-use Rattle.std.specs.Prelude.{◌≡◌, ℕ, zero, suc, ◌+◌, ◌<◌, ◌≤◌, ◌==◌, List, [], ◌∷◌, ◌++◌, if◌then◌else◌}
+use Rattle.std.specs.Prelude.{◌≡◌, ℕ, zero, suc, ◌+◌, ◌<◌, ◌≤◌, ◌==◌, List, [], ◌∷◌, if◌then◌else◌}
 
 -- f of each element, added up
 abbrev pub total : {A : Type 0} → (A → ℕ) → List A → ℕ
 total f [] = 0
 total f (v ∷ vs) = f v + total f vs
-
--- the lists of the elements, one after another
-abbrev pub gathered : {A B : Type 0} → (A → List B) → List A → List B
-gathered f [] = []
-gathered f (v ∷ vs) = f v ++ gathered f vs
 
 -- 1 where the numbers are equal, else 0
 abbrev pub same : ℕ → ℕ → ℕ

@@ -6,3 +6,5 @@ pub mod Seats
 pub mod SeatSteps
 pub mod Running
 pub mod LockState
+pub mod Batch
+pub mod Collected
