@@ -1,7 +1,7 @@
 -- What is sent is the text of the reports of the files' texts.
 use Rattle.std.proofs.Common.{◌≡◌, ◌∙◌, ℕ, List, Vec, Global, map, ap, sym}
 use Rattle.std.proofs.lemmas.Simd.{map-map}
-use Rattle.lk_replay.specs.Devices.{report_text}
+use Rattle.lk_replay.specs.Report.{report_text}
 
 -- the bytes of each
 abbrev pub bytes_of : List (Vec ℕ Global) → List (List ℕ)

@@ -1,7 +1,7 @@
 -- Definitions: the status of each fault, and what a fault of a run is to the program. This project's own.
 use Rattle.std.specs.Prelude.{ℕ}
-use Rattle.lk_replay.specs.declared.RunFault.{RunFault}
-use Rattle.lk_replay.specs.declared.RunFault.TheVariants as run
+use Rattle.lk_replay.specs.declared.devices.RunFault.{RunFault}
+use Rattle.lk_replay.specs.declared.devices.RunFault.TheVariants as run
 use Rattle.lockreplay.specs.declared.faults.ProgramFault.{ProgramFault}
 use Rattle.lockreplay.specs.declared.faults.ProgramFault.TheVariants.{Input, Output, Memory, TooManyFiles, File}
 

@@ -2,7 +2,8 @@
 
 ghost use Rattle.std.specs.Prelude.{◌≡◌, ◌⊎◌, ◌≤◌, length, IfOk, IfErr};
 ghost use Rattle.lockreplay.specs.Batches.{EndsBatch, IsFileFault};
-ghost use Rattle.lockreplay.specs.Jobs.{IsFitJob};
+ghost use Rattle.lockreplay.specs.Replays.{EndsReplay};
+ghost use Rattle.lockreplay.specs.Jobs.{EndsJob, IsFitJob};
 
 use crate::faults::ProgramFault;
 use crate::status::batch_status;
@@ -20,11 +21,15 @@ pub fn replay_input<R: Read, W: Write>(
     alloc: Global,
     input: &mut R,
     output: &mut W,
-) -> Result<u8, ProgramFault> {
-    let ending = run(alloc, input, output);
-    let status = status_of(&ending);
-    ending?;
-    Ok(status)
+) -> Result<u8, ProgramFault>
+    ensures { EndsReplay (R.remaining input.old) (W.contents output.old) (W.contents output.new) result }
+{
+    let ran = run(alloc, input, output);
+    let status = status_of(&ran);
+    match ran {
+        Ok(_) => Ok(status),
+        Err(fault) => Err(ProgramFault::from(fault)),
+    }
 }
 
 /// The text of the file of this number, from 1.
@@ -101,6 +106,7 @@ pub fn perform<R: Files + Threads + Sync, I: Read, O: Write>(
     output: &mut O,
 ) -> Result<u8, ProgramFault>
     requires { IsFitJob job.now }
+    ensures { EndsJob job.now (I.remaining input.old) (O.contents output.old) (O.contents output.new) result }
 {
     match job {
         Job::Replay => replay_input(alloc, input, output),
