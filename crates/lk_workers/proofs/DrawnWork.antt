@@ -1,0 +1,48 @@
+-- What is drawn, and what comes back.
+use Rattle.std.proofs.Common.{◌≡◌, ℕ, ◌+◌, ◌<◌, ◌≤◌, List, [], ◌∷◌, ◌++◌, cond, length, map, filter, ltb, Bool, true, false, ltb-false, ap₂, sym, refl, ap, ◌∙◌, arith, le-ltb, append-nil, lt_of_not-le}
+use native.Mathlib.Decide.{dec_le}
+use Rattle.std.proofs.lemmas.List.Elements.{filter-append}
+use mathlib.Core.List.{map-append}
+use Rattle.lk_workers.specs.Counting.{times, same, IsEachBelow}
+use Rattle.lk_workers.proofs.Sums.{total-append}
+use Rattle.lk_workers.specs.Collected.{report_at, reports_of, IsThrough, IsWorkOf, IsEachOnce}
+
+pub past : (texts : List (List ℕ)) (drawn : List ℕ) (x : ℕ) → length texts ≤ x → reports_of texts (drawn ++ x ∷ []) ≡ reports_of texts drawn
+past texts drawn x h = let p : ℕ → Bool = λ k. ltb k (length texts) in let f : ℕ → ℕ × List ℕ = λ k. (k, report_at texts k) in
+    ap (map f) (filter-append p drawn (x ∷ []) ∙ ap (λ b. filter p drawn ++ cond b (x ∷ []) []) (le-ltb x (length texts) h) ∙ append-nil (filter p drawn))
+
+pub through : (texts : List (List ℕ)) (drawn : List ℕ) (x : ℕ) → length texts ≤ x → IsThrough texts (drawn ++ x ∷ [])
+through texts drawn x h = (x, h, (let a = total-append (same x) drawn (x ∷ []) in let b : same x x ≡ 1 = grind arith in omega arith))
+
+pub both : (texts : List (List ℕ)) (a b : List ℕ) → reports_of texts (a ++ b) ≡ reports_of texts a ++ reports_of texts b
+both texts a b = let p : ℕ → Bool = λ k. ltb k (length texts) in let f : ℕ → ℕ × List ℕ = λ k. (k, report_at texts k) in ap (map f) (filter-append p a b) ∙ map-append f (filter p a) (filter p b)
+
+pub through_both : (texts : List (List ℕ)) (a b : List ℕ) → IsThrough texts a → IsThrough texts (a ++ b)
+through_both texts a b h = (h.0, h.1, (let c = total-append (same h.0) a b in let d = h.2 in omega arith))
+
+pub together : {X : Type 0} (f : X → ℕ × List ℕ) (texts : List (List ℕ)) (ps qs : List X) (a b : List ℕ) → map f ps ≡ reports_of texts a → map f qs ≡ reports_of texts b → map f (ps ++ qs) ≡ reports_of texts (a ++ b)
+together f texts ps qs a b h k = map-append f ps qs ∙ ap₂ (λ x y. x ++ y) h k ∙ sym (both texts a b)
+
+-- numbers of texts are kept
+kept_times : (n k : ℕ) (drawn : List ℕ) → k < n → times k (filter (λ j. ltb j n) drawn) ≡ times k drawn
+kept_times n k [] h = refl
+kept_times n k (x ∷ xs) h = go (ltb x n) refl (kept_times n k xs h)
+  where
+    go : (b : Bool) → ltb x n ≡ b → times k (filter (λ j. ltb j n) xs) ≡ times k xs → times k (cond b (x ∷ filter (λ j. ltb j n) xs) (filter (λ j. ltb j n) xs)) ≡ same k x + times k xs
+    go true e r = ap (λ m. same k x + m) r
+    go false e r = let l = ltb-false x n e in let z : same k x ≡ 0 = grind arith in r ∙ omega arith
+
+-- a number that was drawn is below the word
+drawn_below : (drawn : List ℕ) (word x : ℕ) → IsEachBelow word drawn → 1 ≤ times x drawn → x < word
+drawn_below drawn word x each t = go (dec_le word x)
+  where
+    go : Dec (word ≤ x) → x < word
+    go (yes d) = let z = each.1 x d in absurd (omega arith)
+    go (no d) = lt_of_not-le d
+
+pub each_once : (texts : List (List ℕ)) (ps : List (ℕ × List ℕ)) (drawn : List ℕ) (word : ℕ) → IsWorkOf texts drawn ps → IsEachBelow word drawn → IsEachOnce texts ps
+each_once texts ps drawn word work each = (
+  drawn,
+  work.0,
+  λ k below. kept_times (length texts) k drawn below ∙ each.0 k (let last = work.1 in let past = drawn_below drawn word last.0 each last.2 in let far = last.1 in omega arith),
+)

@@ -1,0 +1,11 @@
+pub mod Sums
+pub mod Below
+pub mod DrawSteps
+pub mod DrawLists
+pub mod TwoWords
+pub mod SeatMoves
+pub mod SeatJoins
+pub mod LockStates
+pub mod LiveEvents
+pub mod DrawnWork
+pub mod Places

@@ -1,0 +1,37 @@
+-- Invariants. What workers that draw the numbers of texts bring back.
+use Rattle.std.specs.Prelude.{Option, Some, slice_set, ◌∷◌, ◌≡◌, ℕ, ◌+◌, ◌<◌, ◌≤◌, List, [], map, length, filter, ltb, slice_index_or}
+use Rattle.lk_replay.specs.Report.{report_text}
+use Rattle.lk_workers.specs.Counting.{times}
+use Rattle.lk_workers.specs.Drawing.{Counter, Drawer, drawer, IsSeatOf}
+
+-- the report of text k
+abbrev pub report_at : List (List ℕ) → ℕ → List ℕ
+report_at texts k = report_text (slice_index_or texts k [])
+
+-- the numbers of texts among the numbers drawn, each with its report
+abbrev pub reports_of : List (List ℕ) → List ℕ → List (ℕ × List ℕ)
+reports_of texts drawn = map (λ k. (k, report_at texts k)) (filter (λ k. ltb k (length texts)) drawn)
+
+-- a number past the texts was drawn
+abbrev pub IsThrough : List (List ℕ) → List ℕ → Type 0
+IsThrough texts drawn = (x : ℕ) × (length texts ≤ x) × (1 ≤ times x drawn)
+
+-- the reports of all texts whose numbers were drawn, until there was none
+abbrev pub IsWorkOf : List (List ℕ) → List ℕ → List (ℕ × List ℕ) → Type 0
+IsWorkOf texts drawn reports = (reports ≡ reports_of texts drawn) × IsThrough texts drawn
+
+-- a seat that begins with this share, and one that comes back with the whole of it
+abbrev pub IsFresh : Counter → ℕ → Drawer → Type 0
+IsFresh c share s = IsSeatOf c s × (s.drawn ≡ []) × (s.left ≡ share)
+
+abbrev pub IsBack : Counter → ℕ → Drawer → Type 0
+IsBack c share s = IsSeatOf c s × (length s.drawn + s.left ≡ share)
+
+-- the number of each text stands there once, with its report, and no other number
+abbrev pub IsEachOnce : List (List ℕ) → List (ℕ × List ℕ) → Type 0
+IsEachOnce texts ps = (ks : List ℕ) × (ps ≡ reports_of texts ks) × ((k : ℕ) → k < length texts → times k (filter (λ j. ltb j (length texts)) ks) ≡ 1)
+
+-- the reports put into their places
+abbrev pub placed : List (Option (List ℕ)) → List (ℕ × List ℕ) → List (Option (List ℕ))
+placed os [] = os
+placed os (p ∷ ps) = placed (slice_set os p.0 (Some p.1)) ps

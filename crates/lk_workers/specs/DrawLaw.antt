@@ -1,0 +1,29 @@
+-- Definitions. What holds of a draw counter between any two of its steps. This project's own.
+use Rattle.std.specs.Prelude.{◌≡◌, ◌≢◌, ℕ, ◌+◌, ◌<◌, ◌≤◌, length, slice_index, All}
+use Rattle.std.specs.List.{flat_map}
+use mathlib.Core.Option.{some}
+use lib.ListN.{get_elem?}
+use Rattle.atomic_table.specs.Table.{State}
+use Rattle.lk_workers.specs.Counting.{total, times, IsEachBelow}
+use Rattle.lk_workers.specs.declared.draws.Hand.{Hand}
+use Rattle.lk_workers.specs.DrawRule.{Drawn}
+
+-- the number that the next draw answers
+abbrev pub word_of : State (Unit {0}) Hand → ℕ
+word_of s = slice_index s.words 0
+
+-- One word, and a view for each seat that `open` and `split` made. A dropped seat keeps its view, and one that was joined into another has drawn nothing
+pub record DrawState (draws : ℕ) (s : State (Unit {0}) Hand) : Type 0 where
+  -- the numbers in the lists of all seats are those below the word, each once
+  pub numbers : IsEachBelow (word_of s) (flat_map (λ v. v.drawn) s.views)
+  -- what was drawn and what is left is all
+  pub all : word_of s + total (λ v. v.left) s.views ≡ draws
+  -- no two seats have one number
+  pub apart : (i j : ℕ) (v w : Hand) (x : ℕ) → i ≢ j → get_elem? s.views i ≡ some v → get_elem? s.views j ≡ some w → 1 ≤ times x v.drawn → times x w.drawn ≡ 0
+  -- the next draw is greater than each number that a seat has
+  pub greater : (i : ℕ) (v : Hand) → get_elem? s.views i ≡ some v → All (λ x. x < word_of s) v.drawn
+  -- a seat with all draws has each number below the word
+  pub whole : (i : ℕ) (v : Hand) → get_elem? s.views i ≡ some v → length v.drawn + v.left ≡ draws → IsEachBelow (word_of s) v.drawn
+
+abbrev pub EachNumberOnce : Type 0
+EachNumberOnce = (draws : ℕ) (s : State (Unit {0}) Hand) → Drawn draws s → DrawState draws s

@@ -1,0 +1,79 @@
+-- Definitions. What holds of the running ticket lock between any two atomic steps, and which event of the ticket machine each step is.
+--
+-- The machine is that of Mellor-Crummey and Scott, ACM TOCS 9(1), 1991, section 2.1, whose events lk_locks defines; the seats and the
+-- correspondence are this project's own.
+use Rattle.std.specs.Prelude.{◌≢◌, ◌≡◌, ℕ, ◌+◌, ◌^◌, ◌<◌, ◌≤◌, ◌++◌, List, [], ◌∷◌, slice_index, slice_set, length}
+use mathlib.Core.Option.{some}
+use lib.ListN.{get_elem?}
+use Rattle.atomic_table.specs.Table.{Act, stepped}
+use Rattle.lk_locks.specs.declared.kinds.Phase.{Phase}
+use Rattle.lk_locks.specs.declared.kinds.Phase.TheVariants.{TakeTicket, AwaitTurn, ReadServing, PassOn}
+use Rattle.lk_locks.specs.declared.kinds.Outcome.TheVariants.{Waits}
+use Rattle.lk_locks.specs.laws.{Event, event, acquiring, releasing, take_event, look_event, read_event, pass_event}
+use Rattle.lk_workers.specs.declared.live.LivePhase.{LivePhase}
+use Rattle.lk_workers.specs.declared.live.LivePhase.TheVariants.{Idle, Waiting, Inside, Leaving}
+use Rattle.lk_workers.specs.declared.live.rule.SeatState.{SeatState}
+use Rattle.lk_workers.specs.Seats.{Table, next_of, serving_of, over, thread_of, IsHolding}
+use Rattle.lk_workers.specs.SeatSteps.{LiveStep, after}
+use Rattle.lk_workers.specs.Running.{Running}
+
+-- a seat that was made: the number of its view, and where it stands there
+abbrev pub IsAt : List (List SeatState) → ℕ → ℕ → SeatState → Type 0
+IsAt views id k r = (v : List SeatState) × (get_elem? views id ≡ some v) × (get_elem? v k ≡ some r)
+
+-- the seat has the ticket t
+abbrev pub HasTicket : ℕ → SeatState → Type 0
+HasTicket t r = (r.phase ≢ Idle) × (r.ticket ≡ t)
+
+-- the words and the seats are a state of the ticket lock
+pub record LockState (s : Table) : Type 0 where
+  pub order : serving_of s ≤ next_of s
+  pub waiting : (id k : ℕ) (r : SeatState) → IsAt s.views id k r → r.phase ≡ Waiting → (serving_of s ≤ r.ticket) × (r.ticket < next_of s)
+  -- who is inside or leaves has the ticket that is served
+  pub holding : (id k : ℕ) (r : SeatState) → IsAt s.views id k r → IsHolding r.phase → (r.ticket ≡ serving_of s) × (serving_of s < next_of s)
+  -- the tickets of two seats differ
+  pub differ : (id k id' k' : ℕ) (r r' : SeatState) (t : ℕ) → IsAt s.views id k r → IsAt s.views id' k' r' → HasTicket t r → HasTicket t r' → (id ≡ id') × (k ≡ k')
+  -- each number from `serving` up to but not including `next` is the ticket of a seat
+  pub each : (t : ℕ) → serving_of s ≤ t → t < next_of s → (id : ℕ) × (k : ℕ) × (r : SeatState) × IsAt s.views id k r × HasTicket t r
+  pub taken : over (λ r. r.taken) s.views ≡ next_of s
+  pub some_taken : (id k : ℕ) (r : SeatState) → IsAt s.views id k r → r.phase ≢ Idle → 1 ≤ r.taken
+  pub left : next_of s + over (λ r. r.left) s.views ≤ 2 ^ 40
+  pub seen : (id k : ℕ) (r : SeatState) → IsAt s.views id k r → r.seen ≤ serving_of s
+  pub two_at_most : (id : ℕ) (v : List SeatState) → get_elem? s.views id ≡ some v → length v ≤ 2
+
+abbrev pub RuleIsTheLock : Type 0
+RuleIsTheLock = (takes : ℕ) (s : Table) → Running takes s → LockState s
+
+-- Whatever a step of one seat, a split of it or a join of another into it does, the view of each other seat stays. So a seat that was dropped, and takes no part in any, keeps its view
+abbrev pub OthersStay : Type 0
+OthersStay = (s : Table) (id j : ℕ) → j ≢ id
+    → ((i n : ℕ) (c : List (ℕ × Unit {0})) (w : List SeatState) (a : Act (Unit {0})) → get_elem? (stepped s i n id c w a).views j ≡ get_elem? s.views j)
+    × ((v left right : List SeatState) → get_elem? s.views j ≡ some v → get_elem? (slice_set s.views id left ++ right ∷ []) j ≡ some v)
+    × ((other : ℕ) (both spent : List SeatState) → j ≢ other → get_elem? (slice_set (slice_set s.views id both) other spent) j ≡ get_elem? s.views j)
+
+-- the phase in which a thread makes the step of its seat: after the call of an acquire where it is idle, and after that of a release where it is inside
+abbrev pub due_in : LivePhase → ℕ → Phase
+due_in Idle t = acquiring
+due_in Waiting t = AwaitTurn t
+due_in Inside t = releasing t
+due_in Leaving t = PassOn t
+
+-- the event of the ticket machine, of 64 bits, where a thread in this phase finds this word. In the other phases no step of the lock is due
+abbrev pub event_in : Phase → ℕ → Event
+event_in TakeTicket found = take_event 64 found
+event_in (AwaitTurn t) found = look_event t found
+event_in (ReadServing t) found = read_event found
+event_in (PassOn v) found = pass_event 64 v
+event_in p found = event found p Waits
+
+-- From s to s' the thread of one seat makes this event on this word, and all else stays
+pub record Happens (s s' : Table) (id word : ℕ) (e : Event) : Type 0 where
+  pub leaves : slice_index s'.words word ≡ e.word
+  pub other_word : (i : ℕ) → i ≢ word → slice_index s'.words i ≡ slice_index s.words i
+  pub seat : (r : SeatState) × (get_elem? s'.views id ≡ some (r ∷ [])) × (thread_of r ≡ e.phase)
+  pub other_seats : (j : ℕ) → j ≢ id → get_elem? s'.views j ≡ get_elem? s.views j
+
+-- the step of a seat in this phase is the event that is due
+abbrev pub IsEvent : LiveStep → LivePhase → Type 0
+IsEvent live phase = (takes id : ℕ) (s : Table) (r : SeatState) → Running takes s → get_elem? s.views id ≡ some (r ∷ []) → r.phase ≡ phase
+    → Happens s (after live id s r) id live.word (event_in (due_in r.phase r.ticket) (slice_index s.words live.word))

@@ -1,0 +1,69 @@
+-- Invariants. The rule of the running ticket lock in counting form, and what its steps tell.
+use Rattle.std.specs.Prelude.{◌≡◌, ℕ, ◌+◌, ◌^◌, ◌<◌, ◌≤◌, List, [], ◌∷◌, length, ⊤}
+use mathlib.Core.Option.{some}
+use lib.ListN.{get_elem?}
+use Rattle.atomic_table.specs.Table.{Me, Step}
+use Rattle.lk_workers.specs.declared.live.LivePhase.{LivePhase}
+use Rattle.lk_workers.specs.declared.live.LivePhase.TheVariants.{Idle, Waiting, Inside, Leaving}
+use Rattle.lk_workers.specs.declared.live.rule.SeatState.{SeatState}
+use Rattle.lk_workers.specs.Counting.{once_below}
+use Rattle.lk_workers.specs.Seats.{Table, next_of, serving_of, over, has, AreApart}
+use Rattle.lk_workers.specs.SeatSteps.{LiveStep}
+
+abbrev pub Sees : Type 0
+Sees = Me (Unit {0}) (List SeatState)
+
+abbrev pub FitsPhase : ℕ → LivePhase → ℕ → ℕ → Type 0
+FitsPhase serving Idle t taken = ⊤
+FitsPhase serving Waiting t taken = 1 ≤ taken
+FitsPhase serving Inside t taken = (t ≡ serving) × (1 ≤ taken)
+FitsPhase serving Leaving t taken = (t ≡ serving) × (1 ≤ taken)
+
+-- the loads of the first seat of a view
+abbrev pub loads_of : List SeatState → ℕ
+loads_of [] = 0
+loads_of (r ∷ rs) = r.loads
+
+-- one seat by itself, where this ticket is served
+abbrev pub Fits : ℕ → SeatState → Type 0
+Fits serving r = FitsPhase serving r.phase r.ticket r.taken × (r.seen ≤ serving)
+
+abbrev pub Each : (SeatState → Type 0) → List SeatState → Type 0
+Each P [] = ⊤
+Each P (r ∷ rs) = P r × Each P rs
+
+-- one view by itself
+abbrev pub ViewFits : ℕ → List SeatState → Type 0
+ViewFits serving v = Each (Fits serving) v × (length v ≤ 2)
+
+-- Each number is the ticket of as many seats as it is from `serving` up to but not including `next`
+pub record Running (takes : ℕ) (s : Table) : Type 0 where
+  pub two_words : length s.words ≡ 2
+  pub served : serving_of s ≤ next_of s
+  pub tickets : (x : ℕ) → over (has x) s.views + once_below x (serving_of s) ≡ once_below x (next_of s)
+  pub seats : (id : ℕ) (v : List SeatState) → get_elem? s.views id ≡ some v → ViewFits (serving_of s) v
+  pub taken : over (λ r. r.taken) s.views ≡ next_of s
+  pub left : next_of s + over (λ r. r.left) s.views ≤ 2 ^ 40
+
+abbrev pub TakeTells : SeatState → ℕ → Type 0
+TakeTells r found = (r.seen ≤ found) × (found < 2 ^ 40) × (r.taken < 2 ^ 40)
+
+abbrev pub LookTells : SeatState → ℕ → Type 0
+LookTells r found = r.seen ≤ found
+
+abbrev pub ReadTells : SeatState → ℕ → Type 0
+ReadTells r found = found ≡ r.ticket
+
+abbrev pub PassTells : SeatState → ℕ → Type 0
+PassTells r found = ⊤
+
+abbrev pub CountTells : SeatState → ℕ → Type 0
+CountTells r found = (r.left ≤ 2 ^ 40) × (r.taken ≤ 2 ^ 40)
+
+-- a step of the only seat of a view
+abbrev pub OfOne : LiveStep → (SeatState → ℕ → Type 0) → Step (Unit {0}) → Sees → ℕ → Sees → Type 0
+OfOne live tells st v found w = (r : SeatState) → v.0 ≡ r ∷ [] → (w ≡ (live.next r found ∷ [], v.1)) × tells r found
+
+-- two seats side by side are apart
+abbrev pub Compares : Step (Unit {0}) → Sees → ℕ → Sees → Type 0
+Compares st v found w = (w ≡ v) × ((r q : SeatState) → v.0 ≡ r ∷ q ∷ [] → AreApart r q)

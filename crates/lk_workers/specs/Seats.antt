@@ -1,0 +1,78 @@
+-- Definitions. What is known of a seat of the running ticket lock, and the thread of the ticket machine that it stands for.
+--
+-- The correspondence is this project's own: a seat is a thread, and each of its calls is one event of the lock of Mellor-Crummey and
+-- Scott, "Algorithms for Scalable Synchronization on Shared-Memory Multiprocessors", ACM TOCS 9(1), 1991, section 2.1.
+use Rattle.std.specs.Prelude.{ℕ, ◌+◌, ◌≤◌, List, slice_index, Option, Some, None, ⊤}
+use Rattle.atomic_table.specs.Table.{State}
+use Rattle.atomic_table.specs.Seated.{TableId}
+use Rattle.lk_locks.specs.declared.kinds.Phase.{Phase}
+use Rattle.lk_locks.specs.declared.kinds.Phase.TheVariants.{AwaitTurn, TicketInside, PassOn}
+use Rattle.lk_workers.specs.declared.live.LivePhase.{LivePhase}
+use Rattle.lk_workers.specs.declared.live.LivePhase.TheVariants.{Idle, Waiting, Inside, Leaving}
+use Rattle.lk_workers.specs.declared.live.rule.SeatState.{SeatState}
+use Rattle.lk_workers.specs.Counting.{same, total}
+
+-- phase, ticket, takes left, tickets taken, the last `now_serving` known, and the loads of it
+abbrev pub seat_state : LivePhase → ℕ → ℕ → ℕ → ℕ → ℕ → SeatState
+seat_state phase ticket left taken seen loads = record { phase = phase; ticket = ticket; left = left; taken = taken; seen = seen; loads = loads }
+
+-- what a contract sees of a seat: its lock, and what is known of it
+pub record Live : Type 0 where
+  pub table : TableId
+  pub state : SeatState
+
+-- the two words, and the view of each seat that was made: no record where the seat was joined into another, else one, or two between the two steps of `apart`
+abbrev pub Table : Type 0
+Table = State (Unit {0}) (List SeatState)
+
+-- the seats of all views, added up
+abbrev pub over : (SeatState → ℕ) → List (List SeatState) → ℕ
+over f views = total (total f) views
+
+-- the two words
+abbrev pub next_of : Table → ℕ
+next_of s = slice_index s.words 0
+
+abbrev pub serving_of : Table → ℕ
+serving_of s = slice_index s.words 1
+
+-- the ticket of a seat that is not idle
+abbrev pub ticket_in : LivePhase → ℕ → Option ℕ
+ticket_in Idle t = None
+ticket_in Waiting t = Some t
+ticket_in Inside t = Some t
+ticket_in Leaving t = Some t
+
+-- the phase of the thread that a seat stands for
+abbrev pub thread_in : LivePhase → ℕ → Phase
+thread_in Idle t = Rattle.lk_locks.specs.declared.kinds.Phase.TheVariants.Idle
+thread_in Waiting t = AwaitTurn t
+thread_in Inside t = TicketInside t
+thread_in Leaving t = PassOn t
+
+abbrev pub thread_of : SeatState → Phase
+thread_of r = thread_in r.phase r.ticket
+
+-- inside or leaving
+abbrev pub IsHolding : LivePhase → Type 0
+IsHolding Idle = ⊥
+IsHolding Waiting = ⊥
+IsHolding Inside = ⊤
+IsHolding Leaving = ⊤
+
+-- 1 where the seat has the ticket x, else 0
+abbrev pub has_in : ℕ → LivePhase → ℕ → ℕ
+has_in x Idle t = 0
+has_in x Waiting t = same x t
+has_in x Inside t = same x t
+has_in x Leaving t = same x t
+
+abbrev pub has : ℕ → SeatState → ℕ
+has x r = has_in x r.phase r.ticket
+
+abbrev pub with_seen : ℕ → SeatState → SeatState
+with_seen n r = seat_state r.phase r.ticket r.left r.taken n r.loads
+
+-- not both seats are inside or leaving, and no ticket is that of both
+abbrev pub AreApart : SeatState → SeatState → Type 0
+AreApart r q = ¬ (IsHolding r.phase × IsHolding q.phase) × ((x : ℕ) → has x r + has x q ≤ 1)

@@ -1,0 +1,31 @@
+//! Laws of the running ticket lock. Each is proved, and does nothing when it is called.
+
+ghost use Rattle.lk_workers.specs.declared.live.LivePhase.TheVariants.{Idle, Waiting, Inside, Leaving};
+ghost use Rattle.lk_workers.specs.SeatSteps.{take_step, look_step, read_step, pass_step};
+ghost use Rattle.lk_workers.specs.LockState.{RuleIsTheLock, OthersStay, IsEvent};
+
+/// Between any two atomic steps the words and the seats are a state of the ticket lock, and a dropped seat's view stays in it.
+pub fn rule_is_the_lock()
+    ensures state { RuleIsTheLock }
+    ensures dropped { OthersStay }
+{}
+
+/// `take` is the call of an acquire and its fetch-and-add on `next_ticket`.
+pub fn take_is_the_add()
+    ensures { IsEvent take_step Idle }
+{}
+
+/// `look` is the read of `now_serving` by a thread that waits.
+pub fn look_is_the_read()
+    ensures { IsEvent look_step Waiting }
+{}
+
+/// `read_serving` is the call of a release and its read of `now_serving`.
+pub fn read_serving_is_the_read()
+    ensures { IsEvent read_step Inside }
+{}
+
+/// `pass` is the write of `now_serving` that ends a release.
+pub fn pass_is_the_write()
+    ensures { IsEvent pass_step Leaving }
+{}

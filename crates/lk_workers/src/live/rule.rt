@@ -1,0 +1,137 @@
+//! The rule of the running ticket lock, and its steps as a table sees them.
+//!
+//! A view is a list of what is known of seats, one as a rule. Nothing of it is kept when the lock runs.
+
+ghost use Rattle.std.specs.Prelude.{ℕ};
+
+use super::LivePhase;
+use crate::amount::Amount;
+use atomic_table::{Join, Play, Shared, Split, TableRule};
+use std::collections::LinkedList;
+use std::marker::PhantomData;
+
+/// What is known of one seat. No value of it is made.
+pub struct SeatState {
+    pub phase: LivePhase,
+    pub ticket: u64,
+    pub left: u64,
+    pub taken: u64,
+    pub seen: u64,
+    pub loads: u64,
+}
+
+pub type View = LinkedList<SeatState>;
+
+pub type LiveWords = Shared<(), View, u64, TicketRule>;
+
+/// The words and the seats are a state of the ticket lock.
+pub struct TicketRule;
+
+impl TableRule<(), View, u64> for TicketRule {
+    ghost use Rattle.std.specs.Prelude.{[], ◌∷◌};
+    ghost use Rattle.lk_workers.specs.declared.live.LivePhase.TheVariants.{Idle};
+    ghost use Rattle.lk_workers.specs.Seats.{seat_state};
+    ghost use Rattle.lk_workers.specs.Running.{Running};
+
+    ghost holds = { Running };
+
+    ghost first = { λ takes. seat_state Idle 0 takes 0 0 0 ∷ [] };
+}
+
+pub struct Take;
+
+impl Play<(), View> for Take {
+    ghost use Rattle.lk_workers.specs.SeatSteps.{take_step};
+    ghost use Rattle.lk_workers.specs.Running.{OfOne, TakeTells};
+
+    ghost then = { OfOne take_step TakeTells };
+}
+
+pub struct Look;
+
+impl Play<(), View> for Look {
+    ghost use Rattle.lk_workers.specs.SeatSteps.{look_step};
+    ghost use Rattle.lk_workers.specs.Running.{OfOne, LookTells};
+
+    ghost then = { OfOne look_step LookTells };
+}
+
+pub struct ReadServing;
+
+impl Play<(), View> for ReadServing {
+    ghost use Rattle.lk_workers.specs.SeatSteps.{read_step};
+    ghost use Rattle.lk_workers.specs.Running.{OfOne, ReadTells};
+
+    ghost then = { OfOne read_step ReadTells };
+}
+
+pub struct Pass;
+
+impl Play<(), View> for Pass {
+    ghost use Rattle.lk_workers.specs.SeatSteps.{pass_step};
+    ghost use Rattle.lk_workers.specs.Running.{OfOne, PassTells};
+
+    ghost then = { OfOne pass_step PassTells };
+}
+
+// What a joined seat has is few, which the rule alone knows.
+pub struct Count;
+
+impl Play<(), View> for Count {
+    ghost use Rattle.lk_workers.specs.SeatSteps.{count_step};
+    ghost use Rattle.lk_workers.specs.Running.{OfOne, CountTells};
+
+    ghost then = { OfOne count_step CountTells };
+}
+
+// Two seats side by side are apart, which the rule alone knows.
+pub struct Compare;
+
+impl Play<(), View> for Compare {
+    ghost use Rattle.lk_workers.specs.Running.{Compares};
+
+    ghost then = { Compares };
+}
+
+pub struct Cut<A> {
+    amount: PhantomData<A>,
+}
+
+impl<A: Amount> Split<View> for Cut<A> {
+    ghost use Rattle.lk_workers.specs.SeatSteps.{cut_left, cut_right};
+
+    ghost left = { cut_left A.amount };
+
+    ghost right = { cut_right A.amount };
+}
+
+pub struct Glue;
+
+impl Join<View> for Glue {
+    ghost use Rattle.std.specs.Prelude.{[]};
+    ghost use Rattle.lk_workers.specs.SeatSteps.{glued};
+
+    ghost both = { glued };
+
+    ghost spent = { [] };
+}
+
+// Two seats side by side in one view, and in two again.
+pub struct Pair;
+
+impl Join<View> for Pair {
+    ghost use Rattle.std.specs.Prelude.{[]};
+    ghost use Rattle.lk_workers.specs.SeatSteps.{paired};
+
+    ghost both = { paired };
+
+    ghost spent = { [] };
+}
+
+impl Split<View> for Pair {
+    ghost use Rattle.lk_workers.specs.SeatSteps.{first_of, second_of};
+
+    ghost left = { first_of };
+
+    ghost right = { second_of };
+}
