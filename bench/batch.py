@@ -25,7 +25,7 @@ import tempfile
 import time
 
 import generate
-from measuring import Measure, Run, build, median_seconds
+from measuring import Measure, Run, build, median_elapsed
 
 MOST_OF_ONE_WORKER, MOST_TO_READING = 0.65, 2.0
 TOLERANCE = 1.1
@@ -73,7 +73,7 @@ class Bench:
                 running.append(subprocess.Popen(half, stdout=output))
         if any([process.wait() for process in running]):
             raise SystemExit("two processes: a batch failed")
-        return Run(time.perf_counter() - began, 0)
+        return Run(time.perf_counter() - began, 0, 0)
 
     def second_worker(self, kinds):
         """Medians of 1 worker, 2 workers, two processes, and the peak with 2 workers."""
@@ -87,7 +87,7 @@ class Bench:
             ones.append(self.measure.run(self.batch(1, files)))
             twos.append(self.measure.run(self.batch(2, files)))
             halves.append(self.two_processes(files))
-        return (*map(median_seconds, (ones, twos, halves)), max(run.peak for run in twos))
+        return (*map(median_elapsed, (ones, twos, halves)), max(run.peak for run in twos))
 
     def schedule(self, kind, made={}):
         if kind not in made:
@@ -105,7 +105,7 @@ class Bench:
         for _ in range(self.rounds):
             runs.append(self.measure.run(self.batch(1, files)))
             reads.append(self.measure.run([self.readall, *files]))
-        return median_seconds(runs), median_seconds(reads)
+        return median_elapsed(runs), median_elapsed(reads)
 
 
 def worker_line(bench, name):

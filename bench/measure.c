@@ -1,10 +1,12 @@
-/* Runs a command once and prints what it took: nanoseconds, peak kilobytes, exit status.
+/* Runs a command once and prints what it took: nanoseconds from start to end, nanoseconds of a
+ * processor, peak kilobytes, exit status.
  *
  *     measure INPUT OUTPUT PROGRAM [WORD...]
  *
  * Standard input is the file INPUT, standard output the file OUTPUT, made empty first. It is a
  * program of its own because a process that starts another hands on its own peak of memory: from a
- * large one, such as a Python, no command would be seen to take less than that.
+ * large one, such as a Python, no command would be seen to take less than that. The processor's
+ * time counts user and kernel, all threads, from the fork on.
  */
 #define _GNU_SOURCE
 #include <fcntl.h>
@@ -22,6 +24,10 @@ static long long now(void) {
     struct timespec t;
     clock_gettime(CLOCK_MONOTONIC, &t);
     return t.tv_sec * 1000000000ll + t.tv_nsec;
+}
+
+static long long nanoseconds(struct timeval t) {
+    return t.tv_sec * 1000000000ll + t.tv_usec * 1000ll;
 }
 
 static void fail(const char *what) { perror(what); exit(2); }
@@ -48,6 +54,7 @@ int main(int count, char **words) {
     if (wait4(child, &status, 0, &used) < 0) fail("wait4");
     long long took = now() - began;
     int ended = WIFEXITED(status) ? WEXITSTATUS(status) : 128 + WTERMSIG(status);
-    printf("%lld %ld %d\n", took, used.ru_maxrss, ended);
+    printf("%lld %lld %ld %d\n", took, nanoseconds(used.ru_utime) + nanoseconds(used.ru_stime),
+           used.ru_maxrss, ended);
     return 0;
 }

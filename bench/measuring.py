@@ -6,8 +6,8 @@ import subprocess
 
 HERE = pathlib.Path(__file__).parent
 
-# Seconds and peak bytes of one run of a command.
-Run = collections.namedtuple("Run", "seconds peak")
+# One run of a command: seconds from start to end, seconds of a processor, peak bytes.
+Run = collections.namedtuple("Run", "elapsed processor peak")
 
 
 def build(name, folder):
@@ -26,17 +26,21 @@ class Measure:
 
     def run(self, command, source="/dev/null", status=0):
         words = [self.measure, source, self.output, *command]
-        nanoseconds, kilobytes, ended = map(int, subprocess.check_output(words).split())
+        elapsed, processor, kilobytes, ended = map(int, subprocess.check_output(words).split())
         if ended != status:
             raise SystemExit(f"{command}: status {ended} instead of {status}")
-        return Run(nanoseconds / 1e9, kilobytes * 1024)
+        return Run(elapsed / 1e9, processor / 1e9, kilobytes * 1024)
 
 
-def median_seconds(runs):
-    return statistics.median(run.seconds for run in runs)
+def median_elapsed(runs):
+    return statistics.median(run.elapsed for run in runs)
 
 
-def spread(runs):
+def median_processor(runs):
+    return statistics.median(run.processor for run in runs)
+
+
+def spread(seconds):
     """Half the distance between the quartiles, as a part of the median."""
-    low, middle, high = statistics.quantiles((run.seconds for run in runs), n=4)
+    low, middle, high = statistics.quantiles(seconds, n=4)
     return (high - low) / 2 / middle
