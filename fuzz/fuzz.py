@@ -8,8 +8,8 @@ batch with 2 workers, those of the round that are accepted as another, and a few
 `replay`. Reports are compared byte for byte with those of oracle.py, and exit statuses with 0 where
 every report ends with `end K` and 1 otherwise. In each round one text is at a limit of size.
 
-Where a text's report differs, the text is shrunk while it still differs and stored under
-fuzz/found/, and the fuzzer ends with 1. Prints `N passed, M failed` last; N counts texts.
+Where a text's report differs, the text is shrunk for up to a minute while it still differs, both are
+stored under fuzz/found/, and the fuzzer ends with 1. Prints `N passed, M failed` last; N counts texts.
 """
 import argparse
 import pathlib
@@ -25,6 +25,7 @@ import schedules
 ROUND = 150
 ONE_BY_ONE = 6
 LONGEST = 3000
+SHRINKING = 60  # seconds
 FOUND = pathlib.Path(__file__).parent / "found"
 
 
@@ -90,8 +91,10 @@ def without_threads(lines, differs):
 
 def shrunk_text(program, text):
     """Drops threads and lines first, then, in a text that is short by then, single bytes."""
+    until = time.monotonic() + SHRINKING
+
     def differs(pieces):
-        return not is_right(program, b"".join(pieces))
+        return time.monotonic() < until and not is_right(program, b"".join(pieces))
 
     lines = without_threads(text.splitlines(keepends=True), differs)
     text = b"".join(shrink(lines, differs))
