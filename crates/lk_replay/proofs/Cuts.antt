@@ -1,0 +1,43 @@
+-- Where a text is cut at a byte.
+use Rattle.std.proofs.Common.{◌≡◌, ℕ, ◌+◌, ◌-◌, ◌<◌, ◌≤◌, ◌≢◌, List, [], ◌∷◌, ◌++◌, length, get_or, take, drop, Bool, true, false, ◌==◌, cond, eqb, refl, sym, ap, ◌∙◌, subst, arith, rules, add-one, drop-cons, take-append-drop, length-take-le, get_or-take}
+use Rattle.std.specs.List.{slice_split, All}
+use Rattle.std.proofs.lemmas.List.Splits.{slice_split_none, slice_split_at, length-slice_split}
+use Rattle.std.proofs.lemmas.List.{take_rest, get_or_default}
+use Rattle.std.proofs.lemmas.Bool.{false_from_ne_true}
+use Rattle.memchr.specs.Find.{Nowhere, Passes, NoneBefore, is_byte}
+use Rattle.lk_replay.specs.Lines.{lines_of, without_empty_end, is_line_feed}
+
+pub cut_nowhere : (byte : ℕ) (text : List ℕ) → Nowhere (Passes (is_byte byte) text) 0 (length text) → slice_split (λ b. b == byte) text ≡ text ∷ []
+cut_nowhere byte text none = slice_split_none (λ b. b == byte) text
+    (λ k d h. ap (λ x. x == byte) (get_or_default text k d 0 h) ∙ false_from_ne_true _ (none k (omega arith) h))
+
+pub cut_first : (byte : ℕ) (text : List ℕ) (at : ℕ) → NoneBefore (Passes (is_byte byte) text) 0 (length text) at → Passes (is_byte byte) text at
+    → slice_split (λ b. b == byte) text ≡ take at text ∷ slice_split (λ b. b == byte) (take (length text - (at + 1)) (drop (at + 1) text))
+cut_first byte text at none here =
+    let p : ℕ → Bool = λ b. b == byte in
+    let size : length (take at text) ≡ at = length-take-le at text (omega (arith, none.high)) in
+    let clear : All (λ x. p x ≡ false) (take at text) =
+    λ k d h. let below : k < at = omega (arith, size, h) in
+    ap p (get_or-take at text k d below ∙ get_or_default text k d 0 (omega (arith, none.high)))
+    ∙ false_from_ne_true _ (none.before k (omega arith) below) in
+    let whole : text ≡ take at text ++ (get_or text at 0 ∷ drop (at + 1) text) =
+    sym (take-append-drop at text) ∙ ap (λ l. take at text ++ l) (drop-cons text at 0 none.high ∙ rw add-one refl) in
+    ap (slice_split p) whole ∙ slice_split_at p (take at text) (get_or text at 0) (drop (at + 1) text) clear here
+    ∙ ap (λ l. take at text ∷ slice_split p l) (sym (take_rest text (at + 1)))
+
+-- a text has at least one piece
+pub has_piece : (p : ℕ → Bool) (text : List ℕ) → 0 < length (slice_split p text)
+has_piece p text = omega (arith, length-slice_split p text)
+
+before_pieces : (piece : List ℕ) (pieces : List (List ℕ)) → 0 < length pieces → without_empty_end (piece ∷ pieces) ≡ piece ∷ without_empty_end pieces
+before_pieces piece [] h = absurd (omega arith)
+before_pieces piece (next ∷ pieces) h = refl
+
+pub line_first : (text line rest : List ℕ) → slice_split is_line_feed text ≡ line ∷ slice_split is_line_feed rest → lines_of text ≡ line ∷ lines_of rest
+unfolding lines_of
+line_first text line rest cut = ap without_empty_end cut ∙ before_pieces line (slice_split is_line_feed rest) (has_piece is_line_feed rest)
+
+pub line_last : (text : List ℕ) → 0 < length text → slice_split is_line_feed text ≡ text ∷ [] → lines_of text ≡ text ∷ lines_of []
+unfolding lines_of
+line_last [] h cut = absurd (omega arith)
+line_last (b ∷ bs) h cut = ap without_empty_end cut

@@ -1,0 +1,11 @@
+pub mod Numbers
+pub mod Cuts
+pub mod Pieces
+pub mod Moves
+pub mod Headers
+pub mod Sofar
+pub mod Changes
+pub mod Digits
+pub mod Transfers
+pub mod Reports
+pub mod LastLines

@@ -1,0 +1,13 @@
+-- Definitions: what a reader or a writer holds after a transfer that may have stopped. This project's own, over std's words
+-- for a device whose bytes are known.
+use Rattle.std.specs.Prelude.{◌≡◌, ℕ, ◌≤◌, List, length, take, Option, Result, Err}
+use Rattle.std.specs.Io.KnownBytes.{Appends}
+use Rattle.lk_replay.specs.declared.devices.RunFault.{RunFault}
+
+-- known bytes grew by a front of these bytes
+abbrev pub AppendsFront : Option (List ℕ) → Option (List ℕ) → List ℕ → Type 0
+AppendsFront old new bytes = (n : ℕ) × (n ≤ length bytes) × Appends old new (take n bytes)
+
+-- P, where the result is that error
+abbrev pub IfErrOf : {T : Type 0} → Result T RunFault → RunFault → Type 0 → Type 0
+IfErrOf r fault P = r ≡ Err fault → P

@@ -1,0 +1,12 @@
+-- Definitions: why a text is no schedule. This project's own.
+use Rattle.std.specs.Prelude.{ℕ}
+
+-- What is wrong with a text, with the number of the line. The program's `ReadFault` has these and want of memory.
+pub data Fault : Type 0 where
+  TooLong : Fault
+  NoHeader : ℕ → Fault
+  BadHeader : ℕ → Fault
+  BadThreads : ℕ → Fault
+  BadLine : ℕ → Fault
+  TooManyMoves : ℕ → Fault
+  WordsTooNarrow : ℕ → Fault

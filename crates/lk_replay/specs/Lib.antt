@@ -1,0 +1,10 @@
+pub mod Lines
+pub mod Words
+pub mod Faults
+pub mod Header
+pub mod Schedule
+pub mod Reads
+pub mod Replay
+pub mod Report
+pub mod Ending
+pub mod Devices

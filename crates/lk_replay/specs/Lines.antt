@@ -1,0 +1,31 @@
+-- Definitions: the lines of a text and the words of a line. This project's own; the cut at each line feed is POSIX's.
+use Rattle.std.specs.Prelude.{ℕ, List, [], ◌∷◌, Bool, ◌==◌, ◌||◌, length, slice_index}
+use Rattle.std.specs.List.{slice_split}
+
+abbrev pub is_line_feed : ℕ → Bool
+is_line_feed b = b == 10
+
+abbrev pub is_space : ℕ → Bool
+is_space b = b == 32
+
+abbrev pub unless_empty : List ℕ → List (List ℕ)
+unless_empty [] = []
+unless_empty (b ∷ bs) = (b ∷ bs) ∷ []
+
+-- a last piece that is empty is no line
+abbrev pub without_empty_end : List (List ℕ) → List (List ℕ)
+without_empty_end [] = []
+without_empty_end (piece ∷ []) = unless_empty piece
+without_empty_end (piece ∷ next ∷ pieces) = piece ∷ without_empty_end (next ∷ pieces)
+
+-- the text, cut at each line feed
+unfoldable pub lines_of : List ℕ → List (List ℕ)
+lines_of text = without_empty_end (slice_split is_line_feed text)
+
+-- an empty line, or one that begins with `#`
+abbrev pub is_skipped : List ℕ → Bool
+is_skipped line = length line == 0 || slice_index line 0 == 35
+
+-- the line, cut at each space: two spaces in a row, or one at an end, make an empty word
+abbrev pub words_of : List ℕ → List (List ℕ)
+words_of line = slice_split is_space line

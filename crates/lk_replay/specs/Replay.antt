@@ -1,0 +1,69 @@
+-- Definitions: the replay of a schedule, its moves in order up to the first refused one. This project's own; what a move
+-- does is said by the definitions of the locks alone.
+use Rattle.std.specs.Prelude.{ℕ, List, [], ◌∷◌, map, Option, None, Some, replicate}
+use Rattle.std.specs.List.{flat_map}
+use Rattle.lk_locks.specs.State.{State, start, word_count}
+use Rattle.lk_locks.specs.Steps.{refusal_of, change_of, next_state}
+use Rattle.lk_locks.specs.Entries.{entries_of}
+use Rattle.lk_locks.specs.declared.kinds.LockKind.{LockKind}
+use Rattle.lk_locks.specs.declared.kinds.Entry.{Entry}
+use Rattle.lk_locks.specs.declared.kinds.Refusal.{Refusal}
+use Rattle.lk_replay.specs.Schedule.{Plan}
+use Rattle.lk_replay.specs.declared.schedule.Line.{Line}
+use Rattle.lk_replay.specs.declared.played.Accepted.{Accepted}
+
+-- an accepted move, with the entries that it added
+pub record Made : Type 0 where
+  pub accepted : Accepted
+  pub entries : List Entry
+
+-- the accepted moves, and the refused one with its line
+pub record Replay : Type 0 where
+  pub made : List Made
+  pub refused : Option (ℕ × Refusal)
+
+abbrev pub made_by : State → Line → Made
+made_by s l = record {
+  accepted = record { line = l.number; thread = l.thread; action = l.action; outcome = (change_of s l.thread l.action).outcome };
+  entries = entries_of s l.thread l.action;
+}
+
+abbrev pub with_move : Made → Replay → Replay
+with_move m r = record { made = m ∷ r.made; refused = r.refused }
+
+abbrev pub refused_or : Option Refusal → ℕ → Replay → Replay
+refused_or None line rest = rest
+refused_or (Some r) line rest = record { made = []; refused = Some (line, r) }
+
+-- the moves of these lines, from a state on
+abbrev pub replay_from : State → List Line → Replay
+replay_from s [] = record { made = []; refused = None }
+replay_from s (l ∷ ls) = refused_or (refusal_of s l.thread l.action) l.number (with_move (made_by s l) (replay_from (next_state s l.thread l.action) ls))
+
+-- the state before the first move
+abbrev pub start_of : Plan → State
+start_of p = start p.kind p.bits (replicate (word_count p.kind p.threads) 0) p.threads
+
+abbrev pub replay_of : Plan → Replay
+replay_of p = replay_from (start_of p) p.moves
+
+-- what a replay shows: the lock and the number of its threads, the accepted moves, all their entries, and the refused move
+pub record Replayed : Type 0 where
+  pub kind : LockKind
+  pub threads : ℕ
+  pub accepted : List Accepted
+  pub entries : List Entry
+  pub refused : Option (ℕ × Refusal)
+
+abbrev pub replayed : LockKind → ℕ → Replay → Replayed
+replayed kind threads r = record {
+  kind = kind;
+  threads = threads;
+  accepted = map (λ m. m.accepted) r.made;
+  entries = flat_map (λ m. m.entries) r.made;
+  refused = r.refused;
+}
+
+-- what the replay of a plan shows
+abbrev pub replayed_of : Plan → Replayed
+replayed_of p = replayed p.kind p.threads (replay_of p)

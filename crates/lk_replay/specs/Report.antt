@@ -1,0 +1,108 @@
+-- Definitions: the report text of a schedule text. This project's own. Who holds and who waits is read off the entries so
+-- far, never off words or phases.
+use Rattle.std.specs.Prelude.{ℕ, ◌+◌, List, [], ◌∷◌, ◌++◌, Option, None, Some, Result, Ok, Err, codes, decimal}
+use Rattle.std.specs.List.{flat_map}
+use Rattle.lk_locks.specs.Holding.{Holding, Free, HeldBy, ReadBy, WrittenBy, holding_of, waiting_of}
+use Rattle.lk_locks.specs.declared.kinds.LockKind.{LockKind}
+use Rattle.lk_locks.specs.declared.kinds.Outcome.{Outcome}
+use Rattle.lk_locks.specs.declared.kinds.Outcome.TheVariants.{Called, Moved, Waits, Entered, Left}
+use Rattle.lk_locks.specs.declared.kinds.Entry.{Entry}
+use Rattle.lk_locks.specs.declared.kinds.Refusal.{Refusal}
+use Rattle.lk_locks.specs.declared.kinds.Refusal.TheVariants.{NoSuchThread, WrongLock, Busy, NotHolder, AlreadyHolds, NoCall, WrongStep}
+use Rattle.lk_replay.specs.Faults.{Fault, TooLong, NoHeader, BadHeader, BadThreads, BadLine, TooManyMoves, WordsTooNarrow}
+use Rattle.lk_replay.specs.Words.{move_word, step_word}
+use Rattle.lk_replay.specs.Schedule.{Plan, plan_of}
+use Rattle.lk_replay.specs.Replay.{Made, Replay, replay_of}
+use Rattle.lk_replay.specs.declared.played.Accepted.{Accepted}
+
+-- numbers, each after a comma
+abbrev pub later_numbers : List ℕ → List ℕ
+later_numbers numbers = flat_map (λ n. 44 ∷ decimal n) numbers
+
+-- numbers, with commas between them
+abbrev pub numbers_text : List ℕ → List ℕ
+numbers_text [] = []
+numbers_text (n ∷ ns) = decimal n ++ later_numbers ns
+
+-- H: who holds
+abbrev pub holding_text : Holding → List ℕ
+holding_text Free = codes "-"
+holding_text (HeldBy thread) = decimal thread
+holding_text (ReadBy threads) = codes "r" ++ numbers_text threads
+holding_text (WrittenBy thread) = codes "w" ++ decimal thread
+
+-- Q: who waits in line
+abbrev pub queue_text : List ℕ → List ℕ
+queue_text [] = codes "-"
+queue_text (n ∷ ns) = numbers_text (n ∷ ns)
+
+-- ` hold H queue Q`, of who holds and who waits after these entries
+unfoldable pub state_text : LockKind → List Entry → List ℕ
+state_text kind es = codes " hold " ++ holding_text (holding_of kind es) ++ codes " queue " ++ queue_text (waiting_of kind es) ++ codes "\n"
+
+abbrev pub outcome_word : Outcome → List ℕ
+outcome_word Called = codes "called"
+outcome_word Moved = codes "moved"
+outcome_word Waits = codes "waits"
+outcome_word Entered = codes "entered"
+outcome_word Left = codes "left"
+
+-- `K T WORD OUTCOME`
+unfoldable pub move_text : ℕ → Accepted → List ℕ
+move_text count a = decimal count ++ codes " " ++ decimal a.thread ++ codes " " ++ move_word a.action ++ codes " " ++ outcome_word a.outcome
+
+-- the line of the accepted move number `count`, after which the entries are `es`
+abbrev pub line_text : LockKind → ℕ → List Entry → Accepted → List ℕ
+line_text kind count es a = move_text count a ++ state_text kind es
+
+unfoldable pub refusal_text : Refusal → List ℕ
+refusal_text NoSuchThread = codes "NoSuchThread"
+refusal_text WrongLock = codes "WrongLock"
+refusal_text Busy = codes "Busy"
+refusal_text NotHolder = codes "NotHolder"
+refusal_text AlreadyHolds = codes "AlreadyHolds"
+refusal_text NoCall = codes "NoCall"
+refusal_text (WrongStep next) = codes "WrongStep next " ++ step_word next
+
+-- `WHAT line L `
+abbrev pub at_line : List ℕ → ℕ → List ℕ
+at_line what number = what ++ codes " line " ++ decimal number ++ codes " "
+
+-- `refused line L NAME`
+abbrev pub refused_line : ℕ → Refusal → List ℕ
+refused_line number refusal = at_line (codes "refused") number ++ refusal_text refusal ++ codes "\n"
+
+-- the last line, after `count` accepted moves
+abbrev pub last_line : ℕ → Option (ℕ × Refusal) → List ℕ
+last_line count None = codes "end " ++ decimal count ++ codes "\n"
+last_line count (Some refused) = refused_line refused.0 refused.1
+
+-- the lines of these moves after `count` others that left the entries `es`, and the last line
+abbrev pub lines_text : LockKind → ℕ → List Entry → List Made → Option (ℕ × Refusal) → List ℕ
+lines_text kind count es [] refused = last_line count refused
+lines_text kind count es (m ∷ ms) refused = line_text kind (count + 1) (es ++ m.entries) m.accepted ++ lines_text kind (count + 1) (es ++ m.entries) ms refused
+
+abbrev pub replay_text : LockKind → Replay → List ℕ
+replay_text kind r = lines_text kind 0 [] r.made r.refused
+
+-- `fault line L NAME`
+abbrev pub fault_line : ℕ → List ℕ → List ℕ
+fault_line number name = at_line (codes "fault") number ++ name ++ codes "\n"
+
+abbrev pub fault_text : Fault → List ℕ
+fault_text TooLong = codes "fault TooLong\n"
+fault_text (NoHeader number) = fault_line number (codes "NoHeader")
+fault_text (BadHeader number) = fault_line number (codes "BadHeader")
+fault_text (BadThreads number) = fault_line number (codes "BadThreads")
+fault_text (BadLine number) = fault_line number (codes "BadLine")
+fault_text (TooManyMoves number) = fault_line number (codes "TooManyMoves")
+fault_text (WordsTooNarrow number) = fault_line number (codes "WordsTooNarrow")
+
+-- the report of a text that has this schedule or this fault: a fault anywhere is one line alone
+abbrev pub plan_text : Result Plan Fault → List ℕ
+plan_text (Ok plan) = replay_text plan.kind (replay_of plan)
+plan_text (Err fault) = fault_text fault
+
+-- the report of a schedule text
+unfoldable pub report_text : List ℕ → List ℕ
+report_text bytes = plan_text (plan_of bytes)

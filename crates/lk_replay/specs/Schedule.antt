@@ -1,0 +1,64 @@
+-- Definitions: the schedule that a text has, or else its one fault. This project's own.
+use Rattle.std.specs.Prelude.{ℕ, ◌+◌, List, [], ◌∷◌, Option, Some, None, Bool, if◌then◌else◌, ◌==◌, length, nat_lt, Result, Ok, Err}
+use Rattle.lk_locks.specs.declared.kinds.LockKind.{LockKind}
+use Rattle.lk_locks.specs.declared.kinds.Move.{Move}
+use Rattle.lk_replay.specs.declared.schedule.Line.{Line}
+use Rattle.lk_replay.specs.Lines.{lines_of, is_skipped, words_of}
+use Rattle.lk_replay.specs.Words.{number_of, move_named}
+use Rattle.lk_replay.specs.Header.{Header, header_of}
+use Rattle.lk_replay.specs.Faults.{Fault, TooLong, NoHeader, BadLine, TooManyMoves}
+
+abbrev pub both : {A B : Type 0} → Option A → Option B → Option (A × B)
+both (Some a) (Some b) = Some (a, b)
+both (Some a) None = None
+both None b = None
+
+-- a thread's number and what it does
+abbrev pub move_of_words : List (List ℕ) → Option (ℕ × Move)
+move_of_words (thread ∷ word ∷ []) = both (number_of 0 255 thread) (move_named word)
+move_of_words _ = None
+
+-- the move that a line is
+unfoldable pub move_of : List ℕ → Option (ℕ × Move)
+move_of line = move_of_words (words_of line)
+
+-- what is read from the rest, behind a line
+abbrev pub with_line : Line → Result (List Line) Fault → Result (List Line) Fault
+with_line line (Ok lines) = Ok (line ∷ lines)
+with_line line (Err fault) = Err fault
+
+-- a move that stands in line `number`, and then the moves of the other lines
+abbrev pub moves_after : Option (ℕ × Move) → ℕ → Bool → Result (List Line) Fault → Result (List Line) Fault
+moves_after None number full others = Err (BadLine number)
+moves_after (Some move) number full others =
+    if full then Err (TooManyMoves number) else with_line (record { number = number; thread = move.0; action = move.1 }) others
+
+-- the moves of the lines from line `number` on, where `taken` came before them
+abbrev pub moves_from : ℕ → ℕ → List (List ℕ) → Result (List Line) Fault
+moves_from number taken [] = Ok []
+moves_from number taken (line ∷ lines) =
+    if is_skipped line then moves_from (number + 1) taken lines
+    else moves_after (move_of line) number (taken == 65536) (moves_from (number + 1) (taken + 1) lines)
+
+-- What a schedule text says.
+pub record Plan : Type 0 where
+  pub kind : LockKind
+  pub threads : ℕ
+  pub bits : ℕ
+  pub moves : List Line
+
+abbrev pub with_header : Result Header Fault → Result (List Line) Fault → Result Plan Fault
+with_header (Ok header) (Ok moves) = Ok (record { kind = header.kind; threads = header.threads; bits = header.bits; moves = moves })
+with_header (Ok header) (Err fault) = Err fault
+with_header (Err fault) moves = Err fault
+
+-- the lines from line `number` on, where no header came before them
+abbrev pub plan_from : ℕ → List (List ℕ) → Result Plan Fault
+plan_from number [] = Err (NoHeader number)
+plan_from number (line ∷ lines) =
+    if is_skipped line then plan_from (number + 1) lines
+    else with_header (header_of number line) (moves_from (number + 1) 0 lines)
+
+-- what a text of at most 1,048,576 bytes says
+unfoldable pub plan_of : List ℕ → Result Plan Fault
+plan_of text = if nat_lt 1048576 (length text) then Err TooLong else plan_from 1 (lines_of text)

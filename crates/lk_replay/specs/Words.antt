@@ -1,0 +1,68 @@
+-- Definitions: the numbers and the names of a schedule text, and what they stand for. This project's own.
+use Rattle.std.specs.Prelude.{ℕ, ◌+◌, ◌-◌, ◌*◌, List, [], ◌∷◌, Option, Some, None, Bool, if◌then◌else◌, ◌==◌, ◌&&◌, ◌||◌, not, length, nat_lt, nat_le, slice_index, codes, find}
+use Rattle.std.specs.Str.{all_ascii_digits, bytes_eq}
+use Rattle.lk_locks.specs.declared.kinds.LockKind.{LockKind}
+use Rattle.lk_locks.specs.declared.kinds.LockKind.TheVariants.{Ticket, Mcs, RwSimple, RwFifo}
+use Rattle.lk_locks.specs.declared.kinds.Op.{Op}
+use Rattle.lk_locks.specs.declared.kinds.Op.TheVariants.{Acquire, Release, ReadLock, ReadUnlock, WriteLock, WriteUnlock, Downgrade}
+use Rattle.lk_locks.specs.declared.kinds.StepKind.{StepKind}
+use Rattle.lk_locks.specs.declared.kinds.StepKind.TheVariants.{Read, Write, Swap, Cas, Add, Section}
+use Rattle.lk_locks.specs.declared.kinds.Move.{Move}
+use Rattle.lk_locks.specs.declared.kinds.Move.TheVariants.{Call, Step}
+
+-- decimal digits, with no leading zero but in `0` itself
+abbrev pub is_plain_number : List ℕ → Bool
+is_plain_number text = all_ascii_digits text && (length text == 1 || (nat_lt 1 (length text) && not (slice_index text 0 == 48)))
+
+-- what the digits write, after a number
+abbrev pub value_from : ℕ → List ℕ → ℕ
+value_from n [] = n
+value_from n (c ∷ cs) = value_from (n * 10 + (c - 48)) cs
+
+-- the number that the text writes, where that is at least `least` and at most `most`
+unfoldable pub number_of : ℕ → ℕ → List ℕ → Option ℕ
+number_of least most text =
+    if is_plain_number text && (nat_le least (value_from 0 text) && nat_le (value_from 0 text) most) then Some (value_from 0 text) else None
+
+-- the name of a lock
+abbrev pub lock_name : LockKind → List ℕ
+lock_name Ticket = codes "ticket"
+lock_name Mcs = codes "mcs"
+lock_name RwSimple = codes "rw-simple"
+lock_name RwFifo = codes "rw-fifo"
+
+-- the lock of that name
+unfoldable pub lock_named : List ℕ → Option LockKind
+lock_named name = find (λ kind. bytes_eq name (lock_name kind)) (Ticket ∷ Mcs ∷ RwSimple ∷ RwFifo ∷ [])
+
+-- the word of a call
+abbrev pub op_word : Op → List ℕ
+op_word Acquire = codes "acquire"
+op_word Release = codes "release"
+op_word ReadLock = codes "rlock"
+op_word ReadUnlock = codes "runlock"
+op_word WriteLock = codes "wlock"
+op_word WriteUnlock = codes "wunlock"
+op_word Downgrade = codes "downgrade"
+
+-- the word of a step
+abbrev pub step_word : StepKind → List ℕ
+step_word Read = codes "read"
+step_word Write = codes "write"
+step_word Swap = codes "swap"
+step_word Cas = codes "cas"
+step_word Add = codes "add"
+step_word Section = codes "section"
+
+abbrev pub move_word : Move → List ℕ
+move_word (Call op) = op_word op
+move_word (Step kind) = step_word kind
+
+abbrev pub every_move : List Move
+every_move =
+    Call Acquire ∷ Call Release ∷ Call ReadLock ∷ Call ReadUnlock ∷ Call WriteLock ∷ Call WriteUnlock ∷ Call Downgrade
+    ∷ Step Read ∷ Step Write ∷ Step Swap ∷ Step Cas ∷ Step Add ∷ Step Section ∷ []
+
+-- the move of that word
+unfoldable pub move_named : List ℕ → Option Move
+move_named word = find (λ m. bytes_eq word (move_word m)) every_move

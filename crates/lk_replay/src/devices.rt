@@ -1,0 +1,75 @@
+//! Whole texts from a reader and to a writer.
+
+ghost use Rattle.std.specs.Prelude.{◌≡◌, ◌≢◌, ◌<◌, ◌≤◌, length, IfOk, IfErr, OnOk, OnErr};
+ghost use Rattle.std.specs.Io.KnownBytes.{Appends, Consumes, IsAtEnd};
+ghost use Rattle.lk_replay.specs.Devices.{AppendsFront};
+
+use crate::schedule::MOST_BYTES;
+use std::alloc::Global;
+use std::io::{Read, Write};
+use thiserror::Error;
+
+/// What ends a run early.
+#[derive(Clone, Copy, PartialEq, Eq, Debug, Error)]
+pub enum RunFault {
+    #[error("cannot read")]
+    Read,
+    #[error("cannot write")]
+    Write,
+    #[error("out of memory")]
+    OutOfMemory,
+}
+
+/// The most bytes that are read: one more than a schedule may have, so that a longer text is known as such.
+const READ_LIMIT: usize = MOST_BYTES + 1;
+
+// Bytes asked of a reader at once: what a pipe holds.
+const CHUNK: usize = 65_536;
+
+/// Reads to the end of the input, or up to 1,048,577 bytes and leaves the rest unread.
+///
+/// A read that fails, for whatever kind of error, is `Read`: there is no second try.
+pub fn read_text<R: Read>(alloc: Global, input: &mut R) -> Result<Vec<u8>, RunFault>
+    ensures taken { IfOk result (λ text. Consumes (R.remaining input.old) (R.remaining input.new) text.items) }
+    ensures bounded { IfOk result (λ text. length text.items ≤ 1048577) }
+    ensures whole { IfOk result (λ text. length text.items < 1048577 → IsAtEnd (R.remaining input.new)) }
+    ensures fault { IfErr result (λ e. e ≢ RunFault.Write) }
+{
+    let mut text = Vec::new(alloc);
+    let mut chunk = [0u8; CHUNK];
+    while text.len() < READ_LIMIT {
+        let want = CHUNK.min(READ_LIMIT - text.len());
+        match input.read(&mut chunk[..want]) {
+            Ok(0) => return Ok(text),
+            Ok(n) => {
+                if text.extend_from_slice(&chunk[..n]).is_err() {
+                    return Err(RunFault::OutOfMemory);
+                }
+            }
+            Err(_) => return Err(RunFault::Read),
+        }
+    }
+    Ok(text)
+}
+
+/// Writes all of the bytes, and flushes.
+///
+/// A write that fails or takes nothing, or a flush that fails, is `Write`. What was written then is a front of the bytes.
+pub fn send<W: Write>(output: &mut W, bytes: &[u8]) -> Result<(), RunFault>
+    ensures written { OnOk result (Appends (W.contents output.old) (W.contents output.new) bytes.now) }
+    ensures front { OnErr result (AppendsFront (W.contents output.old) (W.contents output.new) bytes.now) }
+    ensures fault { IfErr result (λ e. e ≡ RunFault.Write) }
+{
+    let mut sent: usize = 0;
+    while sent < bytes.len() {
+        match output.write(&bytes[sent..]) {
+            Ok(0) => return Err(RunFault::Write),
+            Ok(n) => sent += n,
+            Err(_) => return Err(RunFault::Write),
+        }
+    }
+    match output.flush() {
+        Ok(()) => Ok(()),
+        Err(_) => Err(RunFault::Write),
+    }
+}

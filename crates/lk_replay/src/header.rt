@@ -1,0 +1,85 @@
+//! The header of a schedule text: `lock NAME threads N`, and `bits B` where words have fewer than 64 bits.
+
+ghost use Rattle.std.specs.Prelude.{◌≡◌, ◌<◌, ◌≤◌, ◌^◌, MatchOption, IfSome, IfOk, None, Some};
+ghost use Rattle.lk_replay.specs.Lines.{words_of};
+ghost use Rattle.lk_replay.specs.Header.{size_of_words, shape_of_words, with_size, header_of};
+ghost use Rattle.lk_replay.specs.Reads.{Gives};
+
+use crate::ReadFault;
+use crate::lines::cut_at;
+use crate::words::{lock_named, number_of};
+use lk_locks::LockKind;
+
+/// A lock, and the numbers of its threads and of the bits of its words.
+#[derive(Clone, Copy)]
+pub struct Header {
+    pub kind: LockKind,
+    pub threads: u8,
+    pub bits: u8,
+}
+
+// The word that counts the threads, and the bits of a word.
+fn size_of(words: &[u8]) -> Option<(&[u8], u8)>
+    ensures size { MatchOption result (size_of_words (words_of words.now) ≡ None)
+        (λ size. size_of_words (words_of words.now) ≡ Some (record { count = size.0.now; bits = size.1 })) }
+    ensures least { IfSome result (λ size. 2 ≤ size.1) }
+    ensures most { IfSome result (λ size. size.1 ≤ 64) }
+{
+    let Some((count, rest)) = cut_at(words, b' ') else {
+        return Some((words, 64));
+    };
+    let (word, number) = cut_at(rest, b' ')?;
+    if word != b"bits".as_slice() {
+        return None;
+    }
+    if let Some(_) = cut_at(number, b' ') {
+        return None;
+    }
+    let bits = number_of(number, 2, 64)?;
+    Some((count, bits))
+}
+
+// The lock, and the words behind `threads`.
+fn named_lock(line: &[u8]) -> Option<(LockKind, &[u8])>
+    ensures { MatchOption result (shape_of_words (words_of line.now) ≡ None)
+        (λ lock. shape_of_words (words_of line.now) ≡ with_size (Some lock.0) (size_of_words (words_of lock.1.now))) }
+{
+    let (lock, rest) = cut_at(line, b' ')?;
+    let (name, rest) = cut_at(rest, b' ')?;
+    let (threads, size) = cut_at(rest, b' ')?;
+    if lock != b"lock".as_slice() || threads != b"threads".as_slice() {
+        return None;
+    }
+    let kind = lock_named(name)?;
+    Some((kind, size))
+}
+
+/// The header that line `number` is.
+#[tactic(auto, unfolding(crate::specs::Header::header_of))]
+pub fn header_of(line: &[u8], number: u32) -> Result<Header, ReadFault>
+    ensures some { IfOk result (λ header. 0 < header.threads) }
+    ensures few { IfOk result (λ header. header.threads ≤ 64) }
+    ensures narrow { IfOk result (λ header. header.threads < 2 ^ header.bits) }
+    ensures least { IfOk result (λ header. 2 ≤ header.bits) }
+    ensures most { IfOk result (λ header. header.bits ≤ 64) }
+    ensures read { Gives (λ header. record { kind = header.kind; threads = header.threads; bits = header.bits }) result (header_of number line.now) }
+{
+    let Some((kind, words)) = named_lock(line) else {
+        return Err(ReadFault::BadHeader(number));
+    };
+    let Some((count, bits)) = size_of(words) else {
+        return Err(ReadFault::BadHeader(number));
+    };
+    let Some(threads) = number_of(count, 1, 64) else {
+        return Err(ReadFault::BadThreads(number));
+    };
+    if u128::from(threads) < 1u128 << bits {
+        Ok(Header {
+            kind,
+            threads,
+            bits,
+        })
+    } else {
+        Err(ReadFault::WordsTooNarrow(number))
+    }
+}

@@ -1,0 +1,20 @@
+//! Schedule texts, their replays and their reports.
+#![tactic(auto)]
+
+mod devices;
+mod ending;
+mod header;
+mod lines;
+mod played;
+mod report;
+mod engine;
+mod schedule;
+mod texts;
+mod words;
+
+pub use devices::{RunFault, read_text, send};
+pub use ending::{Ending, ending_of};
+pub use played::{Accepted, Played, replay};
+pub use report::report_of;
+pub use engine::{run, status_of};
+pub use schedule::{Line, ReadFault, Schedule, read_schedule};

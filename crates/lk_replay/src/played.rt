@@ -1,0 +1,112 @@
+//! The replay of a schedule: its moves, played in order up to the first refused one.
+
+ghost use Rattle.std.specs.Prelude.{◌≡◌, IfOk, replicate};
+ghost use Rattle.lk_locks.specs.Runs.{new_lock};
+ghost use Rattle.lk_locks.specs.State.{word_count};
+ghost use Rattle.lk_replay.specs.Replay.{replayed_of};
+
+use crate::Schedule;
+use lk_locks::{Entry, Keeper, Move, Outcome, PlayFault, Refusal, words_needed};
+use lk_words::WordArray;
+use std::alloc::{AllocError, Global};
+use std::marker::Model;
+
+/// A move that was played, the line of its text, and what it did.
+#[derive(Clone, Copy, PartialEq, Eq, Debug)]
+pub struct Accepted {
+    pub line: u32,
+    pub thread: u8,
+    pub action: Move,
+    pub outcome: Outcome,
+}
+
+/// What playing a schedule up to its first refused move gave.
+#[derive(Drop)]
+pub struct Played {
+    accepted: Vec<Accepted>,
+    keeper: Keeper<WordArray>,
+    refused: Option<(u32, Refusal)>,
+}
+
+impl Model for Played {
+    ghost use Rattle.std.specs.Prelude.{length};
+    ghost use Rattle.lk_replay.specs.Replay.{Replayed};
+
+    ghost Value = { Replayed };
+
+    ghost view = { λ a. record {
+        kind = a.keeper.state.kind;
+        threads = length a.keeper.state.phases;
+        accepted = a.accepted.items;
+        entries = a.keeper.entries;
+        refused = a.refused } };
+}
+
+impl Played {
+    ghost use Rattle.std.specs.Prelude.{◌≡◌};
+    ghost use Rattle.lk_locks.specs.Legal.{Legal};
+
+    /// The accepted moves, in order.
+    pub fn accepted(&self) -> &[Accepted]
+        ensures { result.now ≡ self.now.accepted }
+    {
+        self.accepted.as_slice()
+    }
+
+    /// The history that they leave. It is legal for the lock, whatever the schedule.
+    pub fn entries(&self) -> &[Entry]
+        ensures entries { result.now ≡ self.now.entries }
+        ensures legal { Legal self.now.kind self.now.threads result.now }
+    {
+        self.keeper.entries()
+    }
+
+    /// The line of the first refused move, and why it was refused.
+    pub fn refused(&self) -> Option<(u32, Refusal)>
+        ensures { result ≡ self.now.refused }
+    {
+        self.refused
+    }
+}
+
+/// A lock of the schedule's kind, on which nothing was played.
+pub fn new_keeper(alloc: Global, schedule: &Schedule) -> Keeper<WordArray>
+    ensures { let plan = schedule.now in
+        result ≡ new_lock plan.kind plan.bits (replicate (word_count plan.kind plan.threads) 0) plan.threads }
+{
+    let kind = schedule.kind();
+    let threads = schedule.threads();
+    let words = WordArray::with_bits(words_needed(kind, threads), schedule.bits());
+    Keeper::new(alloc, kind, threads, words)
+}
+
+/// Plays the moves in order, up to the first refused one.
+pub fn replay(alloc: Global, schedule: &Schedule) -> Result<Played, AllocError>
+    ensures { IfOk result (λ played. played ≡ replayed_of schedule.now) }
+{
+    let mut keeper = new_keeper(alloc, schedule);
+    let mut accepted = Vec::new(alloc);
+    for line in schedule.moves() {
+        match keeper.play(line.thread, line.action) {
+            Ok(outcome) => accepted.push(Accepted {
+                line: line.number,
+                thread: line.thread,
+                action: line.action,
+                outcome,
+            })?,
+            Err(PlayFault::Refused(refusal)) => {
+                return Ok(Played {
+                    accepted,
+                    keeper,
+                    refused: Some((line.number, refusal)),
+                });
+            }
+            Err(PlayFault::OutOfMemory) => return Err(AllocError),
+        }
+    }
+    Ok(Played {
+        accepted,
+        keeper,
+        refused: None,
+    })
+}

@@ -1,0 +1,181 @@
+//! The schedule that a text has: its lock and its moves, each with its line.
+
+ghost use Rattle.std.specs.Prelude.{◌≡◌, ◌+◌, ◌<◌, ◌≤◌, ◌^◌, length, IfOk};
+ghost use Rattle.lk_replay.specs.Lines.{lines_of};
+ghost use Rattle.lk_replay.specs.Reads.{Gives};
+ghost use Rattle.lk_replay.specs.Schedule.{move_of, moves_from, plan_of};
+
+use crate::header::header_of;
+use crate::lines::{cut_at, cut_line, is_skipped};
+use crate::words::{move_named, number_of};
+use lk_locks::{LockKind, Move};
+use std::alloc::Global;
+use std::marker::Model;
+use thiserror::Error;
+
+/// The most bytes of a schedule text.
+pub const MOST_BYTES: usize = 1_048_576;
+
+/// The most moves of a schedule.
+pub const MOST_MOVES: usize = 65_536;
+
+/// A move, and the line of the text in which it stands, from 1.
+#[derive(Clone, Copy, PartialEq, Eq, Debug)]
+pub struct Line {
+    pub number: u32,
+    pub thread: u8,
+    pub action: Move,
+}
+
+/// Why a text has no schedule, with the number of the line.
+#[derive(Clone, Copy, PartialEq, Eq, Debug, Error)]
+pub enum ReadFault {
+    #[error("the text is too long")]
+    TooLong,
+    #[error("line {0}: there is no header")]
+    NoHeader(u32),
+    #[error("line {0}: not a header")]
+    BadHeader(u32),
+    #[error("line {0}: not a number of threads")]
+    BadThreads(u32),
+    #[error("line {0}: not a move")]
+    BadLine(u32),
+    #[error("line {0}: too many moves")]
+    TooManyMoves(u32),
+    #[error("out of memory")]
+    OutOfMemory,
+    #[error("line {0}: words too narrow for the threads")]
+    WordsTooNarrow(u32),
+}
+
+/// What a schedule text says.
+#[derive(Drop)]
+pub struct Schedule {
+    kind: LockKind,
+    threads: u8,
+    bits: u8,
+    moves: Vec<Line>,
+}
+
+impl Model for Schedule {
+    ghost use Rattle.std.specs.Prelude.{length, ◌<◌, ◌≤◌, ◌^◌};
+    ghost use Rattle.lk_replay.specs.Schedule.{Plan};
+
+    ghost Value = { Plan };
+
+    ghost view = { λ a. record { kind = a.kind; threads = a.threads; bits = a.bits; moves = a.moves.items } };
+
+    ghost invariant = { λ a. (0 < a.threads) × (a.threads ≤ 64) × (a.threads < 2 ^ a.bits) × (2 ≤ a.bits) × (a.bits ≤ 64) × (length a.moves.items ≤ 65536) };
+}
+
+impl Schedule {
+    ghost use Rattle.std.specs.Prelude.{◌≡◌, ◌<◌, ◌≤◌, ◌^◌, length};
+
+    /// The lock.
+    pub fn kind(&self) -> LockKind
+        ensures { result ≡ self.now.kind }
+    {
+        self.kind
+    }
+
+    /// How many threads it has.
+    pub fn threads(&self) -> u8
+        ensures threads { result ≡ self.now.threads }
+        ensures some { 0 < result }
+        ensures few { result ≤ 64 }
+        ensures narrow { result < 2 ^ self.now.bits }
+    {
+        self.threads
+    }
+
+    /// How many bits its words have.
+    pub fn bits(&self) -> u8
+        ensures bits { result ≡ self.now.bits }
+        ensures least { 2 ≤ result }
+        ensures most { result ≤ 64 }
+    {
+        self.bits
+    }
+
+    /// The moves, in order.
+    pub fn moves(&self) -> &[Line]
+        ensures moves { result.now ≡ self.now.moves }
+        ensures few { length result.now ≤ 65536 }
+    {
+        self.moves.as_slice()
+    }
+}
+
+// The move that a line is: a thread's number, one space, and a word.
+#[tactic(auto, unfolding(crate::specs::Schedule::move_of))]
+fn move_of(line: &[u8]) -> Option<(u8, Move)>
+    ensures { result ≡ move_of line.now }
+{
+    let (number, word) = cut_at(line, b' ')?;
+    let thread = number_of(number, 0, 255)?;
+    let action = move_named(word)?;
+    Some((thread, action))
+}
+
+// The moves of the text, whose first line has the number `first`.
+fn read_moves(alloc: Global, text: &[u8], first: u32) -> Result<Vec<Line>, ReadFault>
+    requires { first + length text.now < 2 ^ 32 }
+    ensures few { IfOk result (λ moves. length moves.items ≤ 65536) }
+    ensures read { Gives (λ moves. moves.items) result (moves_from first 0 (lines_of text.now)) }
+{
+    let mut moves: Vec<Line> = Vec::new(alloc);
+    let mut rest = text;
+    let mut number = first;
+    while !rest.is_empty() {
+        let (line, after) = cut_line(rest);
+        if !is_skipped(line) {
+            let Some((thread, action)) = move_of(line) else {
+                return Err(ReadFault::BadLine(number));
+            };
+            if moves.len() == MOST_MOVES {
+                return Err(ReadFault::TooManyMoves(number));
+            }
+            let line = Line {
+                number,
+                thread,
+                action,
+            };
+            if moves.push(line).is_err() {
+                return Err(ReadFault::OutOfMemory);
+            }
+        }
+        number += 1;
+        rest = after;
+    }
+    Ok(moves)
+}
+
+/// Reads a schedule text: its schedule, or the first fault from the first line to the last.
+///
+/// A fault of the length or of the header is answered without taking memory.
+#[tactic(auto, unfolding(crate::specs::Schedule::plan_of))]
+pub fn read_schedule(alloc: Global, bytes: &[u8]) -> Result<Schedule, ReadFault>
+    ensures { Gives (λ schedule. schedule) result (plan_of bytes.now) }
+{
+    if bytes.len() > MOST_BYTES {
+        return Err(ReadFault::TooLong);
+    }
+    let mut rest = bytes;
+    let mut number: u32 = 1;
+    while !rest.is_empty() {
+        let (line, after) = cut_line(rest);
+        if !is_skipped(line) {
+            let header = header_of(line, number)?;
+            let moves = read_moves(alloc, after, number + 1)?;
+            return Ok(Schedule {
+                kind: header.kind,
+                threads: header.threads,
+                bits: header.bits,
+                moves,
+            });
+        }
+        number += 1;
+        rest = after;
+    }
+    Err(ReadFault::NoHeader(number))
+}
