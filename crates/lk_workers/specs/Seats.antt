@@ -2,7 +2,7 @@
 --
 -- The correspondence is this project's own: a seat is a thread, and each of its calls is one event of the lock of Mellor-Crummey and
 -- Scott, "Algorithms for Scalable Synchronization on Shared-Memory Multiprocessors", ACM TOCS 9(1), 1991, section 2.1.
-use Rattle.std.specs.Prelude.{◌≡◌, ℕ, ◌+◌, ◌≤◌, List, slice_index, Option, Some, None, ⊤}
+use Rattle.std.specs.Prelude.{ℕ, ◌+◌, ◌≤◌, List, slice_index, Option, Some, None, ⊤}
 use Rattle.atomic_table.specs.Table.{State}
 use Rattle.atomic_table.specs.Seated.{TableId}
 use Rattle.lk_locks.specs.declared.kinds.Phase.{Phase}
@@ -76,7 +76,3 @@ with_seen n r = seat_state r.phase r.ticket r.left r.taken n r.loads
 -- not both seats are inside or leaving, and no ticket is that of both
 abbrev pub AreApart : SeatState → SeatState → Type 0
 AreApart r q = ¬ (IsHolding r.phase × IsHolding q.phase) × ((x : ℕ) → has x r + has x q ≤ 1)
-
--- an idle seat of this lock that may take so many tickets at least
-abbrev pub IsIdleOf : TableId → ℕ → Live → Type 0
-IsIdleOf lock takes s = (s.table ≡ lock) × (s.state.phase ≡ Idle) × (takes ≤ s.state.left)

@@ -2,4 +2,5 @@
 
 mod batches;
 mod drawn;
+mod eight;
 mod running;

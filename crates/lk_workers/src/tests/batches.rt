@@ -10,9 +10,13 @@ use std::thread;
 const TURNS: u64 = 100_000_000;
 
 const NO_MOVES: &str = "lock ticket threads 1\n";
+
 const ONE_ENTERS: &str = "lock ticket threads 2\n0 acquire\n0 add\n0 read\n";
+
 const NOT_HOLDER: &str = "lock ticket threads 2\n0 release\n";
-const TWO_WRITERS: &str = "lock rw-simple threads 2\n0 wlock\n0 section\n1 wlock\n1 section\n0 wunlock\n0 section\n1 section\n";
+
+const TWO_WRITERS: &str =
+    "lock rw-simple threads 2\n0 wlock\n0 section\n1 wlock\n1 section\n0 wunlock\n0 section\n1 section\n";
 
 const REPORTS: &str = "file 1
 end 0
@@ -184,7 +188,10 @@ fn five_schedules(rt: HostRuntime) -> Result<(), Fail> {
         let reports = replay_many(&rt, rt.alloc(), &texts, workers, &OpenGate)?;
         assert_eq!(rt; reports.len(), 5);
         let text = batch_text(rt.alloc(), &reports)?;
-        assert!(rt; text.as_slice() == REPORTS.as_bytes(), "with {workers} workers");
+        assert!(rt;
+            text.as_slice() == REPORTS.as_bytes(),
+            "with {workers} workers"
+        );
     }
     Ok(())
 }

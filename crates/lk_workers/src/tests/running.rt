@@ -1,7 +1,7 @@
 //! The running lock by hand, and under threads.
 
 ghost use Rattle.std.specs.Prelude.{◌≡◌, ◌+◌, ◌≤◌, true, IfSome};
-ghost use Rattle.lk_workers.specs.Seats.{IsIdleOf};
+ghost use Rattle.lk_workers.specs.Rounds.{IsIdleOf};
 
 use crate::{LivePhase, LiveSeat, LiveTicket};
 use std::snapshot::Snapshot;
@@ -80,9 +80,9 @@ fn round(lock: &LiveTicket, seat: &mut LiveSeat) -> bool
 }
 
 // This many rounds, or `None` where a turn never came.
-fn rounds(lock: &LiveTicket, mut seat: LiveSeat, count: u64) -> Option<LiveSeat>
+pub fn rounds(lock: &LiveTicket, mut seat: LiveSeat, count: u64) -> Option<LiveSeat>
     requires { IsIdleOf lock.now count seat }
-    ensures { IfSome result (λ s. IsIdleOf lock.now 0 s) }
+    ensures { IfSome result (λ s. IsIdleOf lock.now 0 s × (s.state.left + count ≡ seat.state.left)) }
 {
     for _ in 0..count {
         if !round(lock, &mut seat) {
@@ -127,7 +127,7 @@ struct IdleOf(Snapshot<LiveTicket>);
 
 impl Promise<Option<LiveSeat>> for IdleOf {
     ghost use Rattle.std.specs.Prelude.{IfSome};
-    ghost use Rattle.lk_workers.specs.Seats.{IsIdleOf};
+    ghost use Rattle.lk_workers.specs.Rounds.{IsIdleOf};
 
     ghost kept_by = { λ p r. IfSome r (λ s. IsIdleOf p.0.value 0 s) };
 }
