@@ -5,8 +5,8 @@ use Rattle.std.proofs.lemmas.Bool.{cases_lt}
 use Rattle.std.proofs.Math.Seq.{take-set-lt}
 use Rattle.lk_locks.specs.State.{State, phase_at, word_count, start}
 use Rattle.lk_locks.specs.Steps.{move_change, change_of, next_state, refusal_of, after_move}
-use Rattle.lk_locks.specs.WellFormed.{IsMachine, IsPhaseOf, AreLinks}
-use Rattle.lk_locks.proofs.Phases.{Accepted, well_kept, accepted_of}
+use Rattle.lk_locks.specs.invariants.WellFormed.{IsMachine, IsPhaseOf, AreLinks}
+use Rattle.lk_locks.proofs.Moves.{Accepted, well_kept, accepted_of}
 use Rattle.lk_locks.specs.declared.kinds.LockKind.{LockKind}
 use Rattle.lk_locks.specs.declared.kinds.LockKind.TheVariants.{Ticket, Mcs, RwSimple, RwFifo}
 use Rattle.lk_locks.specs.declared.kinds.Phase.{Phase}

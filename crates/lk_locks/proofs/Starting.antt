@@ -6,9 +6,12 @@ use Rattle.std.proofs.lemmas.Nat.{pow_pos}
 use Rattle.std.proofs.Math.Nat.{mod-eq_of_lt}
 use Rattle.lk_locks.specs.State.{start, phase_at, word_count}
 use Rattle.lk_locks.specs.Sequential.{nobody}
-use Rattle.lk_locks.specs.Kept.{Kept, AgreeAs, AreHolders, IsHeldInside, ticket_of, is_reading, is_writing, is_announced}
-use Rattle.lk_locks.specs.Rest.{rest_of}
-use Rattle.lk_locks.specs.WellFormed.{IsMachine}
+use Rattle.lk_locks.specs.invariants.Kept.{Kept, AgreeAs}
+use Rattle.lk_locks.specs.invariants.read_write.{AreHolders, is_reading, is_writing, is_announced}
+use Rattle.lk_locks.specs.invariants.ticket.{ticket_of}
+use Rattle.lk_locks.specs.invariants.Inside.{IsHeldInside}
+use Rattle.lk_locks.specs.invariants.Rest.{rest_of}
+use Rattle.lk_locks.specs.invariants.WellFormed.{IsMachine}
 use Rattle.lk_locks.proofs.Machines.{machine_new}
 use Rattle.lk_locks.specs.declared.kinds.LockKind.{LockKind}
 use Rattle.lk_locks.specs.declared.kinds.LockKind.TheVariants.{Ticket, Mcs, RwSimple, RwFifo}
@@ -40,18 +43,18 @@ agree_start Ticket bits ws n h z = record {
   others = λ t m. ap ticket_of (all_idle n t);
 }
 agree_start Mcs bits ws n h z = record {
-  tail = z 0;
+  tail_is = z 0;
   line = tt;
   once = tt;
   members = λ t m. absurd (false≢true m);
   others = λ t m. rw (all_idle n t) tt;
 }
-agree_start RwSimple bits ws n h z = record { narrow = rw (length-replicate n Idle) h; readers = z 0; flag = z 1; holders = no_holders RwSimple n }
+agree_start RwSimple bits ws n h z = record { narrow = rw (length-replicate n Idle) h; count = z 0; flag_is = z 1; holders = no_holders RwSimple n }
 agree_start RwFifo bits ws n h z = record {
   narrow = rw (length-replicate n Idle) h;
   left = rw (z 1) (pow_pos bits);
   came = z 0 ∙ sym (ap (λ y. (y + 0) % 2 ^ bits) (z 1) ∙ mod-eq_of_lt (pow_pos bits));
-  flag = z 2;
+  flag_is = z 2;
   holders = no_holders RwFifo n;
 }
 
@@ -60,6 +63,12 @@ held_start Ticket n = refl
 held_start Mcs n = refl
 held_start RwSimple n = tt
 held_start RwFifo n = tt
+
+idle_rest : (kind : LockKind) (t : ℕ) → rest_of kind t Idle ≡ []
+idle_rest Ticket t = refl
+idle_rest Mcs t = refl
+idle_rest RwSimple t = refl
+idle_rest RwFifo t = refl
 
 pub kept_start : (kind : LockKind) (bits : ℕ) (ws : List ℕ) (n : ℕ) → n ≤ 64 → n < 2 ^ bits → word_count kind n ≤ length ws → ((i : ℕ) → i < length ws → slice_index ws i ≡ 0) → Kept (start kind bits ws n) (nobody kind) []
 kept_start kind bits ws n h b w z =
@@ -71,7 +80,7 @@ kept_start kind bits ws n h b w z =
       kind = refl;
       now = refl;
       allowed = tt;
-      turns = λ t k. ([], ap (rest_of kind t) (all_idle n t));
+      turns = λ t k. ([], ap (rest_of kind t) (all_idle n t) ∙ idle_rest kind t);
       no_others = tt;
       agree = agree_start kind bits ws n (omega arith) zero;
       held = held_start kind n;

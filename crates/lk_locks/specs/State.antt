@@ -1,11 +1,15 @@
--- The state of a lock: its kind, its words, and what each thread does.
-use Rattle.std.specs.Prelude.{ℕ, ◌+◌, ◌*◌, List, get_or, replicate}
+-- Definitions. The state of a lock: its kind, its words, and what each thread does. This project's own.
+use Rattle.std.specs.Prelude.{ℕ, List, get_or, replicate}
+use Rattle.lk_locks.specs.ticket
+use Rattle.lk_locks.specs.mcs
+use Rattle.lk_locks.specs.rw_simple
+use Rattle.lk_locks.specs.rw_fifo
 use Rattle.lk_locks.specs.declared.kinds.LockKind.{LockKind}
 use Rattle.lk_locks.specs.declared.kinds.LockKind.TheVariants.{Ticket, Mcs, RwSimple, RwFifo}
 use Rattle.lk_locks.specs.declared.kinds.Phase.{Phase}
 use Rattle.lk_locks.specs.declared.kinds.Phase.TheVariants.{Idle}
 
--- the words are below 2 ^ bits. There is a phase for each thread
+-- the words are below 2 ^ bits, and there is a phase for each thread
 pub record State : Type 0 where
   pub kind : LockKind
   pub bits : ℕ
@@ -14,15 +18,15 @@ pub record State : Type 0 where
 
 -- how many words a lock of this kind has
 abbrev pub word_count : LockKind → ℕ → ℕ
-word_count Ticket n = 2
-word_count Mcs n = 1 + 2 * n
-word_count RwSimple n = 2
-word_count RwFifo n = 3
+word_count Ticket threads = ticket.word_count threads
+word_count Mcs threads = mcs.word_count threads
+word_count RwSimple threads = rw_simple.word_count threads
+word_count RwFifo threads = rw_fifo.word_count threads
 
 -- what thread t does
 abbrev pub phase_at : List Phase → ℕ → Phase
 phase_at phases t = get_or phases t Idle
 
--- all words are 0, and all threads are idle
+-- at the start all threads are idle. The words are the caller's, all 0
 abbrev pub start : LockKind → ℕ → List ℕ → ℕ → State
-start kind bits words n = record { kind = kind; bits = bits; words = words; phases = replicate n Idle }
+start kind bits words threads = record { kind = kind; bits = bits; words = words; phases = replicate threads Idle }

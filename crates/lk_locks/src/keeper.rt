@@ -1,7 +1,8 @@
-//! A lock with its history.
+//! A lock with its sequential object and its history: the machine steps, and what it does is recorded and is legal.
 
-use crate::entries::entries_for;
-use crate::holders::{alone, copy_of, is_inside};
+use crate::entries::{Added, add_entries};
+use crate::holders::{alone, copy_of};
+use crate::steps::is_inside;
 use crate::{
     Entry, History, Holders, LockKind, Machine, Move, Outcome, PlayFault, SeqLock, StepKind,
 };
@@ -10,6 +11,7 @@ use lk_words::Words;
 use std::alloc::Global;
 use std::marker::Model;
 
+/// Machine, sequential lock and history together. A contract sees the state, the sequential object and the entries.
 #[derive(Drop)]
 pub struct Keeper<W: Words> {
     machine: Machine<W>,
@@ -22,7 +24,7 @@ impl<W: Words> Model for Keeper<W> {
 
     ghost Value = { Played };
 
-    ghost use Rattle.lk_locks.specs.Kept.{Kept};
+    ghost use Rattle.lk_locks.specs.invariants.Kept.{Kept};
 
     ghost view = { λ a. record { state = a.machine; sequential = a.sequential; entries = a.history.entries } };
 
@@ -33,11 +35,13 @@ impl<W: Words> Keeper<W> {
     ghost use Rattle.std.specs.Prelude.{◌≡◌, ℕ, ◌<◌, ◌≤◌, ◌^◌, length, slice_index, OnOk, OnErr, []};
     ghost use Rattle.lk_locks.specs.State.{start, word_count, phase_at};
     ghost use Rattle.lk_locks.specs.Steps.{step_due, refusal_of, change_of};
+    ghost use Rattle.lk_locks.specs.invariants.Inside.{is_inside};
     ghost use Rattle.lk_locks.specs.Sequential.{nobody};
     ghost use Rattle.lk_locks.specs.Legal.{Legal};
     ghost use Rattle.lk_locks.specs.Play.{after_play, IsPlayAnswer};
     ghost use Rattle.lk_locks.specs.Holding.{holding, holding_of, waiting_of, IsListed};
 
+    /// A new lock with 1 to 64 threads, fewer than its words, which are all 0. It keeps the allocator and takes no memory yet.
     pub fn new(alloc: Global, kind: LockKind, threads: u8, words: W) -> Keeper<W>
         requires some { 0 < threads }
         requires few { threads ≤ 64 }
@@ -53,7 +57,10 @@ impl<W: Words> Keeper<W> {
         }
     }
 
-    /// Plays a move. What is kept after it is legal.
+    /// Plays a move, in this order: the refusal is decided, room for three entries is made, the move is made and recorded.
+    ///
+    /// After either fault nothing has changed. `OutOfMemory` is answered only where a growth of the history was refused; a refused
+    /// move asks for no memory.
     pub fn play(&mut self, t: u8, m: Move) -> Result<Outcome, PlayFault>
         ensures answer { IsPlayAnswer (refusal_of self.old.state t m) (change_of self.old.state t m).outcome result }
         ensures played { OnOk result (self.new ≡ after_play self.old t m) }
@@ -68,13 +75,14 @@ impl<W: Words> Keeper<W> {
         let kind = self.machine.kind();
         let phase = self.machine.phase(t);
         let outcome = self.machine.make(t, m);
-        let added = entries_for(kind, t, phase, m, outcome);
+        let mut added = Added::none();
+        add_entries(&mut added, kind, t, phase, m, outcome);
         self.sequential.follow(added.as_slice());
         self.history.append(added.as_slice());
         Ok(outcome)
     }
 
-    /// What happened. It is legal, whatever was played.
+    /// What happened, oldest first. It is a legal history of the lock's sequential object, whatever was played.
     pub fn entries(&self) -> &[Entry]
         ensures entries { result.now ≡ self.now.entries }
         ensures legal { Legal self.now.state.kind (length self.now.state.phases) result.now }
@@ -82,21 +90,30 @@ impl<W: Words> Keeper<W> {
         self.history.entries()
     }
 
+    /// The step that thread `t` takes next. There is none exactly where it has no pending call.
     pub fn next_step(&self, t: u8) -> Option<StepKind>
         requires { t < length self.now.state.phases }
-        ensures { result ≡ step_due (phase_at self.now.state.phases t) }
+        ensures { result ≡ step_due self.now.state.kind (phase_at self.now.state.phases t) }
     {
         self.machine.next_step(t)
     }
 
-    /// Who holds now.
+    // Whether a thread is inside a queue lock.
+    fn is_inside(&self, t: u8) -> bool
+        requires { t < length self.now.state.phases }
+        ensures { result ≡ is_inside self.now.state.kind (phase_at self.now.state.phases t) }
+    {
+        is_inside(self.machine.kind(), self.machine.phase(t))
+    }
+
+    /// Who holds now, by the history. A pending release of a queue lock still holds. This does not depend on how long the history is.
     pub fn holders(&self) -> Holders
         ensures holding { holding result ≡ holding_of self.now.state.kind self.now.entries }
         ensures listed { IsListed (holding result) }
     {
         match self.machine.kind() {
             LockKind::Ticket | LockKind::Mcs => match self.sequential.oldest() {
-                Some(t) if is_inside(self.machine.phase(t)) => Holders::Holder(t),
+                Some(t) if self.is_inside(t) => Holders::Holder(t),
                 _ => Holders::Nobody,
             },
             LockKind::RwSimple | LockKind::RwFifo => match self.sequential.writer() {
@@ -107,7 +124,8 @@ impl<W: Words> Keeper<W> {
         }
     }
 
-    /// Who waits in line, the holder of a queue lock too.
+    /// Who is in line, by the history: the requests of a queue lock, oldest first, the holder's too; the announced writer of a FIFO
+    /// lock; nobody of a simple lock.
     pub fn queue(&self) -> ArrayVec<u8, 64>
         ensures { result.items ≡ waiting_of self.now.state.kind self.now.entries }
     {

@@ -1,0 +1,45 @@
+-- What the rooms prove of each step of their lock, and how a choice inside a step is taken apart.
+use Rattle.std.proofs.Common.{Bool, List, [], false, if◌then◌else◌, length, true, ℕ, ◌++◌, ◌∷◌, ◌≡◌}
+use Rattle.std.specs.List.{AllByRecursion}
+use Rattle.lk_locks.specs.Change.{Change}
+use Rattle.lk_locks.specs.Entries.{step_entries}
+use Rattle.lk_locks.specs.Legal.{AllMayCome, after_entries, thread_of, whole_call}
+use Rattle.lk_locks.specs.Sequential.{Sequential}
+use Rattle.lk_locks.specs.Steps.{after_call}
+use Rattle.lk_locks.specs.invariants.Rest.{rest_of}
+use Rattle.lk_locks.specs.invariants.WellFormed.{IsPhaseOf}
+use Rattle.lk_locks.specs.declared.kinds.Entry.{Entry}
+use Rattle.lk_locks.specs.declared.kinds.Entry.TheVariants.{Called}
+use Rattle.lk_locks.specs.declared.kinds.LockKind.{LockKind}
+use Rattle.lk_locks.specs.declared.kinds.Op.{Op}
+use Rattle.lk_locks.specs.declared.kinds.Phase.{Phase}
+
+pub either_way : {A : Type 0} (P : A → Type 0) (b : Bool) (x y : A) → P x → P y → P (if b then x else y)
+either_way P true x y p q = p
+either_way P false x y p q = q
+
+-- a step from phase p that leads to c adds the next entries of the call
+abbrev pub GoesOn : LockKind → ℕ → Phase → Change → Type 0
+GoesOn kind t p c = rest_of kind t p ≡ step_entries kind t p c.outcome ++ rest_of kind t c.phase
+
+-- a call begins where the one before it is finished
+abbrev pub Begins : LockKind → ℕ → Phase → Op → Type 0
+Begins kind t p op = (rest_of kind t p ≡ []) × (whole_call kind t op ≡ Called t op ∷ rest_of kind t (after_call kind p op))
+
+-- no move changes how many words there are
+abbrev pub KeepsLength : List ℕ → Change → Type 0
+KeepsLength ws c = length c.words ≡ length ws
+
+-- the new phase is one of the lock's
+abbrev pub Fits : LockKind → ℕ → Change → Type 0
+Fits kind n c = IsPhaseOf kind n c.phase
+
+-- entries of one thread alone
+abbrev pub AreOf : ℕ → List Entry → Type 0
+AreOf t es = AllByRecursion (λ e. thread_of e ≡ t) es
+
+-- What a move of thread t leaves, with the entries that it adds: they may come, and the sequential object goes along.
+pub record IsAgreed (kind : LockKind) (agree : Sequential → Type 0) (q : Sequential) (es : List Entry) : Type 0 where
+  pub allowed : AllMayCome q es
+  pub kind_is : (after_entries q es).kind ≡ kind
+  pub agrees : agree (after_entries q es)

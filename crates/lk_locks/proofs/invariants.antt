@@ -1,0 +1,9 @@
+-- Each lock's invariant is kept by its moves: a room for each, and what they share.
+pub mod Inside
+pub mod HolderLists
+pub mod TicketLine
+pub mod ticket
+pub mod McsLine
+pub mod mcs
+pub mod rw_simple
+pub mod rw_fifo

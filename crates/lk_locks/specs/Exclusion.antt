@@ -1,0 +1,76 @@
+-- Definitions. Mutual exclusion, in its own words: laws of every legal history. This project's own.
+use Rattle.std.specs.Prelude.{◌≡◌, ℕ, List, [], ◌∷◌, ◌++◌, Option, None, Some, ◌⊎◌, IsTrue}
+use Rattle.lk_locks.specs.Sequential.{Sequential, nobody, is_head}
+use Rattle.lk_locks.specs.Legal.{Legal, after_entries}
+use Rattle.lk_locks.specs.Holding.{holder_after}
+use Rattle.lk_locks.specs.Places.{Stands, Between}
+use Rattle.lk_locks.specs.declared.kinds.LockKind.{LockKind}
+use Rattle.lk_locks.specs.declared.kinds.LockKind.TheVariants.{Ticket, Mcs, RwFifo}
+use Rattle.lk_locks.specs.declared.kinds.Op.TheVariants.{Acquire, Release, ReadLock, ReadUnlock, WriteLock, WriteUnlock, Downgrade}
+use Rattle.lk_locks.specs.declared.kinds.Entry.{Entry}
+use Rattle.lk_locks.specs.declared.kinds.Entry.TheVariants.{Announced, Acted, Returned}
+
+abbrev pub IsQueueLock : LockKind → Type 0
+IsQueueLock Ticket = Unit {0}
+IsQueueLock Mcs = Unit {0}
+IsQueueLock kind = ⊥
+
+-- queue locks
+
+-- who holds, from here on: an acquire returns only where nobody holds, and only who holds releases
+abbrev pub MayHold : Option ℕ → Entry → Type 0
+MayHold h (Returned t Acquire) = h ≡ None
+MayHold h (Acted t Release) = h ≡ Some t
+MayHold h e = Unit {0}
+
+abbrev pub IsHeldInTurn : Option ℕ → List Entry → Type 0
+IsHeldInTurn h [] = Unit {0}
+IsHeldInTurn h (e ∷ es) = MayHold h e × IsHeldInTurn (holder_after h (e ∷ [])) es
+
+-- a queue lock is held by one thread at a time
+abbrev pub HoldersTakeTurns : Type 0
+HoldersTakeTurns = (kind : LockKind) (n : ℕ) (es : List Entry) → IsQueueLock kind → Legal kind n es → IsHeldInTurn None es
+
+-- who holds a queue lock is the head of its queue
+abbrev pub HolderIsHead : Type 0
+HolderIsHead =
+    (kind : LockKind) (n : ℕ) (es : List Entry) → IsQueueLock kind → Legal kind n es
+    → (t : ℕ) → holder_after None es ≡ Some t → IsTrue (is_head (after_entries (nobody kind) es).queue t)
+
+-- between the return of an acquire and the return of a later one stands the act of the first one's release
+abbrev pub HoldersAreApart : Type 0
+HoldersAreApart =
+    (kind : LockKind) (n : ℕ) (es : List Entry) → IsQueueLock kind → Legal kind n es
+    → (t u : ℕ) → Between (Returned t Acquire) (Returned u Acquire) (Stands (Acted t Release)) es
+
+-- read-write locks
+
+-- t has stopped writing, by an unlock or as a reader
+abbrev pub HasStoppedWriting : ℕ → List Entry → Type 0
+HasStoppedWriting t es = Stands (Acted t WriteUnlock) es ⊎ Stands (Acted t Downgrade) es
+
+-- between two writers the first stops writing
+abbrev pub NeverTwoWriters : Type 0
+NeverTwoWriters =
+    (kind : LockKind) (n : ℕ) (es : List Entry) → Legal kind n es
+    → (t u : ℕ) → Between (Acted t WriteLock) (Acted u WriteLock) (HasStoppedWriting t) es
+
+-- A reader enters only after the writer before it stopped writing, and a writer only after each reader before it left. Where there is a
+-- writer, after whatever beginning of the history, there is no reader.
+pub record IsNeverBesideReader (kind : LockKind) (es : List Entry) : Type 0 where
+  pub then_reader : (t u : ℕ) → Between (Acted t WriteLock) (Acted u ReadLock) (HasStoppedWriting t) es
+  pub then_writer : (t u : ℕ) → Between (Acted t ReadLock) (Acted u WriteLock) (Stands (Acted t ReadUnlock)) es
+  pub downgraded_writer : (t u : ℕ) → Between (Acted t Downgrade) (Acted u WriteLock) (Stands (Acted t ReadUnlock)) es
+  pub no_reader : (before after : List Entry) → es ≡ before ++ after
+      → let now : Sequential = after_entries (nobody kind) before in (w : ℕ) → now.writer ≡ Some w → now.readers ≡ []
+
+abbrev pub NeverAWriterBesideAReader : Type 0
+NeverAWriterBesideAReader = (kind : LockKind) (n : ℕ) (es : List Entry) → Legal kind n es → IsNeverBesideReader kind es
+
+-- between the announcement of a FIFO writer and a later reader's entering, or another's announcement, stands that writer's entering
+pub record IsAnnouncedFirst (es : List Entry) : Type 0 where
+  pub then_reader : (t u : ℕ) → Between (Announced t) (Acted u ReadLock) (Stands (Acted t WriteLock)) es
+  pub then_announced : (t u : ℕ) → Between (Announced t) (Announced u) (Stands (Acted t WriteLock)) es
+
+abbrev pub AnnouncedWriterGoesFirst : Type 0
+AnnouncedWriterGoesFirst = (n : ℕ) (es : List Entry) → Legal RwFifo n es → IsAnnouncedFirst es

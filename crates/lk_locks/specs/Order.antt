@@ -1,0 +1,25 @@
+-- Definitions. The order in which a queue lock is entered: a law of every legal history. This project's own.
+use Rattle.std.specs.Prelude.{◌≡◌, ℕ, List, [], ◌∷◌, ◌++◌}
+use Rattle.lk_locks.specs.Legal.{Legal}
+use Rattle.lk_locks.specs.Exclusion.{IsQueueLock}
+use Rattle.lk_locks.specs.declared.kinds.LockKind.{LockKind}
+use Rattle.lk_locks.specs.declared.kinds.Op.TheVariants.{Acquire}
+use Rattle.lk_locks.specs.declared.kinds.Entry.{Entry}
+use Rattle.lk_locks.specs.declared.kinds.Entry.TheVariants.{Acted, Returned}
+
+-- the threads in the order of their tickets or swaps
+abbrev pub requested : List Entry → List ℕ
+requested [] = []
+requested (Acted t Acquire ∷ es) = t ∷ requested es
+requested (e ∷ es) = requested es
+
+-- the threads in the order in which they entered
+abbrev pub entered : List Entry → List ℕ
+entered [] = []
+entered (Returned t Acquire ∷ es) = t ∷ entered es
+entered (e ∷ es) = entered es
+
+-- those that entered are, in order, a beginning of those that asked
+abbrev pub EntersInOrder : Type 0
+EntersInOrder =
+    (kind : LockKind) (n : ℕ) (es : List Entry) → IsQueueLock kind → Legal kind n es → (rest : List ℕ) × (entered es ++ rest ≡ requested es)

@@ -1,0 +1,12 @@
+-- What the proofs carry from call to call. No public `ensures` rests on believing these files.
+pub mod Threads
+pub mod read_write
+pub mod ticket
+pub mod mcs
+pub mod rw_simple
+pub mod rw_fifo
+pub mod WellFormed
+pub mod Rest
+pub mod Inside
+pub mod SequentialKept
+pub mod Kept

@@ -1,0 +1,113 @@
+-- Invariants. The MCS lock's: its phases, what a pending call still owes the history, who is inside, and how its words agree with the
+-- queue of its sequential object, which is only partly linked at most moments.
+use Rattle.std.specs.Prelude.{◌≡◌, ℕ, ◌+◌, ◌<◌, ◌≤◌, List, [], ◌∷◌, length, slice_index, Bool, true, false, IsTrue}
+use Rattle.lk_locks.specs.State.{phase_at}
+use Rattle.lk_locks.specs.Acts.{acts}
+use Rattle.lk_locks.specs.Sequential.{has, is_head, is_empty}
+use Rattle.lk_locks.specs.mcs.{tail, next, locked}
+use Rattle.lk_locks.specs.invariants.Threads.{EachOnce}
+use Rattle.lk_locks.specs.declared.kinds.Phase.{Phase}
+use Rattle.lk_locks.specs.declared.kinds.Phase.TheVariants.{Idle, ClearNext, SwapTail, SetLocked, LinkTo, AwaitGrant, McsInside, ReadNext, CasTail, AwaitLink, Grant}
+use Rattle.lk_locks.specs.declared.kinds.Op.TheVariants.{Acquire, Release}
+use Rattle.lk_locks.specs.declared.kinds.Entry.{Entry}
+use Rattle.lk_locks.specs.declared.kinds.Entry.TheVariants.{Returned}
+
+-- the threads that a phase names are among the n
+abbrev pub IsPhase : ℕ → Phase → Type 0
+IsPhase n Idle = Unit {0}
+IsPhase n ClearNext = Unit {0}
+IsPhase n SwapTail = Unit {0}
+IsPhase n (SetLocked j) = j < n
+IsPhase n (LinkTo j) = j < n
+IsPhase n AwaitGrant = Unit {0}
+IsPhase n McsInside = Unit {0}
+IsPhase n ReadNext = Unit {0}
+IsPhase n CasTail = Unit {0}
+IsPhase n AwaitLink = Unit {0}
+IsPhase n (Grant j) = j < n
+IsPhase n p = IsTrue false
+
+-- the tail and each link name one of the n threads, or none
+abbrev pub AreLinks : ℕ → List ℕ → Type 0
+AreLinks n ws = (slice_index ws tail ≤ n) × ((i : ℕ) → i < n → slice_index ws (next i) ≤ n)
+
+-- what the pending call of thread i has still to add to the history
+abbrev pub rest : ℕ → Phase → List Entry
+rest i ClearNext = acts i Acquire
+rest i SwapTail = acts i Acquire
+rest i (SetLocked j) = Returned i Acquire ∷ []
+rest i (LinkTo j) = Returned i Acquire ∷ []
+rest i AwaitGrant = Returned i Acquire ∷ []
+rest i ReadNext = acts i Release
+rest i CasTail = acts i Release
+rest i AwaitLink = acts i Release
+rest i (Grant j) = acts i Release
+rest i p = []
+
+-- between the step that enters and the step that leaves
+abbrev pub is_inside : Phase → Bool
+is_inside McsInside = true
+is_inside ReadNext = true
+is_inside CasTail = true
+is_inside AwaitLink = true
+is_inside (Grant j) = true
+is_inside p = false
+
+-- the words of thread i's record
+abbrev pub next_of : List ℕ → ℕ → ℕ
+next_of ws i = slice_index ws (next i)
+
+abbrev pub locked_of : List ℕ → ℕ → ℕ
+locked_of ws i = slice_index ws (locked i)
+
+-- the last of a queue whose first is u
+abbrev pub last_of : ℕ → List ℕ → ℕ
+last_of u [] = u
+last_of u (t ∷ q) = last_of t q
+
+-- the tail names the last, and is nil where there is none
+abbrev pub tail_of : List ℕ → ℕ
+tail_of [] = 0
+tail_of (t ∷ q) = last_of t q + 1
+
+-- Thread t, in this phase, comes after u. Before it links itself it knows u, whose next is nil; once it has, it is u's next.
+abbrev pub IsBehind : List ℕ → ℕ → ℕ → Phase → Type 0
+IsBehind ws u t (SetLocked j) = (j ≡ u) × (next_of ws u ≡ 0)
+IsBehind ws u t (LinkTo j) = (j ≡ u) × (next_of ws u ≡ 0) × (locked_of ws t ≡ 1)
+IsBehind ws u t AwaitGrant = (next_of ws u ≡ t + 1) × (locked_of ws t ≡ 1)
+IsBehind ws u t p = ⊥
+
+-- what comes after u. The last has no next
+abbrev pub IsLater : List ℕ → List Phase → ℕ → List ℕ → Type 0
+IsLater ws ps u [] = next_of ws u ≡ 0
+IsLater ws ps u (t ∷ q) = IsBehind ws u t (phase_at ps t) × IsLater ws ps t q
+
+-- The head t, in this phase, before the others. Where it still waits it is granted; where it waits for a link there is a second;
+-- where it grants, the second is its next.
+abbrev pub IsFirst : List ℕ → ℕ → List ℕ → Phase → Type 0
+IsFirst ws t q AwaitGrant = locked_of ws t ≡ 0
+IsFirst ws t q McsInside = Unit {0}
+IsFirst ws t q ReadNext = Unit {0}
+IsFirst ws t q CasTail = Unit {0}
+IsFirst ws t q AwaitLink = is_empty q ≡ false
+IsFirst ws t q (Grant j) = (is_head q j ≡ true) × (next_of ws t ≡ j + 1)
+IsFirst ws t q p = ⊥
+
+abbrev pub IsLine : List ℕ → List Phase → List ℕ → Type 0
+IsLine ws ps [] = Unit {0}
+IsLine ws ps (t ∷ q) = IsFirst ws t q (phase_at ps t) × IsLater ws ps t q
+
+-- a thread that is not in the queue. Before its swap its next is nil
+abbrev pub IsOutside : List ℕ → ℕ → Phase → Type 0
+IsOutside ws t Idle = Unit {0}
+IsOutside ws t ClearNext = Unit {0}
+IsOutside ws t SwapTail = next_of ws t ≡ 0
+IsOutside ws t p = ⊥
+
+-- the queue is the threads past their swap that have not left, in the order of the swaps
+pub record IsQueue (ws : List ℕ) (ps : List Phase) (queue : List ℕ) : Type 0 where
+  pub tail_is : slice_index ws tail ≡ tail_of queue
+  pub line : IsLine ws ps queue
+  pub once : EachOnce queue
+  pub members : (t : ℕ) → has queue t ≡ true → t < length ps
+  pub others : (t : ℕ) → has queue t ≡ false → IsOutside ws t (phase_at ps t)

@@ -1,0 +1,43 @@
+-- Invariants. The FIFO read-write lock's: its phases, what a pending call still owes the history, and how its words agree with the
+-- holders of its sequential object.
+use Rattle.std.specs.Prelude.{◌≡◌, ℕ, ◌+◌, ◌%◌, ◌^◌, ◌<◌, List, [], ◌∷◌, length, slice_index, Bool, true, false}
+use Rattle.lk_locks.specs.Acts.{acts}
+use Rattle.lk_locks.specs.Sequential.{Sequential}
+use Rattle.lk_locks.specs.rw_fifo.{read_acquires, read_releases, flag}
+use Rattle.lk_locks.specs.invariants.read_write.{AreHolders, flag_of}
+use Rattle.lk_locks.specs.declared.kinds.Phase.{Phase}
+use Rattle.lk_locks.specs.declared.kinds.Phase.TheVariants.{Idle, TryRead, Reading, LeaveRead, TryWrite, AwaitReaders, Writing, LeaveWrite, TryDowngrade}
+use Rattle.lk_locks.specs.declared.kinds.Op.TheVariants.{ReadLock, ReadUnlock, WriteLock, WriteUnlock, Downgrade}
+use Rattle.lk_locks.specs.declared.kinds.Entry.{Entry}
+use Rattle.lk_locks.specs.declared.kinds.Entry.TheVariants.{Announced}
+
+abbrev pub is_phase : Phase → Bool
+is_phase Idle = true
+is_phase TryRead = true
+is_phase Reading = true
+is_phase LeaveRead = true
+is_phase TryWrite = true
+is_phase AwaitReaders = true
+is_phase Writing = true
+is_phase LeaveWrite = true
+is_phase TryDowngrade = true
+is_phase p = false
+
+-- what the pending call of thread i has still to add to the history
+abbrev pub rest : ℕ → Phase → List Entry
+rest i TryRead = acts i ReadLock
+rest i LeaveRead = acts i ReadUnlock
+rest i TryWrite = Announced i ∷ acts i WriteLock
+rest i AwaitReaders = acts i WriteLock
+rest i LeaveWrite = acts i WriteUnlock
+rest i TryDowngrade = acts i Downgrade
+rest i p = []
+
+-- The lock counts who came and who left, and its flag is for the writer or the announced one. There are fewer readers than words, so
+-- the counts are equal exactly where there is no reader.
+pub record AgreesWith (bits : ℕ) (ws : List ℕ) (ps : List Phase) (q : Sequential) : Type 0 where
+  pub narrow : length ps < 2 ^ bits
+  pub left : slice_index ws read_releases < 2 ^ bits
+  pub came : slice_index ws read_acquires ≡ (slice_index ws read_releases + length q.readers) % 2 ^ bits
+  pub flag_is : slice_index ws flag ≡ flag_of q.writer q.announced
+  pub holders : AreHolders ps q

@@ -1,0 +1,66 @@
+-- Invariants. The ticket lock's: its phases, what a pending call still owes the history, who is inside, and how its words agree with the
+-- queue of its sequential object.
+use Rattle.std.specs.Prelude.{◌≡◌, ℕ, ◌+◌, ◌%◌, ◌^◌, ◌<◌, List, [], ◌∷◌, length, slice_index, Option, None, Some, Bool, true, false, IsTrue}
+use Rattle.lk_locks.specs.State.{phase_at}
+use Rattle.lk_locks.specs.Change.{plus_one}
+use Rattle.lk_locks.specs.Acts.{acts}
+use Rattle.lk_locks.specs.Sequential.{has}
+use Rattle.lk_locks.specs.ticket.{next_ticket, now_serving}
+use Rattle.lk_locks.specs.invariants.Threads.{EachOnce}
+use Rattle.lk_locks.specs.declared.kinds.Phase.{Phase}
+use Rattle.lk_locks.specs.declared.kinds.Phase.TheVariants.{Idle, TakeTicket, AwaitTurn, TicketInside, ReadServing, PassOn}
+use Rattle.lk_locks.specs.declared.kinds.Op.TheVariants.{Acquire, Release}
+use Rattle.lk_locks.specs.declared.kinds.Entry.{Entry}
+use Rattle.lk_locks.specs.declared.kinds.Entry.TheVariants.{Returned}
+
+abbrev pub is_phase : Phase → Bool
+is_phase Idle = true
+is_phase TakeTicket = true
+is_phase (AwaitTurn t) = true
+is_phase (TicketInside t) = true
+is_phase (ReadServing t) = true
+is_phase (PassOn v) = true
+is_phase p = false
+
+-- what the pending call of thread i has still to add to the history
+abbrev pub rest : ℕ → Phase → List Entry
+rest i TakeTicket = acts i Acquire
+rest i (AwaitTurn t) = Returned i Acquire ∷ []
+rest i (ReadServing t) = acts i Release
+rest i (PassOn v) = acts i Release
+rest i p = []
+
+-- between the step that enters and the step that leaves
+abbrev pub is_inside : Phase → Bool
+is_inside (TicketInside t) = true
+is_inside (ReadServing t) = true
+is_inside (PassOn v) = true
+is_inside p = false
+
+-- the ticket that a thread has
+abbrev pub ticket_of : Phase → Option ℕ
+ticket_of (AwaitTurn t) = Some t
+ticket_of (TicketInside t) = Some t
+ticket_of (ReadServing t) = Some t
+ticket_of (PassOn t) = Some t
+ticket_of p = None
+
+-- the threads wait with the tickets from x on
+abbrev pub WaitInLine : ℕ → List Phase → ℕ → List ℕ → Type 0
+WaitInLine bits ps x [] = Unit {0}
+WaitInLine bits ps x (t ∷ ts) = (phase_at ps t ≡ AwaitTurn x) × WaitInLine bits ps (plus_one bits x) ts
+
+-- the first may be inside, and the others wait
+abbrev pub IsLine : ℕ → List Phase → ℕ → List ℕ → Type 0
+IsLine bits ps x [] = Unit {0}
+IsLine bits ps x (t ∷ ts) = (ticket_of (phase_at ps t) ≡ Some x) × WaitInLine bits ps (plus_one bits x) ts
+
+-- The queue is the threads with a ticket, in the order of the tickets. There are fewer threads than words, so tickets differ.
+pub record IsQueue (bits : ℕ) (ws : List ℕ) (ps : List Phase) (queue : List ℕ) : Type 0 where
+  pub narrow : length ps < 2 ^ bits
+  pub serving : slice_index ws now_serving < 2 ^ bits
+  pub line : IsLine bits ps (slice_index ws now_serving) queue
+  pub next : slice_index ws next_ticket ≡ (slice_index ws now_serving + length queue) % 2 ^ bits
+  pub once : EachOnce queue
+  pub members : (t : ℕ) → has queue t ≡ true → t < length ps
+  pub others : (t : ℕ) → has queue t ≡ false → ticket_of (phase_at ps t) ≡ None

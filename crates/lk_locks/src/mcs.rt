@@ -1,0 +1,170 @@
+//! The room of the MCS queue lock: one step of a thread, on the tail and the threads' records.
+//!
+//! Mellor-Crummey and Scott, "Algorithms for Scalable Synchronization on Shared-Memory Multiprocessors", ACM TOCS 9(1), 1991,
+//! section 2.4, with the release that has compare-and-swap. Different here: each thread has one record, and thread `i`'s is record
+//! `i + 1`, so that 0 is nil; the last write of a release uses the successor that was read last.
+
+ghost use Rattle.std.specs.Prelude.{◌≡◌, []};
+ghost use Rattle.lk_locks.specs.mcs.{next, locked, word_count, has_op, has_step, may_give_up, after_call, step_due, step, entries};
+ghost use Rattle.lk_locks.specs.invariants.mcs.{is_inside};
+ghost use Rattle.lk_locks.specs.invariants.WellFormed.{IsReady};
+ghost use Rattle.lk_locks.specs.declared.kinds.LockKind.TheVariants.{Mcs};
+
+use crate::entries::Added;
+use crate::{Entry, Op, Outcome, Phase, StepKind};
+use lk_words::Words;
+
+const TAIL: usize = 0;
+
+// The word of a thread's successor.
+fn next(thread: u8) -> usize
+    ensures { result ≡ next thread }
+{
+    1 + 2 * thread as usize
+}
+
+// The word that says whether a thread has to wait.
+fn locked(thread: u8) -> usize
+    ensures { result ≡ locked thread }
+{
+    2 + 2 * thread as usize
+}
+
+/// How many words the lock has, with so many threads.
+pub fn word_count(threads: u8) -> usize
+    ensures { result ≡ word_count threads }
+{
+    1 + 2 * threads as usize
+}
+
+pub fn has_op(op: Op) -> bool
+    ensures { result ≡ has_op op }
+{
+    matches!(op, Op::Acquire | Op::Release)
+}
+
+pub fn has_step(kind: StepKind) -> bool
+    ensures { result ≡ has_step kind }
+{
+    matches!(
+        kind,
+        StepKind::Read | StepKind::Write | StepKind::Swap | StepKind::Cas
+    )
+}
+
+/// Whether a thread that is inside may give this up.
+pub fn may_give_up(phase: Phase, op: Op) -> bool
+    ensures { result ≡ may_give_up phase op }
+{
+    matches!((phase, op), (Phase::McsInside, Op::Release))
+}
+
+/// The phase that a call leads to.
+pub fn after_call(phase: Phase, op: Op) -> Phase
+    ensures { result ≡ after_call phase op }
+{
+    let _ = phase;
+    match op {
+        Op::Release => Phase::ReadNext,
+        _ => Phase::ClearNext,
+    }
+}
+
+/// The step that a thread takes next.
+pub fn step_due(phase: Phase) -> Option<StepKind>
+    ensures { result ≡ step_due phase }
+{
+    match phase {
+        Phase::ClearNext | Phase::SetLocked(_) | Phase::LinkTo(_) | Phase::Grant(_) => {
+            Some(StepKind::Write)
+        }
+        Phase::SwapTail => Some(StepKind::Swap),
+        Phase::AwaitGrant | Phase::ReadNext | Phase::AwaitLink => Some(StepKind::Read),
+        Phase::CasTail => Some(StepKind::Cas),
+        _ => None,
+    }
+}
+
+/// Whether a thread in this phase is between the step that enters and the step that leaves.
+pub fn is_inside(phase: Phase) -> bool
+    ensures { result ≡ is_inside phase }
+{
+    matches!(
+        phase,
+        Phase::McsInside | Phase::ReadNext | Phase::CasTail | Phase::AwaitLink | Phase::Grant(_)
+    )
+}
+
+/// One step of a thread in this phase, with its new phase.
+pub fn step<W: Words>(words: &mut W, thread: u8, phase: Phase) -> (Phase, Outcome)
+    requires { IsReady Mcs (W.width words.old) (W.list words.old) thread phase }
+    ensures words { W.list words.new ≡ (step (W.width words.old) thread (W.list words.old) phase).words }
+    ensures phase { result.0 ≡ (step (W.width words.old) thread (W.list words.old) phase).phase }
+    ensures outcome { result.1 ≡ (step (W.width words.old) thread (W.list words.old) phase).outcome }
+    ensures width { W.width words.new ≡ W.width words.old }
+{
+    let record = thread as u64 + 1;
+    match phase {
+        Phase::ClearNext => {
+            words.write(next(thread), 0);
+            (Phase::SwapTail, Outcome::Moved)
+        }
+        Phase::SwapTail => {
+            let previous = words.swap(TAIL, record);
+            if previous == 0 {
+                (Phase::McsInside, Outcome::Entered)
+            } else {
+                (Phase::SetLocked((previous - 1) as u8), Outcome::Moved)
+            }
+        }
+        Phase::SetLocked(before) => {
+            words.write(locked(thread), 1);
+            (Phase::LinkTo(before), Outcome::Moved)
+        }
+        Phase::LinkTo(before) => {
+            words.write(next(before), record);
+            (Phase::AwaitGrant, Outcome::Moved)
+        }
+        Phase::AwaitGrant => {
+            if words.read(locked(thread)) == 0 {
+                (Phase::McsInside, Outcome::Entered)
+            } else {
+                (phase, Outcome::Waits)
+            }
+        }
+        Phase::ReadNext => match words.read(next(thread)) {
+            0 => (Phase::CasTail, Outcome::Moved),
+            after => (Phase::Grant((after - 1) as u8), Outcome::Moved),
+        },
+        Phase::CasTail => {
+            if words.compare_and_swap(TAIL, record, 0) {
+                (Phase::Idle, Outcome::Left)
+            } else {
+                (Phase::AwaitLink, Outcome::Moved)
+            }
+        }
+        Phase::AwaitLink => match words.read(next(thread)) {
+            0 => (phase, Outcome::Waits),
+            after => (Phase::Grant((after - 1) as u8), Outcome::Moved),
+        },
+        Phase::Grant(after) => {
+            words.write(locked(after), 0);
+            (Phase::Idle, Outcome::Left)
+        }
+        _ => (phase, Outcome::Waits),
+    }
+}
+
+/// Adds the entries of such a step.
+pub fn add_entries(added: &mut Added, thread: u8, phase: Phase, outcome: Outcome)
+    requires { added.old ≡ [] }
+    ensures { added.new ≡ entries thread phase outcome }
+{
+    match (phase, outcome) {
+        (Phase::SwapTail, Outcome::Moved) => added.one(Entry::Acted(thread, Op::Acquire)),
+        (Phase::SwapTail, Outcome::Entered) => added.acts(thread, Op::Acquire),
+        (Phase::AwaitGrant, Outcome::Entered) => added.one(Entry::Returned(thread, Op::Acquire)),
+        (Phase::CasTail | Phase::Grant(_), Outcome::Left) => added.acts(thread, Op::Release),
+        _ => {}
+    }
+}

@@ -1,0 +1,95 @@
+//! The room of the simple read-write lock: one section of a thread, on the count of the readers and the writer's flag.
+//!
+//! After Herlihy and Shavit, The Art of Multiprocessor Programming, chapter 8, "SimpleReadWriteLock". Each try is one section under
+//! the lock's monitor. Different here: a writer waits while the reader count is not 0 or the flag is set, and then sets the flag;
+//! signals are not modelled; a writer may downgrade.
+
+ghost use Rattle.std.specs.Prelude.{◌≡◌, []};
+ghost use Rattle.lk_locks.specs.rw_simple.{step_due, step, entries};
+ghost use Rattle.lk_locks.specs.invariants.WellFormed.{IsReady};
+ghost use Rattle.lk_locks.specs.declared.kinds.LockKind.TheVariants.{RwSimple};
+
+use crate::arithmetic::greatest_of;
+use crate::entries::Added;
+use crate::{Op, Outcome, Phase, StepKind};
+use lk_words::Words;
+
+/// How many words the lock has.
+pub const WORDS: usize = 2;
+
+const READERS: usize = 0;
+
+const FLAG: usize = 1;
+
+/// The step that a thread takes next.
+pub fn step_due(phase: Phase) -> Option<StepKind>
+    ensures { result ≡ step_due phase }
+{
+    match phase {
+        Phase::TryRead
+        | Phase::LeaveRead
+        | Phase::TryWrite
+        | Phase::LeaveWrite
+        | Phase::TryDowngrade => Some(StepKind::Section),
+        _ => None,
+    }
+}
+
+/// One section of a thread in this phase, with its new phase.
+pub fn step<W: Words>(words: &mut W, thread: u8, phase: Phase) -> (Phase, Outcome)
+    requires { IsReady RwSimple (W.width words.old) (W.list words.old) thread phase }
+    ensures words { W.list words.new ≡ (step (W.width words.old) thread (W.list words.old) phase).words }
+    ensures phase { result.0 ≡ (step (W.width words.old) thread (W.list words.old) phase).phase }
+    ensures outcome { result.1 ≡ (step (W.width words.old) thread (W.list words.old) phase).outcome }
+    ensures width { W.width words.new ≡ W.width words.old }
+{
+    let _ = thread;
+    match phase {
+        Phase::TryRead => {
+            if words.read(FLAG) == 0 {
+                words.fetch_and_add(READERS, 1);
+                (Phase::Reading, Outcome::Entered)
+            } else {
+                (phase, Outcome::Waits)
+            }
+        }
+        Phase::LeaveRead => {
+            let bits = words.bits();
+            words.fetch_and_add(READERS, greatest_of(bits));
+            (Phase::Idle, Outcome::Left)
+        }
+        Phase::TryWrite => {
+            if words.read(READERS) == 0 && words.read(FLAG) == 0 {
+                words.write(FLAG, 1);
+                (Phase::Writing, Outcome::Entered)
+            } else {
+                (phase, Outcome::Waits)
+            }
+        }
+        Phase::LeaveWrite => {
+            words.write(FLAG, 0);
+            (Phase::Idle, Outcome::Left)
+        }
+        Phase::TryDowngrade => {
+            words.fetch_and_add(READERS, 1);
+            words.write(FLAG, 0);
+            (Phase::Reading, Outcome::Entered)
+        }
+        _ => (phase, Outcome::Waits),
+    }
+}
+
+/// Adds the entries of such a section.
+pub fn add_entries(added: &mut Added, thread: u8, phase: Phase, outcome: Outcome)
+    requires { added.old ≡ [] }
+    ensures { added.new ≡ entries thread phase outcome }
+{
+    match (phase, outcome) {
+        (Phase::TryRead, Outcome::Entered) => added.acts(thread, Op::ReadLock),
+        (Phase::LeaveRead, Outcome::Left) => added.acts(thread, Op::ReadUnlock),
+        (Phase::TryWrite, Outcome::Entered) => added.acts(thread, Op::WriteLock),
+        (Phase::LeaveWrite, Outcome::Left) => added.acts(thread, Op::WriteUnlock),
+        (Phase::TryDowngrade, Outcome::Entered) => added.acts(thread, Op::Downgrade),
+        _ => {}
+    }
+}

@@ -1,0 +1,20 @@
+-- Definitions: the status of each fault, and what a fault of a run is to the program. This project's own.
+use Rattle.std.specs.Prelude.{ℕ}
+use Rattle.lk_replay.specs.declared.devices.RunFault.{RunFault}
+use Rattle.lk_replay.specs.declared.devices.RunFault.TheVariants as run
+use Rattle.lockreplay.specs.declared.faults.ProgramFault.{ProgramFault}
+use Rattle.lockreplay.specs.declared.faults.ProgramFault.TheVariants.{Input, Output, Memory, TooManyFiles, File}
+
+-- 2 where the words ask for too much, 3 where a device or the memory failed
+abbrev pub fault_status : ProgramFault → ℕ
+fault_status TooManyFiles = 2
+fault_status Input = 3
+fault_status Output = 3
+fault_status Memory = 3
+fault_status (File k) = 3
+
+-- a run reads standard input and writes standard output
+abbrev pub fault_from : RunFault → ProgramFault
+fault_from run.Read = Input
+fault_from run.Write = Output
+fault_from run.OutOfMemory = Memory

@@ -1,0 +1,4 @@
+pub mod Batches
+pub mod Faults
+pub mod Jobs
+pub mod Replays

@@ -1,0 +1,118 @@
+//! The two jobs of the program, over any devices.
+
+ghost use Rattle.std.specs.Prelude.{◌≡◌, ◌⊎◌, ◌≤◌, length, IfOk, IfErr};
+ghost use Rattle.lockreplay.specs.Batches.{EndsBatch, IsFileFault};
+ghost use Rattle.lockreplay.specs.Replays.{EndsReplay};
+ghost use Rattle.lockreplay.specs.Jobs.{EndsJob, IsFitJob};
+
+#[cfg(test)]
+mod tests;
+
+use crate::faults::ProgramFault;
+use crate::status::batch_status;
+use crate::words::Job;
+use lk_replay::{RunFault, read_text, run, send, status_of};
+use lk_workers::{OpenGate, batch_text, replay_many};
+use std::alloc::Global;
+use std::fs;
+use std::io::{Read, Write};
+use std::rt::Files;
+use std::thread::Threads;
+
+/// Replays the schedule that the input holds, writes its report, and gives the report's status.
+pub fn replay_input<R: Read, W: Write>(
+    alloc: Global,
+    input: &mut R,
+    output: &mut W,
+) -> Result<u8, ProgramFault>
+    ensures { EndsReplay (R.remaining input.old) (W.contents output.old) (W.contents output.new) result }
+{
+    let ran = run(alloc, input, output);
+    let status = status_of(&ran);
+    match ran {
+        Ok(_) => Ok(status),
+        Err(fault) => Err(ProgramFault::from(fault)),
+    }
+}
+
+/// The text of the file of this number, from 1.
+fn file_text<R: Files>(
+    rt: &R,
+    alloc: Global,
+    number: u32,
+    file: &str,
+) -> Result<Vec<u8>, ProgramFault>
+    ensures { IfErr result (λ e. (e ≡ ProgramFault.File number) ⊎ (e ≡ ProgramFault.Memory)) }
+{
+    let Ok(mut file) = fs::open(rt, file) else {
+        return Err(ProgramFault::File(number));
+    };
+    match read_text(alloc, &mut file) {
+        Ok(text) => Ok(text),
+        Err(RunFault::OutOfMemory) => Err(ProgramFault::Memory),
+        Err(_) => Err(ProgramFault::File(number)),
+    }
+}
+
+/// The text of each file, in order. The first that cannot be opened or read is the fault.
+fn file_texts<R: Files>(
+    rt: &R,
+    alloc: Global,
+    files: &[String],
+) -> Result<Vec<Vec<u8>>, ProgramFault>
+    requires { length files.now ≤ 65536 }
+    ensures each { IfOk result (λ texts. length texts.items ≡ length files.now) }
+    ensures fault { IfErr result (IsFileFault (length files.now)) }
+{
+    let mut texts = Vec::new(alloc);
+    for (place, file) in files.iter().enumerate() {
+        let text = file_text(rt, alloc, place as u32 + 1, file.as_str())?;
+        if texts.push(text).is_err() {
+            return Err(ProgramFault::Memory);
+        }
+    }
+    Ok(texts)
+}
+
+/// Replays the schedule of each file by this many workers, writes the reports in the order of the
+/// files, and gives the status that they have. Nothing is written before all of it is ready.
+pub fn replay_files<R: Files + Threads + Sync, W: Write>(
+    rt: &R,
+    alloc: Global,
+    workers: u8,
+    files: &[String],
+    output: &mut W,
+) -> Result<u8, ProgramFault>
+    requires workers { (1 ≤ workers) × (workers ≤ 8) }
+    requires files { length files.now ≤ 65536 }
+    ensures { EndsBatch (length files.now) (W.contents output.old) (W.contents output.new) result }
+{
+    let texts = file_texts(rt, alloc, files)?;
+    let Ok(reports) = replay_many(rt, alloc, &texts, workers, &OpenGate) else {
+        return Err(ProgramFault::Memory);
+    };
+    let Ok(text) = batch_text(alloc, &reports) else {
+        return Err(ProgramFault::Memory);
+    };
+    let Ok(()) = send(output, &text) else {
+        return Err(ProgramFault::Output);
+    };
+    Ok(batch_status(&reports))
+}
+
+/// Does the job, and gives the status that the program ends with.
+pub fn perform<R: Files + Threads + Sync, I: Read, O: Write>(
+    rt: &R,
+    alloc: Global,
+    job: &Job,
+    input: &mut I,
+    output: &mut O,
+) -> Result<u8, ProgramFault>
+    requires { IsFitJob job.now }
+    ensures { EndsJob job.now (I.remaining input.old) (O.contents output.old) (O.contents output.new) result }
+{
+    match job {
+        Job::Replay => replay_input(alloc, input, output),
+        Job::Batch { workers, files } => replay_files(rt, alloc, *workers, files, output),
+    }
+}
