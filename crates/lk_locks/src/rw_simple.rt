@@ -9,9 +9,10 @@ ghost use Rattle.lk_locks.specs.rw_simple.{step_due, step, entries};
 ghost use Rattle.lk_locks.specs.invariants.WellFormed.{IsReady};
 ghost use Rattle.lk_locks.specs.declared.kinds.LockKind.TheVariants.{RwSimple};
 
+use crate::arithmetic::greatest_of;
 use crate::entries::Added;
 use crate::{Op, Outcome, Phase, StepKind};
-use lk_words::{Words, greatest_of, sum_of};
+use lk_words::Words;
 
 /// How many words the lock has.
 pub const WORDS: usize = 2;
@@ -53,9 +54,8 @@ pub fn step<W: Words>(words: &mut W, thread: u8, phase: Phase) -> (Phase, Outcom
             }
         }
         Phase::LeaveRead => {
-            let readers = words.read(READERS);
             let bits = words.bits();
-            words.write(READERS, sum_of(bits, readers, greatest_of(bits)));
+            words.fetch_and_add(READERS, greatest_of(bits));
             (Phase::Idle, Outcome::Left)
         }
         Phase::TryWrite => {

@@ -10,9 +10,10 @@ ghost use Rattle.lk_locks.specs.invariants.ticket.{is_inside};
 ghost use Rattle.lk_locks.specs.invariants.WellFormed.{IsReady};
 ghost use Rattle.lk_locks.specs.declared.kinds.LockKind.TheVariants.{Ticket};
 
+use crate::arithmetic::plus_one;
 use crate::entries::Added;
 use crate::{Entry, Op, Outcome, Phase, StepKind};
-use lk_words::{Words, sum_of};
+use lk_words::Words;
 
 /// How many words the lock has.
 pub const WORDS: usize = 2;
@@ -99,7 +100,7 @@ pub fn step<W: Words>(words: &mut W, thread: u8, phase: Phase) -> (Phase, Outcom
         }
         Phase::PassOn(serving) => {
             let bits = words.bits();
-            words.write(NOW_SERVING, sum_of(bits, serving, 1));
+            words.write(NOW_SERVING, plus_one(bits, serving));
             (Phase::Idle, Outcome::Left)
         }
         _ => (phase, Outcome::Waits),

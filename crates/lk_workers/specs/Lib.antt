@@ -8,3 +8,4 @@ pub mod Running
 pub mod LockState
 pub mod Batch
 pub mod Collected
+pub mod Rounds

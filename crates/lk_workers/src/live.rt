@@ -77,6 +77,21 @@ impl Model for LiveSeat {
 }
 
 impl LiveSeat {
+    // A seat that took nothing yet.
+    fn idle(seat: Seat<(), View>, left: u64, seen: u64) -> LiveSeat
+        requires { seat.me ≡ (seat_state Idle 0 left 0 seen 0 ∷ [], []) }
+        ensures { (result.table ≡ seat.table_id) × (result.state ≡ seat_state Idle 0 left 0 seen 0) }
+    {
+        LiveSeat {
+            seat,
+            phase: LivePhase::Idle,
+            ticket: 0,
+            left,
+            taken: 0,
+            seen,
+        }
+    }
+
     /// Where the seat is.
     pub fn phase(&self) -> LivePhase
         ensures { result ≡ self.now.state.phase }
@@ -137,15 +152,7 @@ impl LiveTicket {
         ensures { IfOk result (λ r. (r.1.table ≡ r.0) × (r.1.state ≡ seat_state Idle 0 takes 0 0 0)) }
     {
         let (table, seat) = Table::of_words(alloc, &[0, 0], &takes)?;
-        let first = LiveSeat {
-            seat,
-            phase: LivePhase::Idle,
-            ticket: 0,
-            left: takes,
-            taken: 0,
-            seen: 0,
-        };
-        Ok((LiveTicket { table }, first))
+        Ok((LiveTicket { table }, LiveSeat::idle(seat, takes, 0)))
     }
 
     /// Takes a ticket, which no other seat has: a fetch-and-add on `next_ticket`.
@@ -221,14 +228,7 @@ impl LiveTicket {
     {
         let other = cut_off::<Brand>(&self.table.shared, &mut seat.seat, left);
         seat.left -= left;
-        LiveSeat {
-            seat: other,
-            phase: LivePhase::Idle,
-            ticket: 0,
-            left,
-            taken: 0,
-            seen: seat.seen,
-        }
+        LiveSeat::idle(other, left, seat.seen)
     }
 
     /// Makes two idle seats one, with what both took and have left.

@@ -169,10 +169,7 @@ fn place_all(mut places: Vec<Option<Vec<u8>>>, reports: Vec<Numbered>) -> Vec<Op
     places
 }
 
-fn take_all(
-    alloc: Global,
-    places: Vec<Option<Vec<u8>>>,
-) -> Result<Vec<Vec<u8>>, AllocError>
+fn take_all(alloc: Global, places: Vec<Option<Vec<u8>>>) -> Result<Vec<Vec<u8>>, AllocError>
     requires { All (λ o. IsSome o) places.items }
     ensures { IfOk result (λ v. map (λ r. Some r.items) v.items ≡ map (option_map (λ v. v.items)) places.items) }
 {

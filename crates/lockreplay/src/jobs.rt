@@ -5,6 +5,9 @@ ghost use Rattle.lockreplay.specs.Batches.{EndsBatch, IsFileFault};
 ghost use Rattle.lockreplay.specs.Replays.{EndsReplay};
 ghost use Rattle.lockreplay.specs.Jobs.{EndsJob, IsFitJob};
 
+#[cfg(test)]
+mod tests;
+
 use crate::faults::ProgramFault;
 use crate::status::batch_status;
 use crate::words::Job;

@@ -93,6 +93,7 @@ fn program_command<'a>(alloc: Global) -> Result<Command<'a>, AllocError> {
     );
     Command::new(alloc, "lockreplay")
         .about("Replays schedules of queue and read-write locks, step by step")
+        .bin_name("lockreplay")?
         .no_binary_name(true)
         .subcommand_required(true)
         .subcommand(replay)?

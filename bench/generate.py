@@ -1,0 +1,106 @@
+#!/usr/bin/env python3
+"""Writes a schedule of 65,536 moves, the most that a schedule may have: generate.py KIND
+
+    contention       64 threads in one queue of a ticket lock: the longest report, about 14 MB
+    mcs-contention   64 threads in one queue of an MCS lock, links that come late among them
+    simple-readers   64 readers of a simple read-write lock that come and go
+    fifo-readers     the same on a FIFO read-write lock
+    spinning         two threads of a ticket lock, the second looks in vain
+    mcs-spinning, simple-spinning, fifo-spinning   the same on the other locks
+    alone            one thread of a ticket lock enters and leaves
+    mcs-alone, simple-alone, fifo-alone   the same on the other locks
+    alone-of-64      one thread of a ticket lock for 64 threads enters and leaves
+    none             a header and no move: what it costs to start
+
+The same kind always gives the same text. Which step is due is asked of the fuzzer's oracle.
+"""
+import pathlib
+import random
+import sys
+
+sys.path.append(str(pathlib.Path(__file__).parent.parent / "fuzz"))
+import oracle
+
+MOVES = 65_536
+
+
+def next_move(replay, thread):
+    """The step that is due, or the call that gives back what is held, or the first that takes."""
+    if replay.due[thread]:
+        return replay.due[thread]
+    held = replay.lock.may_give_back(thread)
+    if held:
+        return (held - {"downgrade"}).pop()
+    return "acquire" if "acquire" in replay.lock.calls else "rlock"
+
+
+def contend(replay, chance):
+    """Who is outside queues up at once. Else the oldest moves, or one that waits looks."""
+    outside = list(range(replay.threads))
+    while True:
+        requests = replay.lock.requests
+        outside = [thread for thread in outside if thread not in requests]
+        if outside:
+            thread = outside[0]
+        else:
+            thread = requests[0] if chance.random() < 0.5 else chance.choice(requests)
+        yield thread, next_move(replay, thread)
+        if thread not in requests and thread not in outside:
+            outside.append(thread)
+
+
+def come_and_go(replay, chance):
+    while True:
+        thread = chance.randrange(replay.threads)
+        yield thread, next_move(replay, thread)
+
+
+def spin(replay, chance):
+    """Thread 0 holds, the second does what it can and looks in vain."""
+    taking = "acquire" if "acquire" in replay.lock.calls else "wlock"
+    for thread in (0, 1):
+        yield thread, taking
+        while replay.due[thread]:
+            yield thread, replay.due[thread]
+
+
+def alone(replay, chance):
+    while True:
+        yield 0, next_move(replay, 0)
+
+
+KINDS = {
+    "contention": ("ticket", 64, contend),
+    "mcs-contention": ("mcs", 64, contend),
+    "simple-readers": ("rw-simple", 64, come_and_go),
+    "fifo-readers": ("rw-fifo", 64, come_and_go),
+    "spinning": ("ticket", 2, spin),
+    "mcs-spinning": ("mcs", 2, spin),
+    "simple-spinning": ("rw-simple", 2, spin),
+    "fifo-spinning": ("rw-fifo", 2, spin),
+    "alone": ("ticket", 1, alone),
+    "mcs-alone": ("mcs", 1, alone),
+    "simple-alone": ("rw-simple", 1, alone),
+    "fifo-alone": ("rw-fifo", 1, alone),
+    "alone-of-64": ("ticket", 64, alone),
+    "none": ("ticket", 1, None),
+}
+
+
+def schedule_of(kind, moves=MOVES):
+    name, threads, who = KINDS[kind]
+    lines = [f"lock {name} threads {threads}\n"]
+    replay = oracle.Replay(name, threads)
+    walk = who(replay, random.Random(kind)) if who else iter(())
+    for thread, word in walk:
+        lines.append(f"{thread} {word}\n")
+        replay.play(thread, word)
+        if len(lines) > moves:
+            break
+    return "".join(lines).encode()
+
+
+if __name__ == "__main__":
+    if len(sys.argv) != 2 or sys.argv[1] not in KINDS:
+        sys.exit(__doc__)
+    sys.stdout.buffer.write(schedule_of(sys.argv[1]))

@@ -1,0 +1,46 @@
+"""What the benchmarks share: C helpers built where they are needed, and measured commands."""
+import collections
+import pathlib
+import statistics
+import subprocess
+
+HERE = pathlib.Path(__file__).parent
+
+# One run of a command: seconds from start to end, seconds of a processor, peak bytes.
+Run = collections.namedtuple("Run", "elapsed processor peak")
+
+
+def build(name, folder):
+    """Compiles bench/NAME.c into the folder and answers the path of the program."""
+    built = pathlib.Path(folder) / name
+    subprocess.run(["cc", "-O2", "-Wall", "-o", built, HERE / f"{name}.c"], check=True)
+    return built
+
+
+class Measure:
+    """Runs commands under bench/measure.c, standard input from a file and output to a file."""
+
+    def __init__(self, folder):
+        self.measure = build("measure", folder)
+        self.output = pathlib.Path(folder) / "output"
+
+    def run(self, command, source="/dev/null", status=0):
+        words = [self.measure, source, self.output, *command]
+        elapsed, processor, kilobytes, ended = map(int, subprocess.check_output(words).split())
+        if ended != status:
+            raise SystemExit(f"{command}: status {ended} instead of {status}")
+        return Run(elapsed / 1e9, processor / 1e9, kilobytes * 1024)
+
+
+def median_elapsed(runs):
+    return statistics.median(run.elapsed for run in runs)
+
+
+def median_processor(runs):
+    return statistics.median(run.processor for run in runs)
+
+
+def spread(seconds):
+    """Half the distance between the quartiles, as a part of the median."""
+    low, middle, high = statistics.quantiles(seconds, n=4)
+    return (high - low) / 2 / middle

@@ -1,0 +1,133 @@
+#!/usr/bin/env python3
+"""Measures a replayer on schedules at the limit, beside `cat` of its report.
+
+    run.py PROGRAM [--rounds N] [--check] [KIND...]
+
+In each round and for each kind of bench/generate.py, `PROGRAM replay` reads the schedule from a
+file and writes the report to a file; `cat` copies that report from a file to a file; and the
+replayer of handwritten.c does what the program does. They take turns, so that what else the machine
+does meets all of them. Printed are medians over the rounds:
+
+    elapsed    milliseconds of the program from start to end
+    processor  milliseconds of a processor, user and kernel; what follows goes by these, since the
+               elapsed time also counts how long others had the processor
+    spread     half the distance between the quartiles of the processor's time
+    to cat     the program's time over cat's
+    to hand    the program's time over that of handwritten.c
+    ns a move  the program's time less that of a schedule without a move, for each move
+    by hand    the same for handwritten.c
+    extra MB   the program's peak memory less the size of the report, in 10^6 bytes, the most seen
+
+With --check it ends with 1 where a limit is passed: 4 times cat on the two reports of 14 MB; 40 ns a
+move where the lines are short, or where handwritten.c takes longer than that on this machine, its
+time; 12 MB of memory beside the report. Memory is taken as it is. Time is given a tenth more, and a
+kind that is past its limit is measured again, up to three times in all: measured three times over
+on a machine with other work on all its cores, the ratios of one program differed by up to 8 %.
+"""
+import argparse
+import pathlib
+import sys
+import tempfile
+
+import generate
+from measuring import Measure, build, median_elapsed, median_processor, spread
+
+sys.path.append(str(pathlib.Path(__file__).parent.parent / "fuzz"))
+import oracle
+
+LONG_LINES = {"contention", "mcs-contention"}
+SHORT_LINES = {kind for kind in generate.KINDS if "spinning" in kind or "alone" in kind}
+MOST_TO_CAT, MOST_NANOSECONDS, MOST_EXTRA = 4.0, 40.0, 12.0
+TOLERANCE = 1.1
+ATTEMPTS = 3
+
+
+class Bench:
+    def __init__(self, program, rounds, folder):
+        self.program = program
+        self.by_hand = build("handwritten", folder)
+        self.rounds = rounds
+        self.measure = Measure(folder)
+        self.folder = pathlib.Path(folder)
+        self.start = self.schedule("none")
+        self.failed = False
+
+    def schedule(self, kind):
+        path = self.folder / f"{kind}.schedule"
+        path.write_bytes(generate.schedule_of(kind))
+        return path
+
+    def replayed(self, kind):
+        """The kind's schedule and report as files, after the program's report was compared."""
+        schedule = self.schedule(kind)
+        self.measure.run([self.program, "replay"], schedule)
+        report = self.folder / f"{kind}.report"
+        report.write_bytes(oracle.report_of(schedule.read_bytes()))
+        if self.measure.output.read_bytes() != report.read_bytes():
+            raise SystemExit(f"{kind}: the report is wrong")
+        return schedule, report
+
+    def figures(self, schedule, report):
+        """Runs all rounds and answers the figures of one line of the table."""
+        runs, hands, copies, starts = [], [], [], []
+        for _ in range(self.rounds):
+            runs.append(self.measure.run([self.program, "replay"], schedule))
+            hands.append(self.measure.run([self.by_hand, "replay"], schedule))
+            copies.append(self.measure.run(["cat"], report))
+            starts.append(self.measure.run([self.program, "replay"], self.start))
+        moves = schedule.read_bytes().count(b"\n") - 1
+        took, hand, copied, start = map(median_processor, (runs, hands, copies, starts))
+        return {
+            "elapsed": median_elapsed(runs) * 1e3,
+            "processor": took * 1e3,
+            "spread": spread([run.processor for run in runs]) * 100,
+            "to cat": took / copied,
+            "to hand": took / hand,
+            "ns a move": (took - start) / moves * 1e9,
+            "by hand": (hand - start) / moves * 1e9,
+            "extra MB": (max(run.peak for run in runs) - report.stat().st_size) / 1e6,
+        }
+
+    def passed_limits(self, kind, figures):
+        """The names of the figures that are past their limit."""
+        if kind in LONG_LINES and figures["to cat"] > MOST_TO_CAT * TOLERANCE:
+            yield "to cat"
+        most = max(MOST_NANOSECONDS, figures["by hand"])
+        if kind in SHORT_LINES and figures["ns a move"] > most * TOLERANCE:
+            yield "ns a move"
+        if figures["extra MB"] > MOST_EXTRA:
+            yield "extra MB"
+
+    def line(self, kind, attempts):
+        """Prints the kind's line; again, while a limit is passed and attempts are left."""
+        schedule, report = self.replayed(kind)
+        for _ in range(attempts):
+            figures = self.figures(schedule, report)
+            beyond = list(self.passed_limits(kind, figures))
+            cells = "".join(f"{figure:11.2f}" for figure in figures.values())
+            print(f"{kind:15}{cells}", *(f"past the limit: {name}" for name in beyond), flush=True)
+            if not beyond:
+                return
+        self.failed = True
+
+
+def main():
+    kinds = [kind for kind in generate.KINDS if kind != "none"]
+    words = argparse.ArgumentParser(description="The head of this file says what is measured.")
+    words.add_argument("program")
+    words.add_argument("kinds", nargs="*", metavar="KIND", choices=[[], *kinds])
+    words.add_argument("--rounds", type=int, default=30)
+    words.add_argument("--check", action="store_true")
+    asked = words.parse_intermixed_args()
+    with tempfile.TemporaryDirectory() as folder:
+        bench = Bench(str(pathlib.Path(asked.program).resolve()), asked.rounds, folder)
+        names = ["elapsed", "processor", "spread %", "to cat", "to hand", "ns a move", "by hand",
+                 "extra MB"]
+        print(f"{'kind':15}" + "".join(f"{name:>11}" for name in names))
+        for kind in asked.kinds or kinds:
+            bench.line(kind, ATTEMPTS if asked.check else 1)
+    return 1 if asked.check and bench.failed else 0
+
+
+if __name__ == "__main__":
+    sys.exit(main())

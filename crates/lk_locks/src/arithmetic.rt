@@ -1,0 +1,25 @@
+//! Sums of words, which go round at so many bits.
+
+ghost use Rattle.std.specs.Prelude.{◌≡◌, ◌-◌, ◌^◌, ◌<◌, ◌≤◌};
+ghost use Rattle.lk_locks.specs.Change.{plus_one};
+
+/// The greatest word, which added to a word takes one away.
+pub fn greatest_of(bits: u8) -> u64
+    requires least { 2 ≤ bits }
+    requires most { bits ≤ 64 }
+    ensures value { result ≡ 2 ^ bits - 1 }
+    ensures fits { result < 2 ^ bits }
+{
+    let half = 1u64 << (bits - 1);
+    half - 1 + half
+}
+
+/// The next word.
+pub fn plus_one(bits: u8, word: u64) -> u64
+    requires least { 2 ≤ bits }
+    requires most { bits ≤ 64 }
+    ensures value { result ≡ plus_one bits word }
+    ensures fits { result < 2 ^ bits }
+{
+    word.wrapping_add(1) & greatest_of(bits)
+}

@@ -1,0 +1,13 @@
+-- Invariants. What the rounds of this crate's tests carry from call to call.
+use Rattle.std.specs.Prelude.{◌≡◌, ℕ, ◌≤◌}
+use Rattle.atomic_table.specs.Seated.{TableId}
+use Rattle.lk_workers.specs.declared.live.LivePhase.TheVariants.{Idle}
+use Rattle.lk_workers.specs.Seats.{Live}
+
+-- an idle seat of this lock, which may take so many tickets at least
+abbrev pub IsIdleOf : TableId → ℕ → Live → Type 0
+IsIdleOf lock takes s = (s.table ≡ lock) × (s.state.phase ≡ Idle) × (takes ≤ s.state.left)
+
+-- two of them
+abbrev pub AreIdleOf : TableId → ℕ → Live × Live → Type 0
+AreIdleOf lock takes p = IsIdleOf lock takes p.0 × IsIdleOf lock takes p.1

@@ -1,0 +1,6 @@
+//! What no clause says: worked rows, and that threads really run side by side.
+
+mod batches;
+mod drawn;
+mod eight;
+mod running;

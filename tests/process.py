@@ -1,0 +1,322 @@
+#!/usr/bin/env python3
+"""The built program as a process: its output, its errors and its status, where devices, words, files
+or memory fail it.
+
+    tests/process.py PROGRAM
+
+Each case gives the whole standard output, the whole standard error and the status that are wanted.
+They are written by hand from what the program promises; only the parser's own texts are known by
+their first words alone. The last line counts the cases; the status is 1 where one failed.
+"""
+
+import os
+import resource
+import shutil
+import signal
+import socket
+import subprocess
+import sys
+import tempfile
+import threading
+from pathlib import Path
+
+INPUT = b"lockreplay: cannot read standard input\n"
+OUTPUT = b"lockreplay: cannot write\n"
+MEMORY = b"lockreplay: out of memory\n"
+TOO_MANY = b"lockreplay: too many files\n"
+FOREIGN = b"lockreplay: the words are not UTF-8 text\n"
+
+HANDED_ON = b"""lock ticket threads 2
+0 acquire
+0 add
+0 read
+1 acquire
+1 add
+1 read
+0 release
+0 read
+0 write
+1 read
+"""
+HANDED_ON_REPORT = b"""1 0 acquire called hold - queue -
+2 0 add moved hold - queue 0
+3 0 read entered hold 0 queue 0
+4 1 acquire called hold 0 queue 0
+5 1 add moved hold 0 queue 0,1
+6 1 read waits hold 0 queue 0,1
+7 0 release called hold 0 queue 0,1
+8 0 read moved hold 0 queue 0,1
+9 0 write left hold - queue 1
+10 1 read entered hold 1 queue 1
+end 10
+"""
+EMPTY = b"lock ticket threads 1\n"
+EMPTY_REPORT = b"end 0\n"
+REFUSED = b"lock ticket threads 2\n0 release\n"
+REFUSED_REPORT = b"refused line 2 NotHolder\n"
+
+# A thread that spins to the limit of moves, behind one that never enters.
+SPINS = 65_532
+SPINNING = b"lock ticket threads 2\n0 acquire\n0 add\n1 acquire\n1 add\n" + b"1 read\n" * SPINS
+SPINNING_REPORT = (
+    b"1 0 acquire called hold - queue -\n"
+    b"2 0 add moved hold - queue 0\n"
+    b"3 1 acquire called hold - queue 0\n"
+    b"4 1 add moved hold - queue 0,1\n"
+    + b"".join(b"%d 1 read waits hold - queue 0,1\n" % k for k in range(5, SPINS + 5))
+    + b"end 65536\n"
+)
+
+PATIENCE = 100  # seconds
+
+passed = 0
+failed = 0
+
+
+def cannot_read(number):
+    return b"lockreplay: cannot read file %d\n" % number
+
+
+def batch_text(reports):
+    return b"".join(b"file %d\n" % k + report for k, report in enumerate(reports, 1))
+
+
+def shown(data):
+    return repr(data) if len(data) < 200 else f"{data[:90]!r}..{data[-90:]!r} ({len(data)} bytes)"
+
+
+def check(name, **pairs):
+    """One case: each thing's value and the value, or the test of it, that is wanted."""
+    global passed, failed
+    wrong = []
+    for thing, (got, want) in pairs.items():
+        if not (want(got) if callable(want) else got == want):
+            wrong.append(f"    {thing}: {shown(got) if isinstance(got, bytes) else got}")
+            if not callable(want):
+                wrong.append(f"    wanted: {shown(want) if isinstance(want, bytes) else want}")
+    if wrong:
+        failed += 1
+        print(f"FAILED {name}", *wrong, sep="\n", flush=True)
+    else:
+        passed += 1
+
+
+def closing(*descriptors):
+    def close():
+        for descriptor in descriptors:
+            os.close(descriptor)
+
+    return close
+
+
+def limited(limit, size):
+    return lambda: resource.setrlimit(limit, (size, size))
+
+
+def run(words, stdin=b"", stdout=subprocess.PIPE, stderr=subprocess.PIPE, before=None):
+    """The program's output, error and status. SIGPIPE ends a process that does nothing about it."""
+    given = {"input": stdin} if isinstance(stdin, bytes) else {"stdin": stdin}
+    ended = subprocess.run([PROGRAM, *words], stdout=stdout, stderr=stderr, preexec_fn=before,
+                           restore_signals=True, timeout=PATIENCE, **given)
+    return ended.stdout or b"", ended.stderr or b"", ended.returncode
+
+
+def case(name, words, status, output=b"", error=b"", **how):
+    got = run(words, **how)
+    check(name, output=(got[0], output), error=(got[1], error), status=(got[2], status))
+
+
+def left_pipe():
+    """The end for writing of a pipe that nobody reads."""
+    reader, writer = os.pipe()
+    os.close(reader)
+    return writer
+
+
+def is_usage(text):
+    return text.startswith(b"error: ") and b"Usage: lockreplay" in text and text.endswith(b"\n")
+
+
+def is_refusal(text):
+    return text.startswith(b"error: ") and text.endswith(b"\n")
+
+
+def is_help(text):
+    return b"Usage: lockreplay <COMMAND>" in text and text.endswith(b"\n")
+
+
+def standard_input():
+    case("a schedule", ["replay"], 0, HANDED_ON_REPORT, stdin=HANDED_ON)
+    case("a refused move", ["replay"], 1, REFUSED_REPORT, stdin=REFUSED)
+    case("no schedule", ["replay"], 1, b"fault line 1 NoHeader\n", stdin=subprocess.DEVNULL)
+    case("input closed", ["replay"], 3, error=INPUT, stdin=subprocess.DEVNULL, before=closing(0))
+    with open("/dev/null", "wb") as unreadable:
+        case("input for writing alone", ["replay"], 3, error=INPUT, stdin=unreadable)
+    folder = os.open(".", os.O_RDONLY)
+    case("input a directory", ["replay"], 3, error=INPUT, stdin=folder)
+    os.close(folder)
+    case("a pipe that ends in a move", ["replay"], 1, b"fault line 2 BadLine\n", stdin=HANDED_ON[:27])
+    case("a pipe that ends behind a move", ["replay"], 0, HANDED_ON_REPORT[:34] + b"end 1\n",
+         stdin=HANDED_ON[:31])
+    with open("/dev/zero", "rb") as endless:
+        case("input without end", ["replay"], 1, b"fault TooLong\n", stdin=endless)
+
+
+def standard_output(words, stdin, report):
+    """Where standard output fails, whatever is written to it."""
+    what = " ".join(words[:1])
+    case(f"{what}: output closed", words, 3, error=OUTPUT, stdin=stdin, before=closing(1))
+    with open("/dev/full", "wb") as full:
+        case(f"{what}: output full", words, 3, error=OUTPUT, stdin=stdin, stdout=full)
+    with open("/dev/null", "rb") as unwritable:
+        case(f"{what}: output for reading alone", words, 3, error=OUTPUT, stdin=stdin,
+             stdout=unwritable)
+    for handling in (signal.SIG_DFL, signal.SIG_IGN):
+        writer = left_pipe()
+        case(f"{what}: a reader that left, {handling.name}", words, 3, error=OUTPUT, stdin=stdin,
+             stdout=writer, before=lambda: signal.signal(signal.SIGPIPE, handling))
+        os.close(writer)
+    case(f"{what}: output and error closed", words, 3, stdin=stdin, before=closing(1, 2))
+    writer = left_pipe()
+    case(f"{what}: output and error that nobody reads", words, 3, stdin=stdin, stdout=writer,
+         stderr=writer)
+    os.close(writer)
+    if report:
+        cut_output(what, words, stdin, report)
+
+
+def cut_output(what, words, stdin, report):
+    """Where standard output takes a beginning of the report and no more."""
+    size = 1000
+    with tempfile.TemporaryFile() as short:
+        def before():
+            signal.signal(signal.SIGXFSZ, signal.SIG_IGN)
+            resource.setrlimit(resource.RLIMIT_FSIZE, (size, size))
+
+        _, error, status = run(words, stdin=stdin, stdout=short, before=before)
+        short.seek(0)
+        check(f"{what}: a file that is full after {size} bytes", output=(short.read(), report[:size]),
+              error=(error, OUTPUT), status=(status, 3))
+    reader, writer = os.pipe()
+    taken = []
+
+    def leave():
+        taken.append(os.read(reader, size))
+        os.close(reader)
+
+    leaver = threading.Thread(target=leave)
+    leaver.start()
+    _, error, status = run(words, stdin=stdin, stdout=writer)
+    os.close(writer)
+    leaver.join()
+    check(f"{what}: a reader that leaves", output=(taken[0], report[:len(taken[0])]),
+          error=(error, OUTPUT), status=(status, 3))
+
+
+def command_line():
+    case("a word that is no text", [b"\xff"], 2, error=FOREIGN)
+    case("a file's name that is no text", ["batch", "--workers", "2", b"a\xffb"], 2, error=FOREIGN)
+    case("no words", [], 2, error=is_usage)
+    case("a word too many", ["replay", "x"], 2, error=is_usage)
+    case("an unknown command", ["play"], 2, error=is_refusal)
+    case("nine workers", ["batch", "--workers", "9", "empty"], 2, error=is_refusal)
+    case("no number of workers", ["batch", "empty"], 2, error=is_usage)
+    case("no file", ["batch", "--workers", "2"], 2, error=is_usage)
+    case("help", ["--help"], 0, is_help)
+    case("error closed", ["play"], 2, before=closing(2))
+    writer = left_pipe()
+    case("error that nobody reads", ["play"], 2, stderr=writer)
+    os.close(writer)
+
+
+def batches():
+    names = ["empty", "handed_on", "refused", "none", "empty"]
+    reports = [EMPTY_REPORT, HANDED_ON_REPORT, REFUSED_REPORT, b"fault line 1 NoHeader\n", EMPTY_REPORT]
+    for workers in range(1, 9):
+        case(f"a batch of {workers} workers", ["batch", "--workers", str(workers), *names], 1,
+             batch_text(reports))
+    case("a batch that is accepted", ["batch", "--workers", "2", "empty", "handed_on"], 0,
+         batch_text([EMPTY_REPORT, HANDED_ON_REPORT]))
+    case("a batch with input closed", ["batch", "--workers", "2", "empty", "handed_on"], 0,
+         batch_text([EMPTY_REPORT, HANDED_ON_REPORT]), stdin=subprocess.DEVNULL, before=closing(0))
+    many = ["batch", "--workers", "2"] + ["empty"] * 65_536
+    case("65,536 files", many, 0, batch_text([EMPTY_REPORT] * 65_536))
+    case("65,537 files", many + ["empty"], 2, error=TOO_MANY)
+    case("65,537 files that are not there", ["batch", "--workers", "2"] + ["x"] * 65_537, 2,
+         error=TOO_MANY)
+
+
+def files():
+    for name in ("missing", "folder", "dangling", "circle", "socket", "empty/x", "n" * 300, "n" * 5000,
+                 ""):
+        case(f"file {name[:20]!r}", ["batch", "--workers", "2", "empty", name, "missing"], 3,
+             error=cannot_read(2))
+    case("the first of all", ["batch", "--workers", "8", "missing", "folder", "empty"], 3,
+         error=cannot_read(1))
+    case("the last of 65,536", ["batch", "--workers", "2"] + ["empty"] * 65_535 + ["missing"], 3,
+         error=cannot_read(65_536))
+    os.mkfifo("fifo")
+    shutil.copy("empty", "fleeting")
+    program = subprocess.Popen([PROGRAM, "batch", "--workers", "2", "fifo", "fleeting"],
+                               stdout=subprocess.PIPE, stderr=subprocess.PIPE)
+    with open("fifo", "wb") as fifo:  # opened once the program reads
+        os.remove("fleeting")
+        fifo.write(EMPTY)
+    output, error = program.communicate(timeout=PATIENCE)
+    check("a file that disappears", output=(output, b""), error=(error, cannot_read(2)),
+          status=(program.returncode, 3))
+
+
+def memory():
+    """Under each limit the answer is the one with ample memory, or the one line; both are met."""
+    spinning = ["batch", "--workers"]
+    for what, words, stdin, report in (
+        ("replay", ["replay"], SPINNING, SPINNING_REPORT),
+        ("batch, 1 worker", [*spinning, "1"] + ["spinning"] * 12, b"", batch_text([SPINNING_REPORT] * 12)),
+        ("batch, 8 workers", [*spinning, "8"] + ["spinning"] * 12, b"", batch_text([SPINNING_REPORT] * 12)),
+        ("65,536 names", [*spinning, "2"] + ["empty"] * 65_536, b"", batch_text([EMPTY_REPORT] * 65_536)),
+    ):
+        refused = given = 0
+        for megabytes in (4, 5, 6, 8, 12, 16, 24, 32, 48, 64, 80, 96, 128, 160, 256, 512):
+            got = run(words, stdin=stdin, before=limited(resource.RLIMIT_AS, megabytes << 20))
+            wanted = (b"", MEMORY, 3) if got[2] == 3 else (report, b"", 0)
+            refused += got[2] == 3
+            given += got[2] == 0
+            check(f"{what} within {megabytes} MB", output=(got[0], wanted[0]), error=(got[1], wanted[1]),
+                  status=(got[2], wanted[2]))
+        check(f"{what}: memory is short, then ample", refused=(refused, lambda n: n > 0),
+              given=(given, lambda n: n > 0))
+
+
+def make_files():
+    for name, text in (("empty", EMPTY), ("handed_on", HANDED_ON), ("refused", REFUSED), ("none", b""),
+                       ("spinning", SPINNING)):
+        Path(name).write_bytes(text)
+    os.mkdir("folder")
+    os.symlink("nowhere", "dangling")
+    os.symlink("circle", "circle")
+    with socket.socket(socket.AF_UNIX) as listener:
+        listener.bind("socket")
+
+
+def main():
+    with tempfile.TemporaryDirectory() as folder:
+        os.chdir(folder)
+        make_files()
+        standard_input()
+        standard_output(["replay"], SPINNING, SPINNING_REPORT)
+        standard_output(["batch", "--workers", "2", "spinning", "empty"], b"",
+                        batch_text([SPINNING_REPORT, EMPTY_REPORT]))
+        standard_output(["--help"], b"", b"")
+        command_line()
+        batches()
+        files()
+        memory()
+        os.chdir("/")
+    print(f"{passed} passed, {failed} failed")
+    return 1 if failed else 0
+
+
+if __name__ == "__main__":
+    PROGRAM = str(Path(sys.argv[1]).resolve())
+    sys.exit(main())

@@ -1,0 +1,119 @@
+/* A library, preloaded before a test, that refuses one request for memory: the Nth from a given one.
+ *
+ *     cc -O2 -shared -fPIC -o refuse.so refuse.c
+ *     REFUSE_LOG=FILE LD_PRELOAD=./refuse.so TESTS NAME
+ *
+ * A test speaks to it by requests of telling sizes, which need no call that a test cannot make. Each
+ * is answered with one byte or refused; the test gives a granted block back without using it.
+ *
+ *     HERE        is refused. Without the library it is granted: so a test knows whether it is there.
+ *     ARM + N     arms it, N from 1 to 999,999: of the requests that follow, of all threads together,
+ *                 the Nth is refused, and no other.
+ *     ASK         disarms it, and is refused exactly where a request was refused since it was armed.
+ *                 Without the library it is granted: no request was refused.
+ *
+ * What counts as a request is what a program asks for by malloc, realloc, aligned_alloc, memalign or
+ * posix_memalign, other than by the sizes above. A program in Rattle uses malloc and realloc alone
+ * (`nm -D`); alignments above 16 are refused before. calloc is let through and not counted: the C
+ * library calls it when it starts a thread. Freeing and shrinking with realloc(p, 0) are no requests.
+ *
+ * A test of a call that may want memory goes round for N = 1, 2, 3 and so on:
+ *
+ *     request ARM + N; make the call; request ASK
+ *     ASK refused:  the answer is want of memory, or the answer with ample memory; go on with N + 1
+ *     ASK granted:  the answer is the one with ample memory; end
+ *
+ * Where HERE is refused and the call is to take memory, N = 1 has to be refused: a test that ends its
+ * round with N = 1 then met no refusal and fails. For a call that takes no memory the round is N = 1
+ * alone, with ASK granted. Nothing between ARM and ASK but the call itself may ask for memory.
+ *
+ * At each ASK a line `request N refused` or `request N not reached` is appended to the file that
+ * REFUSE_LOG names. A library that could not be preloaded leaves no line, and the loader only warns:
+ * so whoever runs the tests looks for the lines (run.sh does).
+ *
+ * Not held to: a product that asks for exactly one of these sizes. None here does: what grows, grows
+ * by doubling.
+ */
+#include <errno.h>
+#include <fcntl.h>
+#include <stddef.h>
+#include <stdio.h>
+#include <stdlib.h>
+#include <string.h>
+#include <unistd.h>
+
+enum { HERE = 99999998, ASK = 99999999, ARM = 100000000, MOST = 999999 };
+
+void *__libc_malloc(size_t);
+void *__libc_realloc(void *, size_t);
+void *__libc_memalign(size_t, size_t);
+
+static long left;    /* requests up to the one that is refused, 0 where disarmed or past it */
+static long armed;   /* the N of the last arming */
+static int refused;  /* since then */
+
+/* Appends to the log without asking for memory. */
+static void note(void) {
+    const char *name = getenv("REFUSE_LOG");
+    char line[64];
+    int size = snprintf(line, sizeof line, "request %ld %s\n", armed,
+                        refused ? "refused" : "not reached");
+    int log = name ? open(name, O_WRONLY | O_CREAT | O_APPEND | O_CLOEXEC, 0600) : -1;
+    if (log < 0) return;
+    if (write(log, line, size) != size) _exit(99);
+    close(log);
+}
+
+static int is_telling(size_t size) {
+    return size == HERE || size == ASK || (size > ARM && size <= (size_t)ARM + MOST);
+}
+
+/* Whether a request of a telling size is granted. */
+static int answer(size_t size) {
+    if (size == HERE) return 0;
+    if (size == ASK) {
+        __atomic_store_n(&left, 0, __ATOMIC_SEQ_CST);
+        note();
+        return !__atomic_load_n(&refused, __ATOMIC_SEQ_CST);
+    }
+    armed = size - ARM;
+    __atomic_store_n(&refused, 0, __ATOMIC_SEQ_CST);
+    __atomic_store_n(&left, armed, __ATOMIC_SEQ_CST);
+    return 1;
+}
+
+/* Whether a request of any other size is granted: each is one of those left, in one atomic step. */
+static int is_granted(void) {
+    long now = __atomic_load_n(&left, __ATOMIC_SEQ_CST);
+    while (now > 0)
+        if (__atomic_compare_exchange_n(&left, &now, now - 1, 0, __ATOMIC_SEQ_CST, __ATOMIC_SEQ_CST)) {
+            if (now > 1) return 1;
+            __atomic_store_n(&refused, 1, __ATOMIC_SEQ_CST);
+            errno = ENOMEM;
+            return 0;
+        }
+    return 1;
+}
+
+void *malloc(size_t size) {
+    if (is_telling(size)) return answer(size) ? __libc_malloc(1) : NULL;
+    return is_granted() ? __libc_malloc(size) : NULL;
+}
+
+void *realloc(void *block, size_t size) {
+    if (!block) return malloc(size);
+    return size == 0 || is_granted() ? __libc_realloc(block, size) : NULL;
+}
+
+void *memalign(size_t alignment, size_t size) {
+    return is_granted() ? __libc_memalign(alignment, size) : NULL;
+}
+
+void *aligned_alloc(size_t alignment, size_t size) { return memalign(alignment, size); }
+
+int posix_memalign(void **block, size_t alignment, size_t size) {
+    void *got = memalign(alignment, size);
+    if (!got) return ENOMEM;
+    *block = got;
+    return 0;
+}
