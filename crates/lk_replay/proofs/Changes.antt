@@ -1,14 +1,12 @@
 -- The text of a state that a move leaves as it was.
-use Rattle.std.proofs.Common.{◌≡◌, ℕ, ◌+◌, List, [], ◌∷◌, ◌++◌, length, refl, ap, sym, ◌∙◌, append-nil, length-append, arith, Option, None, Some}
+use Rattle.std.proofs.Common.{◌≡◌, ℕ, List, [], ◌∷◌, ◌++◌, refl, ap, Option, None, Some}
 use Rattle.lk_locks.specs.Legal.{after_entries, after_entry}
 use Rattle.lk_locks.specs.Holding.{holder_after, holding_of, waiting_of, held_by_one, shared_by, one_or_none}
 use Rattle.lk_locks.specs.Sequential.{Sequential, nobody}
-use Rattle.lk_locks.specs.Play.{Played, after_play}
 use Rattle.lk_locks.specs.declared.kinds.Entry.{Entry}
 use Rattle.lk_locks.specs.declared.kinds.Entry.TheVariants.{Called, Acted, Returned}
 use Rattle.lk_locks.specs.declared.kinds.LockKind.{LockKind}
 use Rattle.lk_locks.specs.declared.kinds.LockKind.TheVariants.{Ticket, Mcs, RwSimple, RwFifo}
-use Rattle.lk_locks.specs.declared.kinds.Move.TheVariants.{Call}
 use Rattle.lk_locks.specs.declared.kinds.Op.{Op}
 use Rattle.lk_locks.specs.declared.kinds.Op.TheVariants.{Acquire, Release}
 use Rattle.lk_replay.specs.Report.{state_text}

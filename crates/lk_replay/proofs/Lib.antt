@@ -9,3 +9,5 @@ pub mod Digits
 pub mod Transfers
 pub mod Reports
 pub mod LastLines
+pub mod Blocks
+pub mod Lists

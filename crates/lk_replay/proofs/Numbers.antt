@@ -1,5 +1,5 @@
 -- What the digits of a number write.
-use Rattle.std.proofs.Common.{◌≡◌, ℕ, ◌+◌, ◌-◌, ◌*◌, ◌<◌, ◌≤◌, List, [], ◌∷◌, length, get_or, drop, Option, None, ◌&&◌, true, false, nat_le, arith, le_refl, refl, sym, ap, ◌∙◌, add-one, drop-cons, subst, cond}
+use Rattle.std.proofs.Common.{◌≡◌, ℕ, ◌+◌, ◌-◌, ◌*◌, ◌<◌, ◌≤◌, List, [], ◌∷◌, length, get_or, drop, None, nat_le, arith, le_refl, refl, ap, ◌∙◌, add-one, drop-cons}
 use Rattle.std.proofs.lemmas.Bool.{lt-leb, and_right, cond-false}
 use Rattle.lk_replay.specs.Words.{value_from, number_of, is_plain_number}
 

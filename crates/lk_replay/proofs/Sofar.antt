@@ -1,9 +1,8 @@
 -- What was played, and what the rest gives.
-use Rattle.std.proofs.Common.{◌≡◌, ℕ, ◌+◌, ◌<◌, List, [], ◌∷◌, ◌++◌, map, length, Option, None, Some, Ok, Err, refl, ap, sym, ◌∙◌, append_assoc, append-nil, arith, drop, get_or, subst, drop-cons, add-one}
+use Rattle.std.proofs.Common.{◌≡◌, ℕ, ◌+◌, ◌<◌, List, [], ◌∷◌, ◌++◌, map, length, Option, None, Some, Ok, Err, refl, ap, sym, ◌∙◌, append_assoc, append-nil, drop, get_or, subst, drop-cons, add-one}
 use Rattle.std.specs.List.{flat_map}
 use Rattle.std.proofs.Math.ListN.{length-set}
 use Rattle.lk_locks.specs.Steps.{refusal_of, change_of}
-use Rattle.lk_locks.specs.Entries.{entries_of}
 use Rattle.lk_locks.specs.Play.{Played, after_play, IsPlayAnswer}
 use Rattle.lk_locks.specs.declared.kinds.Entry.{Entry}
 use Rattle.lk_locks.specs.declared.kinds.LockKind.{LockKind}
@@ -11,9 +10,9 @@ use Rattle.lk_locks.specs.declared.kinds.Move.{Move}
 use Rattle.lk_locks.specs.declared.kinds.Outcome.{Outcome}
 use Rattle.lk_locks.specs.declared.kinds.Refusal.{Refusal}
 use Rattle.lk_locks.specs.declared.faults.PlayFault.{PlayFault}
-use Rattle.lk_locks.specs.declared.faults.PlayFault.TheVariants.{Refused}
+use Rattle.lk_locks.specs.declared.faults.PlayFault.TheVariants.{Refused, OutOfMemory}
 use Rattle.lk_replay.specs.declared.schedule.Line.{Line}
-use Rattle.lk_replay.specs.Replay.{Replay, Replayed, replay_from, refused_or}
+use Rattle.lk_replay.specs.Replay.{Replay, Replayed, replay_from}
 use Rattle.lk_replay.specs.Report.{lines_text, move_text, state_text, last_line}
 use Rattle.lk_replay.specs.declared.played.Accepted.{Accepted}
 
@@ -42,6 +41,10 @@ refused_with (Some y) o x h = ap (λ z. Some z) (sym h)
 pub was_refused : (r : Option Refusal) (o : Outcome) (x : Refusal) (f : PlayFault) → f ≡ Refused x → IsPlayAnswer r o (Err f) → r ≡ Some x
 was_refused r o x f e a = refused_with r o x (subst (λ y. IsPlayAnswer r o (Err y)) e a)
 
+pub no_memory : (r : Option Refusal) (o p : Outcome) → IsPlayAnswer r o (Ok p) → IsPlayAnswer r o (Err OutOfMemory)
+no_memory None o p h = tt
+no_memory (Some x) o p h = absurd h
+
 pub next_line : (ms : List Line) (i : ℕ) (d : Line) → i < length ms → drop i ms ≡ get_or ms i d ∷ drop (i + 1) ms
 next_line ms i d h = drop-cons ms i d h ∙ rw add-one refl
 
@@ -54,16 +57,15 @@ line_stop : (k : Played) (l : Line) (ls : List Line) (count : ℕ) (x : Refusal)
 line_stop k l ls count x h = rw h refl
 
 -- one line more
-pub text_moved : (out mo new st text : List ℕ) (k m : Played) (ms : List Line) (i : ℕ) (d : Line) (count : ℕ) (p : Outcome) → i < length ms
+pub text_moved : (out new kept text : List ℕ) (k m : Played) (ms : List Line) (i : ℕ) (d : Line) (count next : ℕ) (p : Outcome) → i < length ms → next ≡ count + 1
     → IsPlayAnswer (refusal_of k.state (get_or ms i d).thread (get_or ms i d).action) (change_of k.state (get_or ms i d).thread (get_or ms i d).action).outcome (Ok p)
-    → m ≡ after_play k (get_or ms i d).thread (get_or ms i d).action → mo ≡ out ++ move_text (count + 1) (accepted_of (get_or ms i d) p) → new ≡ mo ++ st → st ≡ state_text m.state.kind m.entries
-    → out ++ rest_text k.state.kind count k.entries (replay_from k.state (drop i ms)) ≡ text → new ++ rest_text m.state.kind (count + 1) m.entries (replay_from m.state (drop (i + 1) ms)) ≡ text
-text_moved out mo new st text k m ms i d count p h a e f g s w =
+    → m ≡ after_play k (get_or ms i d).thread (get_or ms i d).action → new ≡ out ++ (move_text next (accepted_of (get_or ms i d) p) ++ kept) → kept ≡ state_text m.state.kind m.entries
+    → out ++ rest_text k.state.kind count k.entries (replay_from k.state (drop i ms)) ≡ text → new ++ rest_text m.state.kind next m.entries (replay_from m.state (drop (i + 1) ms)) ≡ text
+text_moved out new kept text k m ms i d count next p h n a e f s w =
     let l : Line = get_or ms i d in
     let rest : List ℕ = rest_text k.state.kind (count + 1) (after_play k l.thread l.action).entries (replay_from (after_play k l.thread l.action).state (drop (i + 1) ms)) in
-    let mid : List ℕ = move_text (count + 1) (accepted_of l p) in
-    let end : List ℕ = state_text k.state.kind (after_play k l.thread l.action).entries in
-    rw (g, s, f, e) (append_assoc (out ++ mid) end rest ∙ append_assoc out mid (end ++ rest) ∙ ap (λ xs. out ++ xs) (sym (append_assoc mid end rest))
+    let line : List ℕ = move_text (count + 1) (accepted_of l p) ++ state_text k.state.kind (after_play k l.thread l.action).entries in
+    rw (f, s, e, n) (append_assoc out line rest
     ∙ ap (λ xs. out ++ xs) (sym (line_step k l (drop (i + 1) ms) count p a)) ∙ ap (λ xs. out ++ rest_text k.state.kind count k.entries (replay_from k.state xs)) (sym (next_line ms i d h)) ∙ w)
 
 -- the line of a refused move

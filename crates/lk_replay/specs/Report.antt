@@ -36,9 +36,13 @@ abbrev pub queue_text : List ℕ → List ℕ
 queue_text [] = codes "-"
 queue_text (n ∷ ns) = numbers_text (n ∷ ns)
 
--- ` hold H queue Q`, of who holds and who waits after these entries
+-- `H queue Q` and the end of the line
+abbrev pub shown_text : Holding → List ℕ → List ℕ
+shown_text holding waiting = holding_text holding ++ codes " queue " ++ queue_text waiting ++ codes "\n"
+
+-- of who holds and who waits after these entries
 unfoldable pub state_text : LockKind → List Entry → List ℕ
-state_text kind es = codes " hold " ++ holding_text (holding_of kind es) ++ codes " queue " ++ queue_text (waiting_of kind es) ++ codes "\n"
+state_text kind es = shown_text (holding_of kind es) (waiting_of kind es)
 
 abbrev pub outcome_word : Outcome → List ℕ
 outcome_word Called = codes "called"
@@ -47,9 +51,10 @@ outcome_word Waits = codes "waits"
 outcome_word Entered = codes "entered"
 outcome_word Left = codes "left"
 
--- `K T WORD OUTCOME`
+-- `K T WORD OUTCOME hold `
 unfoldable pub move_text : ℕ → Accepted → List ℕ
-move_text count a = decimal count ++ codes " " ++ decimal a.thread ++ codes " " ++ move_word a.action ++ codes " " ++ outcome_word a.outcome
+move_text count a =
+    decimal count ++ codes " " ++ decimal a.thread ++ codes " " ++ move_word a.action ++ codes " " ++ outcome_word a.outcome ++ codes " hold "
 
 -- the line of the accepted move number `count`, after which the entries are `es`
 abbrev pub line_text : LockKind → ℕ → List Entry → Accepted → List ℕ

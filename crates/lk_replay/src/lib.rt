@@ -3,18 +3,19 @@
 
 mod devices;
 mod ending;
+mod engine;
 mod header;
 mod lines;
 mod played;
 mod report;
-mod engine;
 mod schedule;
-mod texts;
+#[cfg(test)]
+mod tests;
 mod words;
 
 pub use devices::{RunFault, read_text, send};
 pub use ending::{Ending, ending_of};
+pub use engine::{run, status_of};
 pub use played::{Accepted, Played, replay};
 pub use report::report_of;
-pub use engine::{run, status_of};
 pub use schedule::{Line, ReadFault, Schedule, read_schedule};

@@ -35,11 +35,12 @@ impl Model for Played {
     ghost Value = { Replayed };
 
     ghost view = { λ a. record {
-        kind = a.keeper.state.kind;
-        threads = length a.keeper.state.phases;
-        accepted = a.accepted.items;
-        entries = a.keeper.entries;
-        refused = a.refused } };
+      kind = a.keeper.state.kind;
+      threads = length a.keeper.state.phases;
+      accepted = a.accepted.items;
+      entries = a.keeper.entries;
+      refused = a.refused;
+    } };
 }
 
 impl Played {

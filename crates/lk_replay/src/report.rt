@@ -1,40 +1,49 @@
 //! The report of a schedule text.
 
-ghost use Rattle.std.specs.Prelude.{◌≡◌, ◌++◌, OnOk, IfOk};
+ghost use Rattle.std.specs.Prelude.{◌≡◌, ◌≤◌, ◌++◌, OnOk, IfOk, drop, length};
 ghost use Rattle.lk_locks.specs.Play.{after_play, IsPlayAnswer};
 ghost use Rattle.lk_locks.specs.Steps.{refusal_of, change_of};
 ghost use Rattle.lk_replay.specs.Replay.{replay_of};
 ghost use Rattle.lk_replay.specs.Report.{state_text, replay_text, report_text};
 
+mod blocks;
+mod closings;
+mod line;
+mod listed;
+mod numerals;
+mod state;
+
 use crate::played::{Accepted, new_keeper};
-use crate::texts::{push_end, push_fault, push_holders, push_move, push_queue, push_refusal};
 use crate::{Line, ReadFault, Schedule, read_schedule};
+use closings::{push_end, push_fault, push_refusal};
+use line::KeptLine;
 use lk_locks::{Keeper, Move, Outcome, PlayFault};
 use lk_words::WordArray;
+use numerals::Numeral;
 use std::alloc::{AllocError, Global};
 
-// Appends who holds and who waits.
+// Shows who holds a lock and who waits for it now.
 #[tactic(auto, unfolding(crate::specs::Report::state_text))]
-fn push_state(out: &mut Vec<u8>, keeper: &Keeper<WordArray>) -> Result<(), AllocError>
-    ensures { OnOk result (out.new.items ≡ out.old.items ++ state_text keeper.now.state.kind keeper.now.entries) }
+fn show_state(line: &mut KeptLine, keeper: &Keeper<WordArray>) -> Result<(), AllocError>
+    requires { 80 ≤ length line.old.bytes.items }
+    ensures shown { OnOk result (drop 80 line.new.bytes.items ≡ state_text keeper.now.state.kind keeper.now.entries) }
+    ensures room { OnOk result (80 ≤ length line.new.bytes.items) }
 {
-    out.extend_from_slice(b" hold ")?;
-    push_holders(out, &keeper.holders())?;
-    out.extend_from_slice(b" queue ")?;
-    push_queue(out, &keeper.queue())?;
-    out.extend_from_slice(b"\n")
+    line.show(&keeper.holders(), &keeper.queue())
 }
 
-// Plays a move, and keeps the text of who holds and who waits.
+// Plays a move, and keeps the line's text of who holds and who waits.
 fn play_line(
     keeper: &mut Keeper<WordArray>,
-    state: &mut Vec<u8>,
+    kept: &mut KeptLine,
     line: &Line,
 ) -> Result<Outcome, PlayFault>
-    requires { state.old.items ≡ state_text keeper.old.state.kind keeper.old.entries }
+    requires shown { drop 80 kept.old.bytes.items ≡ state_text keeper.old.state.kind keeper.old.entries }
+    requires room { 80 ≤ length kept.old.bytes.items }
     ensures answer { IsPlayAnswer (refusal_of keeper.old.state line.now.thread line.now.action) (change_of keeper.old.state line.now.thread line.now.action).outcome result }
     ensures played { OnOk result (keeper.new ≡ after_play keeper.old line.now.thread line.now.action) }
-    ensures text { OnOk result (state.new.items ≡ state_text keeper.new.state.kind keeper.new.entries) }
+    ensures shown { OnOk result (drop 80 kept.new.bytes.items ≡ state_text keeper.new.state.kind keeper.new.entries) }
+    ensures room { OnOk result (80 ≤ length kept.new.bytes.items) }
 {
     let before = keeper.entries().len();
     let outcome = keeper.play(line.thread, line.action)?;
@@ -44,8 +53,7 @@ fn play_line(
     if let Move::Call(_) = line.action {
         return Ok(outcome);
     }
-    state.clear();
-    match push_state(state, keeper) {
+    match show_state(kept, keeper) {
         Ok(()) => Ok(outcome),
         Err(_) => Err(PlayFault::OutOfMemory),
     }
@@ -58,21 +66,20 @@ fn replay_text(alloc: Global, schedule: &Schedule) -> Result<Vec<u8>, AllocError
     let mut keeper = new_keeper(alloc, schedule);
     let moves = schedule.moves();
     let mut out = Vec::with_capacity(alloc, 40 * moves.len())?;
-    let mut state = Vec::new(alloc);
-    push_state(&mut state, &keeper)?;
-    let mut count: u32 = 0;
+    let mut kept = KeptLine::new(alloc, schedule.threads())?;
+    show_state(&mut kept, &keeper)?;
+    let mut count = Numeral::of(0);
     for line in moves {
-        match play_line(&mut keeper, &mut state, line) {
+        match play_line(&mut keeper, &mut kept, line) {
             Ok(outcome) => {
-                count += 1;
+                count.count_on();
                 let accepted = Accepted {
                     line: line.number,
                     thread: line.thread,
                     action: line.action,
                     outcome,
                 };
-                push_move(&mut out, count, &accepted)?;
-                out.extend_from_slice(&state)?;
+                kept.push_to(&mut out, &count, &accepted)?;
             }
             Err(PlayFault::Refused(refusal)) => {
                 push_refusal(&mut out, line.number, refusal)?;
@@ -81,7 +88,7 @@ fn replay_text(alloc: Global, schedule: &Schedule) -> Result<Vec<u8>, AllocError
             Err(PlayFault::OutOfMemory) => return Err(AllocError),
         }
     }
-    push_end(&mut out, count)?;
+    push_end(&mut out, &count)?;
     Ok(out)
 }
 

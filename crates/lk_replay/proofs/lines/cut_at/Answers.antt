@@ -1,5 +1,4 @@
 -- The cut is at the first such byte.
-use Rattle.std.proofs.Common.{rules}
 use Rattle.lk_replay.proofs.Cuts.{cut_nowhere, cut_first}
 use Rattle.lk_replay.proofs.lines.cut_at.Goals as goal
 

@@ -3,7 +3,7 @@ use Rattle.std.proofs.Common.{sym, ◌∙◌, ◌+◌}
 use Rattle.std.proofs.lemmas.Result.{err_from_is_err_and}
 use Rattle.lk_replay.specs.Header.{header_of}
 use Rattle.lk_replay.specs.Lines.{lines_of}
-use Rattle.lk_replay.proofs.Headers.{no_header, header_here, fails_first, fails_next}
+use Rattle.lk_replay.proofs.Headers.{no_header, header_here, fails_first}
 use Rattle.lk_replay.proofs.Moves.{moves_want}
 use Rattle.lk_replay.proofs.schedule.read_schedule.Goals as goal
 

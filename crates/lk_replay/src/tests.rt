@@ -1,0 +1,7 @@
+//! Worked replays and texts, texts at the limits, and devices that fail.
+
+mod devices;
+mod limits;
+mod replays;
+mod texts;
+mod worked;

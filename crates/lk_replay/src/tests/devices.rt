@@ -1,0 +1,168 @@
+//! Readers and writers that fail.
+
+use crate::{Ending, RunFault, read_text, report_of, run, send, status_of};
+use std::io;
+use std::io::{ErrorKind, Read, Write};
+use std::test::Fail;
+
+const TEXT: &[u8] =
+    b"lock ticket threads 2\n0 acquire\n0 add\n0 read\n1 acquire\n1 add\n1 read\n0 release\n0 read\n0 write\n1 read\n";
+
+/// Gives one byte a call, and fails in place of the byte after the last.
+#[derive(Drop)]
+struct FailingReader<'a> {
+    rest: &'a [u8],
+    kind: ErrorKind,
+    calls: u32,
+}
+
+impl<'a> Read for FailingReader<'a> {
+    fn read(&mut self, buf: &mut [u8]) -> io::Result<usize> {
+        self.calls = self.calls.wrapping_add(1);
+        let Some((first, rest)) = self.rest.split_first() else {
+            return Err(io::Error::from(self.kind));
+        };
+        if buf.is_empty() {
+            return Ok(0);
+        }
+        buf[0] = *first;
+        self.rest = rest;
+        Ok(1)
+    }
+}
+
+/// Gives `#` for ever, at most so many a call.
+#[derive(Drop)]
+struct Endless {
+    most: usize,
+    taken: u64,
+    calls: u64,
+}
+
+impl Read for Endless {
+    fn read(&mut self, buf: &mut [u8]) -> io::Result<usize> {
+        let count = buf.len().min(self.most);
+        for byte in &mut buf[..count] {
+            *byte = b'#';
+        }
+        self.taken = self.taken.wrapping_add(count as u64);
+        self.calls = self.calls.wrapping_add(1);
+        Ok(count)
+    }
+}
+
+/// Takes so many bytes, at most `most` a call, and then fails.
+#[derive(Drop)]
+struct FullWriter {
+    taken: Vec<u8>,
+    room: usize,
+    most: usize,
+    by_zero: bool,
+    flushes: bool,
+}
+
+impl Write for FullWriter {
+    fn write(&mut self, buf: &[u8]) -> io::Result<usize> {
+        let count = buf.len().min(self.room).min(self.most);
+        if count == 0 && !self.by_zero {
+            return Err(io::Error::from(ErrorKind::Other));
+        }
+        self.taken.extend_from_slice(&buf[..count])?;
+        self.room -= count;
+        Ok(count)
+    }
+
+    fn flush(&mut self) -> io::Result<()> {
+        if self.flushes {
+            Ok(())
+        } else {
+            Err(io::Error::from(ErrorKind::Other))
+        }
+    }
+}
+
+#[test]
+fn readers_that_fail(rt: HostRuntime) -> Result<(), Fail> {
+    let alloc = rt.alloc();
+    for kind in [ErrorKind::Other, ErrorKind::Interrupted] {
+        for k in 0..=TEXT.len() {
+            let mut input = FailingReader {
+                rest: &TEXT[..k],
+                kind,
+                calls: 0,
+            };
+            let mut output = Vec::new(alloc);
+            let ran = run(alloc, &mut input, &mut output);
+            assert!(rt; ran == Err(RunFault::Read) && output.is_empty() && status_of(&ran) == 3);
+            assert!(rt; usize::try_from(input.calls)? == k + 1);
+        }
+    }
+    let mut input = b"lock ticket threads 1\n".as_slice();
+    assert!(rt; read_text(alloc, &mut input)?.len() == 22);
+    Ok(())
+}
+
+#[test]
+fn readers_without_end(rt: HostRuntime) -> Result<(), Fail> {
+    let alloc = rt.alloc();
+    for most in [1, 1_000, 1_000_000] {
+        let mut input = Endless {
+            most,
+            taken: 0,
+            calls: 0,
+        };
+        let mut output = Vec::new(alloc);
+        let ran = run(alloc, &mut input, &mut output);
+        assert!(rt; output.as_slice() == b"fault TooLong\n".as_slice());
+        assert!(rt; ran == Ok(Ending::Faulty) && status_of(&ran) == 1);
+        assert!(rt; input.taken == 1_048_577 && input.calls <= 1_048_578);
+    }
+    Ok(())
+}
+
+#[test]
+fn writers_that_fail(rt: HostRuntime) -> Result<(), Fail> {
+    let alloc = rt.alloc();
+    let report = report_of(alloc, TEXT)?;
+    for by_zero in [false, true] {
+        for room in 0..report.len() {
+            let mut input = TEXT;
+            let mut output = FullWriter {
+                taken: Vec::new(alloc),
+                room,
+                most: 9,
+                by_zero,
+                flushes: true,
+            };
+            let ran = run(alloc, &mut input, &mut output);
+            assert!(rt; ran == Err(RunFault::Write) && status_of(&ran) == 3);
+            assert!(rt; output.taken.as_slice() == &report[..room]);
+        }
+    }
+    Ok(())
+}
+
+#[test]
+fn writers_of_one_byte(rt: HostRuntime) -> Result<(), Fail> {
+    let alloc = rt.alloc();
+    let report = report_of(alloc, TEXT)?;
+    for flushes in [false, true] {
+        let mut input = TEXT;
+        let mut output = FullWriter {
+            taken: Vec::new(alloc),
+            room: 9_999,
+            most: 1,
+            by_zero: false,
+            flushes,
+        };
+        let ran = run(alloc, &mut input, &mut output);
+        let wanted = if flushes {
+            Ok(Ending::Accepted)
+        } else {
+            Err(RunFault::Write)
+        };
+        assert!(rt; ran == wanted && output.taken.as_slice() == report.as_slice());
+        assert!(rt; send(&mut output, b"").is_ok() == flushes);
+    }
+    Ok(())
+}
