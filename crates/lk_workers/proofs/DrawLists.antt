@@ -4,7 +4,7 @@ use Rattle.std.specs.List.{flat_map}
 use Rattle.atomic_table.specs.Table.{State}
 use Rattle.lk_workers.specs.declared.draws.Hand.{Hand}
 use Rattle.lk_workers.specs.Counting.{times}
-use Rattle.lk_workers.specs.DrawRule.{Drawn}
+use Rattle.lk_workers.specs.invariants.DrawRule.{Drawn}
 use Rattle.lk_workers.specs.DrawLaw.{word_of, DrawState}
 use Rattle.lk_workers.proofs.Sums.{two_there}
 use Rattle.lk_workers.proofs.Below.{each_below, times-flat_map, at_most_once}

@@ -7,7 +7,7 @@ use Rattle.atomic_table.proofs.Lists.{set_again}
 use Rattle.lk_workers.specs.declared.draws.Hand.{Hand}
 use Rattle.lk_workers.specs.Counting.{same, times, once_below, IsEachBelow}
 use Rattle.lk_workers.specs.Drawing.{hand}
-use Rattle.lk_workers.specs.DrawRule.{Drawn, DrawTells, CountTells}
+use Rattle.lk_workers.specs.invariants.DrawRule.{Drawn, DrawTells, CountTells}
 use Rattle.lk_workers.proofs.Sums.{total_set, total-append, at_most_total, total_both, alone_at, set_same}
 use Rattle.lk_workers.proofs.Below.{below_suc, below_of, all_below, each_below}
 

@@ -5,7 +5,7 @@ use Rattle.std.proofs.lemmas.List.Elements.{filter-append}
 use mathlib.Core.List.{map-append}
 use Rattle.lk_workers.specs.Counting.{times, same, IsEachBelow}
 use Rattle.lk_workers.proofs.Sums.{total-append}
-use Rattle.lk_workers.specs.Collected.{report_at, reports_of, IsThrough, IsWorkOf, IsEachOnce}
+use Rattle.lk_workers.specs.invariants.Collected.{report_at, reports_of, IsThrough, IsWorkOf, IsEachOnce}
 
 pub past : (texts : List (List ℕ)) (drawn : List ℕ) (x : ℕ) → length texts ≤ x → reports_of texts (drawn ++ x ∷ []) ≡ reports_of texts drawn
 past texts drawn x h = let p : ℕ → Bool = λ k. ltb k (length texts) in let f : ℕ → ℕ × List ℕ = λ k. (k, report_at texts k) in

@@ -1,18 +1,21 @@
 -- The steps of the running lock are events of the ticket machine.
-use Rattle.std.proofs.Common.{◌≡◌, ℕ, zero, suc, ◌+◌, ◌%◌, ◌^◌, ◌<◌, ◌==◌, Bool, true, false, List, [], ◌∷◌, length, get_or, if◌then◌else◌, sym, refl, ap, ◌∙◌, subst, arith, get_or-set_same, get_or-set_other}
+use Rattle.std.proofs.Common.{◌≡◌, ℕ, zero, suc, ◌+◌, ◌%◌, ◌^◌, ◌<◌, ◌==◌, Bool, true, false, List, [], ◌∷◌, length, get_or, if◌then◌else◌, set, sym, refl, ap, ◌∙◌, subst, arith, get_or-set_same, get_or-set_other}
 use mathlib.Core.Option.{some, some-ne-none}
 use lib.ListN.{get_elem?}
 use Rattle.atomic_table.proofs.Lists.{set_here, set_else}
 use Rattle.lk_locks.specs.declared.kinds.Phase.TheVariants.{AwaitTurn, TicketInside, PassOn}
-use Rattle.lk_locks.specs.declared.kinds.Outcome.TheVariants.{Waits, Entered}
-use Rattle.lk_locks.specs.laws.{Event, event, look_event}
+use Rattle.lk_locks.specs.declared.kinds.Outcome.TheVariants.{Waits, Entered, Left}
+use Rattle.lk_locks.specs.laws.{Event, event, take_event, look_event, read_event, pass_event}
+use Rattle.lk_locks.specs.Change.{to}
+use Rattle.lk_locks.specs.ticket.{step}
 use Rattle.lk_workers.specs.declared.live.LivePhase.{LivePhase}
 use Rattle.lk_workers.specs.declared.live.LivePhase.TheVariants.{Idle, Waiting, Inside, Leaving}
 use Rattle.lk_workers.specs.declared.live.rule.SeatState.{SeatState}
 use Rattle.lk_workers.specs.Seats.{Table, serving_of, thread_in, thread_of}
 use Rattle.lk_workers.specs.SeatSteps.{LiveStep, take_step, look_step, read_step, pass_step, after}
-use Rattle.lk_workers.specs.Running.{FitsPhase}
-use Rattle.lk_workers.specs.LockState.{Happens, IsEvent, due_in, event_in}
+use Rattle.lk_workers.specs.invariants.Running.{FitsPhase}
+use Rattle.lk_workers.specs.LockState.{Happens, IsEvent, due_in}
+use Rattle.lk_workers.proofs.Sums.{set_same}
 use Rattle.lk_workers.proofs.LockStates.{between}
 
 -- what looks of this word: inside where it is the ticket
@@ -26,35 +29,41 @@ there (x ∷ xs) zero a e = omega arith
 there (x ∷ xs) (suc i) a e = let r = there xs i a e in omega arith
 
 -- a step on one word by one seat is an event that leaves the same in the word and in the seat's phase
-happens : (live : LiveStep) (id : ℕ) (s : Table) (r : SeatState) (e : Event) → live.word < length s.words → get_elem? s.views id ≡ some (r ∷ [])
-    → live.leaves r (get_or s.words live.word 0) ≡ e.word → thread_of (live.next r (get_or s.words live.word 0)) ≡ e.phase → Happens s (after live id s r) id live.word e
-happens live id s r e low at word phase = let found : ℕ = get_or s.words live.word 0 in let q : SeatState = live.next r found in record {
+happens : (live : LiveStep) (id : ℕ) (s : Table) (r : SeatState) (p : LivePhase) (e : Event) → live.word < length s.words → get_elem? s.views id ≡ some (r ∷ []) → r.phase ≡ p
+    → live.leaves r (get_or s.words live.word 0) ≡ e.word → thread_of (live.next r (get_or s.words live.word 0)) ≡ e.phase
+    → ((i : ℕ) → step 64 i s.words (due_in p r.ticket) ≡ to (set s.words live.word (live.leaves r (get_or s.words live.word 0))) e.phase e.outcome)
+    → Happens s (after live id s r) id live.word (due_in r.phase r.ticket) e
+happens live id s r p e low at is word phase machine = let found : ℕ = get_or s.words live.word 0 in let q : SeatState = live.next r found in record {
   leaves = get_or-set_same s.words live.word (live.leaves r found) 0 low ∙ word;
   other_word = λ i n. get_or-set_other s.words live.word i (live.leaves r found) 0 n;
   seat = (q, set_here s.views id (q ∷ []) (there s.views id (r ∷ []) at), phase);
   other_seats = λ j n. set_else s.views id j (q ∷ []) n;
+  machine = λ i. ap (λ d. step 64 i s.words (due_in d r.ticket)) is ∙ machine i;
 }
 
--- the event that is due in this phase
-due_of : (r : SeatState) (p : LivePhase) (found : ℕ) → r.phase ≡ p → event_in (due_in p r.ticket) found ≡ event_in (due_in r.phase r.ticket) found
-due_of r p found is = ap (λ q. event_in (due_in q r.ticket) found) (sym is)
+pub takes : IsEvent take_step Idle (λ r found. take_event 64 found)
+takes all id s r h at is = happens take_step id s r Idle (take_event 64 (get_or s.words 0 0)) (let two = h.two_words in omega arith) at is refl refl (λ i. refl)
 
-pub takes : IsEvent take_step Idle
-takes all id s r h at is = subst (Happens s (after take_step id s r) id 0) (due_of r Idle (get_or s.words 0 0) is)
-    (happens take_step id s r (event_in (due_in Idle r.ticket) (get_or s.words 0 0)) (let two = h.two_words in omega arith) at refl refl)
+-- a load stores nothing
+loads : (ws : List ℕ) (e : Event) → to ws e.phase e.outcome ≡ to (set ws 1 (get_or ws 1 0)) e.phase e.outcome
+loads ws e = ap (λ v. to v e.phase e.outcome) (sym (set_same ws 1))
 
-pub looks_at : IsEvent look_step Waiting
-looks_at all id s r h at is = let m : ℕ = get_or s.words 1 0 in let e = looks m r.ticket (m == r.ticket) refl in
-    subst (Happens s (after look_step id s r) id 1) (sym e ∙ due_of r Waiting m is)
-    (happens look_step id s r (event m (thread_in (if (m == r.ticket) then Inside else Waiting) r.ticket) (if (m == r.ticket) then Entered else Waits)) (let two = h.two_words in omega arith) at refl refl)
+-- what looks of this word: its phase and word
+seen_phase : (found t : ℕ) (b : Bool) → (found == t) ≡ b → thread_in (if b then Inside else Waiting) t ≡ (look_event t found).phase
+seen_phase found t b e = ap (λ (v : Event). v.phase) (sym (looks found t b e))
 
-pub reads : IsEvent read_step Inside
+seen_word : (found t : ℕ) (b : Bool) → (found == t) ≡ b → found ≡ (look_event t found).word
+seen_word found t b e = ap (λ (v : Event). v.word) (sym (looks found t b e))
+
+pub looks_at : IsEvent look_step Waiting (λ r found. look_event r.ticket found)
+looks_at all id s r h at is = let m : ℕ = get_or s.words 1 0 in let t : ℕ = r.ticket in
+    happens look_step id s r Waiting (look_event t m) (let two = h.two_words in omega arith) at is (seen_word m t (m == t) refl) (seen_phase m t (m == t) refl) (λ i. loads s.words (look_event t m))
+
+pub reads : IsEvent read_step Inside (λ r found. read_event found)
 reads all id s r h at is = let f = subst (λ p. FitsPhase (serving_of s) p r.ticket r.taken) is (h.seats id (r ∷ []) at).0.0.0 in
-    subst (Happens s (after read_step id s r) id 1) (due_of r Inside (get_or s.words 1 0) is)
-    (happens read_step id s r (event_in (due_in Inside r.ticket) (get_or s.words 1 0)) (let two = h.two_words in omega arith) at refl (ap PassOn f.0))
+    happens read_step id s r Inside (read_event (get_or s.words 1 0)) (let two = h.two_words in omega arith) at is refl (ap PassOn f.0) (λ i. loads s.words (read_event (get_or s.words 1 0)))
 
-pub passes : IsEvent pass_step Leaving
+pub passes : IsEvent pass_step Leaving (λ r found. pass_event 64 r.ticket)
 passes all id s r h at is = let b = between all s h id 0 r (r ∷ [], at, refl) (λ e. grind arith) in let l = h.left in let two = h.two_words in
     let small : r.ticket + 1 ≡ (r.ticket + 1) % 2 ^ 64 = omega arith in
-    subst (Happens s (after pass_step id s r) id 1) (due_of r Leaving (get_or s.words 1 0) is)
-    (happens pass_step id s r (event_in (due_in Leaving r.ticket) (get_or s.words 1 0)) (omega arith) at small refl)
+    happens pass_step id s r Leaving (pass_event 64 r.ticket) (omega arith) at is small refl (λ i. ap (λ n. to (set s.words 1 n) Rattle.lk_locks.specs.declared.kinds.Phase.TheVariants.Idle Left) (sym small))

@@ -10,7 +10,7 @@ use Rattle.lk_workers.specs.declared.live.LivePhase.TheVariants.{Idle, Waiting, 
 use Rattle.lk_workers.specs.declared.live.rule.SeatState.{SeatState}
 use Rattle.lk_workers.specs.Counting.{total, same}
 use Rattle.lk_workers.specs.Seats.{Table, next_of, serving_of, has, has_in, IsHolding}
-use Rattle.lk_workers.specs.Running.{FitsPhase, Fits, Each, Running}
+use Rattle.lk_workers.specs.invariants.Running.{FitsPhase, Fits, Each, Running}
 use Rattle.lk_workers.specs.LockState.{IsAt, LockState, OthersStay}
 use Rattle.lk_workers.proofs.Sums.{at_most_total, two_there, some_one}
 use Rattle.lk_workers.proofs.Below.{same_here, none_there, at_most_once, below_of, once_there}

@@ -10,7 +10,7 @@ use Rattle.lk_workers.specs.Counting.{times, same}
 use Rattle.std.proofs.lemmas.List.Elements.{All-head, All-tail, All-cons}
 use Rattle.std.proofs.lemmas.List.{get_or-map, length-replicate}
 use Rattle.lk_replay.specs.Report.{report_text}
-use Rattle.lk_workers.specs.Collected.{placed, report_at, IsEachOnce}
+use Rattle.lk_workers.specs.invariants.Collected.{placed, report_at, IsEachOnce}
 
 module _ {X L : Type 0} (h : X → L) where
   pub took : (all : List X) (old rest : List (Option X)) (slot : Option X) (x : X) (whole : List (Option L)) → old ≡ slot ∷ rest → slot ≡ Some x

@@ -11,7 +11,7 @@ use Rattle.lk_workers.specs.declared.live.rule.SeatState.{SeatState}
 use Rattle.lk_workers.specs.Counting.{total, once_below}
 use Rattle.lk_workers.specs.Seats.{next_of, serving_of, has, has_in}
 use Rattle.lk_workers.specs.SeatSteps.{cut_left, cut_right, glued, paired, first_of, second_of}
-use Rattle.lk_workers.specs.Running.{FitsPhase, Fits, Each, ViewFits, Running}
+use Rattle.lk_workers.specs.invariants.Running.{FitsPhase, Fits, Each, ViewFits, Running}
 use Rattle.lk_workers.proofs.Sums.{total_set, total-append, at_most_total, alone_at}
 use Rattle.lk_workers.proofs.Below.{none_there, once_there}
 use Rattle.lk_workers.proofs.SeatMoves.{built, views_set}

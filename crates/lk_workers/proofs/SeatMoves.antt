@@ -10,7 +10,7 @@ use Rattle.lk_workers.specs.declared.live.rule.SeatState.{SeatState}
 use Rattle.lk_workers.specs.Counting.{total, same, once_below}
 use Rattle.lk_workers.specs.Seats.{seat_state, Table, over, next_of, serving_of, has, has_in, IsHolding}
 use Rattle.lk_workers.specs.SeatSteps.{LiveStep, take_step, look_step, read_step, pass_step, count_step}
-use Rattle.lk_workers.specs.Running.{Sees, loads_of, FitsPhase, Fits, Each, ViewFits, Running, TakeTells, LookTells, ReadTells, PassTells, CountTells, OfOne, Compares}
+use Rattle.lk_workers.specs.invariants.Running.{Sees, loads_of, FitsPhase, Fits, Each, ViewFits, Running, TakeTells, LookTells, ReadTells, PassTells, CountTells, OfOne, Compares}
 use Rattle.lk_workers.proofs.Sums.{total_set, at_most_total, set_same}
 use Rattle.lk_workers.proofs.TwoWords.{w00, w01, w10, w11}
 use Rattle.lk_workers.proofs.Below.{below_suc, same_here, at_most_once, below_of, once_there}

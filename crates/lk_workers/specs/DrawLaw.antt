@@ -6,7 +6,7 @@ use lib.ListN.{get_elem?}
 use Rattle.atomic_table.specs.Table.{State}
 use Rattle.lk_workers.specs.Counting.{total, times, IsEachBelow}
 use Rattle.lk_workers.specs.declared.draws.Hand.{Hand}
-use Rattle.lk_workers.specs.DrawRule.{Drawn}
+use Rattle.lk_workers.specs.invariants.DrawRule.{Drawn}
 
 -- the number that the next draw answers
 abbrev pub word_of : State (Unit {0}) Hand → ℕ

@@ -1,11 +1,8 @@
 pub mod Counting
 pub mod Drawing
-pub mod DrawRule
 pub mod DrawLaw
 pub mod Seats
 pub mod SeatSteps
-pub mod Running
 pub mod LockState
 pub mod Batch
-pub mod Collected
-pub mod Rounds
+pub mod invariants

@@ -7,15 +7,16 @@ use mathlib.Core.Option.{some}
 use lib.ListN.{get_elem?}
 use Rattle.atomic_table.specs.Table.{Act, stepped}
 use Rattle.lk_locks.specs.declared.kinds.Phase.{Phase}
-use Rattle.lk_locks.specs.declared.kinds.Phase.TheVariants.{TakeTicket, AwaitTurn, ReadServing, PassOn}
-use Rattle.lk_locks.specs.declared.kinds.Outcome.TheVariants.{Waits}
-use Rattle.lk_locks.specs.laws.{Event, event, acquiring, releasing, take_event, look_event, read_event, pass_event}
+use Rattle.lk_locks.specs.declared.kinds.Phase.TheVariants.{AwaitTurn, PassOn}
+use Rattle.lk_locks.specs.Change.{to}
+use Rattle.lk_locks.specs.laws.{Event, acquiring, releasing}
+use Rattle.lk_locks.specs.ticket.{step}
 use Rattle.lk_workers.specs.declared.live.LivePhase.{LivePhase}
 use Rattle.lk_workers.specs.declared.live.LivePhase.TheVariants.{Idle, Waiting, Inside, Leaving}
 use Rattle.lk_workers.specs.declared.live.rule.SeatState.{SeatState}
 use Rattle.lk_workers.specs.Seats.{Table, next_of, serving_of, over, thread_of, IsHolding}
 use Rattle.lk_workers.specs.SeatSteps.{LiveStep, after}
-use Rattle.lk_workers.specs.Running.{Running}
+use Rattle.lk_workers.specs.invariants.Running.{Running}
 
 -- a seat that was made: the number of its view, and where it stands there
 abbrev pub IsAt : List (List SeatState) → ℕ → ℕ → SeatState → Type 0
@@ -58,22 +59,16 @@ due_in Waiting t = AwaitTurn t
 due_in Inside t = releasing t
 due_in Leaving t = PassOn t
 
--- the event of the ticket machine, of 64 bits, where a thread in this phase finds this word. In the other phases no step of the lock is due
-abbrev pub event_in : Phase → ℕ → Event
-event_in TakeTicket found = take_event 64 found
-event_in (AwaitTurn t) found = look_event t found
-event_in (ReadServing t) found = read_event found
-event_in (PassOn v) found = pass_event 64 v
-event_in p found = event found p Waits
-
--- From s to s' the thread of one seat makes this event on this word, and all else stays
-pub record Happens (s s' : Table) (id word : ℕ) (e : Event) : Type 0 where
+-- From s to s' the thread of one seat, which is in the phase `due`, makes this event on this word, and all else stays
+pub record Happens (s s' : Table) (id word : ℕ) (due : Phase) (e : Event) : Type 0 where
   pub leaves : slice_index s'.words word ≡ e.word
   pub other_word : (i : ℕ) → i ≢ word → slice_index s'.words i ≡ slice_index s.words i
   pub seat : (r : SeatState) × (get_elem? s'.views id ≡ some (r ∷ [])) × (thread_of r ≡ e.phase)
   pub other_seats : (j : ℕ) → j ≢ id → get_elem? s'.views j ≡ get_elem? s.views j
+  -- it is the step that the ticket machine of 64 bits makes on these words, whichever thread makes it
+  pub machine : (thread : ℕ) → step 64 thread s.words due ≡ to s'.words e.phase e.outcome
 
--- the step of a seat in this phase is the event that is due
-abbrev pub IsEvent : LiveStep → LivePhase → Type 0
-IsEvent live phase = (takes id : ℕ) (s : Table) (r : SeatState) → Running takes s → get_elem? s.views id ≡ some (r ∷ []) → r.phase ≡ phase
-    → Happens s (after live id s r) id live.word (event_in (due_in r.phase r.ticket) (slice_index s.words live.word))
+-- the step of a seat in this phase is this event, of what the seat was and of the word found
+abbrev pub IsEvent : LiveStep → LivePhase → (SeatState → ℕ → Event) → Type 0
+IsEvent live phase event_of = (takes id : ℕ) (s : Table) (r : SeatState) → Running takes s → get_elem? s.views id ≡ some (r ∷ []) → r.phase ≡ phase
+    → Happens s (after live id s r) id live.word (due_in r.phase r.ticket) (event_of r (slice_index s.words live.word))

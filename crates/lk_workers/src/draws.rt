@@ -25,7 +25,7 @@ pub struct Hand {
 pub struct DrawnOnce;
 
 impl TableRule<(), Hand, u64> for DrawnOnce {
-    ghost use Rattle.lk_workers.specs.DrawRule.{Drawn};
+    ghost use Rattle.lk_workers.specs.invariants.DrawRule.{Drawn};
     ghost use Rattle.lk_workers.specs.Drawing.{hand};
     ghost use Rattle.std.specs.Prelude.{[]};
 
@@ -37,7 +37,7 @@ impl TableRule<(), Hand, u64> for DrawnOnce {
 struct Draw;
 
 impl Play<(), Hand> for Draw {
-    ghost use Rattle.lk_workers.specs.DrawRule.{DrawTells};
+    ghost use Rattle.lk_workers.specs.invariants.DrawRule.{DrawTells};
 
     ghost then = { DrawTells };
 }
@@ -46,7 +46,7 @@ impl Play<(), Hand> for Draw {
 struct Count;
 
 impl Play<(), Hand> for Count {
-    ghost use Rattle.lk_workers.specs.DrawRule.{CountTells};
+    ghost use Rattle.lk_workers.specs.invariants.DrawRule.{CountTells};
 
     ghost then = { CountTells };
 }

@@ -67,7 +67,7 @@ pub struct LiveSeat {
 impl Model for LiveSeat {
     ghost use Rattle.std.specs.Prelude.{◌≡◌, ◌<◌, ◌^◌, [], ◌∷◌};
     ghost use Rattle.lk_workers.specs.Seats.{Live, seat_state};
-    ghost use Rattle.lk_workers.specs.Running.{loads_of};
+    ghost use Rattle.lk_workers.specs.invariants.Running.{loads_of};
 
     ghost Value = { Live };
 

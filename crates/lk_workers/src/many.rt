@@ -8,7 +8,7 @@ ghost use Rattle.std.specs.Prelude.{◌≡◌, ℕ, ◌+◌, ◌*◌, ◌<◌, �
 ghost use Rattle.std.specs.Thread.{IsSync};
 ghost use Rattle.lk_replay.specs.Report.{report_text};
 ghost use Rattle.lk_workers.specs.Drawing.{IsSeatOf};
-ghost use Rattle.lk_workers.specs.Collected.{IsWorkOf, IsFresh, IsBack, IsEachOnce, placed};
+ghost use Rattle.lk_workers.specs.invariants.Collected.{IsWorkOf, IsFresh, IsBack, IsEachOnce, placed};
 
 use crate::draws::{DrawSeat, Draws};
 use crate::gate::Gate;

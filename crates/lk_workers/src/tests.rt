@@ -3,4 +3,5 @@
 mod batches;
 mod drawn;
 mod eight;
+mod requests;
 mod running;

@@ -7,7 +7,7 @@
 //! The program prints the same however the threads meet. The schedule itself differs from run to run.
 #![tactic(auto)]
 
-ghost use Rattle.lk_workers.specs.Rounds.{IsIdleOf};
+ghost use Rattle.lk_workers.specs.invariants.Rounds.{IsIdleOf};
 
 mod order;
 mod rounds;

@@ -2,7 +2,7 @@
 
 ghost use Rattle.std.specs.Prelude.{◌≡◌, ◌+◌, true, IfOk};
 ghost use Rattle.lk_workers.specs.declared.live.LivePhase.TheVariants.{Idle, Waiting, Inside};
-ghost use Rattle.lk_workers.specs.Rounds.{IsIdleOf};
+ghost use Rattle.lk_workers.specs.invariants.Rounds.{IsIdleOf};
 
 use lk_workers::{LiveSeat, LiveTicket};
 use std::alloc::{AllocError, Global};

@@ -1,5 +1,6 @@
 //! Laws of the running ticket lock. Each is proved, and does nothing when it is called.
 
+ghost use Rattle.lk_locks.specs.laws.{take_event, look_event, read_event, pass_event};
 ghost use Rattle.lk_workers.specs.declared.live.LivePhase.TheVariants.{Idle, Waiting, Inside, Leaving};
 ghost use Rattle.lk_workers.specs.SeatSteps.{take_step, look_step, read_step, pass_step};
 ghost use Rattle.lk_workers.specs.LockState.{RuleIsTheLock, OthersStay, IsEvent};
@@ -12,20 +13,20 @@ pub fn rule_is_the_lock()
 
 /// `take` is the call of an acquire and its fetch-and-add on `next_ticket`.
 pub fn take_is_the_add()
-    ensures { IsEvent take_step Idle }
+    ensures { IsEvent take_step Idle (λ r found. take_event 64 found) }
 {}
 
 /// `look` is the read of `now_serving` by a thread that waits.
 pub fn look_is_the_read()
-    ensures { IsEvent look_step Waiting }
+    ensures { IsEvent look_step Waiting (λ r found. look_event r.ticket found) }
 {}
 
 /// `read_serving` is the call of a release and its read of `now_serving`.
 pub fn read_serving_is_the_read()
-    ensures { IsEvent read_step Inside }
+    ensures { IsEvent read_step Inside (λ r found. read_event found) }
 {}
 
 /// `pass` is the write of `now_serving` that ends a release.
 pub fn pass_is_the_write()
-    ensures { IsEvent pass_step Leaving }
+    ensures { IsEvent pass_step Leaving (λ r found. pass_event 64 r.ticket) }
 {}

@@ -31,7 +31,7 @@ impl TableRule<(), View, u64> for TicketRule {
     ghost use Rattle.std.specs.Prelude.{[], ◌∷◌};
     ghost use Rattle.lk_workers.specs.declared.live.LivePhase.TheVariants.{Idle};
     ghost use Rattle.lk_workers.specs.Seats.{seat_state};
-    ghost use Rattle.lk_workers.specs.Running.{Running};
+    ghost use Rattle.lk_workers.specs.invariants.Running.{Running};
 
     ghost holds = { Running };
 
@@ -42,7 +42,7 @@ pub struct Take;
 
 impl Play<(), View> for Take {
     ghost use Rattle.lk_workers.specs.SeatSteps.{take_step};
-    ghost use Rattle.lk_workers.specs.Running.{OfOne, TakeTells};
+    ghost use Rattle.lk_workers.specs.invariants.Running.{OfOne, TakeTells};
 
     ghost then = { OfOne take_step TakeTells };
 }
@@ -51,7 +51,7 @@ pub struct Look;
 
 impl Play<(), View> for Look {
     ghost use Rattle.lk_workers.specs.SeatSteps.{look_step};
-    ghost use Rattle.lk_workers.specs.Running.{OfOne, LookTells};
+    ghost use Rattle.lk_workers.specs.invariants.Running.{OfOne, LookTells};
 
     ghost then = { OfOne look_step LookTells };
 }
@@ -60,7 +60,7 @@ pub struct ReadServing;
 
 impl Play<(), View> for ReadServing {
     ghost use Rattle.lk_workers.specs.SeatSteps.{read_step};
-    ghost use Rattle.lk_workers.specs.Running.{OfOne, ReadTells};
+    ghost use Rattle.lk_workers.specs.invariants.Running.{OfOne, ReadTells};
 
     ghost then = { OfOne read_step ReadTells };
 }
@@ -69,7 +69,7 @@ pub struct Pass;
 
 impl Play<(), View> for Pass {
     ghost use Rattle.lk_workers.specs.SeatSteps.{pass_step};
-    ghost use Rattle.lk_workers.specs.Running.{OfOne, PassTells};
+    ghost use Rattle.lk_workers.specs.invariants.Running.{OfOne, PassTells};
 
     ghost then = { OfOne pass_step PassTells };
 }
@@ -79,7 +79,7 @@ pub struct Count;
 
 impl Play<(), View> for Count {
     ghost use Rattle.lk_workers.specs.SeatSteps.{count_step};
-    ghost use Rattle.lk_workers.specs.Running.{OfOne, CountTells};
+    ghost use Rattle.lk_workers.specs.invariants.Running.{OfOne, CountTells};
 
     ghost then = { OfOne count_step CountTells };
 }
@@ -88,7 +88,7 @@ impl Play<(), View> for Count {
 pub struct Compare;
 
 impl Play<(), View> for Compare {
-    ghost use Rattle.lk_workers.specs.Running.{Compares};
+    ghost use Rattle.lk_workers.specs.invariants.Running.{Compares};
 
     ghost then = { Compares };
 }

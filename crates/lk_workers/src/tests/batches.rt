@@ -18,7 +18,10 @@ const NOT_HOLDER: &str = "lock ticket threads 2\n0 release\n";
 const TWO_WRITERS: &str =
     "lock rw-simple threads 2\n0 wlock\n0 section\n1 wlock\n1 section\n0 wunlock\n0 section\n1 section\n";
 
-const REPORTS: &str = "file 1
+// The texts whose batch is below.
+pub const FIVE: [&str; 5] = [NO_MOVES, ONE_ENTERS, NOT_HOLDER, "", TWO_WRITERS];
+
+pub const REPORTS: &str = "file 1
 end 0
 file 2
 1 0 acquire called hold - queue -
@@ -40,7 +43,7 @@ file 5
 end 7
 ";
 
-fn texts_of(alloc: Global, texts: &[&str]) -> Result<Vec<Vec<u8>>, AllocError> {
+pub fn texts_of(alloc: Global, texts: &[&str]) -> Result<Vec<Vec<u8>>, AllocError> {
     let mut all = Vec::new(alloc);
     for i in 0..texts.len() {
         all.push(Vec::from_slice(alloc, texts[i].as_bytes())?)?;
@@ -58,14 +61,14 @@ fn many_texts(alloc: Global, count: usize) -> Result<Vec<Vec<u8>>, AllocError> {
 
 // The begins and ends of each text.
 #[derive(Drop)]
-struct Counts {
+pub struct Counts {
     begun: Vec<AtomicU32>,
     ended: Vec<AtomicU32>,
     strangers: AtomicU32,
 }
 
 impl Counts {
-    fn new(alloc: Global, count: usize) -> Result<Counts, AllocError> {
+    pub fn new(alloc: Global, count: usize) -> Result<Counts, AllocError> {
         let mut begun = Vec::new(alloc);
         let mut ended = Vec::new(alloc);
         for _ in 0..count {
@@ -89,14 +92,14 @@ impl Counts {
     }
 
     // Each text began and ended this often, and no other did.
-    fn all_are(&self, times: u32) -> bool {
+    pub fn all_are(&self, times: u32) -> bool {
         self.strangers.load(Ordering::SeqCst) == 0
             && self.begun.iter().all(|n| n.load(Ordering::SeqCst) == times)
             && self.ended.iter().all(|n| n.load(Ordering::SeqCst) == times)
     }
 
     // Each begin has its end.
-    fn agree(&self) -> bool {
+    pub fn agree(&self) -> bool {
         let mut agree = self.strangers.load(Ordering::SeqCst) == 0
             && self.begun.len() == self.ended.len();
         for (begun, ended) in self.begun.iter().zip(self.ended.iter()) {
@@ -179,10 +182,7 @@ impl Gate for Meeting {
 
 #[test]
 fn five_schedules(rt: HostRuntime) -> Result<(), Fail> {
-    let texts = texts_of(
-        rt.alloc(),
-        &[NO_MOVES, ONE_ENTERS, NOT_HOLDER, "", TWO_WRITERS],
-    )?;
+    let texts = texts_of(rt.alloc(), &FIVE)?;
     assert!(rt; texts.len() == 5);
     for workers in [1u8, 2, 8] {
         let reports = replay_many(&rt, rt.alloc(), &texts, workers, &OpenGate)?;
@@ -240,22 +240,5 @@ fn each_text_once(rt: HostRuntime) -> Result<(), Fail> {
         assert_eq!(rt; reports.len(), 100);
         assert!(rt; gate.all_are(1), "with {workers} workers");
     }
-    Ok(())
-}
-
-// Also where memory is refused, so the test takes either answer.
-#[test]
-fn each_begin_has_its_end(rt: HostRuntime) -> Result<(), Fail> {
-    let texts = texts_of(
-        rt.alloc(),
-        &[NO_MOVES, ONE_ENTERS, NOT_HOLDER, "", TWO_WRITERS],
-    )?;
-    assert!(rt; texts.len() == 5);
-    let gate = Counts::new(rt.alloc(), 5)?;
-    if let Ok(reports) = replay_many(&rt, rt.alloc(), &texts, 8, &gate) {
-        assert_eq!(rt; reports.len(), 5);
-        assert!(rt; gate.all_are(1));
-    }
-    assert!(rt; gate.agree());
     Ok(())
 }

@@ -2,7 +2,7 @@
 
 ghost use Rattle.std.specs.Prelude.{◌≡◌, ◌+◌, ◌*◌, IfSome};
 ghost use Rattle.std.specs.Thread.{IsSync};
-ghost use Rattle.lk_workers.specs.Rounds.{IsIdleOf, AreIdleOf};
+ghost use Rattle.lk_workers.specs.invariants.Rounds.{IsIdleOf, AreIdleOf};
 
 use super::running::rounds;
 use crate::{LiveSeat, LiveTicket};

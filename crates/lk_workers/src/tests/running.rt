@@ -1,7 +1,7 @@
 //! The running lock by hand, and under threads.
 
 ghost use Rattle.std.specs.Prelude.{◌≡◌, ◌+◌, ◌≤◌, true, IfSome};
-ghost use Rattle.lk_workers.specs.Rounds.{IsIdleOf};
+ghost use Rattle.lk_workers.specs.invariants.Rounds.{IsIdleOf};
 
 use crate::{LivePhase, LiveSeat, LiveTicket};
 use std::snapshot::Snapshot;
@@ -127,7 +127,7 @@ struct IdleOf(Snapshot<LiveTicket>);
 
 impl Promise<Option<LiveSeat>> for IdleOf {
     ghost use Rattle.std.specs.Prelude.{IfSome};
-    ghost use Rattle.lk_workers.specs.Rounds.{IsIdleOf};
+    ghost use Rattle.lk_workers.specs.invariants.Rounds.{IsIdleOf};
 
     ghost kept_by = { λ p r. IfSome r (λ s. IsIdleOf p.0.value 0 s) };
 }

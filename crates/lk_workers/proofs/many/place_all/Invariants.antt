@@ -1,5 +1,5 @@
 use Rattle.std.proofs.Common.{◌≡◌, ◌<◌, length, map, All, option_map}
-use Rattle.lk_workers.specs.Collected.{placed}
+use Rattle.lk_workers.specs.invariants.Collected.{placed}
 use Rattle.lk_workers.proofs.many.place_all.Given as goal
 
 abbrev pub invariant-loop-number : goal.invariant-loop-number

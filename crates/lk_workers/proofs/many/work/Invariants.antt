@@ -1,6 +1,6 @@
 use Rattle.std.proofs.Common.{◌≡◌, ◌+◌, ◌≤◌, length, map}
 use Rattle.lk_workers.specs.Drawing.{IsSeatOf}
-use Rattle.lk_workers.specs.Collected.{reports_of}
+use Rattle.lk_workers.specs.invariants.Collected.{reports_of}
 use Rattle.lk_workers.proofs.many.work.Given as goal
 
 abbrev pub invariant-loop : goal.invariant-loop

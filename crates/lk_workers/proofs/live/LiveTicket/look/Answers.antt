@@ -1,6 +1,6 @@
 use Rattle.std.proofs.Common.{rules, ap, refl, eq-eqb, ne_eqb, true, false}
 use Rattle.lk_workers.specs.Seats.{seat_state}
-use Rattle.lk_workers.specs.Running.{loads_of}
+use Rattle.lk_workers.specs.invariants.Running.{loads_of}
 use Rattle.lk_workers.proofs.SeatMoves.{look, looked}
 use Rattle.lk_workers.proofs.live.LiveTicket.look.Goals as goal
 

@@ -2,7 +2,7 @@
 use Rattle.std.specs.Prelude.{Option, Some, slice_set, ◌∷◌, ◌≡◌, ℕ, ◌+◌, ◌<◌, ◌≤◌, List, [], map, length, filter, ltb, slice_index_or}
 use Rattle.lk_replay.specs.Report.{report_text}
 use Rattle.lk_workers.specs.Counting.{times}
-use Rattle.lk_workers.specs.Drawing.{Counter, Drawer, drawer, IsSeatOf}
+use Rattle.lk_workers.specs.Drawing.{Counter, Drawer, IsSeatOf}
 
 -- the report of text k
 abbrev pub report_at : List (List ℕ) → ℕ → List ℕ

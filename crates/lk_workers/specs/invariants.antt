@@ -1,0 +1,5 @@
+-- What the proofs carry from call to call. No public `ensures` rests on believing these files.
+pub mod DrawRule
+pub mod Running
+pub mod Collected
+pub mod Rounds
