@@ -18,6 +18,7 @@ import subprocess
 import sys
 import tempfile
 import threading
+import time
 from pathlib import Path
 
 INPUT = b"lockreplay: cannot read standard input\n"
@@ -246,6 +247,16 @@ def batches():
          error=TOO_MANY)
 
 
+def opened_once_read(fifo, program):
+    """The FIFO's end for writing, once the program has opened the other; none where it ends without."""
+    while program.poll() is None:
+        try:
+            return os.open(fifo, os.O_WRONLY | os.O_NONBLOCK)
+        except OSError:
+            time.sleep(0.01)
+    return None
+
+
 def files():
     for name in ("missing", "folder", "dangling", "circle", "socket", "empty/x", "n" * 300, "n" * 5000,
                  ""):
@@ -259,9 +270,11 @@ def files():
     shutil.copy("empty", "fleeting")
     program = subprocess.Popen([PROGRAM, "batch", "--workers", "2", "fifo", "fleeting"],
                                stdout=subprocess.PIPE, stderr=subprocess.PIPE)
-    with open("fifo", "wb") as fifo:  # opened once the program reads
-        os.remove("fleeting")
-        fifo.write(EMPTY)
+    fifo = opened_once_read("fifo", program)
+    os.remove("fleeting")
+    if fifo is not None:
+        os.write(fifo, EMPTY)
+        os.close(fifo)
     output, error = program.communicate(timeout=PATIENCE)
     check("a file that disappears", output=(output, b""), error=(error, cannot_read(2)),
           status=(program.returncode, 3))
