@@ -40,7 +40,7 @@ def median_processor(runs):
     return statistics.median(run.processor for run in runs)
 
 
-def spread(seconds):
-    """Half the distance between the quartiles, as a part of the median."""
-    low, middle, high = statistics.quantiles(seconds, n=4)
+def spread(runs):
+    """Half the distance between the quartiles of the processor's time, as a part of the median."""
+    low, middle, high = statistics.quantiles((run.processor for run in runs), n=4)
     return (high - low) / 2 / middle
