@@ -72,7 +72,7 @@ whole all id v s r at is = each_below (get_or s.words 0 0) v.drawn
     let both = total_both (λ (u : Hand). length u.drawn) (λ (u : Hand). u.left) s.views in let m = r.many in let a = r.all in
     let only = alone_at f g s.views (λ j u _ e. no_times x u.drawn (omega arith)) id v at (omega arith) in sym only ∙ r.once x)
 
-word_at : (ws : List ℕ) (n : ℕ) → get_elem? ws 0 ≡ some n → get_or ws 0 0 ≡ n
+pub word_at : (ws : List ℕ) (n : ℕ) → get_elem? ws 0 ≡ some n → get_or ws 0 0 ≡ n
 word_at [] n e = absurd (some-ne-none n (sym e))
 word_at (w ∷ ws) n e = some-injective w n e
 

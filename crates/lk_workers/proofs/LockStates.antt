@@ -1,9 +1,10 @@
 -- What the rule says of a state, in the words of a ticket lock.
-use Rattle.std.proofs.Common.{◌≡◌, ◌≢◌, ℕ, zero, suc, ◌<◌, ◌≤◌, List, [], ◌∷◌, set, sym, refl, ap, ◌∙◌, subst, arith, lt_of_not-le}
+use Rattle.std.proofs.Common.{◌≡◌, ◌≢◌, ℕ, zero, suc, ◌<◌, ◌≤◌, List, [], ◌∷◌, get_or, set, sym, refl, ap, ◌∙◌, subst, arith, lt_of_not-le}
 use native.Mathlib.Decide.{dec_le, ℕ_discrete}
 use mathlib.Core.Logic.{dite}
 use mathlib.Core.Option.{some, some-injective, some-ne-none}
 use lib.ListN.{get_elem?}
+use Rattle.atomic_table.specs.Table.{Final, Seen}
 use Rattle.atomic_table.proofs.Lists.{set_else, at_longer}
 use Rattle.lk_workers.specs.declared.live.LivePhase.{LivePhase}
 use Rattle.lk_workers.specs.declared.live.LivePhase.TheVariants.{Idle, Waiting, Inside, Leaving}
@@ -11,7 +12,8 @@ use Rattle.lk_workers.specs.declared.live.rule.SeatState.{SeatState}
 use Rattle.lk_workers.specs.Counting.{total, same}
 use Rattle.lk_workers.specs.Seats.{Table, next_of, serving_of, has, has_in, IsHolding}
 use Rattle.lk_workers.specs.invariants.Running.{FitsPhase, Fits, Each, Running}
-use Rattle.lk_workers.specs.LockState.{IsAt, LockState, OthersStay}
+use Rattle.lk_workers.specs.LockState.{IsAt, LockState, OthersStay, IsEnd}
+use Rattle.lk_workers.proofs.SeatJoins.{word_at}
 use Rattle.lk_workers.proofs.Sums.{at_most_total, two_there, some_one}
 use Rattle.lk_workers.proofs.Below.{same_here, none_there, at_most_once, below_of, once_there}
 
@@ -85,3 +87,9 @@ others_stay s id j n = (
   λ v left right at. at_longer (set s.views id left) (right ∷ []) j v (set_else s.views id j left n ∙ at),
   λ other both spent m. set_else (set s.views id both) other j spent m ∙ set_else s.views id j both n,
 )
+
+-- the last state
+pub ends : (takes id : ℕ) (v : List SeatState) (r : SeatState) (words : List ℕ) (slots : List (Unit {0})) (n m : ℕ) → v ≡ r ∷ []
+    → Final (Seen (Running takes) id v) words slots → get_elem? words 0 ≡ some n → get_elem? words 1 ≡ some m → IsEnd n m r
+ends takes id v r words slots n m is h w0 w1 =
+    (h.0, lock_state takes h.0 h.1.0, ap (λ (ws : List ℕ). get_or ws 0 0) h.2 ∙ word_at words 0 n w0, ap (λ (ws : List ℕ). get_or ws 1 0) h.2 ∙ word_at words 1 m w1, (id, h.1.1 ∙ ap some is))

@@ -77,7 +77,7 @@ none_has : (x m : ℕ) (u : List SeatState) → Each (Fits m) u → total (λ p.
 none_has x m [] e z = refl
 none_has x m (p ∷ ps) e z = let a = none_taken x m p.phase p.ticket p.taken e.0.0 (omega arith) in let b = none_has x m ps e.1 (omega arith) in omega arith
 
-word_at : (ws : List ℕ) (i n : ℕ) → get_elem? ws i ≡ some n → get_or ws i 0 ≡ n
+pub word_at : (ws : List ℕ) (i n : ℕ) → get_elem? ws i ≡ some n → get_or ws i 0 ≡ n
 word_at [] i n e = absurd (some-ne-none n (sym e))
 word_at (w ∷ ws) zero n e = some-injective w n e
 word_at (w ∷ ws) (suc i) n e = word_at ws i n e

@@ -1,5 +1,5 @@
 -- Definitions. What holds of a draw counter between any two of its steps. This project's own.
-use Rattle.std.specs.Prelude.{◌≡◌, ◌≢◌, ℕ, ◌+◌, ◌<◌, ◌≤◌, length, slice_index, All}
+use Rattle.std.specs.Prelude.{◌≡◌, ◌≢◌, ℕ, ◌+◌, ◌<◌, ◌≤◌, List, length, slice_index, All}
 use Rattle.std.specs.List.{flat_map}
 use mathlib.Core.Option.{some}
 use lib.ListN.{get_elem?}
@@ -24,6 +24,10 @@ pub record DrawState (draws : ℕ) (s : State (Unit {0}) Hand) : Type 0 where
   pub greater : (i : ℕ) (v : Hand) → get_elem? s.views i ≡ some v → All (λ x. x < word_of s) v.drawn
   -- a seat with all draws has each number below the word
   pub whole : (i : ℕ) (v : Hand) → get_elem? s.views i ≡ some v → length v.drawn + v.left ≡ draws → IsEachBelow (word_of s) v.drawn
+
+-- this word is that of a state of the counter, in which a seat has drawn these numbers and has this left
+abbrev pub IsEnd : ℕ → ℕ → List ℕ → ℕ → Type 0
+IsEnd draws word drawn left = (s : State (Unit {0}) Hand) × DrawState draws s × (word_of s ≡ word) × ((id : ℕ) × (v : Hand) × (get_elem? s.views id ≡ some v) × (v.drawn ≡ drawn) × (v.left ≡ left))
 
 abbrev pub EachNumberOnce : Type 0
 EachNumberOnce = (draws : ℕ) (s : State (Unit {0}) Hand) → Drawn draws s → DrawState draws s

@@ -42,6 +42,10 @@ pub record LockState (s : Table) : Type 0 where
   pub seen : (id k : ℕ) (r : SeatState) → IsAt s.views id k r → r.seen ≤ serving_of s
   pub two_at_most : (id : ℕ) (v : List SeatState) → get_elem? s.views id ≡ some v → length v ≤ 2
 
+-- these two words are those of a state of the lock, in which the view of a seat is this
+abbrev pub IsEnd : ℕ → ℕ → SeatState → Type 0
+IsEnd next serving r = (s : Table) × LockState s × (next_of s ≡ next) × (serving_of s ≡ serving) × ((id : ℕ) × (get_elem? s.views id ≡ some (r ∷ [])))
+
 abbrev pub RuleIsTheLock : Type 0
 RuleIsTheLock = (takes : ℕ) (s : Table) → Running takes s → LockState s
 

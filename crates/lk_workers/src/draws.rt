@@ -6,7 +6,7 @@
 ghost use Rattle.std.specs.Prelude.{◌≡◌, ℕ, ◌+◌, ◌-◌, ◌^◌, ◌<◌, ◌≤◌, [], ◌∷◌, ◌++◌, length, All, IfOk};
 ghost use Rattle.lk_workers.specs.Counting.{IsEachBelow};
 ghost use Rattle.lk_workers.specs.Drawing.{Drawer, drawer, Counter, IsSeatOf, hand};
-ghost use Rattle.lk_workers.specs.DrawLaw.{EachNumberOnce};
+ghost use Rattle.lk_workers.specs.DrawLaw.{EachNumberOnce, IsEnd};
 
 use crate::amount::Amount;
 use atomic_table::{Join, Play, Seat, Shared, Split, Table, TableRule};
@@ -178,7 +178,9 @@ impl Draws {
     /// The word at the end. A seat to which all draws came back has drawn each number below it, once.
     pub fn close(self, seat: DrawSeat) -> u64
         requires own { IsSeatOf self seat }
-        ensures { length seat.drawn + seat.left ≡ self.draws → IsEachBelow result seat.drawn }
+        // it is the word of the last state, in which the seat is as it was
+        ensures word { IsEnd self.draws result seat.drawn seat.left }
+        ensures each { length seat.drawn + seat.left ≡ self.draws → IsEachBelow result seat.drawn }
     {
         let Draws { table } = self;
         let DrawSeat { seat, left: _ } = seat;

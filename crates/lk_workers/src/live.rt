@@ -10,6 +10,7 @@ ghost use Rattle.lk_locks.specs.declared.kinds.Outcome.TheVariants.{Moved, Waits
 ghost use Rattle.lk_locks.specs.laws.{event, take_event, look_event, read_event, pass_event};
 ghost use Rattle.lk_workers.specs.declared.live.LivePhase.TheVariants.{Idle, Waiting, Inside, Leaving};
 ghost use Rattle.lk_workers.specs.Seats.{Live, seat_state, ticket_in, thread_of, with_seen, AreApart};
+ghost use Rattle.lk_workers.specs.LockState.{IsEnd};
 ghost use Rattle.lk_workers.specs.SeatSteps.{take_step, look_step, read_step, pass_step, joined, rest_of, share_of, cut_left, cut_right};
 
 pub mod laws;
@@ -290,6 +291,8 @@ impl LiveTicket {
     pub fn close(self, seat: LiveSeat) -> (u64, u64)
         requires own { seat.table ≡ self }
         requires idle { seat.state.phase ≡ Idle }
+        // they are the words of the last state, in which the seat is as it was
+        ensures words { IsEnd result.0 result.1 seat.state }
         ensures order { result.1 ≤ result.0 }
         ensures taken { seat.state.taken ≤ result.0 }
         ensures all { seat.state.taken ≡ result.0 → result.1 ≡ result.0 }
