@@ -35,4 +35,4 @@ $(PROGRAM): $(SOURCES)
 
 # Python 3 and a C compiler, from Debian's packages where they are missing
 tools:
-	@command -v python3 cc > /dev/null || { apt-get update && apt-get install -y python3 gcc libc6-dev; }
+	@{ command -v python3 && command -v cc; } > /dev/null || { apt-get update && apt-get install -y python3 gcc libc6-dev; }

@@ -1,4 +1,4 @@
--- Whole lists of moves.
+-- Definitions. Whole lists of moves on a new lock. This project's own.
 use Rattle.std.specs.Prelude.{◌≡◌, ℕ, ◌<◌, ◌≤◌, ◌^◌, List, [], ◌∷◌, length, slice_index, Option, None, Some}
 use Rattle.lk_locks.specs.State.{start, word_count}
 use Rattle.lk_locks.specs.Steps.{refusal_of}
