@@ -3,5 +3,6 @@
 mod devices;
 mod limits;
 mod replays;
+mod requests;
 mod texts;
 mod worked;

@@ -9,6 +9,8 @@ ghost use Rattle.lockreplay.specs.declared.words.ParseFault.TheVariants.{OutOfMe
 ghost use Rattle.std.specs.Prelude.{◌≡◌};
 
 #[cfg(test)]
+mod requests;
+#[cfg(test)]
 mod tests;
 
 use clap::error::ErrorKind;

@@ -8,7 +8,7 @@ use std::alloc::{AllocError, Global};
 use std::test::Fail;
 
 // The schedule of the second and third words of a report's lines.
-fn schedule_of(alloc: Global, header: &str, report: &str) -> Result<Vec<u8>, AllocError> {
+pub fn schedule_of(alloc: Global, header: &str, report: &str) -> Result<Vec<u8>, AllocError> {
     let mut text = Vec::from_slice(alloc, header.as_bytes())?;
     for line in report.lines() {
         let mut words = line.split(' ').skip(1);

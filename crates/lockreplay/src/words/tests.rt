@@ -4,7 +4,7 @@ use std::alloc::{AllocError, Global};
 
 /// An answer, without its texts.
 #[derive(Clone, Copy, PartialEq, Eq, Debug)]
-enum Answer {
+pub enum Answer {
     Replay,
     Batch { workers: u8, files: usize },
     Help,
@@ -13,7 +13,7 @@ enum Answer {
     OutOfMemory,
 }
 
-fn answer_to(alloc: Global, words: &[String]) -> Answer {
+pub fn answer_to(alloc: Global, words: &[String]) -> Answer {
     match parse_words(alloc, words) {
         Ok(Job::Replay) => Answer::Replay,
         Ok(Job::Batch { workers, files }) => Answer::Batch {
@@ -27,7 +27,7 @@ fn answer_to(alloc: Global, words: &[String]) -> Answer {
     }
 }
 
-fn words_of(alloc: Global, line: &str) -> Result<Vec<String>, AllocError> {
+pub fn words_of(alloc: Global, line: &str) -> Result<Vec<String>, AllocError> {
     let mut words = Vec::new(alloc);
     for word in line.split(' ') {
         if !word.is_empty() {
