@@ -1,11 +1,11 @@
 -- Where a text is cut at a byte.
-use Rattle.std.proofs.Common.{◌≡◌, ℕ, ◌+◌, ◌-◌, ◌<◌, List, [], ◌∷◌, ◌++◌, length, get_or, take, drop, Bool, false, ◌==◌, refl, sym, ap, ◌∙◌, arith, add-one, drop-cons, take-append-drop, length-take-le, get_or-take}
+use Rattle.std.proofs.Common.{eq-eqb, ◌≡◌, ℕ, ◌+◌, ◌-◌, ◌<◌, List, [], ◌∷◌, ◌++◌, length, get_or, take, drop, Bool, false, ◌==◌, refl, sym, ap, ◌∙◌, arith, add-one, drop-cons, take-append-drop, length-take-le, get_or-take}
 use Rattle.std.specs.List.{slice_split, All}
 use Rattle.std.proofs.lemmas.List.Splits.{slice_split_none, slice_split_at, length-slice_split}
 use Rattle.std.proofs.lemmas.List.{take_rest, get_or_default}
-use Rattle.std.proofs.lemmas.Bool.{false_from_ne_true}
+use Rattle.std.proofs.lemmas.Bool.{false_from_ne_true, eqb-true}
 use Rattle.memchr.specs.Find.{Nowhere, Passes, NoneBefore, is_byte}
-use Rattle.lk_replay.specs.Lines.{lines_of, without_empty_end, is_line_feed}
+use Rattle.lk_replay.specs.Lines.{lines_of, without_empty_end, is_line_feed, is_space}
 
 pub cut_nowhere : (byte : ℕ) (text : List ℕ) → Nowhere (Passes (is_byte byte) text) 0 (length text) → slice_split (λ b. b == byte) text ≡ text ∷ []
 cut_nowhere byte text none = slice_split_none (λ b. b == byte) text
@@ -41,3 +41,10 @@ pub line_last : (text : List ℕ) → 0 < length text → slice_split is_line_fe
 unfolding lines_of
 line_last [] h cut = absurd (omega arith)
 line_last (b ∷ bs) h cut = ap without_empty_end cut
+
+pub word_whole : (line : List ℕ) → ((k : ℕ) → k < length line → get_or line k 0 ≡ 32 → ⊥) → slice_split is_space line ≡ line ∷ []
+word_whole line none = cut_nowhere 32 line (λ k low high here. none k high (eqb-true _ _ here))
+
+pub word_first : (line : List ℕ) (at : ℕ) → ((k : ℕ) → k < at → get_or line k 0 ≡ 32 → ⊥) → at < length line → get_or line at 0 ≡ 32
+    → slice_split is_space line ≡ take at line ∷ slice_split is_space (take (length line - (at + 1)) (drop (at + 1) line))
+word_first line at none within here = cut_first 32 line at (record { low = omega arith; high = within; before = λ k low high same. none k high (eqb-true _ _ same) }) (eq-eqb _ _ here)

@@ -1,24 +1,84 @@
 -- The text of a list of numbers, each after a comma.
-use Rattle.std.proofs.Common.{◌≡◌, ℕ, ◌+◌, ◌-◌, ◌<◌, ◌≤◌, List, [], ◌∷◌, ◌++◌, length, get_or, drop, decimal, sym, ap, ◌∙◌, arith, append-nil, length-append, length-drop}
-use Rattle.std.proofs.Math.Seq.{drop-append_seam}
-use Rattle.std.proofs.lemmas.List.{drop-append-le, drop-drop}
+use Rattle.std.proofs.Common.{Result, Ok, Err, OnOk, false, cond, ◌≡◌, ℕ, ◌+◌, ◌<◌, ◌≤◌, List, [], ◌∷◌, ◌++◌, length, get_or, take, drop, decimal, refl, sym, ap, ◌∙◌, arith, append_assoc, length-append, take-append-drop, drop-cons, add-one, append-nil}
+use Rattle.std.proofs.Math.Seq.{drop-append_seam, drop-append-add, take-append_seam, take-suc}
+use Rattle.std.specs.Result.{is_err, is_ok}
 use Rattle.std.proofs.lemmas.Grind.{flat_map-append}
 use Rattle.lk_replay.specs.Report.{later_numbers}
 
--- what stands behind the first number
-pub first_gone : (text threads : List ℕ) (start width d : ℕ) → start ≤ length text → drop start text ≡ later_numbers threads → 0 < length threads → width ≡ length (decimal (get_or threads 0 d)) + 1
-    → (start + width ≤ length text) × (drop (start + width) text ≡ later_numbers (drop 1 threads))
-first_gone text [] start width d within is some size = absurd (omega arith)
-first_gone text (t ∷ ts) start width d within is some size =
-    let count : length text - start ≡ length (44 ∷ decimal t) + length (later_numbers ts) = sym (length-drop start text) ∙ ap length is ∙ length-append (44 ∷ decimal t) (later_numbers ts) in
-    let wide : width ≡ length (44 ∷ decimal t) = omega arith in
-    (omega arith, sym (drop-drop width start text) ∙ ap (drop width) is ∙ rw wide (drop-append_seam (44 ∷ decimal t) (later_numbers ts)))
+-- a list, around its element at a place
+around : (xs : List ℕ) (place d : ℕ) → place < length xs → xs ≡ take place xs ++ get_or xs place d ∷ drop (place + 1) xs
+around xs place d within = sym (take-append-drop place xs) ∙ ap (λ (ys : List ℕ). take place xs ++ ys) (drop-cons xs place d within ∙ rw add-one refl)
 
--- a number more
-pub text_pushed : (text threads : List ℕ) (start t : ℕ) → start ≤ length text → drop start text ≡ later_numbers threads
-    → (start ≤ length (text ++ 44 ∷ decimal t)) × (drop start (text ++ 44 ∷ decimal t) ≡ later_numbers (threads ++ t ∷ []))
-text_pushed text threads start t within is = (
-  omega (arith, length-append text (44 ∷ decimal t)),
-  drop-append-le start text (44 ∷ decimal t) within ∙ ap (λ (xs : List ℕ). xs ++ 44 ∷ decimal t) is
-      ∙ ap (λ (xs : List ℕ). later_numbers threads ++ xs) (sym (append-nil (44 ∷ decimal t))) ∙ sym (flat_map-append (λ (n : ℕ). 44 ∷ decimal n) threads (t ∷ [])),
-)
+later_append : (xs ys : List ℕ) → later_numbers (xs ++ ys) ≡ later_numbers xs ++ later_numbers ys
+later_append xs ys = flat_map-append (λ (n : ℕ). 44 ∷ decimal n) xs ys
+
+-- the text around the number at a place
+text_around : (xs : List ℕ) (place d : ℕ) → place < length xs → later_numbers xs ≡ later_numbers (take place xs) ++ ((44 ∷ decimal (get_or xs place d)) ++ later_numbers (drop (place + 1) xs))
+text_around xs place d within = ap later_numbers (around xs place d within) ∙ later_append (take place xs) (get_or xs place d ∷ drop (place + 1) xs)
+
+text_halves : (xs : List ℕ) (place : ℕ) → later_numbers xs ≡ later_numbers (take place xs) ++ later_numbers (drop place xs)
+text_halves xs place = ap later_numbers (sym (take-append-drop place xs)) ∙ later_append (take place xs) (drop place xs)
+
+-- one more number's width
+pub width_more : (xs : List ℕ) (place d width step : ℕ) → place < length xs → width ≡ length (later_numbers (take place xs)) → step ≡ length (decimal (get_or xs place d)) + 1
+    → width + step ≡ length (later_numbers (take (place + 1) xs))
+width_more xs place d width step within so_far more =
+    let next : take (place + 1) xs ≡ take place xs ++ get_or xs place d ∷ [] = rw add-one (take-suc xs place d within) in
+    sym (ap (λ (ys : List ℕ). length (later_numbers ys)) next ∙ ap length (later_append (take place xs) (get_or xs place d ∷ []) ∙ ap (λ (ys : List ℕ). later_numbers (take place xs) ++ ys) (append-nil (44 ∷ decimal (get_or xs place d))))
+    ∙ length-append (later_numbers (take place xs)) (44 ∷ decimal (get_or xs place d)) ∙ omega (arith, so_far, more))
+
+-- no width is more than the text's
+pub width_within : (xs : List ℕ) (place : ℕ) → length (later_numbers (take place xs)) ≤ length (later_numbers xs)
+width_within xs place = omega (arith, ap length (text_halves xs place), length-append (later_numbers (take place xs)) (later_numbers (drop place xs)))
+
+take_front : (xs ys : List ℕ) → take (length xs) (xs ++ ys) ≡ xs
+take_front xs ys = take-append_seam xs ys
+
+-- the text without the number at a place
+pub text_gone : (xs text : List ℕ) (place d at width : ℕ) → place < length xs → text ≡ later_numbers xs → at ≡ length (later_numbers (take place xs)) → width ≡ length (decimal (get_or xs place d)) + 1
+    → (at + width ≤ length text) × (take at text ++ drop (at + width) text ≡ later_numbers (take place xs ++ drop (place + 1) xs))
+text_gone xs text place d at width within is starts wide =
+    let front : List ℕ = later_numbers (take place xs) in
+    let number : List ℕ = 44 ∷ decimal (get_or xs place d) in
+    let rest : List ℕ = later_numbers (drop (place + 1) xs) in
+    let whole : text ≡ front ++ (number ++ rest) = is ∙ text_around xs place d within in
+    let size : width ≡ length number = omega arith in (
+      omega (arith, ap length whole, length-append front (number ++ rest), length-append number rest),
+      rw (whole, starts, size) (ap (λ (ys : List ℕ). ys ++ drop (length front + length number) (front ++ (number ++ rest))) (take_front front (number ++ rest))
+          ∙ ap (λ (ys : List ℕ). front ++ ys) (drop-append-add front (number ++ rest) (length number) ∙ drop-append_seam number rest)
+          ∙ sym (later_append (take place xs) (drop (place + 1) xs))),
+    )
+
+-- the text with a number at a place
+pub text_new : (xs text : List ℕ) (place at t : ℕ) → text ≡ later_numbers xs → at ≡ length (later_numbers (take place xs))
+    → (take at text ++ 44 ∷ decimal t) ++ drop at text ≡ later_numbers (take place xs ++ t ∷ drop place xs)
+text_new xs text place at t is starts =
+    let front : List ℕ = later_numbers (take place xs) in
+    let rest : List ℕ = later_numbers (drop place xs) in
+    let whole : text ≡ front ++ rest = is ∙ text_halves xs place in
+    rw (whole, starts) (ap (λ (ys : List ℕ). (ys ++ 44 ∷ decimal t) ++ drop (length front) (front ++ rest)) (take_front front rest)
+    ∙ ap (λ (ys : List ℕ). (front ++ 44 ∷ decimal t) ++ ys) (drop-append_seam front rest)
+    ∙ append_assoc front (44 ∷ decimal t) rest ∙ sym (later_append (take place xs) (t ∷ drop place xs)))
+
+-- lists that differ by one
+pub one_gone : (xs ys : List ℕ) (place : ℕ) → take place xs ≡ take place ys → drop (place + 1) xs ≡ drop place ys → take place xs ++ drop (place + 1) xs ≡ ys
+one_gone xs ys place front rest = rw (front, rest) (take-append-drop place ys)
+
+pub one_new : (xs ys : List ℕ) (place : ℕ) → place < length ys → take place xs ≡ take place ys → drop place xs ≡ drop (place + 1) ys → take place xs ++ get_or ys place 0 ∷ drop place xs ≡ ys
+one_new xs ys place within front rest = rw (front, rest) (sym (around ys place 0 within))
+
+-- one more of both
+pub front_more : (xs ys : List ℕ) (place : ℕ) → place < length xs → place < length ys → take place xs ≡ take place ys → get_or xs place 0 ≡ get_or ys place 0 → take (place + 1) xs ≡ take (place + 1) ys
+front_more xs ys place a b front same =
+    let x : take (place + 1) xs ≡ take place xs ++ get_or xs place 0 ∷ [] = rw add-one (take-suc xs place 0 a) in
+    let y : take (place + 1) ys ≡ take place ys ++ get_or ys place 0 ∷ [] = rw add-one (take-suc ys place 0 b) in
+    x ∙ rw (front, same) (sym y)
+
+-- what a call that did not fail left
+pub on_ok : {E : Type 0} (r : Result (Unit {0}) E) (x y : List ℕ) → is_err r ≡ false → OnOk r (x ≡ y) → x ≡ y
+on_ok (Ok u) x y none is = is
+on_ok (Err e) x y none is = absurd (cc)
+
+pub if_ok : {E : Type 0} (r : Result (Unit {0}) E) (new x y : List ℕ) → is_err r ≡ false → new ≡ cond (is_ok r) x y → new ≡ x
+if_ok (Ok u) new x y none is = is
+if_ok (Err e) new x y none is = absurd (cc)

@@ -6,7 +6,7 @@ ghost use Rattle.lk_replay.specs.Header.{size_of_words, shape_of_words, with_siz
 ghost use Rattle.lk_replay.specs.Reads.{Gives};
 
 use crate::ReadFault;
-use crate::lines::cut_at;
+use crate::lines::cut_word;
 use crate::words::{lock_named, number_of};
 use lk_locks::LockKind;
 
@@ -25,14 +25,14 @@ fn size_of(words: &[u8]) -> Option<(&[u8], u8)>
     ensures least { IfSome result (λ size. 2 ≤ size.1) }
     ensures most { IfSome result (λ size. size.1 ≤ 64) }
 {
-    let Some((count, rest)) = cut_at(words, b' ') else {
+    let Some((count, rest)) = cut_word(words) else {
         return Some((words, 64));
     };
-    let (word, number) = cut_at(rest, b' ')?;
+    let (word, number) = cut_word(rest)?;
     if word != b"bits".as_slice() {
         return None;
     }
-    if let Some(_) = cut_at(number, b' ') {
+    if let Some(_) = cut_word(number) {
         return None;
     }
     let bits = number_of(number, 2, 64)?;
@@ -44,9 +44,9 @@ fn named_lock(line: &[u8]) -> Option<(LockKind, &[u8])>
     ensures { MatchOption result (shape_of_words (words_of line.now) ≡ None)
         (λ lock. shape_of_words (words_of line.now) ≡ with_size (Some lock.0) (size_of_words (words_of lock.1.now))) }
 {
-    let (lock, rest) = cut_at(line, b' ')?;
-    let (name, rest) = cut_at(rest, b' ')?;
-    let (threads, size) = cut_at(rest, b' ')?;
+    let (lock, rest) = cut_word(line)?;
+    let (name, rest) = cut_word(rest)?;
+    let (threads, size) = cut_word(rest)?;
     if lock != b"lock".as_slice() || threads != b"threads".as_slice() {
         return None;
     }

@@ -2,12 +2,12 @@
 
 ghost use Rattle.std.specs.Prelude.{◌≡◌, [], ◌==◌, ◌∷◌, ◌<◌, MatchOption, IfSome, length};
 ghost use Rattle.std.specs.List.{slice_split};
-ghost use Rattle.lk_replay.specs.Lines.{lines_of, is_skipped};
+ghost use Rattle.lk_replay.specs.Lines.{lines_of, words_of, is_skipped};
 
 use memchr::memchr;
 
-/// The text before the first such byte, and the text after it.
-pub fn cut_at(text: &[u8], byte: u8) -> Option<(&[u8], &[u8])>
+// The text before the first such byte, and the text after it.
+fn cut_at(text: &[u8], byte: u8) -> Option<(&[u8], &[u8])>
     ensures pieces { MatchOption result (slice_split (λ b. b == byte) text.now ≡ text.now ∷ [])
         (λ cut. slice_split (λ b. b == byte) text.now ≡ cut.0.now ∷ slice_split (λ b. b == byte) cut.1.now) }
     ensures shorter { IfSome result (λ cut. length cut.1.now < length text.now) }
@@ -26,6 +26,19 @@ pub fn cut_line(text: &[u8]) -> (&[u8], &[u8])
         Some(cut) => cut,
         None => (text, &[]),
     }
+}
+
+/// The first word of a line, and the line after its space. Words are short, so one byte after another is looked at.
+pub fn cut_word(line: &[u8]) -> Option<(&[u8], &[u8])>
+    ensures { MatchOption result (words_of line.now ≡ line.now ∷ [])
+        (λ cut. words_of line.now ≡ cut.0.now ∷ words_of cut.1.now) }
+{
+    for (at, byte) in line.iter().enumerate() {
+        if *byte == b' ' {
+            return Some((&line[..at], &line[at + 1..]));
+        }
+    }
+    None
 }
 
 /// Whether a line is empty or a comment.

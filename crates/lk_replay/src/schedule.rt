@@ -6,7 +6,7 @@ ghost use Rattle.lk_replay.specs.Reads.{Gives};
 ghost use Rattle.lk_replay.specs.Schedule.{move_of, moves_from, plan_of};
 
 use crate::header::header_of;
-use crate::lines::{cut_at, cut_line, is_skipped};
+use crate::lines::{cut_line, cut_word, is_skipped};
 use crate::words::{move_named, number_of};
 use lk_locks::{LockKind, Move};
 use std::alloc::Global;
@@ -111,7 +111,7 @@ impl Schedule {
 fn move_of(line: &[u8]) -> Option<(u8, Move)>
     ensures { result ≡ move_of line.now }
 {
-    let (number, word) = cut_at(line, b' ')?;
+    let (number, word) = cut_word(line)?;
     let thread = number_of(number, 0, 255)?;
     let action = move_named(word)?;
     Some((thread, action))

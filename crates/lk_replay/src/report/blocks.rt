@@ -24,7 +24,8 @@ pub fn put_before(line: &mut [u8], end: usize, block: &[u8; BLOCK], len: usize) 
     ensures written { drop result line.new ≡ drop (16 - len) block.now ++ drop end line.old }
     ensures kept { (k : ℕ) → end ≤ k → drop k line.new ≡ drop k line.old }
 {
-    line[end - BLOCK..end].copy_from_slice(block);
+    let bytes = *block;
+    line[end - BLOCK..end].copy_from_slice(&bytes);
     end - len
 }
 
