@@ -1,16 +1,13 @@
 -- What the parser makes of a plain batch line: the words behind `batch` go to it, the digit to
 -- `--workers`, and each word after it to the files.
-use Rattle.std.proofs.Common.{◌≡◌, ◌∙◌, ℕ, ◌+◌, ◌<◌, ◌≤◌, Bool, true, false, List, [], ◌∷◌, ◌++◌, length, Option, Some, None, codes, refl, sym, ap, arith, not, append_assoc, append-nil, pos, inl, inr}
+use Rattle.std.proofs.Common.{◌≡◌, ◌∙◌, ℕ, ◌+◌, ◌<◌, Bool, true, false, List, [], ◌∷◌, ◌++◌, length, Option, Some, None, codes, refl, sym, ap, arith, not, append_assoc, append-nil, inl, inr}
 use Rattle.std.proofs.lemmas.Bool.Decides.{eqb_tells}
-use Rattle.clap.specs.declared.builder.value_parser.ValueParser.TheVariants as vp
-use Rattle.clap.specs.declared.parser.matches.ValueSource.TheVariants.{CommandLine}
-use Rattle.clap.specs.Values.{reading_of}
 use Rattle.std.specs.Prelude.{fold, ◌==◌}
 use Rattle.std.specs.List.{list_all}
 use Rattle.std.specs.Str.{bytes_eq}
 use Rattle.clap.specs.Lexer.{long_of, short_of}
-use Rattle.clap.specs.Words.{Row, Rule, Shape, Text, takes, built, subcommand_of}
-use Rattle.clap.specs.Walk.{Held, Waiting, Walk, positional, idle, option, walk, walked, walk_from, nothing_held, rows_after, finished, long_or_other, short_or_plain, after_step, plain_word, subcommand_or_other}
+use Rattle.clap.specs.Words.{Row, Rule, Shape, Text, built, subcommand_of}
+use Rattle.clap.specs.Walk.{Waiting, Walk, positional, idle, option, walk, walked, walk_from, nothing_held, rows_after, finished}
 use Rattle.clap.proofs.WalkLemmas.{both, walk_stopped}
 use Rattle.clap.proofs.OnLiterals.{clap_on_literals}
 use Rattle.lockreplay.specs.Commands.{batch_app, batch_rows, digit, program_app, workers_row}

@@ -1,5 +1,5 @@
 -- The parser takes a plain batch line: it fails only for want of memory.
-use Rattle.std.proofs.Common.{◌≡◌, ◌∙◌, ℕ, ◌+◌, ◌<◌, ◌≤◌, Bool, true, false, ◌&&◌, List, [], ◌∷◌, ◌++◌, length, Option, Some, None, codes, refl, sym, ap, ap₂, arith, zero, suc, is_some, nat_le, le-leb}
+use Rattle.std.proofs.Common.{◌≡◌, ◌∙◌, ℕ, ◌<◌, ◌≤◌, Bool, true, false, ◌&&◌, List, [], ◌∷◌, ◌++◌, length, Some, codes, refl, sym, ap, ap₂, arith, zero, suc, is_some, le-leb}
 use Rattle.std.specs.List.{list_all}
 use Rattle.clap.specs.Words.{Row, Shape, Text, built, takes}
 use Rattle.clap.specs.Lexer.{usize_max}

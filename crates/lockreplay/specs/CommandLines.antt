@@ -4,7 +4,7 @@ use Rattle.std.specs.Prelude.{◌≡◌, ◌+◌, ◌<◌, ◌≤◌, ◌==◌, 
 use Rattle.lockreplay.specs.declared.words.Job.{Job}
 use Rattle.lockreplay.specs.declared.words.Job.TheVariants.{Replay, Batch}
 use Rattle.lockreplay.specs.declared.words.ParseFault.{ParseFault}
-use Rattle.lockreplay.specs.declared.words.ParseFault.TheVariants.{Help, Usage, TooManyFiles, OutOfMemory}
+use Rattle.lockreplay.specs.declared.words.ParseFault.TheVariants.{TooManyFiles, OutOfMemory}
 
 -- a word, as its bytes
 abbrev pub Word : Type 0

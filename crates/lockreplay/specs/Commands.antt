@@ -1,6 +1,6 @@
 -- Invariants: the command that the parser is given, in the parser's own words. What it is built of is
 -- carried to the parse; no public contract rests on it.
-use Rattle.std.specs.Prelude.{◌+◌, Option, Some, None, [], ◌∷◌, List, ℕ, codes, true, pos}
+use Rattle.std.specs.Prelude.{◌+◌, Some, None, [], ◌∷◌, List, ℕ, codes, true, pos}
 use Rattle.clap.specs.Words.{App, Row, Rule, Text, new_app, new_rule, with_rule, with_subcommand}
 use Rattle.clap.specs.Lexer.{usize_max}
 use Rattle.clap.specs.declared.builder.action.ArgAction.TheVariants.{Set, Append}

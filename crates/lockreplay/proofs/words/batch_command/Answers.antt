@@ -1,5 +1,5 @@
 -- The command is built of its two arguments.
-use Rattle.std.proofs.Common.{rules, ◌≡◌, ◌∙◌, ap, ap₂, sym}
+use Rattle.std.proofs.Common.{rules, ◌≡◌, ◌∙◌, ap, ap₂}
 use Rattle.std.proofs.lemmas.Result.{IfOk-weaker}
 use Rattle.std.specs.Prelude.{Some, codes, pos}
 use Rattle.clap.specs.Words.{app_of, new_app, rule_of, with_rule}

@@ -1,11 +1,11 @@
 -- The getters read what the rows hold.
-use Rattle.std.proofs.Common.{rules, ◌≡◌, ◌∙◌, ℕ, ◌<◌, ◌≤◌, List, length, map, Option, Some, ap, sym, arith, eqb-true, codes, option_map}
+use Rattle.std.proofs.Common.{◌≡◌, ◌∙◌, length, map, Some, ap, sym, arith, eqb-true, codes}
 use Rattle.std.specs.Prelude.{unwrap_or}
 use Rattle.std.proofs.lemmas.List.{length-map}
 use Rattle.std.specs.Str.Parse.{ParsesUnsigned, ExplainsUnsignedError, HasUnsignedDigitsIfOk}
-use Rattle.clap.specs.Words.{Text, all_of, found_of, one_of, rows_of}
+use Rattle.clap.specs.Words.{all_of, found_of, one_of}
 use Rattle.clap.proofs.WalkLemmas.{one_text-rows, raw_values-rows}
-use Rattle.lockreplay.specs.Commands.{batch_rows, digit}
+use Rattle.lockreplay.specs.Commands.{digit}
 use Rattle.lockreplay.proofs.ReadRows.{finds_digit, finds_files, reads_digit, taken_texts}
 use Rattle.lockreplay.proofs.words.batch_given.Goals as goal
 use Rattle.lockreplay.proofs.words.batch_given.Goals.{then-is_empty-via-then-is_empty, then-is_empty-via-else-is_empty+then-workers-eq0, then-is_empty-via-else-is_empty+else-workers-eq0+then-workers-gt-MOST_WORKERS}

@@ -1,11 +1,11 @@
 -- The parser takes a plain line, and finds what it says.
 use Rattle.std.proofs.lemmas.List.{length-map}
 use Rattle.clap.specs.Lexer.{usize_max}
-use Rattle.std.proofs.Common.{String, Global, length, map, string_bytes, ◌<◌, ◌≤◌, ◌^◌, rules, ◌≡◌, ◌∙◌, ℕ, List, Option, Some, option_map, codes, ap, ap₂, sym, refl, subst, true, false, true≢false, arith, [], ◌∷◌}
+use Rattle.std.proofs.Common.{String, Global, length, map, string_bytes, ◌<◌, ◌≤◌, ◌^◌, rules, ◌≡◌, ◌∙◌, ℕ, List, Some, option_map, codes, ap, ap₂, sym, refl, subst, true, false, true≢false, arith, []}
 use Rattle.std.specs.Prelude.{Err}
-use Rattle.clap.specs.Words.{Text, app_of, is_simple, subcommand_of, takes}
+use Rattle.clap.specs.Words.{Text, is_simple, subcommand_of, takes}
 use Rattle.clap.proofs.OnLiterals.{clap_on_literals}
-use Rattle.lockreplay.specs.Commands.{batch_rows, program_app}
+use Rattle.lockreplay.specs.Commands.{program_app}
 use Rattle.lockreplay.specs.CommandLines.{AnswersBatch, AsksFor, batch_line, replay_line}
 use Rattle.lockreplay.specs.declared.words.Job.TheVariants.{Replay}
 use Rattle.lockreplay.proofs.PlainLines.{batch_found}

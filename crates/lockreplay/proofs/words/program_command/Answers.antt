@@ -3,7 +3,7 @@ use Rattle.std.proofs.Common.{rules, ◌≡◌, ◌∙◌, ap, ap₂}
 use Rattle.std.proofs.lemmas.Result.{IfOk-weaker}
 use Rattle.std.specs.Prelude.{codes}
 use Rattle.clap.specs.Words.{App, app_of, new_app, with_subcommand}
-use Rattle.lockreplay.specs.Commands.{bare_app, batch_app}
+use Rattle.lockreplay.specs.Commands.{bare_app}
 use Rattle.lockreplay.proofs.words.program_command.Goals as goal
 
 pub returns : goal.returns
