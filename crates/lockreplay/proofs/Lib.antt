@@ -1,1 +1,4 @@
+mod PlainLines
+mod ReadRows
 mod Sent
+mod TakenLines

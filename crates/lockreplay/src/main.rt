@@ -5,6 +5,9 @@
 //! form, and end the program with the status of a refused schedule.
 #![tactic(auto)]
 
+ghost use Rattle.std.specs.Prelude.{◌≡◌, IfErr, IfOk};
+ghost use Rattle.std.specs.Io.KnownBytes.{Appends};
+ghost use Rattle.lk_replay.specs.Devices.{AppendsFront};
 ghost use Rattle.lockreplay.specs.Jobs.{FitsJob};
 
 mod faults;
@@ -45,8 +48,13 @@ fn job_given(rt: &HostRuntime) -> Result<Job, ParseFault>
 }
 
 /// Writes the help, and gives the status of a job that was done.
-fn help(output: &mut impl Write, text: &str) -> Result<u8, ProgramFault> {
-    send(output, text.as_bytes())?;
+fn help<W: Write>(output: &mut W, text: &str) -> Result<u8, ProgramFault>
+    ensures done { IfOk result (λ status. (status ≡ 0) × Appends (W.contents output.old) (W.contents output.new) text.now) }
+    ensures cut { IfErr result (λ e. (e ≡ ProgramFault.Output) × AppendsFront (W.contents output.old) (W.contents output.new) text.now) }
+{
+    let Ok(()) = send(output, text.as_bytes()) else {
+        return Err(ProgramFault::Output);
+    };
     Ok(0)
 }
 

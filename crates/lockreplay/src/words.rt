@@ -1,12 +1,17 @@
 //! The words after the program's name, and the job that they ask for.
 //!
 //! `clap` reads the words; what it refuses, and in which words, is its own. The limit on the number
-//! of files is tried after it.
+//! of files is tried after it. What the plain lines ask for, `replay` and `batch --workers N FILE...`
+//! with no option among the files, is proved; every other line is read as `clap` reads it.
 
-ghost use Rattle.std.specs.Prelude.{Result};
+ghost use Rattle.std.specs.Prelude.{◌≡◌, ℕ, ◌<◌, ◌≤◌, List, length, map, false, true, string_bytes, IfOk, Result};
+ghost use Rattle.std.specs.List.{list_all};
+ghost use Rattle.clap.specs.Words.{app_of, found_of, kind_of, rows_of};
+ghost use Rattle.clap.specs.declared.builder.command.Command.TheViews.{out-Command};
+ghost use Rattle.lockreplay.specs.CommandLines.{AnswersBatch, AsksFor, Word, batch_line, is_plain, replay_line};
+ghost use Rattle.lockreplay.specs.Commands.{batch_app, batch_rows, program_app};
 ghost use Rattle.lockreplay.specs.Jobs.{FitsJob};
 ghost use Rattle.lockreplay.specs.declared.words.ParseFault.TheVariants.{OutOfMemory};
-ghost use Rattle.std.specs.Prelude.{◌≡◌};
 
 #[cfg(test)]
 mod requests;
@@ -69,7 +74,10 @@ impl<T: Drop> From<AllocFailed<T>> for ParseFault {
     }
 }
 
-fn batch_command<'a>(alloc: Global) -> Result<Command<'a>, AllocError> {
+fn batch_command<'a>(alloc: Global) -> Result<Command<'a>, AllocError>
+    ensures app { IfOk result (λ c. app_of c ≡ batch_app) }
+    ensures own { IfOk result (λ c. (out-Command c).has_globals ≡ false) }
+{
     let workers = Arg::new(alloc, "workers")
         .long("workers")
         .value_name("N")
@@ -89,7 +97,9 @@ fn batch_command<'a>(alloc: Global) -> Result<Command<'a>, AllocError> {
         .arg(files)
 }
 
-fn program_command<'a>(alloc: Global) -> Result<Command<'a>, AllocError> {
+fn program_command<'a>(alloc: Global) -> Result<Command<'a>, AllocError>
+    ensures { IfOk result (λ c. app_of c ≡ program_app) }
+{
     let replay = Command::new(alloc, "replay").about(
         "Replays the schedule on standard input and writes its report",
     );
@@ -102,9 +112,22 @@ fn program_command<'a>(alloc: Global) -> Result<Command<'a>, AllocError> {
         .subcommand(batch_command(alloc)?)
 }
 
+/// The texts as texts of the program's own.
+fn copied(alloc: Global, texts: &[&str]) -> Result<Vec<String>, AllocError>
+    ensures { IfOk result (λ copies. map string_bytes copies.items ≡ map (λ t. t.now) texts.now) }
+{
+    let mut copies = Vec::new(alloc);
+    for text in texts {
+        copies.push(String::from_str(alloc, *text)?)?;
+    }
+    Ok(copies)
+}
+
 /// The batch that the parser found. The limit on files is tried before anything is copied.
 fn batch_given(alloc: Global, batch: &ArgMatches<'_>) -> Result<Job, ParseFault>
-    ensures { FitsJob result }
+    ensures fits { FitsJob result }
+    ensures plain { (workers : ℕ) → (files : List Word) → rows_of (found_of batch.now) ≡ batch_rows workers files
+        → 1 ≤ workers → workers ≤ 8 → 0 < length files → AnswersBatch workers files result }
 {
     let workers = batch.get_one::<u8>("workers").unwrap_or(0);
     let given = batch.get_strs("files").unwrap_or(&[]);
@@ -114,15 +137,14 @@ fn batch_given(alloc: Global, batch: &ArgMatches<'_>) -> Result<Job, ParseFault>
     if given.len() > MOST_FILES {
         return Err(ParseFault::TooManyFiles);
     }
-    let mut files = Vec::new(alloc);
-    for file in given {
-        files.push(String::from_str(alloc, *file)?)?;
-    }
+    let files = copied(alloc, given)?;
     Ok(Job::Batch { workers, files })
 }
 
 /// What the parser's error is to the program.
-fn fault_told(alloc: Global, error: &clap::Error) -> ParseFault {
+fn fault_told(alloc: Global, error: &clap::Error) -> ParseFault
+    ensures { kind_of error.now ≡ ErrorKind.OutOfMemory → result ≡ ParseFault.OutOfMemory }
+{
     match (error.kind(), error.to_string(alloc)) {
         (ErrorKind::OutOfMemory, _) | (_, Err(_)) => ParseFault::OutOfMemory,
         (ErrorKind::DisplayHelp, Ok(text)) => ParseFault::Help(text),
@@ -136,7 +158,10 @@ fn fault_told(alloc: Global, error: &clap::Error) -> ParseFault {
 /// Of several faults the parser's come first, and `TooManyFiles` last; want of memory may come in
 /// place of any answer.
 pub fn parse_words(alloc: Global, words: &[String]) -> Result<Job, ParseFault>
-    ensures { FitsJob result }
+    ensures fits { FitsJob result }
+    ensures replay { map string_bytes words.now ≡ replay_line → AsksFor (λ job. job ≡ Job.Replay) result }
+    ensures batch { (workers : ℕ) → (files : List Word) → map string_bytes words.now ≡ batch_line workers files
+        → 1 ≤ workers → workers ≤ 8 → 0 < length files → list_all is_plain files ≡ true → AnswersBatch workers files result }
 {
     let command = program_command(alloc)?;
     let matches = match command.try_get_matches_from(words) {
@@ -144,7 +169,7 @@ pub fn parse_words(alloc: Global, words: &[String]) -> Result<Job, ParseFault>
         Err(error) => return Err(fault_told(alloc, &error)),
     };
     match matches.subcommand() {
-        Some(("batch", batch)) => batch_given(alloc, batch),
+        Some((name, batch)) if name == "batch" => batch_given(alloc, batch),
         _ => Ok(Job::Replay),
     }
 }

@@ -1,9 +1,8 @@
 -- The texts of the files are those whose reports went out.
-use Rattle.std.proofs.Common.{rules, ◌≡◌, ◌∙◌, map, ap, subst}
+use Rattle.std.proofs.Common.{rules, ◌∙◌, ap, subst}
 use Rattle.std.proofs.lemmas.List.{length-map}
 use Rattle.std.specs.Io.KnownBytes.{Appends}
 use Rattle.lk_replay.specs.Devices.{AppendsFront}
-use Rattle.lk_replay.specs.Report.{report_text}
 use Rattle.lk_workers.specs.Batch.{batch_text_of}
 use Rattle.lockreplay.specs.Batches.{status_of_reports}
 use Rattle.lockreplay.proofs.Sent.{bytes_of, same_reports}

@@ -1,11 +1,10 @@
 -- `all` over the reports is the test over their bytes.
-use Rattle.std.proofs.Common.{rules, tests, ◌≡◌, ◌∙◌, map, ℕ, List, Vec, true, false, ap, sym, refl, if◌then◌else◌}
-use Rattle.std.specs.List.{list_all}
+use Rattle.std.proofs.Common.{rules, tests, ◌∙◌, ap, sym, if◌then◌else◌}
 use Rattle.std.proofs.lemmas.Iterator.{YieldsList-from_slice}
 use Rattle.std.proofs.lemmas.Iterator.Search.{all_from_yields_List}
 use Rattle.std.proofs.lemmas.List.Folds.{list_all-map}
 use Rattle.lk_replay.specs.Ending.{ending_of}
-use Rattle.lockreplay.specs.Batches.{is_accepted, status_of_reports}
+use Rattle.lockreplay.specs.Batches.{is_accepted}
 use Rattle.lockreplay.proofs.status.batch_status.Goals as goal
 
 pub returns-then-all : goal.returns-then-all

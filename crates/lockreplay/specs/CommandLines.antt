@@ -1,0 +1,46 @@
+-- Definitions: the plain command lines, and what each asks for. This project's own. What every other
+-- line comes to, as one with its options in another order, is the parser's own.
+use Rattle.std.specs.Prelude.{◌≡◌, ◌+◌, ◌<◌, ◌≤◌, ◌==◌, not, ℕ, Bool, true, List, [], ◌∷◌, length, map, codes, string_bytes, Result, Ok, Err}
+use Rattle.lockreplay.specs.declared.words.Job.{Job}
+use Rattle.lockreplay.specs.declared.words.Job.TheVariants.{Replay, Batch}
+use Rattle.lockreplay.specs.declared.words.ParseFault.{ParseFault}
+use Rattle.lockreplay.specs.declared.words.ParseFault.TheVariants.{TooManyFiles, OutOfMemory}
+
+-- a word, as its bytes
+abbrev pub Word : Type 0
+Word = List ℕ
+
+-- `replay`
+abbrev pub replay_line : List Word
+replay_line = codes "replay" ∷ []
+
+-- `batch --workers N FILE...`, with N a digit
+abbrev pub batch_line : ℕ → List Word → List Word
+batch_line workers files = codes "batch" ∷ codes "--workers" ∷ ((48 + workers) ∷ []) ∷ files
+
+-- the word does not begin with a hyphen, so it is no option
+abbrev pub is_plain : Word → Bool
+is_plain [] = true
+is_plain (b ∷ rest) = not (b == 45)
+
+-- a batch of these files by so many workers
+abbrev pub IsBatchOfFiles : ℕ → List Word → Job → Type 0
+IsBatchOfFiles workers files Replay = ⊥
+IsBatchOfFiles workers files (Batch w fs) = (w ≡ workers) × (map string_bytes fs.items ≡ files)
+
+-- the job has P, or memory was refused
+abbrev pub AsksFor : (Job → Type 0) → Result Job ParseFault → Type 0
+AsksFor P (Ok job) = P job
+AsksFor P (Err OutOfMemory) = Unit {0}
+AsksFor P (Err _) = ⊥
+
+-- more files than a batch may have, or memory was refused
+abbrev pub IsTooMany : Result Job ParseFault → Type 0
+IsTooMany (Err TooManyFiles) = Unit {0}
+IsTooMany (Err OutOfMemory) = Unit {0}
+IsTooMany _ = ⊥
+
+-- what a batch of files comes to, by how many there are
+abbrev pub AnswersBatch : ℕ → List Word → Result Job ParseFault → Type 0
+AnswersBatch workers files r =
+    (length files ≤ 65536 → AsksFor (IsBatchOfFiles workers files) r) × (65536 < length files → IsTooMany r)
