@@ -36,7 +36,7 @@ fn was_refused(alloc: Global) -> bool {
 // Whether a round ends here: no request was refused in it, and where the allocator refuses, one was in an earlier round.
 fn is_last(rt: &impl Abort, alloc: Global, number: usize, refused: bool) -> bool {
     assert!(rt;
-        number + 1 < MOST_REQUESTS,
+        number < MOST_REQUESTS - 1,
         "a request was refused each time"
     );
     assert!(rt;

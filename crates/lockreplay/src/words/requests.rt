@@ -49,7 +49,7 @@ fn each_request_refused_in_parse_words(rt: HostRuntime) -> Result<(), Fail> {
                 "no request was made"
             );
             assert!(rt;
-                number + 1 < MOST_REQUESTS,
+                number < MOST_REQUESTS - 1,
                 "a request was refused each time"
             );
             if !refused {
