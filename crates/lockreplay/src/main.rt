@@ -13,7 +13,6 @@ ghost use Rattle.lockreplay.specs.Jobs.{FitsJob};
 mod faults;
 mod jobs;
 mod status;
-mod steady;
 mod words;
 
 use faults::ProgramFault;
@@ -22,7 +21,6 @@ use lk_replay::send;
 use std::env;
 use std::io::{ErrorKind, Write};
 use std::process::ExitCode;
-use steady::Steady;
 use words::{Job, ParseFault, parse_words};
 
 /// The status of a command line that asks for nothing that the program does.
@@ -59,9 +57,9 @@ fn help<W: Write>(output: &mut W, text: &str) -> Result<u8, ProgramFault>
 }
 
 fn main(rt: HostRuntime) -> ExitCode {
-    let mut output = Steady(rt.stdout());
+    let mut output = rt.stdout();
     // Where standard error takes nothing, the status alone tells.
-    let mut errors = Steady(rt.stderr());
+    let mut errors = rt.stderr();
     let ending = match job_given(&rt) {
         Ok(job) => perform(&rt, rt.alloc(), &job, &mut rt.stdin(), &mut output),
         Err(ParseFault::Help(text)) => help(&mut output, &text),
