@@ -33,14 +33,15 @@ fn was_refused(alloc: Global) -> bool {
     !is_granted(alloc, ASK)
 }
 
-// Whether a round ends here: no request was refused in it, and where the allocator refuses, one was in an earlier round.
-fn is_last(rt: &impl Abort, alloc: Global, number: usize, refused: bool) -> bool {
+// Whether a round ends here: no request was refused in it. Where the call wants memory and the allocator refuses, one was in an
+// earlier round.
+fn is_last(rt: &impl Abort, alloc: Global, number: usize, refused: bool, wants: bool) -> bool {
     assert!(rt;
         number < MOST_REQUESTS - 1,
         "a request was refused each time"
     );
     assert!(rt;
-        refused || number > 1 || is_granted(alloc, HERE),
+        refused || number > 1 || !wants || is_granted(alloc, HERE),
         "no request was made"
     );
     !refused
@@ -82,7 +83,7 @@ fn each_request_refused_in_read_schedule(rt: HostRuntime) -> Result<(), Fail> {
                 Ok(schedule) => assert!(rt; schedule.moves() == whole.moves(), "{name}"),
                 Err(fault) => assert!(rt; refused && fault == ReadFault::OutOfMemory, "{name}"),
             }
-            if is_last(&rt, alloc, number, refused) {
+            if is_last(&rt, alloc, number, refused, !whole.moves().is_empty()) {
                 break;
             }
         }
@@ -108,7 +109,7 @@ fn each_request_refused_in_replay(rt: HostRuntime) -> Result<(), Fail> {
                 }
                 Err(_) => assert!(rt; refused, "{name}"),
             }
-            if is_last(&rt, alloc, number, refused) {
+            if is_last(&rt, alloc, number, refused, !whole.accepted().is_empty()) {
                 break;
             }
         }
@@ -129,7 +130,7 @@ fn each_request_refused_in_report_of(rt: HostRuntime) -> Result<(), Fail> {
                 Ok(found) => assert!(rt; found.as_slice() == report.as_bytes(), "{name}"),
                 Err(_) => assert!(rt; refused, "{name}"),
             }
-            if is_last(&rt, alloc, number, refused) {
+            if is_last(&rt, alloc, number, refused, true) {
                 break;
             }
         }
@@ -150,7 +151,7 @@ fn each_request_refused_in_read_text(rt: HostRuntime) {
             Ok(found) => assert!(rt; found.as_slice() == text),
             Err(fault) => assert!(rt; refused && fault == RunFault::OutOfMemory),
         }
-        if is_last(&rt, alloc, number, refused) {
+        if is_last(&rt, alloc, number, refused, true) {
             break;
         }
     }
@@ -181,7 +182,7 @@ fn each_request_refused_in_run(rt: HostRuntime) -> Result<(), Fail> {
                     assert_eq!(rt; output.rest.len(), report.len(), "{name}");
                 }
             }
-            if is_last(&rt, alloc, number, refused) {
+            if is_last(&rt, alloc, number, refused, true) {
                 break;
             }
         }
@@ -208,7 +209,7 @@ fn each_request_refused_before_a_late_fault(rt: HostRuntime) -> Result<(), Fail>
             let refused = was_refused(alloc);
             let is_memory = answer == Some(ReadFault::OutOfMemory);
             assert!(rt; answer == Some(fault) || refused && is_memory, "{fault:?}");
-            if is_last(&rt, alloc, number, refused) {
+            if is_last(&rt, alloc, number, refused, true) {
                 break;
             }
         }
