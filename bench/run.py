@@ -5,8 +5,9 @@
 
 In each round and for each kind of bench/generate.py, `PROGRAM replay` reads the schedule from a
 file and writes the report to a file; `cat` copies that report from a file to a file; and the
-replayer of handwritten.c does what the program does. They take turns, so that what else the machine
-does meets all of them. Printed are medians over the rounds:
+replayer of handwritten.c does what the program does; hold.c reads the report into memory and writes it.
+They take turns, so that what else the machine does meets all of them. Printed are medians over the
+rounds:
 
     elapsed    milliseconds of the program from start to end
     processor  milliseconds of a processor, user and kernel; what follows goes by these, since the
@@ -17,6 +18,7 @@ does meets all of them. Printed are medians over the rounds:
     to hand    the program's time over that of handwritten.c
     ns a move  the program's time less that of a schedule without a move, for each move
     by hand    the same for handwritten.c
+    by holding the same for hold.c: what it costs to have such a report in memory and to write it
     extra MB   the program's peak memory less the size of the report, in 10^6 bytes, the most seen
 
 With --check it ends with 1 where a limit is passed: 4 times cat on the two reports of 14 MB; 40 ns a
@@ -50,6 +52,7 @@ class Bench:
     def __init__(self, program, rounds, folder):
         self.program = program
         self.by_hand = build("handwritten", folder)
+        self.hold = build("hold", folder)
         self.rounds = rounds
         self.measure = Measure(folder)
         self.folder = pathlib.Path(folder)
@@ -73,14 +76,17 @@ class Bench:
 
     def figures(self, schedule, report):
         """Runs all rounds and answers the figures of one line of the table."""
-        runs, hands, copies, starts = [], [], [], []
+        runs, hands, copies, starts, holds, empties = [], [], [], [], [], []
         for _ in range(self.rounds):
             runs.append(self.measure.run([self.program, "replay"], schedule))
             hands.append(self.measure.run([self.by_hand, "replay"], schedule))
             copies.append(self.measure.run(["cat"], report))
             starts.append(self.measure.run([self.program, "replay"], self.start))
+            holds.append(self.measure.run([self.hold], report))
+            empties.append(self.measure.run([self.hold]))
         moves = schedule.read_bytes().count(b"\n") - 1
         took, hand, copied, start = map(median_processor, (runs, hands, copies, starts))
+        held = median_processor(holds) - median_processor(empties)
         return {
             "elapsed": median_elapsed(runs) * 1e3,
             "processor": took * 1e3,
@@ -89,6 +95,7 @@ class Bench:
             "to hand": took / hand,
             "ns a move": (took - start) / moves * 1e9,
             "by hand": (hand - start) / moves * 1e9,
+            "by holding": held / moves * 1e9,
             "extra MB": (max(run.peak for run in runs) - report.stat().st_size) / 1e6,
         }
 
@@ -128,7 +135,7 @@ def main():
     with tempfile.TemporaryDirectory() as folder:
         bench = Bench(str(pathlib.Path(asked.program).resolve()), asked.rounds, folder)
         names = ["elapsed", "processor", "spread %", "to cat", "to hand", "ns a move", "by hand",
-                 "extra MB"]
+                 "by holding", "extra MB"]
         print(f"{'kind':15}" + "".join(f"{name:>11}" for name in names))
         for kind in asked.kinds or kinds:
             bench.line(kind, ATTEMPTS if asked.check else 1)

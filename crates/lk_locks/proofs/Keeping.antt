@@ -1,10 +1,10 @@
 -- Each accepted move keeps what is known of a lock and its history.
-use Rattle.std.proofs.Common.{◌≡◌, ℕ, ◌<◌, ◌≤◌, List, ◌++◌, length, set, true, None, refl, ap, ◌∙◌}
+use Rattle.std.proofs.Common.{◌≡◌, ℕ, ◌<◌, ◌≤◌, List, [], ◌∷◌, ◌++◌, length, set, true, None, refl, ap, ◌∙◌}
 use Rattle.std.proofs.lemmas.List.{length-set}
 use Rattle.lk_locks.specs.State.{State, phase_at}
 use Rattle.lk_locks.specs.Change.{Change}
 use Rattle.lk_locks.specs.Steps.{move_change, change_of, next_state, refusal_in, refusal_of, belongs}
-use Rattle.lk_locks.specs.Entries.{move_entries, entries_of}
+use Rattle.lk_locks.specs.Entries.{step_entries, move_entries, entries_of}
 use Rattle.lk_locks.specs.Sequential.{Sequential}
 use Rattle.lk_locks.specs.Legal.{AllMayCome, after_entries, thread_of, Legal}
 use Rattle.lk_locks.specs.invariants.WellFormed.{IsPhaseOf}
@@ -18,7 +18,10 @@ use Rattle.lk_locks.specs.declared.kinds.LockKind.{LockKind}
 use Rattle.lk_locks.specs.declared.kinds.Phase.{Phase}
 use Rattle.lk_locks.specs.declared.kinds.Move.{Move}
 use Rattle.lk_locks.specs.declared.kinds.Move.TheVariants.{Call, Step}
+use Rattle.lk_locks.specs.declared.kinds.Op.{Op}
+use Rattle.lk_locks.specs.declared.kinds.StepKind.{StepKind}
 use Rattle.lk_locks.specs.declared.kinds.Entry.{Entry}
+use Rattle.lk_locks.specs.declared.kinds.Entry.TheVariants.{Called}
 use Rattle.lk_locks.specs.declared.kinds.Outcome.{Outcome}
 
 pub entries_are_own : (kind : LockKind) (bits : ℕ) (ws : List ℕ) (t : ℕ) (p : Phase) (m : Move) → AreOf t (move_entries kind t p m (move_change kind bits ws t p m).outcome)
@@ -69,9 +72,12 @@ legal_of s q es k = record {
   no_others = k.no_others;
 }
 
--- the entries that the code makes
-pub made_entries : (s : State) (t : ℕ) (m : Move) (kind : LockKind) (p : Phase) (o : Outcome) (added slice : List Entry) → kind ≡ s.kind → p ≡ phase_at s.phases t → o ≡ (change_of s t m).outcome → added ≡ move_entries kind t p m o → slice ≡ added → slice ≡ entries_of s t m
-made_entries s t m kind p o added slice k e f g h = h ∙ g ∙ rw (k, e, f) refl
+-- the entries that the code makes of a call, and of a step
+pub called_entries : (s : State) (t : ℕ) (m : Move) (op : Op) → m ≡ Call op → Called t op ∷ [] ≡ entries_of s t m
+called_entries s t m op d = rw d refl
+
+pub made_entries : (s : State) (t : ℕ) (m : Move) (k : StepKind) (kind : LockKind) (p : Phase) (o : Outcome) (added slice : List Entry) → m ≡ Step k → kind ≡ s.kind → p ≡ phase_at s.phases t → o ≡ (change_of s t m).outcome → added ≡ step_entries kind t p o → slice ≡ added → slice ≡ entries_of s t m
+made_entries s t m k kind p o added slice d i e f g h = h ∙ g ∙ rw (f, i, e, d) refl
 
 pub kept_after : (s r : State) (q u : Sequential) (es now : List Entry) (first second : List Entry) (t : ℕ) (m : Move) → Kept s q es → refusal_of s t m ≡ None → first ≡ entries_of s t m → second ≡ entries_of s t m → r ≡ next_state s t m → u ≡ after_entries q first → now ≡ es ++ second → Kept r u now
 kept_after s r q u es now first second t m k h a b c d e =

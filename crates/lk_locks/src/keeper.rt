@@ -75,10 +75,16 @@ impl<W: Words> Keeper<W> {
         let kind = self.machine.kind();
         let phase = self.machine.phase(t);
         let outcome = self.machine.make(t, m);
-        let mut added = Added::none();
-        add_entries(&mut added, kind, t, phase, m, outcome);
-        self.sequential.follow(added.as_slice());
-        self.history.append(added.as_slice());
+        match m {
+            // a call is no act, so the sequential object stays
+            Move::Call(op) => self.history.append(&[Entry::Called(t, op)]),
+            Move::Step(_) => {
+                let mut added = Added::none();
+                add_entries(&mut added, kind, t, phase, outcome);
+                self.sequential.follow(added.as_slice());
+                self.history.append(added.as_slice());
+            }
+        }
         Ok(outcome)
     }
 

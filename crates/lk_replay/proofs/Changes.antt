@@ -1,7 +1,11 @@
--- The text of a state that a move leaves as it was.
-use Rattle.std.proofs.Common.{◌≡◌, ℕ, List, [], ◌∷◌, ◌++◌, refl, ap, Option, None, Some}
-use Rattle.lk_locks.specs.Legal.{after_entries, after_entry}
-use Rattle.lk_locks.specs.Holding.{holder_after, holding_of, waiting_of, held_by_one, shared_by, one_or_none}
+-- What is followed of a history that grows.
+use Rattle.std.proofs.Common.{◌≡◌, ℕ, ◌-◌, List, [], ◌∷◌, ◌++◌, length, take, drop, refl, ◌∙◌, arith, Option, None, Some}
+use Rattle.std.proofs.Math.Seq.{drop-append_seam}
+use Rattle.std.proofs.lemmas.List.{length-append, take_all}
+use Rattle.lk_locks.specs.Legal.{Legal, AllMayCome, after_entries, after_entry}
+use Rattle.lk_locks.specs.Holding.{holder_after}
+use Rattle.lk_locks.proofs.Histories.{after_append}
+use Rattle.lk_locks.proofs.invariants.Inside.{holder_append}
 use Rattle.lk_locks.specs.Sequential.{Sequential, nobody}
 use Rattle.lk_locks.specs.declared.kinds.Entry.{Entry}
 use Rattle.lk_locks.specs.declared.kinds.Entry.TheVariants.{Called, Acted, Returned}
@@ -9,6 +13,7 @@ use Rattle.lk_locks.specs.declared.kinds.LockKind.{LockKind}
 use Rattle.lk_locks.specs.declared.kinds.LockKind.TheVariants.{Ticket, Mcs, RwSimple, RwFifo}
 use Rattle.lk_locks.specs.declared.kinds.Op.{Op}
 use Rattle.lk_locks.specs.declared.kinds.Op.TheVariants.{Acquire, Release}
+use Rattle.lk_replay.specs.Following.{following, followed_by, followed_text}
 use Rattle.lk_replay.specs.Report.{state_text}
 
 after_called : (q : Sequential) (es : List Entry) (t : ℕ) (o : Op) → after_entries q (es ++ Called t o ∷ []) ≡ after_entries q es
@@ -21,19 +26,30 @@ held_called h (Returned x Acquire ∷ es) t o = held_called (Some x) es t o
 held_called h (Acted x Release ∷ es) t o = held_called None es t o
 held_called h (e ∷ es) t o = held_called h es t o
 
-called_holding : (kind : LockKind) (es : List Entry) (t : ℕ) (o : Op) → holding_of kind (es ++ Called t o ∷ []) ≡ holding_of kind es
-called_holding Ticket es t o = ap held_by_one (held_called None es t o)
-called_holding Mcs es t o = ap held_by_one (held_called None es t o)
-called_holding RwSimple es t o = ap (λ q. shared_by q.readers q.writer) (after_called (nobody RwSimple) es t o)
-called_holding RwFifo es t o = ap (λ q. shared_by q.readers q.writer) (after_called (nobody RwFifo) es t o)
-
-called_waiting : (kind : LockKind) (es : List Entry) (t : ℕ) (o : Op) → waiting_of kind (es ++ Called t o ∷ []) ≡ waiting_of kind es
-called_waiting Ticket es t o = ap (λ q. q.queue) (after_called (nobody Ticket) es t o)
-called_waiting Mcs es t o = ap (λ q. q.queue) (after_called (nobody Mcs) es t o)
-called_waiting RwSimple es t o = refl
-called_waiting RwFifo es t o = ap (λ q. one_or_none q.announced) (after_called (nobody RwFifo) es t o)
-
 -- a call changes nobody's holding or waiting
-pub called_text : (kind : LockKind) (es : List Entry) (t : ℕ) (o : Op) → state_text kind (es ++ Called t o ∷ []) ≡ state_text kind es
+pub called_following : (kind : LockKind) (es : List Entry) (t : ℕ) (o : Op) → following kind (es ++ Called t o ∷ []) ≡ following kind es
+called_following kind es t o = rw (after_called (nobody kind) es t o, held_called None es t o) refl
+
+pub followed_more : (kind : LockKind) (es new : List Entry) → followed_by (following kind es) new ≡ following kind (es ++ new)
+followed_more kind es new = rw (after_append (nobody kind) es new, holder_append None es new) refl
+
+-- what is followed tells who holds and who waits
+pub text_of : (kind : LockKind) (es : List Entry) → followed_text (following kind es) ≡ state_text kind es
 unfolding state_text
-called_text kind es t o = rw (called_holding kind es t o, called_waiting kind es t o) refl
+text_of Ticket es = refl
+text_of Mcs es = refl
+text_of RwSimple es = refl
+text_of RwFifo es = refl
+
+allowed_rest : (q : Sequential) (xs ys : List Entry) → AllMayCome q (xs ++ ys) → AllMayCome (after_entries q xs) ys
+allowed_rest q [] ys f = f
+allowed_rest q (x ∷ xs) ys f = allowed_rest (after_entry q x) xs ys f.1
+
+-- the last entries of a legal history may come
+pub may_follow : (kind : LockKind) (n : ℕ) (all es new : List Entry) → all ≡ es ++ new → Legal kind n all → AllMayCome (following kind es).sequential new
+may_follow kind n all es new e l = allowed_rest (nobody kind) es new (rw e at l.allowed)
+
+-- what stands behind the entries so far
+pub newest : (es new all : List Entry) (count : ℕ) → count ≡ length es → all ≡ es ++ new → take (length all - count) (drop count all) ≡ new
+newest es new all count e f =
+    rw (e, f) (take_all (length (es ++ new) - length es) (drop (length es) (es ++ new)) (rw (drop-append_seam es new, length-append es new) (omega arith)) ∙ drop-append_seam es new)

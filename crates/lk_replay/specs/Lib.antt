@@ -6,5 +6,6 @@ pub mod Schedule
 pub mod Reads
 pub mod Replay
 pub mod Report
+pub mod Following
 pub mod Ending
 pub mod Devices

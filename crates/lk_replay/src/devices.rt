@@ -23,8 +23,8 @@ pub enum RunFault {
 /// The most bytes that are read: one more than a schedule may have, so that a longer text is known as such.
 const READ_LIMIT: usize = MOST_BYTES + 1;
 
-// Bytes asked of a reader at once.
-const CHUNK: usize = 16_384;
+// Bytes asked of a reader at once. A small file costs the clearing of so many.
+const CHUNK: usize = 4_096;
 
 /// Reads to the end of the input, or up to 1,048,577 bytes and leaves the rest unread.
 ///

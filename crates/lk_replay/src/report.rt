@@ -4,10 +4,12 @@ ghost use Rattle.std.specs.Prelude.{◌≡◌, ◌≤◌, ◌++◌, OnOk, IfOk, 
 ghost use Rattle.lk_locks.specs.Play.{after_play, IsPlayAnswer};
 ghost use Rattle.lk_locks.specs.Steps.{refusal_of, change_of};
 ghost use Rattle.lk_replay.specs.Replay.{replay_of};
-ghost use Rattle.lk_replay.specs.Report.{state_text, replay_text, report_text};
+ghost use Rattle.lk_replay.specs.Following.{following, followed_text};
+ghost use Rattle.lk_replay.specs.Report.{replay_text, report_text};
 
 mod blocks;
 mod closings;
+mod followed;
 mod line;
 mod listed;
 mod numerals;
@@ -22,27 +24,19 @@ use lk_words::WordArray;
 use numerals::Numeral;
 use std::alloc::{AllocError, Global};
 
-// Shows who holds a lock and who waits for it now.
-#[tactic(auto, unfolding(crate::specs::Report::state_text))]
-fn show_state(line: &mut KeptLine, keeper: &Keeper<WordArray>) -> Result<(), AllocError>
-    requires { 80 ≤ length line.old.bytes.items }
-    ensures shown { OnOk result (drop 80 line.new.bytes.items ≡ state_text keeper.now.state.kind keeper.now.entries) }
-    ensures room { OnOk result (80 ≤ length line.new.bytes.items) }
-{
-    line.show(&keeper.holders(), &keeper.queue())
-}
-
 // Plays a move, and keeps the line's text of who holds and who waits.
 fn play_line(
     keeper: &mut Keeper<WordArray>,
     kept: &mut KeptLine,
     line: &Line,
 ) -> Result<Outcome, PlayFault>
-    requires shown { drop 80 kept.old.bytes.items ≡ state_text keeper.old.state.kind keeper.old.entries }
+    requires followed { kept.old.followed ≡ following keeper.old.state.kind keeper.old.entries }
+    requires shown { drop 80 kept.old.bytes.items ≡ followed_text kept.old.followed }
     requires room { 80 ≤ length kept.old.bytes.items }
     ensures answer { IsPlayAnswer (refusal_of keeper.old.state line.now.thread line.now.action) (change_of keeper.old.state line.now.thread line.now.action).outcome result }
     ensures played { OnOk result (keeper.new ≡ after_play keeper.old line.now.thread line.now.action) }
-    ensures shown { OnOk result (drop 80 kept.new.bytes.items ≡ state_text keeper.new.state.kind keeper.new.entries) }
+    ensures followed { OnOk result (kept.new.followed ≡ following keeper.new.state.kind keeper.new.entries) }
+    ensures shown { OnOk result (drop 80 kept.new.bytes.items ≡ followed_text kept.new.followed) }
     ensures room { OnOk result (80 ≤ length kept.new.bytes.items) }
 {
     let before = keeper.entries().len();
@@ -53,21 +47,28 @@ fn play_line(
     if let Move::Call(_) = line.action {
         return Ok(outcome);
     }
-    match show_state(kept, keeper) {
+    match kept.follow(&keeper.entries()[before..]) {
         Ok(()) => Ok(outcome),
         Err(_) => Err(PlayFault::OutOfMemory),
     }
 }
 
+// The most bytes of a move's line without its longer list, of holders or of the queue, and of a thread in that list.
+const LONGEST_LINE: usize = 44;
+const LONGEST_LISTED: usize = 3;
+
 // The lines of the accepted moves, and the last line.
+//
+// Room is made once for the longest report. Pages of it that nothing is written to cost nothing, where each growth would move
+// all pages that are in use.
 fn replay_text(alloc: Global, schedule: &Schedule) -> Result<Vec<u8>, AllocError>
     ensures { IfOk result (λ report. report.items ≡ replay_text schedule.now.kind (replay_of schedule.now)) }
 {
     let mut keeper = new_keeper(alloc, schedule);
     let moves = schedule.moves();
-    let mut out = Vec::with_capacity(alloc, 40 * moves.len())?;
-    let mut kept = KeptLine::new(alloc, schedule.threads())?;
-    show_state(&mut kept, &keeper)?;
+    let longest = LONGEST_LINE + LONGEST_LISTED * usize::from(schedule.threads());
+    let mut out = Vec::with_capacity(alloc, longest * moves.len())?;
+    let mut kept = KeptLine::new(alloc, schedule.kind(), schedule.threads())?;
     let mut count = Numeral::of(0);
     for line in moves {
         match play_line(&mut keeper, &mut kept, line) {

@@ -19,6 +19,9 @@ pub const MOST_BYTES: usize = 1_048_576;
 /// The most moves of a schedule.
 pub const MOST_MOVES: usize = 65_536;
 
+// The bytes of the shortest move's line: a digit, a space, three letters and the line feed.
+const SHORTEST_MOVE: usize = 6;
+
 /// A move, and the line of the text in which it stands, from 1.
 #[derive(Clone, Copy, PartialEq, Eq, Debug)]
 pub struct Line {
@@ -123,7 +126,10 @@ fn read_moves(alloc: Global, text: &[u8], first: u32) -> Result<Vec<Line>, ReadF
     ensures few { IfOk result (λ moves. length moves.items ≤ 65536) }
     ensures read { Gives (λ moves. moves.items) result (moves_from first 0 (lines_of text.now)) }
 {
-    let mut moves: Vec<Line> = Vec::new(alloc);
+    let most = ((text.len() + 1) / SHORTEST_MOVE).min(MOST_MOVES);
+    let Ok(mut moves) = Vec::with_capacity(alloc, most) else {
+        return Err(ReadFault::OutOfMemory);
+    };
     let mut rest = text;
     let mut number = first;
     while !rest.is_empty() {

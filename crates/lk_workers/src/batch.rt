@@ -6,6 +6,9 @@ ghost use Rattle.lk_workers.specs.Batch.{file_line, batch_text_of};
 use itoa::Buffer;
 use std::alloc::{AllocError, Global};
 
+// The bytes of the longest line before a report, `file 65536` and the line feed.
+const LONGEST_FILE_LINE: usize = 11;
+
 // The line before the report of this number.
 fn push_file_line(text: &mut Vec<u8>, number: usize) -> Result<(), AllocError>
     ensures { OnOk result (text.new.items ≡ text.old.items ++ file_line number) }
@@ -17,6 +20,17 @@ fn push_file_line(text: &mut Vec<u8>, number: usize) -> Result<(), AllocError>
     Ok(())
 }
 
+// Room for the text of all reports, so that it need not grow.
+fn room_for(reports: &[Vec<u8>]) -> usize {
+    let mut room: usize = 0;
+    for report in reports {
+        room = room
+            .saturating_add(LONGEST_FILE_LINE)
+            .saturating_add(report.len());
+    }
+    room
+}
+
 /// The reports in order, each behind the line `file K`, K from 1.
 ///
 /// # Errors
@@ -25,7 +39,7 @@ fn push_file_line(text: &mut Vec<u8>, number: usize) -> Result<(), AllocError>
 pub fn batch_text(alloc: Global, reports: &[Vec<u8>]) -> Result<Vec<u8>, AllocError>
     ensures { IfOk result (λ text. text.items ≡ batch_text_of (map (λ r. r.items) reports.now)) }
 {
-    let mut text = Vec::new(alloc);
+    let mut text = Vec::with_capacity(alloc, room_for(reports))?;
     for place in 0..reports.len() {
         push_file_line(&mut text, place + 1)?;
         text.extend_from_slice(reports[place].as_slice())?;

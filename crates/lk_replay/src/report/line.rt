@@ -5,9 +5,10 @@ ghost use Rattle.lk_replay.specs.Report.{move_text};
 
 use crate::played::Accepted;
 use crate::report::blocks::{BLOCK, SPACES, move_block, outcome_block, put_before};
+use crate::report::followed::Followed;
 use crate::report::numerals::Numeral;
 use crate::report::state::StateTexts;
-use lk_locks::Holders;
+use lk_locks::{Entry, LockKind};
 use std::alloc::{AllocError, Global};
 
 // The place of H in a line. Before it is room for a block of each text that differs from line to line.
@@ -18,6 +19,7 @@ const FRONT: usize = 5 * BLOCK;
 pub struct KeptLine {
     bytes: Vec<u8>,
     texts: StateTexts,
+    followed: Followed,
 }
 
 // Writes what differs from line to line before the place `FRONT` of a line, and answers where it begins.
@@ -59,31 +61,49 @@ fn push_line(
 }
 
 impl KeptLine {
-    ghost use Rattle.std.specs.Prelude.{◌≡◌, ◌≤◌, ◌++◌, OnOk, IfOk, drop, length};
-    ghost use Rattle.lk_locks.specs.Holding.{holding};
-    ghost use Rattle.lk_replay.specs.Report.{shown_text};
+    ghost use Rattle.std.specs.Prelude.{◌≡◌, ◌≤◌, ◌++◌, [], OnOk, IfOk, drop, length};
+    ghost use Rattle.lk_locks.specs.Legal.{AllMayCome};
+    ghost use Rattle.lk_replay.specs.Following.{Following, following, followed_by, followed_text};
 
-    /// A line that shows nothing yet, of a lock with so many threads.
-    pub fn new(alloc: Global, threads: u8) -> Result<KeptLine, AllocError>
-        ensures { IfOk result (λ line. 80 ≤ length line.bytes.items) }
+    /// The line of a lock with so many threads and no history yet.
+    pub fn new(alloc: Global, kind: LockKind, threads: u8) -> Result<KeptLine, AllocError>
+        ensures followed { IfOk result (λ line. line.followed ≡ following kind []) }
+        ensures shown { IfOk result (λ line. drop 80 line.bytes.items ≡ followed_text line.followed) }
+        ensures room { IfOk result (λ line. 80 ≤ length line.bytes.items) }
     {
         let mut bytes = Vec::with_capacity(alloc, 2 * FRONT)?;
         bytes.resize(FRONT, b' ')?;
-        Ok(KeptLine {
+        let mut line = KeptLine {
             bytes,
             texts: StateTexts::new(alloc, threads)?,
-        })
+            followed: Followed::new(kind),
+        };
+        line.show()?;
+        Ok(line)
     }
 
-    /// Shows who holds and who waits from now on.
+    // Shows who holds and who waits.
     #[tactic(auto, using(crate::proofs::Blocks::behind_front))]
-    pub fn show(&mut self, holders: &Holders, queue: &[u8]) -> Result<(), AllocError>
+    fn show(&mut self) -> Result<(), AllocError>
         requires { 80 ≤ length self.old.bytes.items }
-        ensures shown { OnOk result (drop 80 self.new.bytes.items ≡ shown_text (holding holders.now) queue.now) }
+        ensures shown { OnOk result (drop 80 self.new.bytes.items ≡ followed_text self.new.followed) }
         ensures room { OnOk result (80 ≤ length self.new.bytes.items) }
+        ensures followed { self.new.followed ≡ self.old.followed }
     {
         self.bytes.truncate(FRONT);
-        self.texts.push_to(&mut self.bytes, holders, queue)
+        self.texts.push_to(&mut self.bytes, &self.followed)
+    }
+
+    /// Shows who holds and who waits after the next entries of the history.
+    pub fn follow(&mut self, entries: &[Entry]) -> Result<(), AllocError>
+        requires room { 80 ≤ length self.old.bytes.items }
+        requires may { AllMayCome self.old.followed.sequential entries.now }
+        ensures followed { OnOk result (self.new.followed ≡ followed_by self.old.followed entries.now) }
+        ensures shown { OnOk result (drop 80 self.new.bytes.items ≡ followed_text self.new.followed) }
+        ensures room { OnOk result (80 ≤ length self.new.bytes.items) }
+    {
+        self.followed.follow(entries);
+        self.show()
     }
 
     /// Appends the line of the accepted move number `count` to a report.
@@ -96,6 +116,7 @@ impl KeptLine {
         requires { 80 ≤ length self.old.bytes.items }
         ensures written { OnOk result (out.new.items ≡ out.old.items ++ (move_text count.now accepted.now ++ drop 80 self.old.bytes.items)) }
         ensures kept { drop 80 self.new.bytes.items ≡ drop 80 self.old.bytes.items }
+        ensures followed { self.new.followed ≡ self.old.followed }
         ensures room { 80 ≤ length self.new.bytes.items }
     {
         let thread = accepted.thread;

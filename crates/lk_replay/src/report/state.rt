@@ -1,10 +1,13 @@
 //! The text of who holds and who waits.
 
 ghost use Rattle.std.specs.Prelude.{◌≡◌, ◌++◌, OnOk, decimal};
+ghost use Rattle.lk_locks.specs.Holding.{held_by_one};
+ghost use Rattle.lk_replay.specs.Report.{holding_text};
 
+use crate::report::followed::Followed;
 use crate::report::listed::Listed;
 use crate::report::numerals::{Numeral, Numerals};
-use lk_locks::Holders;
+use lk_locks::{LockKind, SeqLock};
 use std::alloc::{AllocError, Global};
 
 /// The numerals of a lock's threads, and the lists that were shown last.
@@ -25,10 +28,25 @@ fn push_thread(out: &mut Vec<u8>, numerals: &Numerals, thread: u8) -> Result<(),
     }
 }
 
+// Appends the thread's number, or that there is none.
+fn push_thread_or_none(
+    out: &mut Vec<u8>,
+    numerals: &Numerals,
+    thread: Option<u8>,
+) -> Result<(), AllocError>
+    ensures { OnOk result (out.new.items ≡ out.old.items ++ holding_text (held_by_one thread)) }
+{
+    match thread {
+        Some(thread) => push_thread(out, numerals, thread),
+        None => out.extend_from_slice(b"-"),
+    }
+}
+
 impl StateTexts {
     ghost use Rattle.std.specs.Prelude.{◌≡◌, ◌++◌, OnOk};
-    ghost use Rattle.lk_locks.specs.Holding.{holding};
-    ghost use Rattle.lk_replay.specs.Report.{holding_text, queue_text, shown_text};
+    ghost use Rattle.lk_locks.specs.Holding.{shared_by};
+    ghost use Rattle.lk_replay.specs.Following.{holding_in, waiting_in, followed_text};
+    ghost use Rattle.lk_replay.specs.Report.{holding_text, queue_text};
 
     /// The texts of a lock with so many threads.
     pub fn new(alloc: Global, threads: u8) -> Result<StateTexts, AllocError> {
@@ -39,27 +57,37 @@ impl StateTexts {
         })
     }
 
-    // Appends who holds.
-    fn push_holders(&mut self, out: &mut Vec<u8>, holders: &Holders) -> Result<(), AllocError>
-        ensures { OnOk result (out.new.items ≡ out.old.items ++ holding_text (holding holders.now)) }
+    // Appends who holds a read-write lock.
+    fn push_shared(&mut self, out: &mut Vec<u8>, lock: &SeqLock) -> Result<(), AllocError>
+        ensures { OnOk result (out.new.items ≡ out.old.items ++ holding_text (shared_by lock.now.readers lock.now.writer)) }
     {
-        match holders {
-            Holders::Nobody => out.extend_from_slice(b"-"),
-            Holders::Holder(thread) => push_thread(out, &self.numerals, *thread),
-            Holders::Readers(threads) => {
-                self.readers.list(&self.numerals, threads)?;
-                out.extend_from_slice(b"r")?;
-                out.extend_from_slice(self.readers.text())
+        if let Some(thread) = lock.writer() {
+            out.extend_from_slice(b"w")?;
+            return push_thread(out, &self.numerals, thread);
+        }
+        let readers = lock.readers();
+        self.readers.list(&self.numerals, readers)?;
+        if readers.is_empty() {
+            return out.extend_from_slice(b"-");
+        }
+        out.extend_from_slice(b"r")?;
+        out.extend_from_slice(self.readers.text())
+    }
+
+    // Appends who holds.
+    fn push_holders(&mut self, out: &mut Vec<u8>, followed: &Followed) -> Result<(), AllocError>
+        ensures { OnOk result (out.new.items ≡ out.old.items ++ holding_text (holding_in followed.now.kind followed.now.sequential followed.now.holder)) }
+    {
+        match followed.kind() {
+            LockKind::Ticket | LockKind::Mcs => {
+                push_thread_or_none(out, &self.numerals, followed.holder())
             }
-            Holders::Writer(thread) => {
-                out.extend_from_slice(b"w")?;
-                push_thread(out, &self.numerals, *thread)
-            }
+            LockKind::RwSimple | LockKind::RwFifo => self.push_shared(out, followed.sequential()),
         }
     }
 
-    // Appends who waits.
-    fn push_queue(&mut self, out: &mut Vec<u8>, queue: &[u8]) -> Result<(), AllocError>
+    // Appends the requests of a queue lock.
+    fn push_requests(&mut self, out: &mut Vec<u8>, queue: &[u8]) -> Result<(), AllocError>
         ensures { OnOk result (out.new.items ≡ out.old.items ++ queue_text queue.now) }
     {
         self.queue.list(&self.numerals, queue)?;
@@ -69,18 +97,25 @@ impl StateTexts {
         out.extend_from_slice(self.queue.text())
     }
 
-    /// Appends who holds and who waits, and the end of the line.
-    pub fn push_to(
-        &mut self,
-        out: &mut Vec<u8>,
-        holders: &Holders,
-        queue: &[u8],
-    ) -> Result<(), AllocError>
-        ensures { OnOk result (out.new.items ≡ out.old.items ++ shown_text (holding holders.now) queue.now) }
+    // Appends who waits.
+    fn push_queue(&mut self, out: &mut Vec<u8>, followed: &Followed) -> Result<(), AllocError>
+        ensures { OnOk result (out.new.items ≡ out.old.items ++ queue_text (waiting_in followed.now.kind followed.now.sequential)) }
     {
-        self.push_holders(out, holders)?;
+        let lock = followed.sequential();
+        match followed.kind() {
+            LockKind::Ticket | LockKind::Mcs => self.push_requests(out, lock.queue()),
+            LockKind::RwSimple => out.extend_from_slice(b"-"),
+            LockKind::RwFifo => push_thread_or_none(out, &self.numerals, lock.announced()),
+        }
+    }
+
+    /// Appends who holds and who waits, and the end of the line.
+    pub fn push_to(&mut self, out: &mut Vec<u8>, followed: &Followed) -> Result<(), AllocError>
+        ensures { OnOk result (out.new.items ≡ out.old.items ++ followed_text followed.now) }
+    {
+        self.push_holders(out, followed)?;
         out.extend_from_slice(b" queue ")?;
-        self.push_queue(out, queue)?;
+        self.push_queue(out, followed)?;
         out.extend_from_slice(b"\n")
     }
 }

@@ -9,3 +9,6 @@ returns-clause-read c = sym c.loop-rest.invariant.read ∙ text_done _ _ _ _ (sy
 
 pub returns-then-is_err-clause-read : goal.returns-then-is_err-clause-read
 returns-then-is_err-clause-read c = moves_want c.args.first 0 (lines_of c.args.text.now)
+
+pub returns-in_default-clause-read : goal.returns-in_default-clause-read
+returns-in_default-clause-read c = moves_want c.args.first 0 (lines_of c.args.text.now)
