@@ -4,10 +4,9 @@
     run.py PROGRAM [--rounds N] [--check] [KIND...]
 
 In each round and for each kind of bench/generate.py, `PROGRAM replay` reads the schedule from a
-file and writes the report to a file; `cat` copies that report from a file to a file; and the
-replayer of handwritten.c does what the program does; hold.c reads the report into memory and writes it.
-They take turns, so that what else the machine does meets all of them. Printed are medians over the
-rounds:
+file and writes the report to a file; the replayer of handwritten.c does the same; `cat` copies that
+report from a file to a file; and hold.c reads it into memory before it writes it. They take turns, so
+that what else the machine does meets all of them. Printed are medians over the rounds:
 
     elapsed    milliseconds of the program from start to end
     processor  milliseconds of a processor, user and kernel; what follows goes by these, since the
