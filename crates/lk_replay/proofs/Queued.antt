@@ -1,6 +1,6 @@
 -- The text of a queue lock's holder and requests, after each edit of it.
-use Rattle.std.proofs.Common.{◌≡◌, ℕ, ◌+◌, ◌-◌, ◌≤◌, List, [], ◌∷◌, ◌++◌, length, take, drop, get_or, codes, decimal, Option, None, Some, sym, ap, ◌∙◌, arith, refl, append_assoc, append-nil, length-append}
-use Rattle.std.proofs.Math.Seq.{drop-append_seam, drop-append-add, take-append_seam}
+use Rattle.std.proofs.Common.{◌≡◌, ℕ, ◌+◌, ◌-◌, ◌≤◌, List, [], ◌∷◌, ◌++◌, length, take, drop, get_or, codes, decimal, Option, None, sym, ap, ◌∙◌, arith, refl, append_assoc, append-nil, length-append}
+use Rattle.std.proofs.Math.Seq.{drop-length, drop-append_seam, drop-append-add, take-append_seam}
 use Rattle.lk_locks.specs.Holding.{HeldBy, held_by_one}
 use Rattle.lk_replay.proofs.Lists.{later_append}
 use Rattle.lk_replay.specs.Report.{later_numbers, numbers_text, holding_text, queue_text, shown_text}
@@ -66,7 +66,7 @@ first_goes h (t ∷ x ∷ xs) text gone is two far =
     ap (λ (ys : List ℕ). codes "- queue " ++ ys) (ap (λ (k : ℕ). drop k text) place ∙ ap (λ (ys : List ℕ). drop (length front + 1) ys) whole ∙ drop-append-add front (44 ∷ rest) 1)
 
 -- no request is left
-pub none_left : (q : List ℕ) → length q ≤ 1 → codes "- queue -\n" ≡ shown_text (held_by_one None) (drop 1 q)
-none_left [] few = refl
-none_left (t ∷ []) few = refl
-none_left (t ∷ x ∷ xs) few = absurd (omega arith)
+pub none_left : (q text : List ℕ) → length q ≤ 1 → codes "- queue -\n" ++ drop (length text) text ≡ shown_text (held_by_one None) (drop 1 q)
+none_left [] text few = ap (λ (ys : List ℕ). codes "- queue -\n" ++ ys) (drop-length text)
+none_left (t ∷ []) text few = ap (λ (ys : List ℕ). codes "- queue -\n" ++ ys) (drop-length text)
+none_left (t ∷ x ∷ xs) text few = absurd (omega arith)

@@ -1,7 +1,7 @@
 -- A text that is edited at its front and at its back, where it stands.
-use Rattle.std.proofs.Common.{◌≡◌, ℕ, ◌+◌, ◌-◌, ◌≤◌, List, [], ◌∷◌, ◌++◌, length, take, drop, sym, ap, ◌∙◌, arith, refl}
+use Rattle.std.proofs.Common.{◌≡◌, ℕ, ◌+◌, ◌-◌, ◌≤◌, List, [], ◌++◌, length, take, drop, sym, ap, ◌∙◌, arith}
 use Rattle.std.proofs.Math.Seq.{drop-append_seam}
-use Rattle.std.proofs.lemmas.List.{drop-append-le, drop-take, drop-drop, drop_all, length-drop}
+use Rattle.std.proofs.lemmas.List.{drop-append-le, drop-take, drop-drop, length-drop}
 
 -- what is appended to the room before it
 pub behind_home : (xs ys : List ℕ) → length xs ≡ 96 → drop 96 (xs ++ ys) ≡ ys

@@ -8,15 +8,19 @@ ghost use Rattle.lk_replay.specs.Report.{holding_text, shown_text};
 use crate::report::blocks::BLOCK;
 use crate::report::followed::Followed;
 use crate::report::numerals::{Numerals, width};
-use crate::report::state::push_thread;
 use crate::report::window::Window;
 use lk_locks::{Entry, Op};
 use std::alloc::AllocError;
 
-// Nobody holds, and others wait.
-const NOBODY: &[u8; BLOCK] = b"        - queue ";
+// That nobody holds, before the requests that are left.
+const OTHERS_WAIT: &[u8; BLOCK] = b"        - queue ";
 
-const NOBODY_LEN: usize = 8;
+const OTHERS_WAIT_LEN: usize = 8;
+
+// That nobody holds, and no request is left.
+const NOBODY_WAITS: &[u8; BLOCK] = b"      - queue -\n";
+
+const NOBODY_WAITS_LEN: usize = 10;
 
 // The bytes between H and Q.
 const QUEUE_LEN: usize = 7;
@@ -64,7 +68,7 @@ fn show_request(
         end.cut_back(1);
         end.push(b",")?;
     }
-    push_thread(end, numerals, thread)?;
+    end.push_thread(numerals, thread)?;
     end.push(b"\n")
 }
 
@@ -76,11 +80,11 @@ fn show_release(end: &mut Window, followed: &Followed) -> Result<(), AllocError>
 {
     let queue = followed.sequential().queue();
     if queue.len() < 2 {
-        end.clear();
-        return end.push(b"- queue -\n");
+        let gone = end.len();
+        return end.put_front(gone, NOBODY_WAITS, NOBODY_WAITS_LEN);
     }
     let gone = holder_width(followed.holder()) + QUEUE_LEN + width(queue[0]) + 1;
-    end.put_front(gone, NOBODY, NOBODY_LEN)
+    end.put_front(gone, OTHERS_WAIT, OTHERS_WAIT_LEN)
 }
 
 /// Shows who holds a queue lock and who waits for it after one entry more.

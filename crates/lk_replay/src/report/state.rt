@@ -1,8 +1,5 @@
 //! The text of who holds a read-write lock and who waits for it.
 
-ghost use Rattle.std.specs.Prelude.{◌≡◌, ◌++◌, OnOk, decimal};
-
-use crate::report::blocks::BLOCK;
 use crate::report::listed::Listed;
 use crate::report::numerals::Numerals;
 use crate::report::window::Window;
@@ -14,14 +11,6 @@ use std::alloc::{AllocError, Global};
 pub struct StateTexts {
     pub numerals: Numerals,
     readers: Listed,
-}
-
-/// Appends the thread's number.
-pub fn push_thread(out: &mut Window, numerals: &Numerals, thread: u8) -> Result<(), AllocError>
-    ensures { OnOk result (out.new ≡ out.old ++ decimal thread) }
-{
-    let (block, len) = numerals.block(thread);
-    out.push(&block[BLOCK - len..])
 }
 
 impl StateTexts {
@@ -43,7 +32,7 @@ impl StateTexts {
     {
         if let Some(thread) = lock.writer() {
             out.push(b"w")?;
-            return push_thread(out, &self.numerals, thread);
+            return out.push_thread(&self.numerals, thread);
         }
         let readers = lock.readers();
         self.readers.list(&self.numerals, readers)?;
@@ -59,7 +48,7 @@ impl StateTexts {
         ensures { OnOk result (out.new ≡ out.old ++ queue_text (one_or_none waits)) }
     {
         match waits {
-            Some(thread) => push_thread(out, &self.numerals, thread),
+            Some(thread) => out.push_thread(&self.numerals, thread),
             None => out.push(b"-"),
         }
     }

@@ -49,7 +49,7 @@ fn at_home(alloc: Global, text: &[u8]) -> Result<Vec<u8>, AllocError>
 }
 
 impl Window {
-    ghost use Rattle.std.specs.Prelude.{◌≡◌, ◌≤◌, ◌-◌, ◌++◌, [], IfOk, OnOk, drop, take, length};
+    ghost use Rattle.std.specs.Prelude.{◌≡◌, ◌≤◌, ◌-◌, ◌++◌, [], IfOk, OnOk, decimal, drop, take, length};
     ghost use Rattle.lk_replay.specs.Report.{move_text};
 
     /// A window on a text.
@@ -61,6 +61,13 @@ impl Window {
             bytes: at_home(alloc, text)?,
             start: HOME,
         })
+    }
+
+    /// The bytes of the text.
+    pub fn len(&self) -> usize
+        ensures { result ≡ length self.now }
+    {
+        self.bytes.len() - self.start
     }
 
     /// Empties the text.
@@ -77,6 +84,14 @@ impl Window {
         ensures { OnOk result (self.new ≡ self.old ++ text.now) }
     {
         self.bytes.extend_from_slice(text)
+    }
+
+    /// Appends the thread's number to the text.
+    pub fn push_thread(&mut self, numerals: &Numerals, thread: u8) -> Result<(), AllocError>
+        ensures { OnOk result (self.new ≡ self.old ++ decimal thread) }
+    {
+        let (block, len) = numerals.block(thread);
+        self.push(&block[BLOCK - len..])
     }
 
     /// Takes the last bytes off the text.
