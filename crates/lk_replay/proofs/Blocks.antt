@@ -26,7 +26,3 @@ put-end block now text is fits size =
     let front : length (take place block) ≡ place = length-take-le place block (omega arith) in
     ap (λ (k : ℕ). drop k (take place block ++ (now ++ post_of place (16 - place) block))) (sym front) ∙ drop-append_seam (take place block) (now ++ post_of place (16 - place) block)
     ∙ ap (λ (rest : List ℕ). now ++ rest) (Post-is place 16 block (omega arith) ∙ drop_of_length-le block {i = 16} (omega arith)) ∙ append-nil now ∙ is
-
--- what is appended to a line's front
-pub behind_front : (xs ys : List ℕ) → length xs ≡ 80 → drop 80 (xs ++ ys) ≡ ys
-behind_front xs ys size = ap (λ (k : ℕ). drop k (xs ++ ys)) (sym size) ∙ drop-append_seam xs ys

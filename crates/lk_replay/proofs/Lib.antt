@@ -11,3 +11,5 @@ pub mod Reports
 pub mod LastLines
 pub mod Blocks
 pub mod Lists
+pub mod Windows
+pub mod Queued

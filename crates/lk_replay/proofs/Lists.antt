@@ -9,7 +9,7 @@ use Rattle.lk_replay.specs.Report.{later_numbers}
 around : (xs : List ℕ) (place d : ℕ) → place < length xs → xs ≡ take place xs ++ get_or xs place d ∷ drop (place + 1) xs
 around xs place d within = sym (take-append-drop place xs) ∙ ap (λ (ys : List ℕ). take place xs ++ ys) (drop-cons xs place d within ∙ rw add-one refl)
 
-later_append : (xs ys : List ℕ) → later_numbers (xs ++ ys) ≡ later_numbers xs ++ later_numbers ys
+pub later_append : (xs ys : List ℕ) → later_numbers (xs ++ ys) ≡ later_numbers xs ++ later_numbers ys
 later_append xs ys = flat_map-append (λ (n : ℕ). 44 ∷ decimal n) xs ys
 
 -- the text around the number at a place

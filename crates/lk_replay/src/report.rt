@@ -1,6 +1,6 @@
 //! The report of a schedule text.
 
-ghost use Rattle.std.specs.Prelude.{◌≡◌, ◌≤◌, ◌++◌, OnOk, IfOk, drop, length};
+ghost use Rattle.std.specs.Prelude.{◌≡◌, OnOk, IfOk};
 ghost use Rattle.lk_locks.specs.Play.{after_play, IsPlayAnswer};
 ghost use Rattle.lk_locks.specs.Steps.{refusal_of, change_of};
 ghost use Rattle.lk_replay.specs.Replay.{replay_of};
@@ -10,10 +10,13 @@ ghost use Rattle.lk_replay.specs.Report.{replay_text, report_text};
 mod blocks;
 mod closings;
 mod followed;
+mod front;
 mod line;
 mod listed;
 mod numerals;
+mod queued;
 mod state;
+mod window;
 
 use crate::played::{Accepted, new_keeper};
 use crate::{Line, ReadFault, Schedule, read_schedule};
@@ -31,13 +34,11 @@ fn play_line(
     line: &Line,
 ) -> Result<Outcome, PlayFault>
     requires followed { kept.old.followed ≡ following keeper.old.state.kind keeper.old.entries }
-    requires shown { drop 80 kept.old.bytes.items ≡ followed_text kept.old.followed }
-    requires room { 80 ≤ length kept.old.bytes.items }
+    requires shown { kept.old.end ≡ followed_text kept.old.followed }
     ensures answer { IsPlayAnswer (refusal_of keeper.old.state line.now.thread line.now.action) (change_of keeper.old.state line.now.thread line.now.action).outcome result }
     ensures played { OnOk result (keeper.new ≡ after_play keeper.old line.now.thread line.now.action) }
     ensures followed { OnOk result (kept.new.followed ≡ following keeper.new.state.kind keeper.new.entries) }
-    ensures shown { OnOk result (drop 80 kept.new.bytes.items ≡ followed_text kept.new.followed) }
-    ensures room { OnOk result (80 ≤ length kept.new.bytes.items) }
+    ensures shown { OnOk result (kept.new.end ≡ followed_text kept.new.followed) }
 {
     let before = keeper.entries().len();
     let outcome = keeper.play(line.thread, line.action)?;
@@ -55,6 +56,7 @@ fn play_line(
 
 // The most bytes of a move's line without its longer list, of holders or of the queue, and of a thread in that list.
 const LONGEST_LINE: usize = 44;
+
 const LONGEST_LISTED: usize = 3;
 
 // The lines of the accepted moves, and the last line.

@@ -38,8 +38,8 @@ impl Followed {
         }
     }
 
-    // Goes along with an entry that may come.
-    fn note(&mut self, entry: Entry)
+    /// Goes along with an entry that may come.
+    pub fn note(&mut self, entry: Entry)
         requires { MayCome self.old.sequential entry }
         ensures { self.new ≡ followed_by self.old (entry ∷ []) }
     {

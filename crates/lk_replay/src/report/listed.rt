@@ -2,7 +2,8 @@
 
 ghost use Rattle.std.specs.Prelude.{◌≡◌, ◌+◌, ◌≤◌, ◌++◌, ◌∷◌, OnOk, decimal, drop, length, take};
 
-use crate::report::numerals::{Numeral, Numerals};
+use crate::report::blocks::BLOCK;
+use crate::report::numerals::{Numerals, width};
 use std::alloc::{AllocError, Global};
 use std::marker::Model;
 
@@ -30,23 +31,15 @@ fn push_later(out: &mut Vec<u8>, numerals: &Numerals, thread: u8) -> Result<(), 
     ensures { OnOk result (out.new.items ≡ out.old.items ++ 44 ∷ decimal thread) }
 {
     out.push(b',')?;
-    match numerals.get(thread) {
-        Some(numeral) => out.extend_from_slice(numeral.digits()),
-        None => out.extend_from_slice(Numeral::of(u32::from(thread)).digits()),
-    }
+    let (block, len) = numerals.block(thread);
+    out.extend_from_slice(&block[BLOCK - len..])
 }
 
 // The bytes of a comma and the thread's number.
 fn later_width(thread: u8) -> usize
     ensures { result ≡ length (decimal thread) + 1 }
 {
-    if thread >= 100 {
-        4
-    } else if thread >= 10 {
-        3
-    } else {
-        2
-    }
+    width(thread) + 1
 }
 
 // Moves what stands from the place `from` on to another text, and leaves what stands before the place `at`.

@@ -1,5 +1,7 @@
 //! Numbers whose digits are printed once and kept.
 
+ghost use Rattle.std.specs.Prelude.{◌≡◌, ◌≤◌, decimal, length};
+
 use crate::report::blocks::BLOCK;
 use itoa::Buffer;
 use std::alloc::{AllocError, Global};
@@ -71,6 +73,20 @@ impl Numeral {
     }
 }
 
+/// How many digits a thread's number has.
+pub fn width(thread: u8) -> usize
+    ensures digits { result ≡ length (decimal thread) }
+    ensures few { result ≤ 3 }
+{
+    if thread >= 100 {
+        3
+    } else if thread >= 10 {
+        2
+    } else {
+        1
+    }
+}
+
 /// The numerals of the threads of a lock.
 #[derive(Drop)]
 pub struct Numerals {
@@ -88,7 +104,7 @@ impl Model for Numerals {
 }
 
 impl Numerals {
-    ghost use Rattle.std.specs.Prelude.{◌≡◌, ◌<◌, ◌≤◌, IfSome};
+    ghost use Rattle.std.specs.Prelude.{◌≡◌, ◌-◌, ◌≤◌, decimal, drop};
 
     /// The numerals below `count`.
     pub fn below(alloc: Global, count: u8) -> Result<Numerals, AllocError> {
@@ -99,10 +115,21 @@ impl Numerals {
         Ok(Numerals { kept })
     }
 
-    /// The numeral of a thread, if it is kept.
-    pub fn get(&self, thread: u8) -> Option<&Numeral>
-        ensures { IfSome result (λ numeral. numeral.now ≡ thread) }
+    /// A block that ends with the digits of a thread's number, and how many they are.
+    pub fn block(&self, thread: u8) -> ([u8; BLOCK], usize)
+        ensures text { drop (16 - result.1) result.0 ≡ decimal thread }
+        ensures fits { result.1 ≤ 16 }
     {
-        self.kept.get(usize::from(thread))
+        match self.kept.get(usize::from(thread)) {
+            Some(numeral) => {
+                let (block, len) = numeral.block();
+                (*block, len)
+            }
+            None => {
+                let numeral = Numeral::of(u32::from(thread));
+                let (block, len) = numeral.block();
+                (*block, len)
+            }
+        }
     }
 }
