@@ -5,6 +5,7 @@ use Rattle.lk_locks.specs.Holding.{HeldBy, held_by_one}
 use Rattle.lk_replay.proofs.Lists.{later_append}
 use Rattle.lk_replay.specs.Report.{later_numbers, numbers_text, holding_text, queue_text, shown_text}
 
+-- another text stands in the place of the first
 front_changes : (old new s q n : List ℕ) → new ++ drop (length old) (((old ++ s) ++ q) ++ n) ≡ ((new ++ s) ++ q) ++ n
 front_changes old new s q n =
     ap (λ (xs : List ℕ). new ++ drop (length old) xs) (append_assoc (old ++ s) q n ∙ append_assoc old s (q ++ n))
@@ -24,6 +25,7 @@ later_one x t xs =
     append_assoc (decimal x) (later_numbers xs) (44 ∷ decimal t)
     ∙ ap (λ (ys : List ℕ). decimal x ++ ys) (ap (λ (ys : List ℕ). later_numbers xs ++ 44 ∷ ys) (sym (append-nil (decimal t))) ∙ sym (later_append xs (t ∷ [])))
 
+-- a text without its last part
 without_last : (front last : List ℕ) (gone : ℕ) → gone ≡ length last → take (length (front ++ last) - gone) (front ++ last) ≡ front
 without_last front last gone is =
     ap (λ (k : ℕ). take k (front ++ last)) (omega (arith, length-append front last)) ∙ take-append_seam front last

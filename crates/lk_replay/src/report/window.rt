@@ -36,7 +36,7 @@ impl Model for Window {
     ghost invariant = { λ a. (80 ≤ a.start) × (a.start ≤ length a.bytes.items) };
 }
 
-// Room for the front of a line and then a text, at the place `HOME`.
+// Room for the front of a line, then a text at the place `HOME`, and room behind it for its way beyond `FAR`.
 #[tactic(auto, using(crate::proofs::Windows::behind_home))]
 fn at_home(alloc: Global, text: &[u8]) -> Result<Vec<u8>, AllocError>
     ensures text { IfOk result (λ bytes. drop 96 bytes.items ≡ text.now) }
@@ -94,7 +94,7 @@ impl Window {
         self.push(&block[BLOCK - len..])
     }
 
-    /// Takes the last bytes off the text.
+    /// Takes the last `gone` bytes off the text.
     #[tactic(auto, using(crate::proofs::Windows::cut_behind))]
     pub fn cut_back(&mut self, gone: usize)
         requires { gone ≤ length self.old }
@@ -103,7 +103,7 @@ impl Window {
         self.bytes.truncate(self.bytes.len() - gone);
     }
 
-    /// Puts the last `len` bytes of a block in the place of the first bytes of the text.
+    /// Puts the last `len` bytes of a block in the place of the first `gone` bytes of the text.
     #[tactic(auto, using(crate::proofs::Windows::dropped))]
     pub fn put_front(
         &mut self,
