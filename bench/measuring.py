@@ -40,7 +40,16 @@ def median_processor(runs):
     return statistics.median(run.processor for run in runs)
 
 
-def spread(runs):
-    """Half the distance between the quartiles of the processor's time, as a part of the median."""
-    low, middle, high = statistics.quantiles((run.processor for run in runs), n=4)
+def ratios(runs, others):
+    """The processor's time of each run over that of the other in the same round."""
+    return [run.processor / other.processor for run, other in zip(runs, others)]
+
+
+def median_ratio(runs, others):
+    return statistics.median(ratios(runs, others))
+
+
+def ratio_spread(runs, others):
+    """Half the distance between the quartiles of the ratios, as a part of the median."""
+    low, middle, high = statistics.quantiles(ratios(runs, others), n=4)
     return (high - low) / 2 / middle

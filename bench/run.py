@@ -6,13 +6,13 @@
 In each round and for each kind of bench/generate.py, `PROGRAM replay` reads the schedule from a
 file and writes the report to a file; the replayer of handwritten.c does the same; `cat` copies that
 report from a file to a file; and hold.c reads it into memory before it writes it. They take turns, so
-that what else the machine does meets all of them. Printed are medians over the rounds:
+that what else the machine does meets all of them. Printed are medians over the rounds, of ratios the
+median of the rounds' ratios, since a machine may be fast in one round and slow in the next:
 
     elapsed    milliseconds of the program from start to end
     processor  milliseconds of a processor, user and kernel; what follows goes by these, since the
                elapsed time also counts how long others had the processor
-    spread     half the distance between the quartiles of the processor's time, of the program or of
-               cat, whichever is more
+    spread     half the distance between the quartiles of the rounds' ratios to cat, in percent
     to cat     the program's time over cat's
     to hand    the program's time over that of handwritten.c
     ns a move  the program's time less that of a schedule without a move, for each move
@@ -34,7 +34,7 @@ import sys
 import tempfile
 
 import generate
-from measuring import Measure, build, median_elapsed, median_processor, spread
+from measuring import Measure, build, median_elapsed, median_processor, median_ratio, ratio_spread
 
 sys.path.append(str(pathlib.Path(__file__).parent.parent / "fuzz"))
 import oracle
@@ -84,14 +84,14 @@ class Bench:
             holds.append(self.measure.run([self.hold], report))
             empties.append(self.measure.run([self.hold]))
         moves = schedule.read_bytes().count(b"\n") - 1
-        took, hand, copied, start = map(median_processor, (runs, hands, copies, starts))
+        took, hand, start = map(median_processor, (runs, hands, starts))
         held = median_processor(holds) - median_processor(empties)
         return {
             "elapsed": median_elapsed(runs) * 1e3,
             "processor": took * 1e3,
-            "spread": max(spread(runs), spread(copies)) * 100,
-            "to cat": took / copied,
-            "to hand": took / hand,
+            "spread": ratio_spread(runs, copies) * 100,
+            "to cat": median_ratio(runs, copies),
+            "to hand": median_ratio(runs, hands),
             "ns a move": (took - start) / moves * 1e9,
             "by hand": (hand - start) / moves * 1e9,
             "by holding": held / moves * 1e9,
