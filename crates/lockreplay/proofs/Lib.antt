@@ -1,4 +1,5 @@
 mod PlainLines
+mod Passed
 mod ReadRows
 mod Sent
 mod TakenLines

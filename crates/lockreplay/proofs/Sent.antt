@@ -1,7 +1,14 @@
 -- What is sent is the text of the reports of the files' texts.
-use Rattle.std.proofs.Common.{◌≡◌, ◌∙◌, ℕ, List, Vec, Global, map, ap, sym}
+use Rattle.std.proofs.Common.{◌≡◌, ◌≢◌, ◌∙◌, ℕ, List, Vec, Global, Option, Err, length, map, ap, refl, subst, sym}
 use Rattle.std.proofs.lemmas.Simd.{map-map}
+use Rattle.std.specs.Io.KnownBytes.{Keeps}
+use Rattle.lk_replay.specs.declared.devices.RunFault.{RunFault}
+use Rattle.lk_replay.specs.declared.devices.RunFault.TheVariants.{Read, Write, OutOfMemory}
+use Rattle.lk_replay.specs.Devices.{AppendsFront, IfErrOf}
 use Rattle.lk_replay.specs.Report.{report_text}
+use Rattle.lk_workers.specs.Batch.{batch_text_of}
+use Rattle.lockreplay.specs.Batches.{IsCutBatch}
+use Rattle.lockreplay.specs.Faults.{fault_from}
 
 -- the bytes of each
 abbrev pub bytes_of : List (Vec ℕ Global) → List (List ℕ)
@@ -12,3 +19,13 @@ pub same_reports : (texts given reports lent : List (Vec ℕ Global)) → given 
     → bytes_of reports ≡ map (λ t. report_text t.items) given → bytes_of lent ≡ map report_text (bytes_of texts)
 same_reports texts given reports lent as_texts as_reports replayed =
     ap bytes_of as_reports ∙ replayed ∙ ap (map (λ t. report_text t.items)) as_texts ∙ sym (map-map report_text (λ t. t.items) texts)
+
+-- what a batch leaves whose sending ends with this fault
+pub cut_batch : (fault : RunFault) (texts : List (List ℕ)) (reports : List (List ℕ)) (count : ℕ) (old new : Option (List ℕ))
+    → length texts ≡ count → reports ≡ map report_text texts
+    → IfErrOf {T = Unit {0}} (Err fault) Write (AppendsFront old new (batch_text_of reports)) → IfErrOf {T = Unit {0}} (Err fault) OutOfMemory (Keeps old new) → fault ≢ Read
+    → IsCutBatch count old new (fault_from fault)
+cut_batch Read texts reports count old new size are front no_memory unread = absurd (unread refl)
+cut_batch Write texts reports count old new size are front no_memory unread =
+    (texts, size, subst (λ (rs : List (List ℕ)). AppendsFront old new (batch_text_of rs)) are (front refl))
+cut_batch OutOfMemory texts reports count old new size are front no_memory unread = no_memory refl

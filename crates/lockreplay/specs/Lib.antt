@@ -4,3 +4,4 @@ pub mod Commands
 pub mod Faults
 pub mod Jobs
 pub mod Replays
+pub mod Sending

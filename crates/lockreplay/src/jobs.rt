@@ -9,10 +9,11 @@ ghost use Rattle.lockreplay.specs.Jobs.{EndsJob, IsFitJob};
 mod tests;
 
 use crate::faults::ProgramFault;
+use crate::sending::send_reports;
 use crate::status::batch_status;
 use crate::words::Job;
-use lk_replay::{RunFault, read_text, run, send, status_of};
-use lk_workers::{OpenGate, batch_text, replay_many};
+use lk_replay::{RunFault, read_text, run, status_of};
+use lk_workers::{OpenGate, replay_many};
 use std::alloc::Global;
 use std::fs;
 use std::io::{Read, Write};
@@ -91,13 +92,10 @@ pub fn replay_files<R: Files + Threads + Sync, W: Write>(
     let Ok(reports) = replay_many(rt, alloc, &texts, workers, &OpenGate) else {
         return Err(ProgramFault::Memory);
     };
-    let Ok(text) = batch_text(alloc, &reports) else {
-        return Err(ProgramFault::Memory);
-    };
-    let Ok(()) = send(output, &text) else {
-        return Err(ProgramFault::Output);
-    };
-    Ok(batch_status(&reports))
+    match send_reports(alloc, output, &reports) {
+        Ok(()) => Ok(batch_status(&reports)),
+        Err(fault) => Err(ProgramFault::from(fault)),
+    }
 }
 
 /// Does the job, and gives the status that the program ends with.

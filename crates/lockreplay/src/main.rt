@@ -12,6 +12,9 @@ ghost use Rattle.lockreplay.specs.Jobs.{FitsJob};
 
 mod faults;
 mod jobs;
+#[cfg(test)]
+mod requests;
+mod sending;
 mod status;
 mod words;
 
