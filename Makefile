@@ -1,6 +1,6 @@
 # make test    the one test command: proves every crate and its tests, tries each wrong body, runs every test, and tries the built
 #              program on rows, examples, failing devices, refused memory and random schedules
-# make demo    builds the program where it is missing, and replays a schedule of two threads on a ticket lock
+# make demo    builds the program where it is missing or older than a source, and replays a schedule of two threads on a ticket lock
 # make bench   measures the built program beside `cat`, a hand-written replayer and plain reading
 
 PROGRAM := crates/lockreplay/out/lockreplay

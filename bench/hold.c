@@ -4,7 +4,7 @@
  *     hold < REPORT
  *
  * Each page of fresh memory costs a fault, and each page written costs the file system one of its
- * own. The memory grows as a replayer's does, which does not know how long its report will be.
+ * own. The memory grows by doubling, which moves pages and copies none.
  */
 #include <stdio.h>
 #include <stdlib.h>

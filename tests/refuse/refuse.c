@@ -31,8 +31,7 @@
  * REFUSE_LOG names. A library that could not be preloaded leaves no line, and the loader only warns:
  * so whoever runs the tests looks for the lines (run.sh does).
  *
- * Not held to: a product that asks for exactly one of these sizes. None here does: what grows, grows
- * by doubling.
+ * Not held to: a product that asks for exactly one of these sizes. No test here leads to such a request.
  */
 #include <errno.h>
 #include <fcntl.h>

@@ -1,7 +1,7 @@
 -- Definitions. The room of the ticket lock: its words, its calls, its steps, and the entries of its steps.
 --
 -- Mellor-Crummey and Scott, "Algorithms for Scalable Synchronization on Shared-Memory Multiprocessors", ACM TOCS 9(1), 1991,
--- section 2.1. Different here: words have B bits, so tickets go round; the pause between two reads of `now_serving` is no step; a
+-- section 2.2. Different here: words have B bits, so tickets go round; the pause between two reads of `now_serving` is no step; a
 -- release is two steps, a read of `now_serving` and a write of the value read plus one.
 --
 -- Each step is one of the four events of `laws`, on the word that it reads or writes.

@@ -41,7 +41,8 @@ impl<W: Words> Keeper<W> {
     ghost use Rattle.lk_locks.specs.Play.{after_play, IsPlayAnswer};
     ghost use Rattle.lk_locks.specs.Holding.{holding, holding_of, waiting_of, IsListed};
 
-    /// A new lock with 1 to 64 threads, fewer than its words, which are all 0. It keeps the allocator and takes no memory yet.
+    /// A new lock with 1 to 64 threads, fewer than 2^B for words of B bits, which are all 0. It keeps the allocator and takes no
+    /// memory yet.
     pub fn new(alloc: Global, kind: LockKind, threads: u8, words: W) -> Keeper<W>
         requires some { 0 < threads }
         requires few { threads ≤ 64 }

@@ -4,7 +4,7 @@
 //! section 2.4, with the release that has compare-and-swap. Different here: each thread has one record, and thread `i`'s is record
 //! `i + 1`, so that 0 is nil; the last write of a release uses the successor that was read last.
 
-ghost use Rattle.std.specs.Prelude.{◌≡◌, []};
+ghost use Rattle.std.specs.Prelude.{◌≡◌, ◌+◌, [], false, true};
 ghost use Rattle.lk_locks.specs.mcs.{next, locked, word_count, has_op, has_step, may_give_up, after_call, step_due, step, entries};
 ghost use Rattle.lk_locks.specs.invariants.mcs.{is_inside};
 ghost use Rattle.lk_locks.specs.invariants.WellFormed.{IsReady};
@@ -15,6 +15,13 @@ use crate::{Entry, Op, Outcome, Phase, StepKind};
 use lk_words::Words;
 
 const TAIL: usize = 0;
+
+// The number of a thread's record, where 0 is nil.
+fn record(thread: u8) -> u64
+    ensures { result ≡ thread + 1 }
+{
+    thread as u64 + 1
+}
 
 // The word of a thread's successor.
 fn next(thread: u8) -> usize
@@ -95,49 +102,55 @@ pub fn is_inside(phase: Phase) -> bool
     )
 }
 
-/// One step of a thread in this phase, with its new phase.
-pub fn step<W: Words>(words: &mut W, thread: u8, phase: Phase) -> (Phase, Outcome)
-    requires { IsReady Mcs (W.width words.old) (W.list words.old) thread phase }
+// One step of an acquire.
+fn step_of_acquire<W: Words>(words: &mut W, thread: u8, phase: Phase) -> (Phase, Outcome)
+    requires ready { IsReady Mcs (W.width words.old) (W.list words.old) thread phase }
+    requires outside { is_inside phase ≡ false }
     ensures words { W.list words.new ≡ (step (W.width words.old) thread (W.list words.old) phase).words }
     ensures phase { result.0 ≡ (step (W.width words.old) thread (W.list words.old) phase).phase }
     ensures outcome { result.1 ≡ (step (W.width words.old) thread (W.list words.old) phase).outcome }
     ensures width { W.width words.new ≡ W.width words.old }
 {
-    let record = thread as u64 + 1;
     match phase {
         Phase::ClearNext => {
             words.write(next(thread), 0);
             (Phase::SwapTail, Outcome::Moved)
         }
-        Phase::SwapTail => {
-            let previous = words.swap(TAIL, record);
-            if previous == 0 {
-                (Phase::McsInside, Outcome::Entered)
-            } else {
-                (Phase::SetLocked((previous - 1) as u8), Outcome::Moved)
-            }
-        }
+        Phase::SwapTail => match words.swap(TAIL, record(thread)) {
+            0 => (Phase::McsInside, Outcome::Entered),
+            previous => (Phase::SetLocked((previous - 1) as u8), Outcome::Moved),
+        },
         Phase::SetLocked(before) => {
             words.write(locked(thread), 1);
             (Phase::LinkTo(before), Outcome::Moved)
         }
         Phase::LinkTo(before) => {
-            words.write(next(before), record);
+            words.write(next(before), record(thread));
             (Phase::AwaitGrant, Outcome::Moved)
         }
-        Phase::AwaitGrant => {
-            if words.read(locked(thread)) == 0 {
-                (Phase::McsInside, Outcome::Entered)
-            } else {
-                (phase, Outcome::Waits)
-            }
+        Phase::AwaitGrant if words.read(locked(thread)) == 0 => {
+            (Phase::McsInside, Outcome::Entered)
         }
+        _ => (phase, Outcome::Waits),
+    }
+}
+
+// One step of a release.
+fn step_of_release<W: Words>(words: &mut W, thread: u8, phase: Phase) -> (Phase, Outcome)
+    requires ready { IsReady Mcs (W.width words.old) (W.list words.old) thread phase }
+    requires inside { is_inside phase ≡ true }
+    ensures words { W.list words.new ≡ (step (W.width words.old) thread (W.list words.old) phase).words }
+    ensures phase { result.0 ≡ (step (W.width words.old) thread (W.list words.old) phase).phase }
+    ensures outcome { result.1 ≡ (step (W.width words.old) thread (W.list words.old) phase).outcome }
+    ensures width { W.width words.new ≡ W.width words.old }
+{
+    match phase {
         Phase::ReadNext => match words.read(next(thread)) {
             0 => (Phase::CasTail, Outcome::Moved),
             after => (Phase::Grant((after - 1) as u8), Outcome::Moved),
         },
         Phase::CasTail => {
-            if words.compare_and_swap(TAIL, record, 0) {
+            if words.compare_and_swap(TAIL, record(thread), 0) {
                 (Phase::Idle, Outcome::Left)
             } else {
                 (Phase::AwaitLink, Outcome::Moved)
@@ -152,6 +165,21 @@ pub fn step<W: Words>(words: &mut W, thread: u8, phase: Phase) -> (Phase, Outcom
             (Phase::Idle, Outcome::Left)
         }
         _ => (phase, Outcome::Waits),
+    }
+}
+
+/// One step of a thread in this phase, with its new phase.
+pub fn step<W: Words>(words: &mut W, thread: u8, phase: Phase) -> (Phase, Outcome)
+    requires { IsReady Mcs (W.width words.old) (W.list words.old) thread phase }
+    ensures words { W.list words.new ≡ (step (W.width words.old) thread (W.list words.old) phase).words }
+    ensures phase { result.0 ≡ (step (W.width words.old) thread (W.list words.old) phase).phase }
+    ensures outcome { result.1 ≡ (step (W.width words.old) thread (W.list words.old) phase).outcome }
+    ensures width { W.width words.new ≡ W.width words.old }
+{
+    if is_inside(phase) {
+        step_of_release(words, thread, phase)
+    } else {
+        step_of_acquire(words, thread, phase)
     }
 }
 

@@ -4,10 +4,11 @@
 //! lock's monitor. Different here: a reader waits while the flag is set, and adds one to `readAcquires` only afterwards; a writer
 //! waits while the flag is set before it sets it; signals are not modelled; a writer may downgrade.
 
-ghost use Rattle.std.specs.Prelude.{◌≡◌, []};
+ghost use Rattle.std.specs.Prelude.{◌≡◌, ◌^◌, ◌<◌, ◌≤◌, [], length};
 ghost use Rattle.lk_locks.specs.rw_fifo.{step_due, step, entries};
 ghost use Rattle.lk_locks.specs.invariants.WellFormed.{IsReady};
 ghost use Rattle.lk_locks.specs.declared.kinds.LockKind.TheVariants.{RwFifo};
+ghost use Rattle.lk_locks.specs.declared.kinds.Phase.TheVariants.{TryWrite};
 
 use crate::entries::Added;
 use crate::{Entry, Op, Outcome, Phase, StepKind};
@@ -37,6 +38,26 @@ pub fn step_due(phase: Phase) -> Option<StepKind>
     }
 }
 
+// The section in which a writer announces itself, and comes in where no reader is inside.
+fn try_write<W: Words>(words: &mut W) -> (Phase, Outcome)
+    requires words { 3 ≤ length (W.list words.old) }
+    requires one { 1 < 2 ^ W.width words.old }
+    ensures words { W.list words.new ≡ (step (W.width words.old) 0 (W.list words.old) TryWrite).words }
+    ensures phase { result.0 ≡ (step (W.width words.old) 0 (W.list words.old) TryWrite).phase }
+    ensures outcome { result.1 ≡ (step (W.width words.old) 0 (W.list words.old) TryWrite).outcome }
+    ensures width { W.width words.new ≡ W.width words.old }
+{
+    if words.read(FLAG) != 0 {
+        return (Phase::TryWrite, Outcome::Waits);
+    }
+    words.write(FLAG, 1);
+    if words.read(READ_ACQUIRES) == words.read(READ_RELEASES) {
+        (Phase::Writing, Outcome::Entered)
+    } else {
+        (Phase::AwaitReaders, Outcome::Moved)
+    }
+}
+
 /// One section of a thread in this phase, with its new phase.
 pub fn step<W: Words>(words: &mut W, thread: u8, phase: Phase) -> (Phase, Outcome)
     requires { IsReady RwFifo (W.width words.old) (W.list words.old) thread phase }
@@ -59,18 +80,7 @@ pub fn step<W: Words>(words: &mut W, thread: u8, phase: Phase) -> (Phase, Outcom
             words.fetch_and_add(READ_RELEASES, 1);
             (Phase::Idle, Outcome::Left)
         }
-        Phase::TryWrite => {
-            if words.read(FLAG) == 0 {
-                words.write(FLAG, 1);
-                if words.read(READ_ACQUIRES) == words.read(READ_RELEASES) {
-                    (Phase::Writing, Outcome::Entered)
-                } else {
-                    (Phase::AwaitReaders, Outcome::Moved)
-                }
-            } else {
-                (phase, Outcome::Waits)
-            }
-        }
+        Phase::TryWrite => try_write(words),
         Phase::AwaitReaders => {
             if words.read(READ_ACQUIRES) == words.read(READ_RELEASES) {
                 (Phase::Writing, Outcome::Entered)

@@ -4,10 +4,11 @@
 //! the lock's monitor. Different here: a writer waits while the reader count is not 0 or the flag is set, and then sets the flag;
 //! signals are not modelled; a writer may downgrade.
 
-ghost use Rattle.std.specs.Prelude.{◌≡◌, []};
+ghost use Rattle.std.specs.Prelude.{◌≡◌, ◌^◌, ◌<◌, ◌≤◌, [], length};
 ghost use Rattle.lk_locks.specs.rw_simple.{step_due, step, entries};
 ghost use Rattle.lk_locks.specs.invariants.WellFormed.{IsReady};
 ghost use Rattle.lk_locks.specs.declared.kinds.LockKind.TheVariants.{RwSimple};
+ghost use Rattle.lk_locks.specs.declared.kinds.Phase.TheVariants.{TryWrite};
 
 use crate::arithmetic::greatest_of;
 use crate::entries::Added;
@@ -35,6 +36,23 @@ pub fn step_due(phase: Phase) -> Option<StepKind>
     }
 }
 
+// The section in which a writer comes in, where nobody is inside.
+fn try_write<W: Words>(words: &mut W) -> (Phase, Outcome)
+    requires words { 2 ≤ length (W.list words.old) }
+    requires one { 1 < 2 ^ W.width words.old }
+    ensures words { W.list words.new ≡ (step (W.width words.old) 0 (W.list words.old) TryWrite).words }
+    ensures phase { result.0 ≡ (step (W.width words.old) 0 (W.list words.old) TryWrite).phase }
+    ensures outcome { result.1 ≡ (step (W.width words.old) 0 (W.list words.old) TryWrite).outcome }
+    ensures width { W.width words.new ≡ W.width words.old }
+{
+    if words.read(READERS) == 0 && words.read(FLAG) == 0 {
+        words.write(FLAG, 1);
+        (Phase::Writing, Outcome::Entered)
+    } else {
+        (Phase::TryWrite, Outcome::Waits)
+    }
+}
+
 /// One section of a thread in this phase, with its new phase.
 pub fn step<W: Words>(words: &mut W, thread: u8, phase: Phase) -> (Phase, Outcome)
     requires { IsReady RwSimple (W.width words.old) (W.list words.old) thread phase }
@@ -58,14 +76,7 @@ pub fn step<W: Words>(words: &mut W, thread: u8, phase: Phase) -> (Phase, Outcom
             words.fetch_and_add(READERS, greatest_of(bits));
             (Phase::Idle, Outcome::Left)
         }
-        Phase::TryWrite => {
-            if words.read(READERS) == 0 && words.read(FLAG) == 0 {
-                words.write(FLAG, 1);
-                (Phase::Writing, Outcome::Entered)
-            } else {
-                (phase, Outcome::Waits)
-            }
-        }
+        Phase::TryWrite => try_write(words),
         Phase::LeaveWrite => {
             words.write(FLAG, 0);
             (Phase::Idle, Outcome::Left)

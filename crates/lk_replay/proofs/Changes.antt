@@ -13,7 +13,8 @@ use Rattle.lk_locks.specs.declared.kinds.LockKind.{LockKind}
 use Rattle.lk_locks.specs.declared.kinds.LockKind.TheVariants.{Ticket, Mcs, RwSimple, RwFifo}
 use Rattle.lk_locks.specs.declared.kinds.Op.{Op}
 use Rattle.lk_locks.specs.declared.kinds.Op.TheVariants.{Acquire, Release}
-use Rattle.lk_replay.specs.Following.{IsQueueLock, holding_in, waiting_in, following, followed_by, followed_text}
+use Rattle.lk_locks.specs.Exclusion.{IsQueueLock}
+use Rattle.lk_replay.specs.Following.{holding_in, waiting_in, following, followed_by, followed_text}
 use Rattle.lk_replay.specs.Report.{shown_text, state_text}
 
 after_called : (q : Sequential) (es : List Entry) (t : ℕ) (o : Op) → after_entries q (es ++ Called t o ∷ []) ≡ after_entries q es

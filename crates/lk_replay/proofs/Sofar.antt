@@ -1,7 +1,8 @@
 -- What was played, and what the rest gives.
-use Rattle.std.proofs.Common.{◌≡◌, ℕ, ◌+◌, ◌<◌, List, [], ◌∷◌, ◌++◌, map, length, Option, None, Some, Ok, Err, refl, ap, sym, ◌∙◌, append_assoc, append-nil, drop, get_or, subst, drop-cons, add-one}
+use Rattle.std.proofs.Common.{◌≡◌, ℕ, ◌+◌, ◌<◌, ◌≤◌, List, [], ◌∷◌, ◌++◌, map, length, Option, None, Some, Ok, Err, refl, ap, sym, ◌∙◌, append_assoc, append-nil, drop, get_or, subst, drop-cons, add-one}
 use Rattle.std.specs.List.{flat_map}
 use Rattle.std.proofs.Math.ListN.{length-set}
+use Rattle.std.proofs.lemmas.List.{drop_all}
 use Rattle.lk_locks.specs.Steps.{refusal_of, change_of}
 use Rattle.lk_locks.specs.Play.{Played, after_play, IsPlayAnswer}
 use Rattle.lk_locks.specs.declared.kinds.Entry.{Entry}
@@ -75,6 +76,11 @@ pub text_stopped : (out new text : List ℕ) (k : Played) (ms : List Line) (i : 
 text_stopped out new text k ms i d count x y f h a e u g w =
     (g ∙ ap (λ z. out ++ last_line 0 (Some ((get_or ms i d).number, z))) u) ∙ ap (λ xs. out ++ xs) (sym (line_stop k (get_or ms i d) (drop (i + 1) ms) count x (was_refused _ _ _ _ e a)))
     ∙ ap (λ xs. out ++ rest_text k.state.kind count k.entries (replay_from k.state xs)) (sym (next_line ms i d h)) ∙ w
+
+-- the line at the end
+pub text_ended : (out new text : List ℕ) (k : Played) (ms : List Line) (i count : ℕ) → length ms ≤ i → new ≡ out ++ last_line count None
+    → out ++ rest_text k.state.kind count k.entries (replay_from k.state (drop i ms)) ≡ text → new ≡ text
+text_ended out new text k ms i count all ended written = ended ∙ ap (λ ls. out ++ rest_text k.state.kind count k.entries (replay_from k.state ls)) (sym (drop_all i ms all)) ∙ written
 
 -- one move more
 moved : (kind : LockKind) (n : ℕ) (k : Played) (l : Line) (ls : List Line) (acc : List Accepted) (p : Outcome) → IsPlayAnswer (refusal_of k.state l.thread l.action) (change_of k.state l.thread l.action).outcome (Ok p)

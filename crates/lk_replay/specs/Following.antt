@@ -22,12 +22,6 @@ followed_by f es = record { kind = f.kind; sequential = after_entries f.sequenti
 abbrev pub following : LockKind → List Entry → Following
 following kind es = record { kind = kind; sequential = after_entries (nobody kind) es; holder = holder_after None es }
 
--- a lock that has a queue of requests
-abbrev pub IsQueueLock : LockKind → Type 0
-IsQueueLock Ticket = Unit {0}
-IsQueueLock Mcs = Unit {0}
-IsQueueLock kind = ⊥
-
 abbrev pub holding_in : LockKind → Sequential → Option ℕ → Holding
 holding_in Ticket q holder = held_by_one holder
 holding_in Mcs q holder = held_by_one holder

@@ -12,10 +12,13 @@ use thiserror::Error;
 /// What ends a run early.
 #[derive(Clone, Copy, PartialEq, Eq, Debug, Error)]
 pub enum RunFault {
+    /// The input failed.
     #[error("cannot read")]
     Read,
+    /// The output failed, or took nothing.
     #[error("cannot write")]
     Write,
+    /// A request for memory was refused.
     #[error("out of memory")]
     OutOfMemory,
 }
@@ -28,7 +31,10 @@ const CHUNK: usize = 4_096;
 
 /// Reads to the end of the input, or up to 1,048,577 bytes and leaves the rest unread.
 ///
-/// A read that fails, for whatever kind of error, is `Read`: there is no second try.
+/// # Errors
+///
+/// A read that fails, for whatever kind of error, is `Read`: there is no second try. `OutOfMemory` where there was no memory
+/// for the text.
 pub fn read_text<R: Read>(alloc: Global, input: &mut R) -> Result<Vec<u8>, RunFault>
     ensures taken { IfOk result (λ text. Consumes (R.remaining input.old) (R.remaining input.new) text.items) }
     ensures bounded { IfOk result (λ text. length text.items ≤ 1048577) }
@@ -53,6 +59,8 @@ pub fn read_text<R: Read>(alloc: Global, input: &mut R) -> Result<Vec<u8>, RunFa
 }
 
 /// Writes all of the bytes, and flushes.
+///
+/// # Errors
 ///
 /// A write that fails or takes nothing, or a flush that fails, is `Write`. What was written then is a front of the bytes.
 pub fn send<W: Write>(output: &mut W, bytes: &[u8]) -> Result<(), RunFault>

@@ -14,7 +14,11 @@ use std::io::{Read, Write};
 
 /// Reads a schedule text, and writes its report and nothing else.
 ///
-/// Nothing is written before the report is whole.
+/// # Errors
+///
+/// `Read` where the input failed, `OutOfMemory` where a request for memory was refused; nothing was written then, since the
+/// report is whole before its first byte goes out. `Write` where the output failed or took nothing: what was written is a
+/// front of the report.
 pub fn run<R: Read, W: Write>(
     alloc: Global,
     input: &mut R,

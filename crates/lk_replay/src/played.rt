@@ -81,7 +81,11 @@ pub fn new_keeper(alloc: Global, schedule: &Schedule) -> Keeper<WordArray>
     Keeper::new(alloc, kind, threads, words)
 }
 
-/// Plays the moves in order, up to the first refused one.
+/// Plays the moves in order, up to the first refused one, which is no error.
+///
+/// # Errors
+///
+/// There was no memory for the history or the accepted moves.
 pub fn replay(alloc: Global, schedule: &Schedule) -> Result<Played, AllocError>
     ensures { IfOk result (λ played. played ≡ replayed_of schedule.now) }
 {

@@ -96,6 +96,10 @@ fn replay_text(alloc: Global, schedule: &Schedule) -> Result<Vec<u8>, AllocError
 }
 
 /// The report of a schedule text. A fault of the text is a report, not an error.
+///
+/// # Errors
+///
+/// There was no memory for the schedule, its history or the report.
 #[tactic(auto, unfolding(crate::specs::Report::report_text))]
 pub fn report_of(alloc: Global, bytes: &[u8]) -> Result<Vec<u8>, AllocError>
     ensures { IfOk result (λ report. report.items ≡ report_text bytes.now) }

@@ -33,20 +33,28 @@ pub struct Line {
 /// Why a text has no schedule, with the number of the line.
 #[derive(Clone, Copy, PartialEq, Eq, Debug, Error)]
 pub enum ReadFault {
+    /// More than 1,048,576 bytes.
     #[error("the text is too long")]
     TooLong,
+    /// No line but comments and empty ones. The line is the one behind the last.
     #[error("line {0}: there is no header")]
     NoHeader(u32),
+    /// The first line that is not skipped is no header.
     #[error("line {0}: not a header")]
     BadHeader(u32),
+    /// The header's number of threads is no number from 1 to 64.
     #[error("line {0}: not a number of threads")]
     BadThreads(u32),
+    /// A later line is no move.
     #[error("line {0}: not a move")]
     BadLine(u32),
+    /// Move number 65,537.
     #[error("line {0}: too many moves")]
     TooManyMoves(u32),
+    /// A request for memory was refused.
     #[error("out of memory")]
     OutOfMemory,
+    /// The header's words have no more values than it has threads.
     #[error("line {0}: words too narrow for the threads")]
     WordsTooNarrow(u32),
 }
@@ -158,7 +166,10 @@ fn read_moves(alloc: Global, text: &[u8], first: u32) -> Result<Vec<Line>, ReadF
 
 /// Reads a schedule text: its schedule, or the first fault from the first line to the last.
 ///
-/// A fault of the length or of the header is answered without taking memory.
+/// # Errors
+///
+/// Those of the length and of the header are answered without taking memory. Where a request for memory was refused,
+/// `OutOfMemory` may stand in place of a later one.
 #[tactic(auto, unfolding(crate::specs::Schedule::plan_of))]
 pub fn read_schedule(alloc: Global, bytes: &[u8]) -> Result<Schedule, ReadFault>
     ensures { Gives (λ schedule. schedule) result (plan_of bytes.now) }

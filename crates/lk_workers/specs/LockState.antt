@@ -1,6 +1,6 @@
 -- Definitions. What holds of the running ticket lock between any two atomic steps, and which event of the ticket machine each step is.
 --
--- The machine is that of Mellor-Crummey and Scott, ACM TOCS 9(1), 1991, section 2.1, whose events lk_locks defines; the seats and the
+-- The machine is that of Mellor-Crummey and Scott, ACM TOCS 9(1), 1991, section 2.2, whose events lk_locks defines; the seats and the
 -- correspondence are this project's own.
 use Rattle.std.specs.Prelude.{◌≢◌, ◌≡◌, ℕ, ◌+◌, ◌^◌, ◌<◌, ◌≤◌, ◌++◌, List, [], ◌∷◌, slice_index, slice_set, length}
 use mathlib.Core.Option.{some}

@@ -1,5 +1,5 @@
 -- Definitions. The atomic steps of the running ticket lock, each a step of one seat on one of the two words: word 0 is `next_ticket`, word 1
--- `now_serving`. This project's own, after the ticket lock of Mellor-Crummey and Scott, ACM TOCS 9(1), 1991, section 2.1.
+-- `now_serving`. This project's own, after the ticket lock of Mellor-Crummey and Scott, ACM TOCS 9(1), 1991, section 2.2.
 use Rattle.std.specs.Prelude.{ℕ, ◌+◌, ◌-◌, ◌%◌, ◌^◌, ◌==◌, max, List, [], ◌∷◌, slice_index, if◌then◌else◌}
 use Rattle.atomic_table.specs.Table.{keeps, stepped}
 use Rattle.lk_workers.specs.declared.live.LivePhase.TheVariants.{Idle, Waiting, Inside, Leaving}

@@ -1,7 +1,7 @@
 -- Definitions. What is known of a seat of the running ticket lock, and the thread of the ticket machine that it stands for.
 --
 -- The correspondence is this project's own: a seat is a thread, and each of its calls is one event of the lock of Mellor-Crummey and
--- Scott, "Algorithms for Scalable Synchronization on Shared-Memory Multiprocessors", ACM TOCS 9(1), 1991, section 2.1.
+-- Scott, "Algorithms for Scalable Synchronization on Shared-Memory Multiprocessors", ACM TOCS 9(1), 1991, section 2.2.
 use Rattle.std.specs.Prelude.{ℕ, ◌+◌, ◌≤◌, List, slice_index, Option, Some, None, ⊤}
 use Rattle.atomic_table.specs.Table.{State}
 use Rattle.atomic_table.specs.Seated.{TableId}

@@ -91,7 +91,10 @@ impl Waiting {
 
 /// Sends the reports in order, each behind the line `file K`, K from 1.
 ///
-/// Memory is asked for before the first byte is written. What was written where the output failed is a front of it all.
+/// # Errors
+///
+/// `OutOfMemory` where a request for memory was refused; it is made before the first byte goes out. `Write` where the output
+/// failed or took nothing: what was written is a front of it all.
 pub fn send_reports<W: Write>(
     alloc: Global,
     output: &mut W,

@@ -55,7 +55,7 @@ abbrev pub IsLine : ℕ → List Phase → ℕ → List ℕ → Type 0
 IsLine bits ps x [] = Unit {0}
 IsLine bits ps x (t ∷ ts) = (ticket_of (phase_at ps t) ≡ Some x) × WaitInLine bits ps (plus_one bits x) ts
 
--- The queue is the threads with a ticket, in the order of the tickets. There are fewer threads than words, so tickets differ.
+-- The queue is the threads with a ticket, in the order of the tickets. A word has more values than there are threads, so tickets differ.
 pub record IsQueue (bits : ℕ) (ws : List ℕ) (ps : List Phase) (queue : List ℕ) : Type 0 where
   pub narrow : length ps < 2 ^ bits
   pub serving : slice_index ws now_serving < 2 ^ bits

@@ -19,9 +19,10 @@ pub struct KeptLine {
 
 impl KeptLine {
     ghost use Rattle.std.specs.Prelude.{◌≡◌, ◌++◌, [], OnOk, IfOk};
+    ghost use Rattle.lk_locks.specs.Exclusion.{IsQueueLock};
     ghost use Rattle.lk_locks.specs.Holding.{shared_by, one_or_none};
     ghost use Rattle.lk_locks.specs.Legal.{AllMayCome};
-    ghost use Rattle.lk_replay.specs.Following.{IsQueueLock, following, followed_by, followed_text};
+    ghost use Rattle.lk_replay.specs.Following.{following, followed_by, followed_text};
     ghost use Rattle.lk_replay.specs.Report.{move_text, shown_text};
 
     /// The line of a lock with so many threads and no history yet.

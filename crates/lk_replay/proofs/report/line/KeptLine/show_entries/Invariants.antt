@@ -1,7 +1,8 @@
 -- What is followed so far is shown, and the rest may come.
 use Rattle.std.proofs.Common.{◌≡◌, drop}
 use Rattle.lk_locks.specs.Legal.{AllMayCome}
-use Rattle.lk_replay.specs.Following.{IsQueueLock, followed_by, followed_text}
+use Rattle.lk_locks.specs.Exclusion.{IsQueueLock}
+use Rattle.lk_replay.specs.Following.{followed_by, followed_text}
 use Rattle.lk_replay.proofs.report.line.KeptLine.show_entries.Given as goal
 
 abbrev pub invariant-loop-entry : goal.invariant-loop-entry
