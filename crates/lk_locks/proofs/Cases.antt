@@ -3,10 +3,10 @@ use Rattle.std.proofs.Common.{Bool, List, [], false, if◌then◌else◌, length
 use Rattle.std.specs.List.{AllByRecursion}
 use Rattle.lk_locks.specs.Change.{Change}
 use Rattle.lk_locks.specs.Entries.{step_entries}
-use Rattle.lk_locks.specs.Legal.{AllMayCome, after_entries, thread_of, whole_call}
+use Rattle.lk_locks.specs.Legal.{AreEnabled, after_entries, thread_of, whole_call}
 use Rattle.lk_locks.specs.Sequential.{Sequential}
 use Rattle.lk_locks.specs.Steps.{after_call}
-use Rattle.lk_locks.specs.invariants.Rest.{rest_of}
+use Rattle.lk_locks.specs.invariants.Owed.{owed_of}
 use Rattle.lk_locks.specs.invariants.WellFormed.{IsPhaseOf}
 use Rattle.lk_locks.specs.declared.kinds.Entry.{Entry}
 use Rattle.lk_locks.specs.declared.kinds.Entry.TheVariants.{Called}
@@ -20,11 +20,11 @@ either_way P false x y p q = q
 
 -- a step from phase p that leads to c adds the next entries of the call
 abbrev pub GoesOn : LockKind → ℕ → Phase → Change → Type 0
-GoesOn kind t p c = rest_of kind t p ≡ step_entries kind t p c.outcome ++ rest_of kind t c.phase
+GoesOn kind t p c = owed_of kind t p ≡ step_entries kind t p c.outcome ++ owed_of kind t c.phase
 
 -- a call begins where the one before it is finished
 abbrev pub Begins : LockKind → ℕ → Phase → Op → Type 0
-Begins kind t p op = (rest_of kind t p ≡ []) × (whole_call kind t op ≡ Called t op ∷ rest_of kind t (after_call kind p op))
+Begins kind t p op = (owed_of kind t p ≡ []) × (whole_call kind t op ≡ Called t op ∷ owed_of kind t (after_call kind p op))
 
 -- no move changes how many words there are
 abbrev pub KeepsLength : List ℕ → Change → Type 0
@@ -40,6 +40,6 @@ AreOf t es = AllByRecursion (λ e. thread_of e ≡ t) es
 
 -- What a move of thread t leaves, with the entries that it adds: they may come, and the sequential object goes along.
 pub record IsAgreed (kind : LockKind) (agree : Sequential → Type 0) (q : Sequential) (es : List Entry) : Type 0 where
-  pub allowed : AllMayCome q es
+  pub allowed : AreEnabled q es
   pub kind_is : (after_entries q es).kind ≡ kind
   pub agrees : agree (after_entries q es)

@@ -6,13 +6,13 @@ use Rattle.lk_locks.specs.Change.{Change}
 use Rattle.lk_locks.specs.Steps.{move_change, change_of, next_state, refusal_in, refusal_of, belongs}
 use Rattle.lk_locks.specs.Entries.{step_entries, move_entries, entries_of}
 use Rattle.lk_locks.specs.Sequential.{Sequential}
-use Rattle.lk_locks.specs.Legal.{AllMayCome, after_entries, thread_of, Legal}
+use Rattle.lk_locks.specs.Legal.{AreEnabled, after_entries, thread_of, Legal}
 use Rattle.lk_locks.specs.invariants.WellFormed.{IsPhaseOf}
-use Rattle.lk_locks.specs.invariants.Rest.{rest_of, IsInTurn}
+use Rattle.lk_locks.specs.invariants.Owed.{owed_of, IsInTurn}
 use Rattle.lk_locks.specs.invariants.Kept.{Kept, AgreeAs}
 use Rattle.lk_locks.proofs.Cases.{AreOf, IsAgreed}
 use Rattle.lk_locks.proofs.Threads.{each_phase}
-use Rattle.lk_locks.proofs.Moves.{Accepted, accepted_of, well_kept, agreed, held_kept, step_goes_on, call_begins, rest_is_own}
+use Rattle.lk_locks.proofs.Moves.{Accepted, accepted_of, well_kept, agreed, held_kept, step_goes_on, call_begins, owed_is_own}
 use Rattle.lk_locks.proofs.Histories.{after_append, allowed_append, all_append, all_front, all_map, turn_of_step, turn_of_call, turn_of_other}
 use Rattle.lk_locks.specs.declared.kinds.LockKind.{LockKind}
 use Rattle.lk_locks.specs.declared.kinds.Phase.{Phase}
@@ -28,8 +28,8 @@ pub entries_are_own : (kind : LockKind) (bits : ℕ) (ws : List ℕ) (t : ℕ) (
 entries_are_own kind bits ws t p (Call op) = (refl, tt)
 entries_are_own kind bits ws t p (Step k) =
     let c : Change = move_change kind bits ws t p (Step k) in
-    all_front (λ e. thread_of e ≡ t) (move_entries kind t p (Step k) c.outcome) (rest_of kind t c.phase)
-    (let g : AreOf t (rest_of kind t p) = rest_is_own kind t p in rw (step_goes_on kind bits t ws p) at g)
+    all_front (λ e. thread_of e ≡ t) (move_entries kind t p (Step k) c.outcome) (owed_of kind t c.phase)
+    (let g : AreOf t (owed_of kind t p) = owed_is_own kind t p in rw (step_goes_on kind bits t ws p) at g)
 
 -- the thread of a move is in its turn afterwards
 pub turn_kept : (kind : LockKind) (n bits : ℕ) (ws : List ℕ) (es : List Entry) (t : ℕ) (p : Phase) (m : Move) → IsPhaseOf kind n p → belongs kind m ≡ true → refusal_in kind p m ≡ None → IsInTurn kind es t p → let c : Change = move_change kind bits ws t p m in IsInTurn kind (es ++ move_entries kind t p m c.outcome) t c.phase
@@ -61,14 +61,14 @@ keeps s q es t m k a =
     }
 
 -- the entries of an accepted move may come
-pub may_come : (s : State) (q : Sequential) (es : List Entry) (t : ℕ) (m : Move) → Kept s q es → Accepted s t m → AllMayCome q (entries_of s t m)
+pub may_come : (s : State) (q : Sequential) (es : List Entry) (t : ℕ) (m : Move) → Kept s q es → Accepted s t m → AreEnabled q (entries_of s t m)
 may_come s q es t m k a = (agreed s.kind s.bits s.words s.phases q t m k.well k.few k.kind a k.agree).allowed
 
 -- a history that is kept is legal
 pub legal_of : (s : State) (q : Sequential) (es : List Entry) → Kept s q es → Legal s.kind (length s.phases) es
 legal_of s q es k = record {
   allowed = k.allowed;
-  call_by_call = λ t h. let i : IsInTurn s.kind es t (phase_at s.phases t) = k.turns t h in (i.0, (rest_of s.kind t (phase_at s.phases t), i.1));
+  well_formed = λ t h. let i : IsInTurn s.kind es t (phase_at s.phases t) = k.turns t h in (i.0, (owed_of s.kind t (phase_at s.phases t), i.1));
   no_others = k.no_others;
 }
 

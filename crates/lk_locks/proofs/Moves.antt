@@ -11,7 +11,7 @@ use Rattle.lk_locks.specs.State.{State, phase_at}
 use Rattle.lk_locks.specs.Steps.{after_call, belongs, change_of, has_op, move_change, next_state, refusal_in, refusal_of, step_of}
 use Rattle.lk_locks.specs.invariants.Inside.{IsHeldInside}
 use Rattle.lk_locks.specs.invariants.Kept.{AgreeAs}
-use Rattle.lk_locks.specs.invariants.Rest.{rest_of}
+use Rattle.lk_locks.specs.invariants.Owed.{owed_of}
 use Rattle.lk_locks.specs.invariants.WellFormed.{AreLinks, IsPhaseOf, WellFormed}
 use Rattle.lk_locks.proofs.Cases.{AreOf, Begins, GoesOn, IsAgreed}
 use Rattle.lk_locks.proofs.invariants.Inside.{holder_append}
@@ -42,11 +42,11 @@ call_begins Mcs n t p op f h r = mcs.begins n t p op f h r
 call_begins RwSimple n t p op f h r = rw_simple.begins t p op f h r
 call_begins RwFifo n t p op f h r = rw_fifo.begins t p op f h r
 
-pub rest_is_own : (kind : LockKind) (t : ℕ) (p : Phase) → AreOf t (rest_of kind t p)
-rest_is_own Ticket t p = ticket.rest_is_own t p
-rest_is_own Mcs t p = mcs.rest_is_own t p
-rest_is_own RwSimple t p = rw_simple.rest_is_own t p
-rest_is_own RwFifo t p = rw_fifo.rest_is_own t p
+pub owed_is_own : (kind : LockKind) (t : ℕ) (p : Phase) → AreOf t (owed_of kind t p)
+owed_is_own Ticket t p = ticket.owed_is_own t p
+owed_is_own Mcs t p = mcs.owed_is_own t p
+owed_is_own RwSimple t p = rw_simple.owed_is_own t p
+owed_is_own RwFifo t p = rw_fifo.owed_is_own t p
 
 pub same_length : (kind : LockKind) (bits : ℕ) (ws : List ℕ) (t : ℕ) (p : Phase) (m : Move) → length (move_change kind bits ws t p m).words ≡ length ws
 same_length kind bits ws t p (Call op) = refl

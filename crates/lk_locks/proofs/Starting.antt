@@ -10,7 +10,7 @@ use Rattle.lk_locks.specs.invariants.Kept.{Kept, AgreeAs}
 use Rattle.lk_locks.specs.invariants.read_write.{AreHolders, is_reading, is_writing, is_announced}
 use Rattle.lk_locks.specs.invariants.ticket.{ticket_of}
 use Rattle.lk_locks.specs.invariants.Inside.{IsHeldInside}
-use Rattle.lk_locks.specs.invariants.Rest.{rest_of}
+use Rattle.lk_locks.specs.invariants.Owed.{owed_of}
 use Rattle.lk_locks.specs.invariants.WellFormed.{IsMachine}
 use Rattle.lk_locks.proofs.Machines.{machine_new}
 use Rattle.lk_locks.specs.declared.kinds.LockKind.{LockKind}
@@ -64,7 +64,7 @@ held_start Mcs n = refl
 held_start RwSimple n = tt
 held_start RwFifo n = tt
 
-idle_rest : (kind : LockKind) (t : ℕ) → rest_of kind t Idle ≡ []
+idle_rest : (kind : LockKind) (t : ℕ) → owed_of kind t Idle ≡ []
 idle_rest Ticket t = refl
 idle_rest Mcs t = refl
 idle_rest RwSimple t = refl
@@ -80,7 +80,7 @@ kept_start kind bits ws n h b w z =
       kind = refl;
       now = refl;
       allowed = tt;
-      turns = λ t k. ([], ap (rest_of kind t) (all_idle n t) ∙ idle_rest kind t);
+      turns = λ t k. ([], ap (owed_of kind t) (all_idle n t) ∙ idle_rest kind t);
       no_others = tt;
       agree = agree_start kind bits ws n (omega arith) zero;
       held = held_start kind n;

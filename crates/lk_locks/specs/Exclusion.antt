@@ -3,7 +3,7 @@ use Rattle.std.specs.Prelude.{◌≡◌, ℕ, List, [], ◌∷◌, ◌++◌, Opt
 use Rattle.lk_locks.specs.Sequential.{Sequential, nobody, is_head}
 use Rattle.lk_locks.specs.Legal.{Legal, after_entries}
 use Rattle.lk_locks.specs.Holding.{holder_after}
-use Rattle.lk_locks.specs.Places.{Stands, Between}
+use Rattle.lk_locks.specs.Places.{Occurs, Between}
 use Rattle.lk_locks.specs.declared.kinds.LockKind.{LockKind}
 use Rattle.lk_locks.specs.declared.kinds.LockKind.TheVariants.{Ticket, Mcs, RwFifo}
 use Rattle.lk_locks.specs.declared.kinds.Op.TheVariants.{Acquire, Release, ReadLock, ReadUnlock, WriteLock, WriteUnlock, Downgrade}
@@ -41,13 +41,13 @@ HolderIsHead =
 abbrev pub HoldersAreApart : Type 0
 HoldersAreApart =
     (kind : LockKind) (n : ℕ) (es : List Entry) → IsQueueLock kind → Legal kind n es
-    → (t u : ℕ) → Between (Returned t Acquire) (Returned u Acquire) (Stands (Acted t Release)) es
+    → (t u : ℕ) → Between (Returned t Acquire) (Returned u Acquire) (Occurs (Acted t Release)) es
 
 -- read-write locks
 
 -- t has stopped writing, by an unlock or as a reader
 abbrev pub HasStoppedWriting : ℕ → List Entry → Type 0
-HasStoppedWriting t es = Stands (Acted t WriteUnlock) es ⊎ Stands (Acted t Downgrade) es
+HasStoppedWriting t es = Occurs (Acted t WriteUnlock) es ⊎ Occurs (Acted t Downgrade) es
 
 -- between two writers the first stops writing
 abbrev pub NeverTwoWriters : Type 0
@@ -59,8 +59,8 @@ NeverTwoWriters =
 -- writer, after whatever beginning of the history, there is no reader.
 pub record IsNeverBesideReader (kind : LockKind) (es : List Entry) : Type 0 where
   pub then_reader : (t u : ℕ) → Between (Acted t WriteLock) (Acted u ReadLock) (HasStoppedWriting t) es
-  pub then_writer : (t u : ℕ) → Between (Acted t ReadLock) (Acted u WriteLock) (Stands (Acted t ReadUnlock)) es
-  pub downgraded_writer : (t u : ℕ) → Between (Acted t Downgrade) (Acted u WriteLock) (Stands (Acted t ReadUnlock)) es
+  pub then_writer : (t u : ℕ) → Between (Acted t ReadLock) (Acted u WriteLock) (Occurs (Acted t ReadUnlock)) es
+  pub downgraded_writer : (t u : ℕ) → Between (Acted t Downgrade) (Acted u WriteLock) (Occurs (Acted t ReadUnlock)) es
   pub no_reader : (before after : List Entry) → es ≡ before ++ after
       → let now : Sequential = after_entries (nobody kind) before in (w : ℕ) → now.writer ≡ Some w → now.readers ≡ []
 
@@ -69,8 +69,8 @@ NeverAWriterBesideAReader = (kind : LockKind) (n : ℕ) (es : List Entry) → Le
 
 -- between the announcement of a FIFO writer and a later reader's entering, or another's announcement, stands that writer's entering
 pub record IsAnnouncedFirst (es : List Entry) : Type 0 where
-  pub then_reader : (t u : ℕ) → Between (Announced t) (Acted u ReadLock) (Stands (Acted t WriteLock)) es
-  pub then_announced : (t u : ℕ) → Between (Announced t) (Announced u) (Stands (Acted t WriteLock)) es
+  pub then_reader : (t u : ℕ) → Between (Announced t) (Acted u ReadLock) (Occurs (Acted t WriteLock)) es
+  pub then_announced : (t u : ℕ) → Between (Announced t) (Announced u) (Occurs (Acted t WriteLock)) es
 
 abbrev pub AnnouncedWriterGoesFirst : Type 0
 AnnouncedWriterGoesFirst = (n : ℕ) (es : List Entry) → Legal RwFifo n es → IsAnnouncedFirst es

@@ -3,9 +3,9 @@ use Rattle.std.specs.Prelude.{◌≡◌, List, [], ◌∷◌, ◌++◌, ◌⊎�
 use Rattle.lk_locks.specs.declared.kinds.Entry.{Entry}
 
 -- the entry stands in the list
-abbrev pub Stands : Entry → List Entry → Type 0
-Stands e [] = ⊥
-Stands e (x ∷ xs) = (x ≡ e) ⊎ Stands e xs
+abbrev pub Occurs : Entry → List Entry → Type 0
+Occurs e [] = ⊥
+Occurs e (x ∷ xs) = (x ≡ e) ⊎ Occurs e xs
 
 -- what holds of the entries between each a and each later b
 abbrev pub Between : Entry → Entry → (List Entry → Type 0) → List Entry → Type 0

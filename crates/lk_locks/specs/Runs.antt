@@ -2,23 +2,23 @@
 use Rattle.std.specs.Prelude.{◌≡◌, ℕ, ◌<◌, ◌≤◌, ◌^◌, List, [], ◌∷◌, length, slice_index, Option, None, Some}
 use Rattle.lk_locks.specs.State.{start, word_count}
 use Rattle.lk_locks.specs.Steps.{refusal_of}
-use Rattle.lk_locks.specs.Play.{Played, after_play}
+use Rattle.lk_locks.specs.Play.{RecordedLock, after_play}
 use Rattle.lk_locks.specs.Sequential.{nobody}
 use Rattle.lk_locks.specs.Legal.{Legal}
 use Rattle.lk_locks.specs.declared.kinds.Refusal.{Refusal}
 use Rattle.lk_locks.specs.declared.kinds.LockKind.{LockKind}
 use Rattle.lk_locks.specs.declared.kinds.Move.{Move}
 
-abbrev pub played_unless : Option Refusal → Played → Played → Played
+abbrev pub played_unless : Option Refusal → RecordedLock → RecordedLock → RecordedLock
 played_unless None next k = next
 played_unless (Some r) next k = k
 
 -- moves one after another. A refused one changes nothing
-abbrev pub after_moves : Played → List (ℕ × Move) → Played
+abbrev pub after_moves : RecordedLock → List (ℕ × Move) → RecordedLock
 after_moves k [] = k
 after_moves k (m ∷ ms) = after_moves (played_unless (refusal_of k.state m.0 m.1) (after_play k m.0 m.1) k) ms
 
-abbrev pub new_lock : LockKind → ℕ → List ℕ → ℕ → Played
+abbrev pub new_lock : LockKind → ℕ → List ℕ → ℕ → RecordedLock
 new_lock kind bits ws n = record { state = start kind bits ws n; sequential = nobody kind; entries = [] }
 
 -- whatever moves are played, the history of a new lock is legal

@@ -37,11 +37,11 @@ has_step Mcs step = mcs.has_step step
 has_step RwSimple step = read_write.has_step step
 has_step RwFifo step = read_write.has_step step
 
-abbrev pub may_give_up : LockKind → Phase → Op → Bool
-may_give_up Ticket p op = ticket.may_give_up p op
-may_give_up Mcs p op = mcs.may_give_up p op
-may_give_up RwSimple p op = read_write.may_give_up p op
-may_give_up RwFifo p op = read_write.may_give_up p op
+abbrev pub may_release : LockKind → Phase → Op → Bool
+may_release Ticket p op = ticket.may_release p op
+may_release Mcs p op = mcs.may_release p op
+may_release RwSimple p op = read_write.may_release p op
+may_release RwFifo p op = read_write.may_release p op
 
 abbrev pub after_call : LockKind → Phase → Op → Phase
 after_call Ticket p op = ticket.after_call p op
@@ -91,7 +91,7 @@ same_step a b = false
 -- why a call of a thread with no pending call is refused
 abbrev pub refusal_of_call : LockKind → Phase → Op → Option Refusal
 refusal_of_call kind p op =
-    if is_acquiring op then (if is_idle p then None else Some AlreadyHolds) else (if may_give_up kind p op then None else Some NotHolder)
+    if is_acquiring op then (if is_idle p then None else Some AlreadyHolds) else (if may_release kind p op then None else Some NotHolder)
 
 -- why a move of a thread in this phase, whose next step is due, is refused
 abbrev pub refusal_at : LockKind → Phase → Option StepKind → Move → Option Refusal

@@ -6,7 +6,7 @@ pub mod mcs
 pub mod rw_simple
 pub mod rw_fifo
 pub mod WellFormed
-pub mod Rest
+pub mod Owed
 pub mod Inside
 pub mod SequentialKept
 pub mod Kept

@@ -43,9 +43,9 @@ has_step Cas = true
 has_step kind = false
 
 -- what a thread inside may give up
-abbrev pub may_give_up : Phase → Op → Bool
-may_give_up McsInside Release = true
-may_give_up p op = false
+abbrev pub may_release : Phase → Op → Bool
+may_release McsInside Release = true
+may_release p op = false
 
 -- the phase that a call leads to
 abbrev pub after_call : Phase → Op → Phase

@@ -20,11 +20,11 @@ has_step Section = true
 has_step kind = false
 
 -- what a reader or a writer may give up
-abbrev pub may_give_up : Phase → Op → Bool
-may_give_up Reading ReadUnlock = true
-may_give_up Writing WriteUnlock = true
-may_give_up Writing Downgrade = true
-may_give_up p op = false
+abbrev pub may_release : Phase → Op → Bool
+may_release Reading ReadUnlock = true
+may_release Writing WriteUnlock = true
+may_release Writing Downgrade = true
+may_release p op = false
 
 -- the phase that a call leads to
 abbrev pub after_call : Phase → Op → Phase

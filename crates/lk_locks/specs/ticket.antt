@@ -42,9 +42,9 @@ has_step Write = true
 has_step kind = false
 
 -- what a thread inside may give up
-abbrev pub may_give_up : Phase → Op → Bool
-may_give_up (TicketInside t) Release = true
-may_give_up p op = false
+abbrev pub may_release : Phase → Op → Bool
+may_release (TicketInside t) Release = true
+may_release p op = false
 
 -- the phase that a call leads to
 abbrev pub after_call : Phase → Op → Phase

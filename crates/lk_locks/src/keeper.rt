@@ -20,9 +20,9 @@ pub struct Keeper<W: Words> {
 }
 
 impl<W: Words> Model for Keeper<W> {
-    ghost use Rattle.lk_locks.specs.Play.{Played};
+    ghost use Rattle.lk_locks.specs.Play.{RecordedLock};
 
-    ghost Value = { Played };
+    ghost Value = { RecordedLock };
 
     ghost use Rattle.lk_locks.specs.invariants.Kept.{Kept};
 

@@ -5,7 +5,7 @@
 //! `i + 1`, so that 0 is nil; the last write of a release uses the successor that was read last.
 
 ghost use Rattle.std.specs.Prelude.{◌≡◌, ◌+◌, [], false, true};
-ghost use Rattle.lk_locks.specs.mcs.{next, locked, word_count, has_op, has_step, may_give_up, after_call, step_due, step, entries};
+ghost use Rattle.lk_locks.specs.mcs.{next, locked, word_count, has_op, has_step, may_release, after_call, step_due, step, entries};
 ghost use Rattle.lk_locks.specs.invariants.mcs.{is_inside};
 ghost use Rattle.lk_locks.specs.invariants.WellFormed.{IsReady};
 ghost use Rattle.lk_locks.specs.declared.kinds.LockKind.TheVariants.{Mcs};
@@ -60,8 +60,8 @@ pub fn has_step(kind: StepKind) -> bool
 }
 
 /// Whether a thread that is inside may give this up.
-pub fn may_give_up(phase: Phase, op: Op) -> bool
-    ensures { result ≡ may_give_up phase op }
+pub fn may_release(phase: Phase, op: Op) -> bool
+    ensures { result ≡ may_release phase op }
 {
     matches!((phase, op), (Phase::McsInside, Op::Release))
 }

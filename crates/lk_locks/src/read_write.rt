@@ -3,7 +3,7 @@
 //! After Herlihy and Shavit, The Art of Multiprocessor Programming, chapter 8. `Downgrade` is this project's own.
 
 ghost use Rattle.std.specs.Prelude.{◌≡◌};
-ghost use Rattle.lk_locks.specs.read_write.{has_op, has_step, may_give_up, after_call};
+ghost use Rattle.lk_locks.specs.read_write.{has_op, has_step, may_release, after_call};
 
 use crate::{Op, Phase, StepKind};
 
@@ -20,8 +20,8 @@ pub fn has_step(kind: StepKind) -> bool
 }
 
 /// Whether a reader or a writer may give this up.
-pub fn may_give_up(phase: Phase, op: Op) -> bool
-    ensures { result ≡ may_give_up phase op }
+pub fn may_release(phase: Phase, op: Op) -> bool
+    ensures { result ≡ may_release phase op }
 {
     match phase {
         Phase::Reading => matches!(op, Op::ReadUnlock),

@@ -1,7 +1,7 @@
 //! Which moves are accepted, and what an accepted move does. The rooms know their lock; this file knows none of their phases or words.
 
 ghost use Rattle.std.specs.Prelude.{◌≡◌, Option, None, Some};
-ghost use Rattle.lk_locks.specs.Steps.{has_op, has_step, may_give_up, after_call, step_due, is_acquiring, is_idle, refusal_of_call, refusal_in, belongs, move_change, step_of};
+ghost use Rattle.lk_locks.specs.Steps.{has_op, has_step, may_release, after_call, step_due, is_acquiring, is_idle, refusal_of_call, refusal_in, belongs, move_change, step_of};
 ghost use Rattle.lk_locks.specs.invariants.Inside.{is_inside};
 ghost use Rattle.lk_locks.specs.invariants.WellFormed.{IsReady};
 
@@ -48,13 +48,13 @@ pub fn is_inside(kind: LockKind, phase: Phase) -> bool
     }
 }
 
-fn may_give_up(kind: LockKind, phase: Phase, op: Op) -> bool
-    ensures { result ≡ may_give_up kind phase op }
+fn may_release(kind: LockKind, phase: Phase, op: Op) -> bool
+    ensures { result ≡ may_release kind phase op }
 {
     match kind {
-        LockKind::Ticket => ticket::may_give_up(phase, op),
-        LockKind::Mcs => mcs::may_give_up(phase, op),
-        LockKind::RwSimple | LockKind::RwFifo => read_write::may_give_up(phase, op),
+        LockKind::Ticket => ticket::may_release(phase, op),
+        LockKind::Mcs => mcs::may_release(phase, op),
+        LockKind::RwSimple | LockKind::RwFifo => read_write::may_release(phase, op),
     }
 }
 
@@ -79,7 +79,7 @@ fn refusal_of_call(kind: LockKind, phase: Phase, op: Op) -> Option<Refusal>
         } else {
             Some(Refusal::AlreadyHolds)
         }
-    } else if may_give_up(kind, phase, op) {
+    } else if may_release(kind, phase, op) {
         None
     } else {
         Some(Refusal::NotHolder)

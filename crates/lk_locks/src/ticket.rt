@@ -5,7 +5,7 @@
 //! `now_serving` and a write of the value read plus one.
 
 ghost use Rattle.std.specs.Prelude.{◌≡◌, []};
-ghost use Rattle.lk_locks.specs.ticket.{has_op, has_step, may_give_up, after_call, step_due, step, entries};
+ghost use Rattle.lk_locks.specs.ticket.{has_op, has_step, may_release, after_call, step_due, step, entries};
 ghost use Rattle.lk_locks.specs.invariants.ticket.{is_inside};
 ghost use Rattle.lk_locks.specs.invariants.WellFormed.{IsReady};
 ghost use Rattle.lk_locks.specs.declared.kinds.LockKind.TheVariants.{Ticket};
@@ -35,8 +35,8 @@ pub fn has_step(kind: StepKind) -> bool
 }
 
 /// Whether a thread that is inside may give this up.
-pub fn may_give_up(phase: Phase, op: Op) -> bool
-    ensures { result ≡ may_give_up phase op }
+pub fn may_release(phase: Phase, op: Op) -> bool
+    ensures { result ≡ may_release phase op }
 {
     matches!((phase, op), (Phase::TicketInside(_), Op::Release))
 }

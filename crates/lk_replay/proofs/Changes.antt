@@ -2,7 +2,7 @@
 use Rattle.std.proofs.Common.{◌≡◌, ℕ, ◌-◌, List, [], ◌∷◌, ◌++◌, length, take, drop, refl, ◌∙◌, arith, Option, None, Some}
 use Rattle.std.proofs.Math.Seq.{drop-append_seam}
 use Rattle.std.proofs.lemmas.List.{length-append, take_all}
-use Rattle.lk_locks.specs.Legal.{Legal, AllMayCome, after_entries, after_entry}
+use Rattle.lk_locks.specs.Legal.{Legal, AreEnabled, after_entries, after_entry}
 use Rattle.lk_locks.specs.Holding.{held_by_one, holder_after}
 use Rattle.lk_locks.proofs.Histories.{after_append}
 use Rattle.lk_locks.proofs.invariants.Inside.{holder_append}
@@ -50,12 +50,12 @@ queue_shown Mcs q h is = refl
 queue_shown RwSimple q h is = absurd is
 queue_shown RwFifo q h is = absurd is
 
-allowed_rest : (q : Sequential) (xs ys : List Entry) → AllMayCome q (xs ++ ys) → AllMayCome (after_entries q xs) ys
+allowed_rest : (q : Sequential) (xs ys : List Entry) → AreEnabled q (xs ++ ys) → AreEnabled (after_entries q xs) ys
 allowed_rest q [] ys f = f
 allowed_rest q (x ∷ xs) ys f = allowed_rest (after_entry q x) xs ys f.1
 
 -- the last entries of a legal history may come
-pub may_follow : (kind : LockKind) (n : ℕ) (all es new : List Entry) → all ≡ es ++ new → Legal kind n all → AllMayCome (following kind es).sequential new
+pub may_follow : (kind : LockKind) (n : ℕ) (all es new : List Entry) → all ≡ es ++ new → Legal kind n all → AreEnabled (following kind es).sequential new
 may_follow kind n all es new e l = allowed_rest (nobody kind) es new (rw e at l.allowed)
 
 -- what stands behind the entries so far

@@ -1,7 +1,7 @@
 -- What the digits of a number write.
 use Rattle.std.proofs.Common.{◌≡◌, ℕ, ◌+◌, ◌-◌, ◌*◌, ◌<◌, ◌≤◌, List, [], ◌∷◌, length, get_or, drop, None, nat_le, arith, le_refl, refl, ap, ◌∙◌, add-one, drop-cons}
 use Rattle.std.proofs.lemmas.Bool.{lt-leb, and_right, cond-false}
-use Rattle.lk_replay.specs.Words.{value_from, number_of, is_plain_number}
+use Rattle.lk_replay.specs.Vocabulary.{value_from, number_of, is_plain_number}
 
 -- more digits make no smaller number
 pub value_from_least : (n : ℕ) (ds : List ℕ) → n ≤ value_from n ds

@@ -7,7 +7,7 @@ use Rattle.std.proofs.lemmas.Bool.{cases_Bool, cond-false}
 use Rattle.std.proofs.lemmas.Slice.Eq.{bytes_eq-Decides}
 use Rattle.lk_locks.specs.declared.kinds.Move.{Move}
 use Rattle.lk_replay.specs.Schedule.{move_of, move_of_words, both}
-use Rattle.lk_replay.specs.Words.{move_named, number_of}
+use Rattle.lk_replay.specs.Vocabulary.{move_named, number_of}
 use Rattle.lk_replay.specs.Lines.{is_space}
 
 -- a line that is not cut

@@ -4,7 +4,7 @@ use Rattle.std.specs.List.{flat_map}
 use Rattle.std.proofs.Math.ListN.{length-set}
 use Rattle.std.proofs.lemmas.List.{drop_all}
 use Rattle.lk_locks.specs.Steps.{refusal_of, change_of}
-use Rattle.lk_locks.specs.Play.{Played, after_play, IsPlayAnswer}
+use Rattle.lk_locks.specs.Play.{RecordedLock, after_play, IsPlayAnswer}
 use Rattle.lk_locks.specs.declared.kinds.Entry.{Entry}
 use Rattle.lk_locks.specs.declared.kinds.LockKind.{LockKind}
 use Rattle.lk_locks.specs.declared.kinds.Move.{Move}
@@ -49,16 +49,16 @@ no_memory (Some x) o p h = absurd h
 pub next_line : (ms : List Line) (i : ℕ) (d : Line) → i < length ms → drop i ms ≡ get_or ms i d ∷ drop (i + 1) ms
 next_line ms i d h = drop-cons ms i d h ∙ rw add-one refl
 
-line_step : (k : Played) (l : Line) (ls : List Line) (count : ℕ) (p : Outcome) → IsPlayAnswer (refusal_of k.state l.thread l.action) (change_of k.state l.thread l.action).outcome (Ok p)
+line_step : (k : RecordedLock) (l : Line) (ls : List Line) (count : ℕ) (p : Outcome) → IsPlayAnswer (refusal_of k.state l.thread l.action) (change_of k.state l.thread l.action).outcome (Ok p)
     → rest_text k.state.kind count k.entries (replay_from k.state (l ∷ ls)) ≡ (move_text (count + 1) (accepted_of l p) ++ state_text k.state.kind (after_play k l.thread l.action).entries) ++ rest_text k.state.kind (count + 1) (after_play k l.thread l.action).entries (replay_from (after_play k l.thread l.action).state ls)
 line_step k l ls count p h = let a = was_accepted _ _ _ h in rw (a.0, a.1) refl
 
-line_stop : (k : Played) (l : Line) (ls : List Line) (count : ℕ) (x : Refusal) → refusal_of k.state l.thread l.action ≡ Some x
+line_stop : (k : RecordedLock) (l : Line) (ls : List Line) (count : ℕ) (x : Refusal) → refusal_of k.state l.thread l.action ≡ Some x
     → rest_text k.state.kind count k.entries (replay_from k.state (l ∷ ls)) ≡ last_line 0 (Some (l.number, x))
 line_stop k l ls count x h = rw h refl
 
 -- one line more
-pub text_moved : (out new kept text : List ℕ) (k m : Played) (ms : List Line) (i : ℕ) (d : Line) (count next : ℕ) (p : Outcome) → i < length ms → next ≡ count + 1
+pub text_moved : (out new kept text : List ℕ) (k m : RecordedLock) (ms : List Line) (i : ℕ) (d : Line) (count next : ℕ) (p : Outcome) → i < length ms → next ≡ count + 1
     → IsPlayAnswer (refusal_of k.state (get_or ms i d).thread (get_or ms i d).action) (change_of k.state (get_or ms i d).thread (get_or ms i d).action).outcome (Ok p)
     → m ≡ after_play k (get_or ms i d).thread (get_or ms i d).action → new ≡ out ++ (move_text next (accepted_of (get_or ms i d) p) ++ kept) → kept ≡ state_text m.state.kind m.entries
     → out ++ rest_text k.state.kind count k.entries (replay_from k.state (drop i ms)) ≡ text → new ++ rest_text m.state.kind next m.entries (replay_from m.state (drop (i + 1) ms)) ≡ text
@@ -70,7 +70,7 @@ text_moved out new kept text k m ms i d count next p h n a e f s w =
     ∙ ap (λ xs. out ++ xs) (sym (line_step k l (drop (i + 1) ms) count p a)) ∙ ap (λ xs. out ++ rest_text k.state.kind count k.entries (replay_from k.state xs)) (sym (next_line ms i d h)) ∙ w)
 
 -- the line of a refused move
-pub text_stopped : (out new text : List ℕ) (k : Played) (ms : List Line) (i : ℕ) (d : Line) (count : ℕ) (x y : Refusal) (f : PlayFault) → i < length ms
+pub text_stopped : (out new text : List ℕ) (k : RecordedLock) (ms : List Line) (i : ℕ) (d : Line) (count : ℕ) (x y : Refusal) (f : PlayFault) → i < length ms
     → IsPlayAnswer (refusal_of k.state (get_or ms i d).thread (get_or ms i d).action) (change_of k.state (get_or ms i d).thread (get_or ms i d).action).outcome (Err f) → f ≡ Refused x
     → y ≡ x → new ≡ out ++ last_line 0 (Some ((get_or ms i d).number, y)) → out ++ rest_text k.state.kind count k.entries (replay_from k.state (drop i ms)) ≡ text → new ≡ text
 text_stopped out new text k ms i d count x y f h a e u g w =
@@ -78,30 +78,30 @@ text_stopped out new text k ms i d count x y f h a e u g w =
     ∙ ap (λ xs. out ++ rest_text k.state.kind count k.entries (replay_from k.state xs)) (sym (next_line ms i d h)) ∙ w
 
 -- the line at the end
-pub text_ended : (out new text : List ℕ) (k : Played) (ms : List Line) (i count : ℕ) → length ms ≤ i → new ≡ out ++ last_line count None
+pub text_ended : (out new text : List ℕ) (k : RecordedLock) (ms : List Line) (i count : ℕ) → length ms ≤ i → new ≡ out ++ last_line count None
     → out ++ rest_text k.state.kind count k.entries (replay_from k.state (drop i ms)) ≡ text → new ≡ text
 text_ended out new text k ms i count all ended written = ended ∙ ap (λ ls. out ++ rest_text k.state.kind count k.entries (replay_from k.state ls)) (sym (drop_all i ms all)) ∙ written
 
 -- one move more
-moved : (kind : LockKind) (n : ℕ) (k : Played) (l : Line) (ls : List Line) (acc : List Accepted) (p : Outcome) → IsPlayAnswer (refusal_of k.state l.thread l.action) (change_of k.state l.thread l.action).outcome (Ok p)
+moved : (kind : LockKind) (n : ℕ) (k : RecordedLock) (l : Line) (ls : List Line) (acc : List Accepted) (p : Outcome) → IsPlayAnswer (refusal_of k.state l.thread l.action) (change_of k.state l.thread l.action).outcome (Ok p)
     → after kind n (acc ++ accepted_of l p ∷ []) (after_play k l.thread l.action).entries (replay_from (after_play k l.thread l.action).state ls) ≡ after kind n acc k.entries (replay_from k.state (l ∷ ls))
 moved kind n k l ls acc p h =
     let a = was_accepted _ _ _ h in
     rw (a.0, a.1) (ap2 (λ (xs : List Accepted) (ys : List Entry). record { kind = kind; threads = n; accepted = xs; entries = ys; refused = (replay_from (after_play k l.thread l.action).state ls).refused }) (append_assoc acc _ _) (append_assoc k.entries _ _))
 
-pub shown_moved : (kind : LockKind) (n : ℕ) (acc new : List Accepted) (to : Replayed) (k m : Played) (ms : List Line) (i : ℕ) (d : Line) (p : Outcome) → i < length ms
+pub shown_moved : (kind : LockKind) (n : ℕ) (acc new : List Accepted) (to : Replayed) (k m : RecordedLock) (ms : List Line) (i : ℕ) (d : Line) (p : Outcome) → i < length ms
     → IsPlayAnswer (refusal_of k.state (get_or ms i d).thread (get_or ms i d).action) (change_of k.state (get_or ms i d).thread (get_or ms i d).action).outcome (Ok p)
     → m ≡ after_play k (get_or ms i d).thread (get_or ms i d).action → new ≡ acc ++ accepted_of (get_or ms i d) p ∷ []
     → after kind n acc k.entries (replay_from k.state (drop i ms)) ≡ to → after kind n new m.entries (replay_from m.state (drop (i + 1) ms)) ≡ to
 shown_moved kind n acc new to k m ms i d p h a e g w =
     rw (g, e) (moved kind n k (get_or ms i d) (drop (i + 1) ms) acc p a ∙ ap (λ xs. after kind n acc k.entries (replay_from k.state xs)) (sym (next_line ms i d h)) ∙ w)
 
-stop : (kind : LockKind) (n : ℕ) (k : Played) (l : Line) (ls : List Line) (acc : List Accepted) (x : Refusal) → refusal_of k.state l.thread l.action ≡ Some x
+stop : (kind : LockKind) (n : ℕ) (k : RecordedLock) (l : Line) (ls : List Line) (acc : List Accepted) (x : Refusal) → refusal_of k.state l.thread l.action ≡ Some x
     → after kind n acc k.entries (replay_from k.state (l ∷ ls)) ≡ record { kind = kind; threads = n; accepted = acc ++ []; entries = k.entries ++ []; refused = Some (l.number, x) }
 stop kind n k l ls acc x h = rw h refl
 
 -- a refused move
-pub shown_stopped : (kind : LockKind) (n : ℕ) (acc : List Accepted) (to : Replayed) (k m : Played) (ms : List Line) (i : ℕ) (d : Line) (x y : Refusal) (f : PlayFault) → i < length ms
+pub shown_stopped : (kind : LockKind) (n : ℕ) (acc : List Accepted) (to : Replayed) (k m : RecordedLock) (ms : List Line) (i : ℕ) (d : Line) (x y : Refusal) (f : PlayFault) → i < length ms
     → IsPlayAnswer (refusal_of k.state (get_or ms i d).thread (get_or ms i d).action) (change_of k.state (get_or ms i d).thread (get_or ms i d).action).outcome (Err f) → f ≡ Refused x → y ≡ x → m ≡ k
     → k.state.kind ≡ kind → length k.state.phases ≡ n
     → after kind n acc k.entries (replay_from k.state (drop i ms)) ≡ to
@@ -112,8 +112,8 @@ shown_stopped kind n acc to k m ms i d x y f h a e u g v t w =
     ∙ sym (stop kind n k l (drop (i + 1) ms) acc x (was_refused _ _ _ _ e a)) ∙ ap (λ xs. after kind n acc k.entries (replay_from k.state xs)) (sym (next_line ms i d h)) ∙ w)
 
 -- the number of threads stays
-pub same_threads : (k m : Played) (t : ℕ) (a : Move) → m ≡ after_play k t a → length m.state.phases ≡ length k.state.phases
+pub same_threads : (k m : RecordedLock) (t : ℕ) (a : Move) → m ≡ after_play k t a → length m.state.phases ≡ length k.state.phases
 same_threads k m t a e = rw e (length-set k.state.phases t (change_of k.state t a).phase)
 
-pub same_kind : (k m : Played) (t : ℕ) (a : Move) → m ≡ after_play k t a → m.state.kind ≡ k.state.kind
+pub same_kind : (k m : RecordedLock) (t : ℕ) (a : Move) → m ≡ after_play k t a → m.state.kind ≡ k.state.kind
 same_kind k m t a e = rw e refl

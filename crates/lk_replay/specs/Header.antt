@@ -3,7 +3,7 @@ use Rattle.std.specs.Prelude.{ℕ, ◌^◌, List, [], ◌∷◌, Option, Some, N
 use Rattle.std.specs.Str.{bytes_eq}
 use Rattle.lk_locks.specs.declared.kinds.LockKind.{LockKind}
 use Rattle.lk_replay.specs.Lines.{words_of}
-use Rattle.lk_replay.specs.Words.{number_of, lock_named}
+use Rattle.lk_replay.specs.Vocabulary.{number_of, lock_named}
 use Rattle.lk_replay.specs.Faults.{Fault, BadHeader, BadThreads, WordsTooNarrow}
 
 -- the word that counts the threads, and the bits of a lock's words

@@ -1,5 +1,5 @@
 pub mod Lines
-pub mod Words
+pub mod Vocabulary
 pub mod Faults
 pub mod Header
 pub mod Schedule

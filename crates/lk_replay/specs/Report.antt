@@ -10,7 +10,7 @@ use Rattle.lk_locks.specs.declared.kinds.Entry.{Entry}
 use Rattle.lk_locks.specs.declared.kinds.Refusal.{Refusal}
 use Rattle.lk_locks.specs.declared.kinds.Refusal.TheVariants.{NoSuchThread, WrongLock, Busy, NotHolder, AlreadyHolds, NoCall, WrongStep}
 use Rattle.lk_replay.specs.Faults.{Fault, TooLong, NoHeader, BadHeader, BadThreads, BadLine, TooManyMoves, WordsTooNarrow}
-use Rattle.lk_replay.specs.Words.{move_word, step_word}
+use Rattle.lk_replay.specs.Vocabulary.{move_word, step_word}
 use Rattle.lk_replay.specs.Schedule.{Plan, plan_of}
 use Rattle.lk_replay.specs.Replay.{Made, Replay, replay_of}
 use Rattle.lk_replay.specs.declared.played.Accepted.{Accepted}

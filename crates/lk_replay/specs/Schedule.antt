@@ -4,7 +4,7 @@ use Rattle.lk_locks.specs.declared.kinds.LockKind.{LockKind}
 use Rattle.lk_locks.specs.declared.kinds.Move.{Move}
 use Rattle.lk_replay.specs.declared.schedule.Line.{Line}
 use Rattle.lk_replay.specs.Lines.{lines_of, is_skipped, words_of}
-use Rattle.lk_replay.specs.Words.{number_of, move_named}
+use Rattle.lk_replay.specs.Vocabulary.{number_of, move_named}
 use Rattle.lk_replay.specs.Header.{Header, header_of}
 use Rattle.lk_replay.specs.Faults.{Fault, TooLong, NoHeader, BadLine, TooManyMoves}
 

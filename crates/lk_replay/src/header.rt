@@ -7,7 +7,7 @@ ghost use Rattle.lk_replay.specs.Reads.{Gives};
 
 use crate::ReadFault;
 use crate::lines::cut_word;
-use crate::words::{lock_named, number_of};
+use crate::vocabulary::{lock_named, number_of};
 use lk_locks::LockKind;
 
 /// A lock, and the numbers of its threads and of the bits of its words.

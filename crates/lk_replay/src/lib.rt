@@ -11,7 +11,7 @@ mod report;
 mod schedule;
 #[cfg(test)]
 mod tests;
-mod words;
+mod vocabulary;
 
 pub use devices::{RunFault, read_text, send};
 pub use ending::{Ending, ending_of};

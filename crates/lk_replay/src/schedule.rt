@@ -7,7 +7,7 @@ ghost use Rattle.lk_replay.specs.Schedule.{move_of, moves_from, plan_of};
 
 use crate::header::header_of;
 use crate::lines::{cut_line, cut_word, is_skipped};
-use crate::words::{move_named, number_of};
+use crate::vocabulary::{move_named, number_of};
 use lk_locks::{LockKind, Move};
 use std::alloc::Global;
 use std::marker::Model;

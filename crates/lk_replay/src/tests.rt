@@ -3,6 +3,6 @@
 mod devices;
 mod limits;
 mod replays;
-mod requests;
+mod refused_memory;
 mod texts;
 mod worked;

@@ -3,5 +3,5 @@
 mod batches;
 mod drawn;
 mod eight;
-mod requests;
+mod refused_memory;
 mod running;

@@ -1,10 +1,10 @@
 -- Definitions: the plain command lines, and what each asks for. This project's own. What every other
 -- line comes to, as one with its options in another order, is the parser's own.
 use Rattle.std.specs.Prelude.{◌≡◌, ◌+◌, ◌<◌, ◌≤◌, ◌==◌, not, ℕ, Bool, true, List, [], ◌∷◌, length, map, codes, string_bytes, Result, Ok, Err}
-use Rattle.lockreplay.specs.declared.words.Job.{Job}
-use Rattle.lockreplay.specs.declared.words.Job.TheVariants.{Replay, Batch}
-use Rattle.lockreplay.specs.declared.words.ParseFault.{ParseFault}
-use Rattle.lockreplay.specs.declared.words.ParseFault.TheVariants.{TooManyFiles, OutOfMemory}
+use Rattle.lockreplay.specs.declared.command_line.Job.{Job}
+use Rattle.lockreplay.specs.declared.command_line.Job.TheVariants.{Replay, Batch}
+use Rattle.lockreplay.specs.declared.command_line.ParseFault.{ParseFault}
+use Rattle.lockreplay.specs.declared.command_line.ParseFault.TheVariants.{TooManyFiles, OutOfMemory}
 
 -- a word, as its bytes
 abbrev pub Word : Type 0

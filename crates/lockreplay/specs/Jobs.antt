@@ -3,9 +3,9 @@ use Rattle.std.specs.Prelude.{ℕ, ◌≤◌, List, length, Option, Result, IfOk
 use Rattle.lockreplay.specs.Batches.{EndsBatch}
 use Rattle.lockreplay.specs.Replays.{EndsReplay}
 use Rattle.lockreplay.specs.declared.faults.ProgramFault.{ProgramFault}
-use Rattle.lockreplay.specs.declared.words.Job.{Job}
-use Rattle.lockreplay.specs.declared.words.Job.TheVariants.{Replay, Batch}
-use Rattle.lockreplay.specs.declared.words.ParseFault.{ParseFault}
+use Rattle.lockreplay.specs.declared.command_line.Job.{Job}
+use Rattle.lockreplay.specs.declared.command_line.Job.TheVariants.{Replay, Batch}
+use Rattle.lockreplay.specs.declared.command_line.ParseFault.{ParseFault}
 
 -- from 1 to 8 workers, and from 1 to 65,536 files
 abbrev pub IsFitJob : Job → Type 0

@@ -11,7 +11,7 @@ mod tests;
 use crate::faults::ProgramFault;
 use crate::sending::send_reports;
 use crate::status::batch_status;
-use crate::words::Job;
+use crate::command_line::Job;
 use lk_replay::{RunFault, read_text, run, status_of};
 use lk_workers::{OpenGate, replay_many};
 use std::alloc::Global;

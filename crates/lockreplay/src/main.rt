@@ -13,10 +13,10 @@ ghost use Rattle.lockreplay.specs.Jobs.{FitsJob};
 mod faults;
 mod jobs;
 #[cfg(test)]
-mod requests;
+mod refused_memory;
 mod sending;
 mod status;
-mod words;
+mod command_line;
 
 use faults::ProgramFault;
 use jobs::perform;
@@ -24,7 +24,7 @@ use lk_replay::send;
 use std::env;
 use std::io::{ErrorKind, Write};
 use std::process::ExitCode;
-use words::{Job, ParseFault, parse_words};
+use command_line::{Job, ParseFault, parse_words};
 
 /// The status of a command line that asks for nothing that the program does.
 const USAGE_STATUS: u8 = 2;

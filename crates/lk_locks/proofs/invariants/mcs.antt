@@ -12,7 +12,7 @@ use Rattle.lk_locks.specs.State.{phase_at}
 use Rattle.lk_locks.specs.Steps.{belongs, move_change, refusal_in}
 use Rattle.lk_locks.specs.invariants.Inside.{inside_of}
 use Rattle.lk_locks.specs.invariants.Threads.{EachOnce}
-use Rattle.lk_locks.specs.invariants.mcs.{AreLinks, IsBehind, IsFirst, IsLater, IsOutside, IsPhase, IsQueue, is_inside, last_of, locked_of, next_of, rest, tail_of}
+use Rattle.lk_locks.specs.invariants.mcs.{AreLinks, IsBehind, IsFirst, IsLater, IsOutside, IsPhase, IsQueue, is_inside, last_of, locked_of, next_of, owed, tail_of}
 use Rattle.lk_locks.specs.mcs.{after_call, has_op, locked, next, step}
 use Rattle.lk_locks.proofs.Cases.{AreOf, Begins, Fits, GoesOn, IsAgreed, KeepsLength, either_way}
 use Rattle.lk_locks.proofs.invariants.Inside.{inside_frame, inside_head, inside_more, same}
@@ -44,8 +44,8 @@ begins n t McsInside Release f h r = (refl, refl)
 begins n t p op f h r = cc
 
 -- what is left of a call is of its thread
-pub rest_is_own : (t : ℕ) (p : Phase) → AreOf t (rest t p)
-rest_is_own t p = search rules
+pub owed_is_own : (t : ℕ) (p : Phase) → AreOf t (owed t p)
+owed_is_own t p = search rules
 
 -- no step changes how many words there are
 pub keeps_length : (bits t : ℕ) (ws : List ℕ) (p : Phase) → KeepsLength ws (step bits t ws p)

@@ -11,7 +11,7 @@ use Rattle.lk_locks.specs.State.{phase_at}
 use Rattle.lk_locks.specs.Steps.{after_call, belongs, has_op, move_change, refusal_in}
 use Rattle.lk_locks.specs.invariants.WellFormed.{IsPhaseOf}
 use Rattle.lk_locks.specs.invariants.read_write.{is_announced, is_reading, is_writing}
-use Rattle.lk_locks.specs.invariants.rw_simple.{AgreesWith, is_phase, rest}
+use Rattle.lk_locks.specs.invariants.rw_simple.{AgreesWith, is_phase, owed}
 use Rattle.lk_locks.specs.rw_simple.{readers, step}
 use Rattle.lk_locks.proofs.Cases.{AreOf, Begins, Fits, GoesOn, IsAgreed, KeepsLength, either_way}
 use Rattle.lk_locks.proofs.invariants.HolderLists.{empty_of_length, flag_none, holders_downgrade, holders_frame, holders_join, holders_leave, holders_unwrite, holders_write, length_joined, length_left, no_writer, none_announced, readers_few, readers_fit}
@@ -41,8 +41,8 @@ begins t Writing Downgrade f h r = (refl, refl)
 begins t p op f h r = cc
 
 -- what is left of a call is of its thread
-pub rest_is_own : (t : ℕ) (p : Phase) → AreOf t (rest t p)
-rest_is_own t p = search rules
+pub owed_is_own : (t : ℕ) (p : Phase) → AreOf t (owed t p)
+owed_is_own t p = search rules
 
 -- no section changes how many words there are
 pub keeps_length : (bits t : ℕ) (ws : List ℕ) (p : Phase) → KeepsLength ws (step bits t ws p)

@@ -12,7 +12,7 @@ use Rattle.lk_locks.specs.State.{phase_at}
 use Rattle.lk_locks.specs.Steps.{belongs, move_change, refusal_in}
 use Rattle.lk_locks.specs.invariants.Inside.{inside_of}
 use Rattle.lk_locks.specs.invariants.WellFormed.{IsPhaseOf}
-use Rattle.lk_locks.specs.invariants.ticket.{IsQueue, WaitInLine, is_inside, is_phase, rest, ticket_of}
+use Rattle.lk_locks.specs.invariants.ticket.{IsQueue, WaitInLine, is_inside, is_phase, owed, ticket_of}
 use Rattle.lk_locks.specs.laws.{Event}
 use Rattle.lk_locks.specs.ticket.{after_call, has_op, now_serving, reads, step}
 use Rattle.lk_locks.proofs.Cases.{AreOf, Begins, Fits, GoesOn, IsAgreed, KeepsLength, either_way}
@@ -41,8 +41,8 @@ begins t (TicketInside x) Release f h r = (refl, refl)
 begins t p op f h r = cc
 
 -- what is left of a call is of its thread
-pub rest_is_own : (t : ℕ) (p : Phase) → AreOf t (rest t p)
-rest_is_own t p = search rules
+pub owed_is_own : (t : ℕ) (p : Phase) → AreOf t (owed t p)
+owed_is_own t p = search rules
 
 -- no step changes how many words there are
 pub keeps_length : (bits t : ℕ) (ws : List ℕ) (p : Phase) → KeepsLength ws (step bits t ws p)

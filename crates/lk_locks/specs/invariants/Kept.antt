@@ -3,15 +3,15 @@ use Rattle.std.specs.Prelude.{◌≡◌, ℕ, ◌<◌, ◌≤◌, List, length, 
 use Rattle.std.specs.List.{AllByRecursion}
 use Rattle.lk_locks.specs.State.{State, phase_at}
 use Rattle.lk_locks.specs.Sequential.{Sequential, nobody}
-use Rattle.lk_locks.specs.Legal.{AllMayCome, after_entries, thread_of}
+use Rattle.lk_locks.specs.Legal.{AreEnabled, after_entries, thread_of}
 use Rattle.lk_locks.specs.Holding.{holder_after}
-use Rattle.lk_locks.specs.Play.{Played}
+use Rattle.lk_locks.specs.Play.{RecordedLock}
 use Rattle.lk_locks.specs.invariants.ticket
 use Rattle.lk_locks.specs.invariants.mcs
 use Rattle.lk_locks.specs.invariants.rw_simple
 use Rattle.lk_locks.specs.invariants.rw_fifo
 use Rattle.lk_locks.specs.invariants.WellFormed.{WellFormed}
-use Rattle.lk_locks.specs.invariants.Rest.{IsInTurn}
+use Rattle.lk_locks.specs.invariants.Owed.{IsInTurn}
 use Rattle.lk_locks.specs.invariants.Inside.{IsHeldInside}
 use Rattle.lk_locks.specs.declared.kinds.LockKind.{LockKind}
 use Rattle.lk_locks.specs.declared.kinds.LockKind.TheVariants.{Ticket, Mcs, RwSimple, RwFifo}
@@ -29,11 +29,11 @@ pub record Kept (s : State) (q : Sequential) (es : List Entry) : Type 0 where
   pub few : length s.phases ≤ 64
   pub kind : q.kind ≡ s.kind
   pub now : after_entries (nobody s.kind) es ≡ q
-  pub allowed : AllMayCome (nobody s.kind) es
+  pub allowed : AreEnabled (nobody s.kind) es
   pub turns : (t : ℕ) → t < length s.phases → IsInTurn s.kind es t (phase_at s.phases t)
   pub no_others : AllByRecursion (λ e. thread_of e < length s.phases) es
   pub agree : AgreeAs s.kind s q
   pub held : IsHeldInside s.kind s.phases q.queue (holder_after None es)
 
-abbrev pub IsPlayed : Played → Type 0
+abbrev pub IsPlayed : RecordedLock → Type 0
 IsPlayed k = Kept k.state k.sequential k.entries

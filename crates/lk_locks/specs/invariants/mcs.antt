@@ -32,17 +32,17 @@ abbrev pub AreLinks : ℕ → List ℕ → Type 0
 AreLinks n ws = (slice_index ws tail ≤ n) × ((i : ℕ) → i < n → slice_index ws (next i) ≤ n)
 
 -- what the pending call of thread i has still to add to the history
-abbrev pub rest : ℕ → Phase → List Entry
-rest i ClearNext = acts i Acquire
-rest i SwapTail = acts i Acquire
-rest i (SetLocked j) = Returned i Acquire ∷ []
-rest i (LinkTo j) = Returned i Acquire ∷ []
-rest i AwaitGrant = Returned i Acquire ∷ []
-rest i ReadNext = acts i Release
-rest i CasTail = acts i Release
-rest i AwaitLink = acts i Release
-rest i (Grant j) = acts i Release
-rest i p = []
+abbrev pub owed : ℕ → Phase → List Entry
+owed i ClearNext = acts i Acquire
+owed i SwapTail = acts i Acquire
+owed i (SetLocked j) = Returned i Acquire ∷ []
+owed i (LinkTo j) = Returned i Acquire ∷ []
+owed i AwaitGrant = Returned i Acquire ∷ []
+owed i ReadNext = acts i Release
+owed i CasTail = acts i Release
+owed i AwaitLink = acts i Release
+owed i (Grant j) = acts i Release
+owed i p = []
 
 -- between the step that enters and the step that leaves
 abbrev pub is_inside : Phase → Bool

@@ -24,14 +24,14 @@ is_phase TryDowngrade = true
 is_phase p = false
 
 -- what the pending call of thread i has still to add to the history
-abbrev pub rest : ℕ → Phase → List Entry
-rest i TryRead = acts i ReadLock
-rest i LeaveRead = acts i ReadUnlock
-rest i TryWrite = Announced i ∷ acts i WriteLock
-rest i AwaitReaders = acts i WriteLock
-rest i LeaveWrite = acts i WriteUnlock
-rest i TryDowngrade = acts i Downgrade
-rest i p = []
+abbrev pub owed : ℕ → Phase → List Entry
+owed i TryRead = acts i ReadLock
+owed i LeaveRead = acts i ReadUnlock
+owed i TryWrite = Announced i ∷ acts i WriteLock
+owed i AwaitReaders = acts i WriteLock
+owed i LeaveWrite = acts i WriteUnlock
+owed i TryDowngrade = acts i Downgrade
+owed i p = []
 
 -- The lock counts who came and who left, and its flag is for the writer or the announced one. There are fewer readers than words, so
 -- the counts are equal exactly where there is no reader.

@@ -22,13 +22,13 @@ is_phase TryDowngrade = true
 is_phase p = false
 
 -- what the pending call of thread i has still to add to the history
-abbrev pub rest : ℕ → Phase → List Entry
-rest i TryRead = acts i ReadLock
-rest i LeaveRead = acts i ReadUnlock
-rest i TryWrite = acts i WriteLock
-rest i LeaveWrite = acts i WriteUnlock
-rest i TryDowngrade = acts i Downgrade
-rest i p = []
+abbrev pub owed : ℕ → Phase → List Entry
+owed i TryRead = acts i ReadLock
+owed i LeaveRead = acts i ReadUnlock
+owed i TryWrite = acts i WriteLock
+owed i LeaveWrite = acts i WriteUnlock
+owed i TryDowngrade = acts i Downgrade
+owed i p = []
 
 -- the lock counts its readers, and its flag is for the writer
 pub record AgreesWith (bits : ℕ) (ws : List ℕ) (ps : List Phase) (q : Sequential) : Type 0 where

@@ -23,12 +23,12 @@ is_phase (PassOn v) = true
 is_phase p = false
 
 -- what the pending call of thread i has still to add to the history
-abbrev pub rest : ℕ → Phase → List Entry
-rest i TakeTicket = acts i Acquire
-rest i (AwaitTurn t) = Returned i Acquire ∷ []
-rest i (ReadServing t) = acts i Release
-rest i (PassOn v) = acts i Release
-rest i p = []
+abbrev pub owed : ℕ → Phase → List Entry
+owed i TakeTicket = acts i Acquire
+owed i (AwaitTurn t) = Returned i Acquire ∷ []
+owed i (ReadServing t) = acts i Release
+owed i (PassOn v) = acts i Release
+owed i p = []
 
 -- between the step that enters and the step that leaves
 abbrev pub is_inside : Phase → Bool

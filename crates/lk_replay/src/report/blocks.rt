@@ -5,7 +5,7 @@
 
 ghost use Rattle.std.specs.Prelude.{◌≡◌, ◌+◌, ◌-◌, ◌≤◌, ◌++◌, ℕ, codes, drop, length};
 ghost use Rattle.lk_replay.specs.Report.{outcome_word};
-ghost use Rattle.lk_replay.specs.Words.{move_word};
+ghost use Rattle.lk_replay.specs.Vocabulary.{move_word};
 
 use lk_locks::{Move, Op, Outcome, StepKind};
 

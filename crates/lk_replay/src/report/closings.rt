@@ -2,7 +2,7 @@
 
 ghost use Rattle.std.specs.Prelude.{◌≡◌, ◌++◌, OnOk, None, decimal};
 ghost use Rattle.lk_replay.specs.Report.{refusal_text, at_line, fault_line, last_line, refused_line};
-ghost use Rattle.lk_replay.specs.Words.{step_word};
+ghost use Rattle.lk_replay.specs.Vocabulary.{step_word};
 
 use crate::report::numerals::Numeral;
 use lk_locks::{Refusal, StepKind};

@@ -24,7 +24,7 @@ impl Model for Followed {
 
 impl Followed {
     ghost use Rattle.std.specs.Prelude.{◌≡◌, [], ◌∷◌};
-    ghost use Rattle.lk_locks.specs.Legal.{MayCome, AllMayCome};
+    ghost use Rattle.lk_locks.specs.Legal.{IsEnabled, AreEnabled};
     ghost use Rattle.lk_replay.specs.Following.{followed_by, following};
 
     /// Of a lock with no history yet.
@@ -40,7 +40,7 @@ impl Followed {
 
     /// Goes along with an entry that may come.
     pub fn note(&mut self, entry: Entry)
-        requires { MayCome self.old.sequential entry }
+        requires { IsEnabled self.old.sequential entry }
         ensures { self.new ≡ followed_by self.old (entry ∷ []) }
     {
         match entry {
@@ -62,7 +62,7 @@ impl Followed {
 
     /// Goes along with the next entries of a legal history.
     pub fn follow(&mut self, entries: &[Entry])
-        requires { AllMayCome self.old.sequential entries.now }
+        requires { AreEnabled self.old.sequential entries.now }
         ensures { self.new ≡ followed_by self.old entries.now }
     {
         for entry in entries {

@@ -21,7 +21,7 @@ impl KeptLine {
     ghost use Rattle.std.specs.Prelude.{◌≡◌, ◌++◌, [], OnOk, IfOk};
     ghost use Rattle.lk_locks.specs.Exclusion.{IsQueueLock};
     ghost use Rattle.lk_locks.specs.Holding.{shared_by, one_or_none};
-    ghost use Rattle.lk_locks.specs.Legal.{AllMayCome};
+    ghost use Rattle.lk_locks.specs.Legal.{AreEnabled};
     ghost use Rattle.lk_replay.specs.Following.{following, followed_by, followed_text};
     ghost use Rattle.lk_replay.specs.Report.{move_text, shown_text};
 
@@ -52,7 +52,7 @@ impl KeptLine {
     fn show_entries(&mut self, entries: &[Entry]) -> Result<(), AllocError>
         requires queue { IsQueueLock self.old.followed.kind }
         requires shown { self.old.end ≡ followed_text self.old.followed }
-        requires may { AllMayCome self.old.followed.sequential entries.now }
+        requires may { AreEnabled self.old.followed.sequential entries.now }
         ensures followed { OnOk result (self.new.followed ≡ followed_by self.old.followed entries.now) }
         ensures shown { OnOk result (self.new.end ≡ followed_text self.new.followed) }
     {
@@ -66,7 +66,7 @@ impl KeptLine {
     /// Shows who holds and who waits after the next entries of the history.
     pub fn follow(&mut self, entries: &[Entry]) -> Result<(), AllocError>
         requires shown { self.old.end ≡ followed_text self.old.followed }
-        requires may { AllMayCome self.old.followed.sequential entries.now }
+        requires may { AreEnabled self.old.followed.sequential entries.now }
         ensures followed { OnOk result (self.new.followed ≡ followed_by self.old.followed entries.now) }
         ensures shown { OnOk result (self.new.end ≡ followed_text self.new.followed) }
     {

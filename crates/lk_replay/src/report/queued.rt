@@ -2,7 +2,7 @@
 
 ghost use Rattle.std.specs.Prelude.{◌≡◌, ◌≤◌, ◌++◌, ◌∷◌, [], OnOk, None, Some, drop, length};
 ghost use Rattle.lk_locks.specs.Holding.{held_by_one, holder_after};
-ghost use Rattle.lk_locks.specs.Legal.{MayCome, after_entry};
+ghost use Rattle.lk_locks.specs.Legal.{IsEnabled, after_entry};
 ghost use Rattle.lk_replay.specs.Report.{holding_text, shown_text};
 
 use crate::report::blocks::BLOCK;
@@ -94,7 +94,7 @@ pub fn show_entry(
     followed: &Followed,
     entry: Entry,
 ) -> Result<(), AllocError>
-    requires may { MayCome followed.now.sequential entry }
+    requires may { IsEnabled followed.now.sequential entry }
     requires shown { end.old ≡ shown_text (held_by_one followed.now.holder) followed.now.sequential.queue }
     ensures { OnOk result (end.new ≡ shown_text (held_by_one (holder_after followed.now.holder (entry ∷ []))) (after_entry followed.now.sequential entry).queue) }
 {

@@ -3,7 +3,7 @@ ghost use Rattle.lockreplay.specs.Jobs.{FitsJob};
 
 use super::perform;
 use crate::faults::ProgramFault;
-use crate::words::{Job, ParseFault, parse_words};
+use crate::command_line::{Job, ParseFault, parse_words};
 use std::alloc::Global;
 use std::io;
 use std::io::{ErrorKind, Read, Write};

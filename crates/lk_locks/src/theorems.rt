@@ -1,0 +1,66 @@
+//! Laws of every legal history, and of every list of moves: each function's contract is one law, and its body is empty.
+//!
+//! `Keeper::entries` ensures that what a keeper recorded is legal, so each law holds of every keeper's entries. The events of the
+//! ticket lock, by which both `Machine` and a lock on shared words are stated, are the definitions `specs/laws.antt`.
+
+ghost use Rattle.lk_locks.specs.Runs.{EveryHistoryIsLegal};
+ghost use Rattle.lk_locks.specs.MainTheorem.{EveryRunIsAsPromised};
+ghost use Rattle.lk_locks.specs.Exclusion.{HoldersTakeTurns, HolderIsHead, HoldersAreApart, NeverTwoWriters, NeverAWriterBesideAReader, AnnouncedWriterGoesFirst};
+ghost use Rattle.lk_locks.specs.Order.{EntersInOrder};
+ghost use Rattle.lk_locks.specs.Calls.{CallsActOnce, ActsAreCalled};
+
+/// Whatever moves are played, the history of a new lock is legal.
+pub fn every_history_is_legal()
+    ensures { EveryHistoryIsLegal }
+{}
+
+/// Whatever moves are played, the history of a new lock is legal, and so there are never two holders or writers, nor a writer beside
+/// a reader, and a queue lock is entered in the order of its tickets or swaps.
+pub fn every_run_is_as_promised()
+    ensures { EveryRunIsAsPromised }
+{}
+
+/// An acquire returns only where nobody holds the queue lock, and only who holds it releases it.
+pub fn holders_take_turns()
+    ensures { HoldersTakeTurns }
+{}
+
+/// Between the returns of two acquires stands the act of the first one's release.
+pub fn holders_are_apart()
+    ensures { HoldersAreApart }
+{}
+
+/// Who holds a queue lock is the head of its queue.
+pub fn holder_is_head()
+    ensures { HolderIsHead }
+{}
+
+/// A queue lock is entered in the order of its tickets or swaps.
+pub fn enters_in_order()
+    ensures { EntersInOrder }
+{}
+
+/// Between the acts of two writers the first stops writing.
+pub fn never_two_writers()
+    ensures { NeverTwoWriters }
+{}
+
+/// Between the acts of a writer and a reader the first stops writing or reading, and at no moment there are both.
+pub fn never_a_writer_beside_a_reader()
+    ensures { NeverAWriterBesideAReader }
+{}
+
+/// No reader enters between a FIFO writer's announcement and its entering, and no other writer announces itself.
+pub fn announced_writer_goes_first()
+    ensures { AnnouncedWriterGoesFirst }
+{}
+
+/// Each finished call has acted once, between its call and its return.
+pub fn calls_act_once()
+    ensures { CallsActOnce }
+{}
+
+/// Each act stands in a call, whose return comes next.
+pub fn acts_are_called()
+    ensures { ActsAreCalled }
+{}
