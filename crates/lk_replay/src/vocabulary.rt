@@ -6,7 +6,7 @@ ghost use Rattle.lk_replay.specs.Vocabulary.{number_of, move_named, lock_named};
 use lk_locks::{LockKind, Move, Op, StepKind};
 
 /// The number from `least` to `most` that the text is, without leading zeros.
-#[tactic(auto, unfolding(crate::specs::Words::number_of))]
+#[tactic(auto, unfolding(crate::specs::Vocabulary::number_of))]
 pub fn number_of(text: &[u8], least: u8, most: u8) -> Option<u8>
     ensures number { result ≡ number_of least most text.now }
     ensures least { IfSome result (λ n. least ≤ n) }
@@ -32,7 +32,7 @@ pub fn number_of(text: &[u8], least: u8, most: u8) -> Option<u8>
 }
 
 /// The lock of that name.
-#[tactic(auto, unfolding(crate::specs::Words::lock_named))]
+#[tactic(auto, unfolding(crate::specs::Vocabulary::lock_named))]
 pub fn lock_named(name: &[u8]) -> Option<LockKind>
     ensures { result ≡ lock_named name.now }
 {
@@ -50,7 +50,7 @@ pub fn lock_named(name: &[u8]) -> Option<LockKind>
 }
 
 /// The move of that word.
-#[tactic(auto, unfolding(crate::specs::Words::move_named))]
+#[tactic(auto, unfolding(crate::specs::Vocabulary::move_named))]
 pub fn move_named(word: &[u8]) -> Option<Move>
     ensures { result ≡ move_named word.now }
 {
