@@ -1,6 +1,6 @@
-//! Each operation once, at both kinds of words. What they expect was made by hand.
+//! Each operation once, at each kind of words. What they expect was made by hand.
 
-use crate::{CountingWords, WordArray, Words};
+use crate::{Access, CountingWords, Operation, RecordingWords, WordArray, Words};
 use std::process::Abort;
 
 // The five operations on two words, which are 0.
@@ -32,22 +32,76 @@ fn five_operations(rt: HostRuntime) {
     let mut counted = CountingWords::new(WordArray::new(2));
     operates(&rt, &mut counted);
     assert_eq!(rt; counted.count(), 9);
+
+    let mut recorded = RecordingWords::new(WordArray::new(2));
+    operates(&rt, &mut recorded);
+    let inside = recorded.inner();
+    assert!(rt; inside.size() == 2);
+    assert_eq!(rt; (inside.get(0), inside.get(1)), (0, 3));
+}
+
+// Words that count inside words that count: each operation is passed on once.
+#[test]
+fn each_operation_is_passed_on_once(rt: HostRuntime) {
+    let mut words = CountingWords::new(CountingWords::new(WordArray::new(1)));
+    let _ = words.read(0);
+    assert_eq!(rt; (words.count(), words.inner().count()), (1, 1));
+    words.write(0, 5);
+    assert_eq!(rt; (words.count(), words.inner().count()), (2, 2));
+    let _ = words.swap(0, 6);
+    assert_eq!(rt; (words.count(), words.inner().count()), (3, 3));
+    let _ = words.compare_and_swap(0, 6, 7);
+    assert_eq!(rt; (words.count(), words.inner().count()), (4, 4));
+    let _ = words.compare_and_swap(0, 6, 8);
+    assert_eq!(rt; (words.count(), words.inner().count()), (5, 5));
+    let _ = words.fetch_and_add(0, 1);
+    assert_eq!(rt; (words.count(), words.inner().count()), (6, 6));
+
+    let mut recorded = RecordingWords::new(CountingWords::new(WordArray::new(1)));
+    let _ = recorded.read(0);
+    assert_eq!(rt; recorded.inner().count(), 1);
+    recorded.write(0, 5);
+    assert_eq!(rt; recorded.inner().count(), 2);
+    let _ = recorded.swap(0, 6);
+    assert_eq!(rt; recorded.inner().count(), 3);
+    let _ = recorded.compare_and_swap(0, 6, 7);
+    assert_eq!(rt; recorded.inner().count(), 4);
+    let _ = recorded.compare_and_swap(0, 6, 8);
+    assert_eq!(rt; recorded.inner().count(), 5);
+    let _ = recorded.fetch_and_add(0, 1);
+    assert_eq!(rt; recorded.inner().count(), 6);
+}
+
+fn seen(
+    operation: Operation,
+    word: usize,
+    found: Option<u64>,
+    left: Option<u64>,
+) -> Option<Access> {
+    Some(Access {
+        operation,
+        word,
+        found,
+        left,
+    })
 }
 
 #[test]
-fn narrow_words_go_round(rt: HostRuntime) {
-    let mut words = WordArray::with_bits(1, 2);
-    assert_eq!(rt; words.fetch_and_add(0, 3), 0);
-    assert_eq!(rt; words.fetch_and_add(0, 1), 3);
-    assert_eq!(rt; words.read(0), 0);
-    assert_eq!(rt; words.bits(), 2);
-}
-
-#[test]
-fn most_words(rt: HostRuntime) {
-    let mut words = WordArray::with_bits(129, 64);
-    assert_eq!(rt; words.size(), 129);
-    assert!(rt; words.size() == 129);
-    words.write(128, u64::MAX);
-    assert_eq!(rt; words.get(128), u64::MAX);
+fn the_last_operation_is_remembered(rt: HostRuntime) {
+    let mut words = RecordingWords::new(WordArray::with_bits(2, 2));
+    assert!(rt; words.last().is_none());
+    words.write(1, 3);
+    assert!(rt; words.last() == seen(Operation::Write, 1, None, Some(3)));
+    let _ = words.read(1);
+    assert!(rt; words.last() == seen(Operation::Read, 1, Some(3), Some(3)));
+    let _ = words.fetch_and_add(1, 2);
+    assert!(rt; words.last() == seen(Operation::FetchAndAdd, 1, Some(3), Some(1)));
+    let _ = words.swap(0, 2);
+    assert!(rt; words.last() == seen(Operation::Swap, 0, Some(0), Some(2)));
+    let _ = words.compare_and_swap(0, 1, 3);
+    assert!(rt; words.last() == seen(Operation::CompareAndSwap, 0, None, None));
+    let _ = words.compare_and_swap(0, 2, 3);
+    assert!(rt; words.last() == seen(Operation::CompareAndSwap, 0, Some(2), Some(3)));
+    words.forget();
+    assert!(rt; words.last().is_none());
 }
