@@ -37,7 +37,7 @@ impl<W: Words> Keeper<W> {
     ghost use Rattle.lk_locks.specs.Steps.{step_due, refusal_of, change_of};
     ghost use Rattle.lk_locks.specs.invariants.Inside.{is_inside};
     ghost use Rattle.lk_locks.specs.Sequential.{nobody};
-    ghost use Rattle.lk_locks.specs.Legal.{Legal};
+    ghost use Rattle.lk_locks.specs.MainTheorem.{IsAsPromised};
     ghost use Rattle.lk_locks.specs.Play.{after_play, IsPlayAnswer};
     ghost use Rattle.lk_locks.specs.Holding.{holding, holding_of, waiting_of, IsListed};
 
@@ -89,10 +89,11 @@ impl<W: Words> Keeper<W> {
         Ok(outcome)
     }
 
-    /// What happened, oldest first. It is a legal history of the lock's sequential object, whatever was played.
+    /// What happened, oldest first. Whatever was played, it is a legal history of the lock's sequential object, a queue lock has one
+    /// holder at a time and is entered in the order of its requests, and a writer is alone.
     pub fn entries(&self) -> &[Entry]
         ensures entries { result.now ≡ self.now.entries }
-        ensures legal { Legal self.now.state.kind (length self.now.state.phases) result.now }
+        ensures promised { IsAsPromised self.now.state.kind (length self.now.state.phases) result.now }
     {
         self.history.entries()
     }
