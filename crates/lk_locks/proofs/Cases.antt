@@ -1,5 +1,5 @@
 -- What the rooms prove of each step of their lock, and how a choice inside a step is taken apart.
-use Rattle.std.proofs.Common.{Bool, List, [], false, if◌then◌else◌, length, true, ℕ, ◌++◌, ◌∷◌, ◌≡◌}
+use Rattle.std.proofs.Common.{Bool, List, [], false, if◌then◌else◌, length, true, unwrap_or, ℕ, ◌++◌, ◌∷◌, ◌≡◌}
 use Rattle.std.specs.List.{AllByRecursion}
 use Rattle.lk_locks.specs.Change.{Change}
 use Rattle.lk_locks.specs.Entries.{step_entries}
@@ -24,7 +24,7 @@ GoesOn kind t p c = owed_of kind t p ≡ step_entries kind t p c.outcome ++ owed
 
 -- a call begins where the one before it is finished
 abbrev pub Begins : LockKind → ℕ → Phase → Op → Type 0
-Begins kind t p op = (owed_of kind t p ≡ []) × (whole_call kind t op ≡ Called t op ∷ owed_of kind t (after_call kind p op))
+Begins kind t p op = (owed_of kind t p ≡ []) × (whole_call kind t op ≡ Called t op ∷ owed_of kind t (unwrap_or (after_call kind p op) p))
 
 -- no move changes how many words there are
 abbrev pub KeepsLength : List ℕ → Change → Type 0

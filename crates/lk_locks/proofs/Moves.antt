@@ -1,5 +1,5 @@
 -- What every move keeps, whatever the lock: the rooms prove it, each of its own lock.
-use Rattle.std.proofs.Common.{Bool, List, None, Option, Some, ap, arith, false, if◌then◌else◌, length, nat_lt, refl, set, true, ℕ, ◌++◌, ◌<◌, ◌∙◌, ◌≡◌, ◌≤◌}
+use Rattle.std.proofs.Common.{Bool, List, None, Option, Some, ap, arith, false, if◌then◌else◌, length, nat_lt, refl, set, true, unwrap_or, ℕ, ◌++◌, ◌<◌, ◌∙◌, ◌≡◌, ◌≤◌}
 use Rattle.std.proofs.lemmas.Bool.{ltb-true}
 use Rattle.std.proofs.lemmas.List.{length-set}
 use Rattle.lk_locks.specs.Change.{Change}
@@ -55,14 +55,15 @@ same_length Mcs bits ws t p (Step k) = mcs.keeps_length bits t ws p
 same_length RwSimple bits ws t p (Step k) = rw_simple.keeps_length bits t ws p
 same_length RwFifo bits ws t p (Step k) = rw_fifo.keeps_length bits t ws p
 
-call_fits : (kind : LockKind) (n : ℕ) (p : Phase) (op : Op) → IsPhaseOf kind n (after_call kind p op)
-call_fits Ticket n p op = ticket.call_fits p op
-call_fits Mcs n p op = mcs.call_fits n p op
-call_fits RwSimple n p op = rw_simple.call_fits p op
-call_fits RwFifo n p op = rw_fifo.call_fits p op
+call_fits : (kind : LockKind) (n : ℕ) (p : Phase) (op : Op) → IsPhaseOf kind n p
+    → IsPhaseOf kind n (unwrap_or (after_call kind p op) p)
+call_fits Ticket n p op f = ticket.call_fits p op f
+call_fits Mcs n p op f = mcs.call_fits n p op f
+call_fits RwSimple n p op f = rw_simple.call_fits p op f
+call_fits RwFifo n p op f = rw_fifo.call_fits p op f
 
 pub new_phase_fits : (kind : LockKind) (n bits : ℕ) (ws : List ℕ) (t : ℕ) (p : Phase) (m : Move) → t < n → IsPhaseOf kind n p → AreLinks kind n ws → IsPhaseOf kind n (move_change kind bits ws t p m).phase
-new_phase_fits kind n bits ws t p (Call op) h f l = call_fits kind n p op
+new_phase_fits kind n bits ws t p (Call op) h f l = call_fits kind n p op f
 new_phase_fits Ticket n bits ws t p (Step k) h f l = ticket.step_fits n bits t ws p f
 new_phase_fits Mcs n bits ws t p (Step k) h f l = mcs.step_fits n bits t ws p h f l
 new_phase_fits RwSimple n bits ws t p (Step k) h f l = rw_simple.step_fits n bits t ws p f

@@ -1,17 +1,27 @@
--- Definitions. Each finished call acted exactly once, between its call and its return: laws of every legal history. This project's own.
+-- Definitions. Each finished call acted exactly once, between its call and its return: laws of every legal
+-- history. This project's own.
 use Rattle.std.specs.Prelude.{◌≡◌, ℕ, List, [], ◌∷◌, ◌++◌}
-use Rattle.lk_locks.specs.Legal.{Legal, subhistory, announcement}
+use Rattle.lk_locks.specs.Acts.{announcement}
+use Rattle.lk_locks.specs.Legal.{Legal, subhistory}
 use Rattle.lk_locks.specs.declared.kinds.LockKind.{LockKind}
 use Rattle.lk_locks.specs.declared.kinds.Op.{Op}
 use Rattle.lk_locks.specs.declared.kinds.Entry.{Entry}
 use Rattle.lk_locks.specs.declared.kinds.Entry.TheVariants.{Called, Acted, Returned}
 
--- where a call returns it was called, and since then its thread did nothing but act once, after the announcement of a FIFO writer
+-- in these entries t called op, and since then did this
+abbrev pub HasDone : ℕ → Op → List Entry → List Entry → Type 0
+HasDone t op deeds es =
+    (start middle : List Entry) × (es ≡ start ++ Called t op ∷ middle) × (subhistory t middle ≡ deeds)
+
+-- where a call returns it was called, and since then its thread did nothing but act once, after the
+-- announcement of a FIFO writer
+abbrev pub ActsOnce : LockKind → List Entry → Type 0
+ActsOnce kind es =
+    (t : ℕ) (op : Op) (before after : List Entry) → es ≡ before ++ Returned t op ∷ after
+    → HasDone t op (announcement kind t op ++ Acted t op ∷ []) before
+
 abbrev pub CallsActOnce : Type 0
-CallsActOnce =
-    (kind : LockKind) (n : ℕ) (es : List Entry) → Legal kind n es
-    → (t : ℕ) (op : Op) (before after : List Entry) → es ≡ before ++ Returned t op ∷ after
-    → (start middle : List Entry) × (before ≡ start ++ Called t op ∷ middle) × (subhistory t middle ≡ announcement kind t op ++ Acted t op ∷ [])
+CallsActOnce = (kind : LockKind) (n : ℕ) (es : List Entry) → Legal kind n es → ActsOnce kind es
 
 -- the next of a thread's entries, where there is one, is the return
 abbrev pub ReturnsNext : ℕ → Op → List Entry → Type 0
@@ -19,8 +29,10 @@ ReturnsNext t op [] = Unit {0}
 ReturnsNext t op (e ∷ es) = e ≡ Returned t op
 
 -- an act stands in a call: its thread called, did nothing since then but announce itself, and returns next
+abbrev pub ActsInCalls : LockKind → List Entry → Type 0
+ActsInCalls kind es =
+    (t : ℕ) (op : Op) (before after : List Entry) → es ≡ before ++ Acted t op ∷ after
+    → HasDone t op (announcement kind t op) before × ReturnsNext t op (subhistory t after)
+
 abbrev pub ActsAreCalled : Type 0
-ActsAreCalled =
-    (kind : LockKind) (n : ℕ) (es : List Entry) → Legal kind n es
-    → (t : ℕ) (op : Op) (before after : List Entry) → es ≡ before ++ Acted t op ∷ after
-    → (start middle : List Entry) × (before ≡ start ++ Called t op ∷ middle) × (subhistory t middle ≡ announcement kind t op) × ReturnsNext t op (subhistory t after)
+ActsAreCalled = (kind : LockKind) (n : ℕ) (es : List Entry) → Legal kind n es → ActsInCalls kind es

@@ -1,5 +1,5 @@
 -- Definitions. What a step leaves, and the arithmetic of words. This project's own.
-use Rattle.std.specs.Prelude.{ℕ, ◌+◌, ◌-◌, ◌%◌, ◌^◌, List}
+use Rattle.std.specs.Prelude.{ℕ, ◌+◌, ◌-◌, ◌%◌, ◌^◌, List, set, slice_index}
 use Rattle.lk_locks.specs.declared.kinds.Phase.{Phase}
 use Rattle.lk_locks.specs.declared.kinds.Outcome.{Outcome}
 
@@ -18,3 +18,7 @@ plus_one bits x = (x + 1) % 2 ^ bits
 
 abbrev pub less_one : ℕ → ℕ → ℕ
 less_one bits x = (x + (2 ^ bits - 1)) % 2 ^ bits
+
+-- one more in word i
+abbrev pub raised : ℕ → List ℕ → ℕ → List ℕ
+raised bits words i = set words i (plus_one bits (slice_index words i))

@@ -15,7 +15,15 @@ IsQueueLock Ticket = Unit {0}
 IsQueueLock Mcs = Unit {0}
 IsQueueLock kind = ⊥
 
--- queue locks
+-- Queue locks. What is said of acquires holds of the histories of all locks: a read-write lock has none.
+
+-- between the return of an acquire and the return of a later one stands the act of the first one's release
+abbrev pub HasOneHolder : List Entry → Type 0
+HasOneHolder es =
+    (t u : ℕ) → Between (Returned t Acquire) (Returned u Acquire) (Occurs (Acted t Release)) es
+
+abbrev pub HoldersAreApart : Type 0
+HoldersAreApart = (kind : LockKind) (n : ℕ) (es : List Entry) → Legal kind n es → HasOneHolder es
 
 -- who holds, from here on: an acquire returns only where nobody holds, and only who holds releases
 abbrev pub MayHold : Option ℕ → Entry → Type 0
@@ -29,45 +37,54 @@ IsHeldInTurn h (e ∷ es) = MayHold h e × IsHeldInTurn (holder_after h (e ∷ [
 
 -- a queue lock is held by one thread at a time
 abbrev pub HoldersTakeTurns : Type 0
-HoldersTakeTurns = (kind : LockKind) (n : ℕ) (es : List Entry) → IsQueueLock kind → Legal kind n es → IsHeldInTurn None es
+HoldersTakeTurns =
+    (kind : LockKind) (n : ℕ) (es : List Entry) → Legal kind n es → IsHeldInTurn None es
 
--- who holds a queue lock is the head of its queue
+-- who holds is the head of the queue
+abbrev pub IsHeldByHead : LockKind → List Entry → Type 0
+IsHeldByHead kind es =
+    (t : ℕ) → holder_after None es ≡ Some t
+    → IsTrue (is_head (after_entries (nobody kind) es).queue t)
+
 abbrev pub HolderIsHead : Type 0
-HolderIsHead =
-    (kind : LockKind) (n : ℕ) (es : List Entry) → IsQueueLock kind → Legal kind n es
-    → (t : ℕ) → holder_after None es ≡ Some t → IsTrue (is_head (after_entries (nobody kind) es).queue t)
+HolderIsHead = (kind : LockKind) (n : ℕ) (es : List Entry) → Legal kind n es → IsHeldByHead kind es
 
--- between the return of an acquire and the return of a later one stands the act of the first one's release
-abbrev pub HoldersAreApart : Type 0
-HoldersAreApart =
-    (kind : LockKind) (n : ℕ) (es : List Entry) → IsQueueLock kind → Legal kind n es
-    → (t u : ℕ) → Between (Returned t Acquire) (Returned u Acquire) (Occurs (Acted t Release)) es
-
--- read-write locks
+-- Read-write locks
 
 -- t has stopped writing, by an unlock or as a reader
 abbrev pub HasStoppedWriting : ℕ → List Entry → Type 0
 HasStoppedWriting t es = Occurs (Acted t WriteUnlock) es ⊎ Occurs (Acted t Downgrade) es
 
 -- between two writers the first stops writing
-abbrev pub NeverTwoWriters : Type 0
-NeverTwoWriters =
-    (kind : LockKind) (n : ℕ) (es : List Entry) → Legal kind n es
-    → (t u : ℕ) → Between (Acted t WriteLock) (Acted u WriteLock) (HasStoppedWriting t) es
+abbrev pub HasOneWriter : List Entry → Type 0
+HasOneWriter es = (t u : ℕ) → Between (Acted t WriteLock) (Acted u WriteLock) (HasStoppedWriting t) es
 
--- A reader enters only after the writer before it stopped writing, and a writer only after each reader before it left. Where there is a
--- writer, after whatever beginning of the history, there is no reader.
+abbrev pub NeverTwoWriters : Type 0
+NeverTwoWriters = (kind : LockKind) (n : ℕ) (es : List Entry) → Legal kind n es → HasOneWriter es
+
+-- after whatever beginning of the history: where there is a writer, there is no reader
+abbrev pub HasNoReaderBeside : LockKind → List Entry → Type 0
+HasNoReaderBeside kind es =
+    (before after : List Entry) → es ≡ before ++ after
+    → let now : Sequential = after_entries (nobody kind) before in
+      (w : ℕ) → now.writer ≡ Some w → now.readers ≡ []
+
+-- A reader enters only after the writer before it stopped writing, and a writer only after each reader before
+-- it left, and each writer that became a reader.
 pub record IsNeverBesideReader (kind : LockKind) (es : List Entry) : Type 0 where
   pub then_reader : (t u : ℕ) → Between (Acted t WriteLock) (Acted u ReadLock) (HasStoppedWriting t) es
-  pub then_writer : (t u : ℕ) → Between (Acted t ReadLock) (Acted u WriteLock) (Occurs (Acted t ReadUnlock)) es
-  pub downgraded_writer : (t u : ℕ) → Between (Acted t Downgrade) (Acted u WriteLock) (Occurs (Acted t ReadUnlock)) es
-  pub no_reader : (before after : List Entry) → es ≡ before ++ after
-      → let now : Sequential = after_entries (nobody kind) before in (w : ℕ) → now.writer ≡ Some w → now.readers ≡ []
+  pub then_writer : (t u : ℕ)
+      → Between (Acted t ReadLock) (Acted u WriteLock) (Occurs (Acted t ReadUnlock)) es
+  pub downgraded_writer : (t u : ℕ)
+      → Between (Acted t Downgrade) (Acted u WriteLock) (Occurs (Acted t ReadUnlock)) es
+  pub no_reader : HasNoReaderBeside kind es
 
 abbrev pub NeverAWriterBesideAReader : Type 0
-NeverAWriterBesideAReader = (kind : LockKind) (n : ℕ) (es : List Entry) → Legal kind n es → IsNeverBesideReader kind es
+NeverAWriterBesideAReader =
+    (kind : LockKind) (n : ℕ) (es : List Entry) → Legal kind n es → IsNeverBesideReader kind es
 
--- between the announcement of a FIFO writer and a later reader's entering, or another's announcement, stands that writer's entering
+-- between the announcement of a FIFO writer and a later reader's entering, or another's announcement, stands
+-- that writer's entering
 pub record IsAnnouncedFirst (es : List Entry) : Type 0 where
   pub then_reader : (t u : ℕ) → Between (Announced t) (Acted u ReadLock) (Occurs (Acted t WriteLock)) es
   pub then_announced : (t u : ℕ) → Between (Announced t) (Announced u) (Occurs (Acted t WriteLock)) es

@@ -1,7 +1,6 @@
 -- Definitions. The order in which a queue lock is entered: a law of every legal history. This project's own.
 use Rattle.std.specs.Prelude.{◌≡◌, ℕ, List, [], ◌∷◌, ◌++◌}
 use Rattle.lk_locks.specs.Legal.{Legal}
-use Rattle.lk_locks.specs.Exclusion.{IsQueueLock}
 use Rattle.lk_locks.specs.declared.kinds.LockKind.{LockKind}
 use Rattle.lk_locks.specs.declared.kinds.Op.TheVariants.{Acquire}
 use Rattle.lk_locks.specs.declared.kinds.Entry.{Entry}
@@ -20,6 +19,8 @@ entered (Returned t Acquire ∷ es) = t ∷ entered es
 entered (e ∷ es) = entered es
 
 -- those that entered are, in order, a beginning of those that asked
+abbrev pub IsInOrder : List Entry → Type 0
+IsInOrder es = (rest : List ℕ) × (entered es ++ rest ≡ requested es)
+
 abbrev pub EntersInOrder : Type 0
-EntersInOrder =
-    (kind : LockKind) (n : ℕ) (es : List Entry) → IsQueueLock kind → Legal kind n es → (rest : List ℕ) × (entered es ++ rest ≡ requested es)
+EntersInOrder = (kind : LockKind) (n : ℕ) (es : List Entry) → Legal kind n es → IsInOrder es

@@ -1,26 +1,31 @@
 -- Definitions. Whole lists of moves on a new lock. This project's own.
-use Rattle.std.specs.Prelude.{◌≡◌, ℕ, ◌<◌, ◌≤◌, ◌^◌, List, [], ◌∷◌, length, slice_index, Option, None, Some}
+use Rattle.std.specs.Prelude.{◌≡◌, ℕ, ◌<◌, ◌≤◌, ◌^◌, List, [], ◌∷◌, length, slice_index}
 use Rattle.lk_locks.specs.State.{start, word_count}
-use Rattle.lk_locks.specs.Steps.{refusal_of}
+use Rattle.lk_locks.specs.Steps.{refusal_of, unless_refused}
 use Rattle.lk_locks.specs.Play.{RecordedLock, after_play}
 use Rattle.lk_locks.specs.Sequential.{nobody}
 use Rattle.lk_locks.specs.Legal.{Legal}
-use Rattle.lk_locks.specs.declared.kinds.Refusal.{Refusal}
 use Rattle.lk_locks.specs.declared.kinds.LockKind.{LockKind}
 use Rattle.lk_locks.specs.declared.kinds.Move.{Move}
-
-abbrev pub played_unless : Option Refusal → RecordedLock → RecordedLock → RecordedLock
-played_unless None next k = next
-played_unless (Some r) next k = k
+use Rattle.lk_locks.specs.declared.kinds.Entry.{Entry}
 
 -- moves one after another. A refused one changes nothing
 abbrev pub after_moves : RecordedLock → List (ℕ × Move) → RecordedLock
 after_moves k [] = k
-after_moves k (m ∷ ms) = after_moves (played_unless (refusal_of k.state m.0 m.1) (after_play k m.0 m.1) k) ms
+after_moves k (m ∷ ms) =
+    after_moves (unless_refused (refusal_of k.state m.0 m.1) (after_play k m.0 m.1) k) ms
 
 abbrev pub new_lock : LockKind → ℕ → List ℕ → ℕ → RecordedLock
-new_lock kind bits ws n = record { state = start kind bits ws n; sequential = nobody kind; entries = [] }
+new_lock kind bits ws n =
+    record { state = start kind bits ws n; sequential = nobody kind; entries = [] }
+
+-- what holds of the history that each list of moves leaves on a new lock, with enough words, all 0
+abbrev pub OfEveryRun : (LockKind → ℕ → List Entry → Type 0) → Type 0
+OfEveryRun Holds =
+    (kind : LockKind) (bits : ℕ) (ws : List ℕ) (n : ℕ) (ms : List (ℕ × Move)) → n ≤ 64 → n < 2 ^ bits
+    → word_count kind n ≤ length ws → ((i : ℕ) → i < length ws → slice_index ws i ≡ 0)
+    → Holds kind n (after_moves (new_lock kind bits ws n) ms).entries
 
 -- whatever moves are played, the history of a new lock is legal
 abbrev pub EveryHistoryIsLegal : Type 0
-EveryHistoryIsLegal = (kind : LockKind) (bits : ℕ) (ws : List ℕ) (n : ℕ) (ms : List (ℕ × Move)) → n ≤ 64 → n < 2 ^ bits → word_count kind n ≤ length ws → ((i : ℕ) → i < length ws → slice_index ws i ≡ 0) → Legal kind n (after_moves (new_lock kind bits ws n) ms).entries
+EveryHistoryIsLegal = OfEveryRun Legal

@@ -1,9 +1,5 @@
 -- Definitions. The state of a lock: its kind, its words, and what each thread does. This project's own.
-use Rattle.std.specs.Prelude.{ℕ, List, get_or, replicate}
-use Rattle.lk_locks.specs.ticket
-use Rattle.lk_locks.specs.mcs
-use Rattle.lk_locks.specs.rw_simple
-use Rattle.lk_locks.specs.rw_fifo
+use Rattle.std.specs.Prelude.{ℕ, ◌+◌, ◌*◌, List, get_or, replicate}
 use Rattle.lk_locks.specs.declared.kinds.LockKind.{LockKind}
 use Rattle.lk_locks.specs.declared.kinds.LockKind.TheVariants.{Ticket, Mcs, RwSimple, RwFifo}
 use Rattle.lk_locks.specs.declared.kinds.Phase.{Phase}
@@ -18,10 +14,10 @@ pub record State : Type 0 where
 
 -- how many words a lock of this kind has
 abbrev pub word_count : LockKind → ℕ → ℕ
-word_count Ticket threads = ticket.word_count threads
-word_count Mcs threads = mcs.word_count threads
-word_count RwSimple threads = rw_simple.word_count threads
-word_count RwFifo threads = rw_fifo.word_count threads
+word_count Ticket threads = 2
+word_count Mcs threads = 1 + 2 * threads
+word_count RwSimple threads = 2
+word_count RwFifo threads = 3
 
 -- what thread t does
 abbrev pub phase_at : List Phase → ℕ → Phase

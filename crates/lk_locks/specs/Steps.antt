@@ -1,6 +1,7 @@
 -- Definitions. Which moves are accepted, and what an accepted move does. The rooms say what is each lock's own; this file knows none
 -- of their phases or words. This project's own: the seven refusals and their order.
-use Rattle.std.specs.Prelude.{ℕ, List, length, set, Option, None, Some, Bool, true, false, nat_lt, if◌then◌else◌, Result, Ok, Err}
+use Rattle.std.specs.Prelude.{ℕ, List, [], ◌∷◌, length, set, Option, None, Some, unwrap_or, Bool, true, false, not, nat_lt, if◌then◌else◌, Result, Ok, Err}
+use Rattle.std.specs.List.{list_any}
 use Rattle.lk_locks.specs.Change.{Change, to}
 use Rattle.lk_locks.specs.State.{State, phase_at}
 use Rattle.lk_locks.specs.ticket
@@ -13,7 +14,7 @@ use Rattle.lk_locks.specs.declared.kinds.LockKind.TheVariants.{Ticket, Mcs, RwSi
 use Rattle.lk_locks.specs.declared.kinds.Phase.{Phase}
 use Rattle.lk_locks.specs.declared.kinds.Phase.TheVariants.{Idle}
 use Rattle.lk_locks.specs.declared.kinds.Op.{Op}
-use Rattle.lk_locks.specs.declared.kinds.Op.TheVariants.{Acquire, ReadLock, WriteLock}
+use Rattle.lk_locks.specs.declared.kinds.Op.TheVariants.{Acquire, Release}
 use Rattle.lk_locks.specs.declared.kinds.StepKind.{StepKind}
 use Rattle.lk_locks.specs.declared.kinds.StepKind.TheVariants.{Read, Write, Swap, Cas, Add, Section}
 use Rattle.lk_locks.specs.declared.kinds.Move.{Move}
@@ -25,59 +26,41 @@ use Rattle.lk_locks.specs.declared.kinds.Refusal.TheVariants.{NoSuchThread, Wron
 
 -- what the rooms say
 
+-- a queue lock has these operations, and a read-write lock the others
+abbrev pub is_queue_op : Op → Bool
+is_queue_op Acquire = true
+is_queue_op Release = true
+is_queue_op op = false
+
 abbrev pub has_op : LockKind → Op → Bool
-has_op Ticket op = ticket.has_op op
-has_op Mcs op = mcs.has_op op
-has_op RwSimple op = read_write.has_op op
-has_op RwFifo op = read_write.has_op op
+has_op Ticket op = is_queue_op op
+has_op Mcs op = is_queue_op op
+has_op kind op = not (is_queue_op op)
 
-abbrev pub has_step : LockKind → StepKind → Bool
-has_step Ticket step = ticket.has_step step
-has_step Mcs step = mcs.has_step step
-has_step RwSimple step = read_write.has_step step
-has_step RwFifo step = read_write.has_step step
+abbrev pub steps_of : LockKind → List StepKind
+steps_of Ticket = Add ∷ Read ∷ Write ∷ []
+steps_of Mcs = Read ∷ Write ∷ Swap ∷ Cas ∷ []
+steps_of kind = Section ∷ []
 
-abbrev pub may_release : LockKind → Phase → Op → Bool
-may_release Ticket p op = ticket.may_release p op
-may_release Mcs p op = mcs.may_release p op
-may_release RwSimple p op = read_write.may_release p op
-may_release RwFifo p op = read_write.may_release p op
-
-abbrev pub after_call : LockKind → Phase → Op → Phase
+-- the phase that a call leads to, where a thread in this phase may make it
+abbrev pub after_call : LockKind → Phase → Op → Option Phase
 after_call Ticket p op = ticket.after_call p op
 after_call Mcs p op = mcs.after_call p op
-after_call RwSimple p op = read_write.after_call p op
-after_call RwFifo p op = read_write.after_call p op
+after_call kind p op = read_write.after_call p op
 
 -- the step that a thread in this phase takes next. There is none where it has no pending call
 abbrev pub step_due : LockKind → Phase → Option StepKind
 step_due Ticket p = ticket.step_due p
 step_due Mcs p = mcs.step_due p
-step_due RwSimple p = rw_simple.step_due p
-step_due RwFifo p = rw_fifo.step_due p
+step_due kind p = read_write.step_due p
 
 abbrev pub step_of : LockKind → ℕ → List ℕ → ℕ → Phase → Change
 step_of Ticket bits ws t p = ticket.step bits t ws p
 step_of Mcs bits ws t p = mcs.step bits t ws p
-step_of RwSimple bits ws t p = rw_simple.step bits t ws p
-step_of RwFifo bits ws t p = rw_fifo.step bits t ws p
+step_of RwSimple bits ws t p = rw_simple.step bits ws p
+step_of RwFifo bits ws t p = rw_fifo.step bits ws p
 
 -- refusals
-
-abbrev pub belongs : LockKind → Move → Bool
-belongs kind (Call op) = has_op kind op
-belongs kind (Step step) = has_step kind step
-
-abbrev pub is_acquiring : Op → Bool
-is_acquiring Acquire = true
-is_acquiring ReadLock = true
-is_acquiring WriteLock = true
-is_acquiring op = false
-
--- a thread with no pending call holds the lock, unless it is idle
-abbrev pub is_idle : Phase → Bool
-is_idle Idle = true
-is_idle p = false
 
 abbrev pub same_step : StepKind → StepKind → Bool
 same_step Read Read = true
@@ -88,14 +71,20 @@ same_step Add Add = true
 same_step Section Section = true
 same_step a b = false
 
--- why a call of a thread with no pending call is refused
-abbrev pub refusal_of_call : LockKind → Phase → Op → Option Refusal
-refusal_of_call kind p op =
-    if is_acquiring op then (if is_idle p then None else Some AlreadyHolds) else (if may_release kind p op then None else Some NotHolder)
+abbrev pub belongs : LockKind → Move → Bool
+belongs kind (Call op) = has_op kind op
+belongs kind (Step step) = list_any (same_step step) (steps_of kind)
+
+-- Why a call is refused, by where it leads and where it would lead an idle thread. What an idle thread may
+-- call acquires; a thread that is not idle and has no pending call holds the lock.
+abbrev pub refusal_of_call : Option Phase → Option Phase → Option Refusal
+refusal_of_call (Some next) idle = None
+refusal_of_call None (Some next) = Some AlreadyHolds
+refusal_of_call None None = Some NotHolder
 
 -- why a move of a thread in this phase, whose next step is due, is refused
 abbrev pub refusal_at : LockKind → Phase → Option StepKind → Move → Option Refusal
-refusal_at kind p None (Call op) = refusal_of_call kind p op
+refusal_at kind p None (Call op) = refusal_of_call (after_call kind p op) (after_call kind Idle op)
 refusal_at kind p (Some next) (Call op) = Some Busy
 refusal_at kind p None (Step step) = Some NoCall
 refusal_at kind p (Some next) (Step step) = if same_step next step then None else Some (WrongStep next)
@@ -113,17 +102,16 @@ refusal_of s t m =
 -- what an accepted move does
 
 abbrev pub move_change : LockKind → ℕ → List ℕ → ℕ → Phase → Move → Change
-move_change kind bits ws t p (Call op) = to ws (after_call kind p op) Called
+move_change kind bits ws t p (Call op) = to ws (unwrap_or (after_call kind p op) p) Called
 move_change kind bits ws t p (Step step) = step_of kind bits ws t p
 
 abbrev pub change_of : State → ℕ → Move → Change
 change_of s t m = move_change s.kind s.bits s.words t (phase_at s.phases t) m
 
-abbrev pub changed : State → ℕ → Change → State
-changed s t c = record { kind = s.kind; bits = s.bits; words = c.words; phases = set s.phases t c.phase }
-
 abbrev pub next_state : State → ℕ → Move → State
-next_state s t m = changed s t (change_of s t m)
+next_state s t m =
+    let c : Change = change_of s t m in
+    record s { words = c.words; phases = set s.phases t c.phase }
 
 -- the answer to a move, and the state after it: a refused move changes nothing
 
@@ -139,9 +127,9 @@ abbrev pub refused_with : {A : Type 0} → Result A Refusal → Option Refusal
 refused_with (Ok o) = None
 refused_with (Err r) = Some r
 
-abbrev pub unless_refused : Option Refusal → State → State → State
-unless_refused None next s = next
-unless_refused (Some r) next s = s
+abbrev pub unless_refused : {A : Type 0} → Option Refusal → A → A → A
+unless_refused None next now = next
+unless_refused (Some r) next now = now
 
 abbrev pub after_move : State → ℕ → Move → State
 after_move s t m = unless_refused (refusal_of s t m) (next_state s t m) s

@@ -3,7 +3,7 @@
 -- Mellor-Crummey and Scott, "Algorithms for Scalable Synchronization on Shared-Memory Multiprocessors", ACM TOCS 9(1), 1991,
 -- section 2.4, with the release that has compare-and-swap. Different here: each thread has one record, and thread i's is record i + 1,
 -- so that 0 is nil; the last write of a release uses the successor that was read last, without reading it again.
-use Rattle.std.specs.Prelude.{ℕ, ◌+◌, ◌-◌, ◌*◌, ◌==◌, List, [], ◌∷◌, slice_index, set, Option, None, Some, Bool, true, false, if◌then◌else◌}
+use Rattle.std.specs.Prelude.{ℕ, ◌+◌, ◌-◌, ◌*◌, ◌==◌, List, [], ◌∷◌, slice_index, set, Option, None, Some, if◌then◌else◌}
 use Rattle.lk_locks.specs.Change.{Change, to}
 use Rattle.lk_locks.specs.Acts.{acts}
 use Rattle.lk_locks.specs.declared.kinds.Phase.{Phase}
@@ -27,30 +27,11 @@ next i = 1 + 2 * i
 abbrev pub locked : ℕ → ℕ
 locked i = 2 + 2 * i
 
-abbrev pub word_count : ℕ → ℕ
-word_count threads = 1 + 2 * threads
-
-abbrev pub has_op : Op → Bool
-has_op Acquire = true
-has_op Release = true
-has_op op = false
-
-abbrev pub has_step : StepKind → Bool
-has_step Read = true
-has_step Write = true
-has_step Swap = true
-has_step Cas = true
-has_step kind = false
-
--- what a thread inside may give up
-abbrev pub may_release : Phase → Op → Bool
-may_release McsInside Release = true
-may_release p op = false
-
--- the phase that a call leads to
-abbrev pub after_call : Phase → Op → Phase
-after_call p Release = ReadNext
-after_call p op = ClearNext
+-- the calls that a thread in this phase may make, and where they lead
+abbrev pub after_call : Phase → Op → Option Phase
+after_call Idle Acquire = Some ClearNext
+after_call McsInside Release = Some ReadNext
+after_call p op = None
 
 -- the step that a thread takes next
 abbrev pub step_due : Phase → Option StepKind
@@ -69,13 +50,19 @@ step_due p = None
 abbrev pub step : ℕ → ℕ → List ℕ → Phase → Change
 step bits i ws ClearNext = to (set ws (next i) 0) SwapTail Moved
 step bits i ws SwapTail =
-    if slice_index ws tail == 0 then to (set ws tail (i + 1)) McsInside Entered else to (set ws tail (i + 1)) (SetLocked (slice_index ws tail - 1)) Moved
+    if slice_index ws tail == 0
+    then to (set ws tail (i + 1)) McsInside Entered
+    else to (set ws tail (i + 1)) (SetLocked (slice_index ws tail - 1)) Moved
 step bits i ws (SetLocked j) = to (set ws (locked i) 1) (LinkTo j) Moved
 step bits i ws (LinkTo j) = to (set ws (next j) (i + 1)) AwaitGrant Moved
-step bits i ws AwaitGrant = if slice_index ws (locked i) == 0 then to ws McsInside Entered else to ws AwaitGrant Waits
-step bits i ws ReadNext = if slice_index ws (next i) == 0 then to ws CasTail Moved else to ws (Grant (slice_index ws (next i) - 1)) Moved
-step bits i ws CasTail = if slice_index ws tail == i + 1 then to (set ws tail 0) Idle Left else to ws AwaitLink Moved
-step bits i ws AwaitLink = if slice_index ws (next i) == 0 then to ws AwaitLink Waits else to ws (Grant (slice_index ws (next i) - 1)) Moved
+step bits i ws AwaitGrant =
+    if slice_index ws (locked i) == 0 then to ws McsInside Entered else to ws AwaitGrant Waits
+step bits i ws ReadNext =
+    if slice_index ws (next i) == 0 then to ws CasTail Moved else to ws (Grant (slice_index ws (next i) - 1)) Moved
+step bits i ws CasTail =
+    if slice_index ws tail == i + 1 then to (set ws tail 0) Idle Left else to ws AwaitLink Moved
+step bits i ws AwaitLink =
+    if slice_index ws (next i) == 0 then to ws AwaitLink Waits else to ws (Grant (slice_index ws (next i) - 1)) Moved
 step bits i ws (Grant j) = to (set ws (locked j) 0) Idle Left
 step bits i ws p = to ws p Waits
 

@@ -1,35 +1,49 @@
--- Definitions. What the two read-write locks share: their operations, their one kind of step, and what a thread inside may give up.
+-- Definitions. What the two read-write locks share: their calls, their one kind of step, and the entries of
+-- their sections.
 --
--- After Herlihy and Shavit, The Art of Multiprocessor Programming, chapter 8. `Downgrade`, by which a writer becomes a reader in one
--- section, is this project's own.
-use Rattle.std.specs.Prelude.{Bool, true, false}
+-- After Herlihy and Shavit, The Art of Multiprocessor Programming, chapter 8. `Downgrade`, by which a
+-- writer becomes a reader in one section, is this project's own.
+use Rattle.std.specs.Prelude.{ℕ, List, [], ◌∷◌, ◌++◌, Option, None, Some}
+use Rattle.lk_locks.specs.Acts.{acts, announcement}
+use Rattle.lk_locks.specs.declared.kinds.LockKind.{LockKind}
 use Rattle.lk_locks.specs.declared.kinds.Phase.{Phase}
-use Rattle.lk_locks.specs.declared.kinds.Phase.TheVariants.{Reading, Writing, TryRead, LeaveRead, TryWrite, LeaveWrite, TryDowngrade}
+use Rattle.lk_locks.specs.declared.kinds.Phase.TheVariants.{Idle, TryRead, Reading, LeaveRead, TryWrite, AwaitReaders, Writing, LeaveWrite, TryDowngrade}
 use Rattle.lk_locks.specs.declared.kinds.Op.{Op}
-use Rattle.lk_locks.specs.declared.kinds.Op.TheVariants.{Acquire, Release, ReadLock, ReadUnlock, WriteLock, WriteUnlock, Downgrade}
+use Rattle.lk_locks.specs.declared.kinds.Op.TheVariants.{ReadLock, ReadUnlock, WriteLock, WriteUnlock, Downgrade}
 use Rattle.lk_locks.specs.declared.kinds.StepKind.{StepKind}
 use Rattle.lk_locks.specs.declared.kinds.StepKind.TheVariants.{Section}
+use Rattle.lk_locks.specs.declared.kinds.Outcome.{Outcome}
+use Rattle.lk_locks.specs.declared.kinds.Outcome.TheVariants.{Moved, Entered, Left}
+use Rattle.lk_locks.specs.declared.kinds.Entry.{Entry}
+use Rattle.lk_locks.specs.declared.kinds.Entry.TheVariants.{Announced}
 
-abbrev pub has_op : Op → Bool
-has_op Acquire = false
-has_op Release = false
-has_op op = true
+-- the calls that a thread in this phase may make, and where they lead
+abbrev pub after_call : Phase → Op → Option Phase
+after_call Idle ReadLock = Some TryRead
+after_call Reading ReadUnlock = Some LeaveRead
+after_call Idle WriteLock = Some TryWrite
+after_call Writing WriteUnlock = Some LeaveWrite
+after_call Writing Downgrade = Some TryDowngrade
+after_call p op = None
 
-abbrev pub has_step : StepKind → Bool
-has_step Section = true
-has_step kind = false
+-- The step that a thread takes next. Only a FIFO writer awaits readers.
+abbrev pub step_due : Phase → Option StepKind
+step_due TryRead = Some Section
+step_due LeaveRead = Some Section
+step_due TryWrite = Some Section
+step_due AwaitReaders = Some Section
+step_due LeaveWrite = Some Section
+step_due TryDowngrade = Some Section
+step_due p = None
 
--- what a reader or a writer may give up
-abbrev pub may_release : Phase → Op → Bool
-may_release Reading ReadUnlock = true
-may_release Writing WriteUnlock = true
-may_release Writing Downgrade = true
-may_release p op = false
-
--- the phase that a call leads to
-abbrev pub after_call : Phase → Op → Phase
-after_call p ReadLock = TryRead
-after_call p ReadUnlock = LeaveRead
-after_call p WriteLock = TryWrite
-after_call p Downgrade = TryDowngrade
-after_call p op = LeaveWrite
+-- The entries of a section. A FIFO writer announces itself where it sets the flag; a call acts where it
+-- succeeds.
+abbrev pub entries : LockKind → ℕ → Phase → Outcome → List Entry
+entries kind i TryRead Entered = acts i ReadLock
+entries kind i LeaveRead Left = acts i ReadUnlock
+entries kind i TryWrite Moved = Announced i ∷ []
+entries kind i TryWrite Entered = announcement kind i WriteLock ++ acts i WriteLock
+entries kind i AwaitReaders Entered = acts i WriteLock
+entries kind i LeaveWrite Left = acts i WriteUnlock
+entries kind i TryDowngrade Entered = acts i Downgrade
+entries kind i p o = []

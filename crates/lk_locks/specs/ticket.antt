@@ -5,12 +5,12 @@
 -- release is two steps, a read of `now_serving` and a write of the value read plus one.
 --
 -- Each step is one of the four events of `laws`, on the word that it reads or writes.
-use Rattle.std.specs.Prelude.{ℕ, List, [], ◌∷◌, slice_index, set, Option, None, Some, Bool, true, false}
+use Rattle.std.specs.Prelude.{ℕ, List, [], ◌∷◌, slice_index, set, Option, None, Some}
 use Rattle.lk_locks.specs.Change.{Change, to}
 use Rattle.lk_locks.specs.Acts.{acts}
 use Rattle.lk_locks.specs.laws.{Event, acquiring, releasing, take_event, look_event, read_event, pass_event}
 use Rattle.lk_locks.specs.declared.kinds.Phase.{Phase}
-use Rattle.lk_locks.specs.declared.kinds.Phase.TheVariants.{TakeTicket, AwaitTurn, TicketInside, ReadServing, PassOn}
+use Rattle.lk_locks.specs.declared.kinds.Phase.TheVariants.{Idle, TakeTicket, AwaitTurn, TicketInside, ReadServing, PassOn}
 use Rattle.lk_locks.specs.declared.kinds.Op.{Op}
 use Rattle.lk_locks.specs.declared.kinds.Op.TheVariants.{Acquire, Release}
 use Rattle.lk_locks.specs.declared.kinds.StepKind.{StepKind}
@@ -27,29 +27,11 @@ next_ticket = 0
 abbrev pub now_serving : ℕ
 now_serving = 1
 
-abbrev pub word_count : ℕ → ℕ
-word_count threads = 2
-
-abbrev pub has_op : Op → Bool
-has_op Acquire = true
-has_op Release = true
-has_op op = false
-
-abbrev pub has_step : StepKind → Bool
-has_step Add = true
-has_step Read = true
-has_step Write = true
-has_step kind = false
-
--- what a thread inside may give up
-abbrev pub may_release : Phase → Op → Bool
-may_release (TicketInside t) Release = true
-may_release p op = false
-
--- the phase that a call leads to
-abbrev pub after_call : Phase → Op → Phase
-after_call (TicketInside t) Release = releasing t
-after_call p op = acquiring
+-- the calls that a thread in this phase may make, and where they lead
+abbrev pub after_call : Phase → Op → Option Phase
+after_call Idle Acquire = Some acquiring
+after_call (TicketInside t) Release = Some (releasing t)
+after_call p op = None
 
 -- the step that a thread takes next
 abbrev pub step_due : Phase → Option StepKind

@@ -5,7 +5,8 @@
 //! `i + 1`, so that 0 is nil; the last write of a release uses the successor that was read last.
 
 ghost use Rattle.std.specs.Prelude.{◌≡◌, ◌+◌, [], false, true};
-ghost use Rattle.lk_locks.specs.mcs.{next, locked, word_count, has_op, has_step, may_release, after_call, step_due, step, entries};
+ghost use Rattle.lk_locks.specs.mcs.{next, locked, after_call, step_due, step, entries};
+ghost use Rattle.lk_locks.specs.State.{word_count};
 ghost use Rattle.lk_locks.specs.invariants.mcs.{is_inside};
 ghost use Rattle.lk_locks.specs.invariants.WellFormed.{IsReady};
 ghost use Rattle.lk_locks.specs.declared.kinds.LockKind.TheVariants.{Mcs};
@@ -39,41 +40,19 @@ fn locked(thread: u8) -> usize
 
 /// How many words the lock has, with so many threads.
 pub fn word_count(threads: u8) -> usize
-    ensures { result ≡ word_count threads }
+    ensures { result ≡ word_count Mcs threads }
 {
     1 + 2 * threads as usize
 }
 
-pub fn has_op(op: Op) -> bool
-    ensures { result ≡ has_op op }
-{
-    matches!(op, Op::Acquire | Op::Release)
-}
-
-pub fn has_step(kind: StepKind) -> bool
-    ensures { result ≡ has_step kind }
-{
-    matches!(
-        kind,
-        StepKind::Read | StepKind::Write | StepKind::Swap | StepKind::Cas
-    )
-}
-
-/// Whether a thread that is inside may give this up.
-pub fn may_release(phase: Phase, op: Op) -> bool
-    ensures { result ≡ may_release phase op }
-{
-    matches!((phase, op), (Phase::McsInside, Op::Release))
-}
-
-/// The phase that a call leads to.
-pub fn after_call(phase: Phase, op: Op) -> Phase
+/// The phase that a call leads to, where a thread in this phase may make it.
+pub fn after_call(phase: Phase, op: Op) -> Option<Phase>
     ensures { result ≡ after_call phase op }
 {
-    let _ = phase;
-    match op {
-        Op::Release => Phase::ReadNext,
-        _ => Phase::ClearNext,
+    match (phase, op) {
+        (Phase::Idle, Op::Acquire) => Some(Phase::ClearNext),
+        (Phase::McsInside, Op::Release) => Some(Phase::ReadNext),
+        _ => None,
     }
 }
 
@@ -128,9 +107,10 @@ fn step_of_acquire<W: Words>(words: &mut W, thread: u8, phase: Phase) -> (Phase,
             words.write(next(before), record(thread));
             (Phase::AwaitGrant, Outcome::Moved)
         }
-        Phase::AwaitGrant if words.read(locked(thread)) == 0 => {
-            (Phase::McsInside, Outcome::Entered)
-        }
+        Phase::AwaitGrant => match words.read(locked(thread)) {
+            0 => (Phase::McsInside, Outcome::Entered),
+            _ => (phase, Outcome::Waits),
+        },
         _ => (phase, Outcome::Waits),
     }
 }

@@ -1,45 +1,72 @@
-//! What the two read-write locks share: their operations, their one kind of step, and what a thread inside may give up.
+//! What the two read-write locks share: their calls, their one kind of step, and the entries of their sections.
 //!
 //! After Herlihy and Shavit, The Art of Multiprocessor Programming, chapter 8. `Downgrade` is this project's own.
 
-ghost use Rattle.std.specs.Prelude.{◌≡◌};
-ghost use Rattle.lk_locks.specs.read_write.{has_op, has_step, may_release, after_call};
+ghost use Rattle.std.specs.Prelude.{◌≡◌, []};
+ghost use Rattle.lk_locks.specs.read_write.{after_call, step_due, entries};
+ghost use Rattle.lk_locks.specs.declared.kinds.Phase.TheVariants.{TryWrite};
+ghost use Rattle.lk_locks.specs.declared.kinds.Outcome.TheVariants.{Entered};
 
-use crate::{Op, Phase, StepKind};
+use crate::entries::Added;
+use crate::{Entry, LockKind, Op, Outcome, Phase, StepKind};
 
-pub fn has_op(op: Op) -> bool
-    ensures { result ≡ has_op op }
+/// The phase that a call leads to, where a thread in this phase may make it.
+pub fn after_call(phase: Phase, op: Op) -> Option<Phase>
+    ensures { result ≡ after_call phase op }
 {
-    !matches!(op, Op::Acquire | Op::Release)
-}
-
-pub fn has_step(kind: StepKind) -> bool
-    ensures { result ≡ has_step kind }
-{
-    matches!(kind, StepKind::Section)
-}
-
-/// Whether a reader or a writer may give this up.
-pub fn may_release(phase: Phase, op: Op) -> bool
-    ensures { result ≡ may_release phase op }
-{
-    match phase {
-        Phase::Reading => matches!(op, Op::ReadUnlock),
-        Phase::Writing => matches!(op, Op::WriteUnlock | Op::Downgrade),
-        _ => false,
+    match (phase, op) {
+        (Phase::Idle, Op::ReadLock) => Some(Phase::TryRead),
+        (Phase::Reading, Op::ReadUnlock) => Some(Phase::LeaveRead),
+        (Phase::Idle, Op::WriteLock) => Some(Phase::TryWrite),
+        (Phase::Writing, Op::WriteUnlock) => Some(Phase::LeaveWrite),
+        (Phase::Writing, Op::Downgrade) => Some(Phase::TryDowngrade),
+        _ => None,
     }
 }
 
-/// The phase that a call leads to.
-pub fn after_call(phase: Phase, op: Op) -> Phase
-    ensures { result ≡ after_call phase op }
+/// The step that a thread takes next.
+pub fn step_due(phase: Phase) -> Option<StepKind>
+    ensures { result ≡ step_due phase }
 {
-    let _ = phase;
-    match op {
-        Op::ReadLock => Phase::TryRead,
-        Op::ReadUnlock => Phase::LeaveRead,
-        Op::WriteLock => Phase::TryWrite,
-        Op::Downgrade => Phase::TryDowngrade,
-        _ => Phase::LeaveWrite,
+    match phase {
+        Phase::TryRead
+        | Phase::LeaveRead
+        | Phase::TryWrite
+        | Phase::AwaitReaders
+        | Phase::LeaveWrite
+        | Phase::TryDowngrade => Some(StepKind::Section),
+        _ => None,
+    }
+}
+
+// The entries of a writer that comes in at its first section.
+fn add_writer(added: &mut Added, kind: LockKind, thread: u8)
+    requires { added.old ≡ [] }
+    ensures { added.new ≡ entries kind thread TryWrite Entered }
+{
+    match kind {
+        LockKind::RwFifo => added.three(
+            Entry::Announced(thread),
+            Entry::Acted(thread, Op::WriteLock),
+            Entry::Returned(thread, Op::WriteLock),
+        ),
+        _ => added.acts(thread, Op::WriteLock),
+    }
+}
+
+/// Adds the entries of a section.
+pub fn add_entries(added: &mut Added, kind: LockKind, thread: u8, phase: Phase, outcome: Outcome)
+    requires { added.old ≡ [] }
+    ensures { added.new ≡ entries kind thread phase outcome }
+{
+    match (phase, outcome) {
+        (Phase::TryRead, Outcome::Entered) => added.acts(thread, Op::ReadLock),
+        (Phase::LeaveRead, Outcome::Left) => added.acts(thread, Op::ReadUnlock),
+        (Phase::TryWrite, Outcome::Moved) => added.one(Entry::Announced(thread)),
+        (Phase::TryWrite, Outcome::Entered) => add_writer(added, kind, thread),
+        (Phase::AwaitReaders, Outcome::Entered) => added.acts(thread, Op::WriteLock),
+        (Phase::LeaveWrite, Outcome::Left) => added.acts(thread, Op::WriteUnlock),
+        (Phase::TryDowngrade, Outcome::Entered) => added.acts(thread, Op::Downgrade),
+        _ => {}
     }
 }

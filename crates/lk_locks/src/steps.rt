@@ -1,7 +1,9 @@
 //! Which moves are accepted, and what an accepted move does. The rooms know their lock; this file knows none of their phases or words.
 
 ghost use Rattle.std.specs.Prelude.{◌≡◌, Option, None, Some};
-ghost use Rattle.lk_locks.specs.Steps.{has_op, has_step, may_release, after_call, step_due, is_acquiring, is_idle, refusal_of_call, refusal_in, belongs, move_change, step_of};
+ghost use Rattle.lk_locks.specs.Steps.{has_op, steps_of, same_step, after_call, step_due, refusal_of_call, refusal_in, belongs, move_change, step_of};
+ghost use Rattle.std.specs.List.{list_any};
+ghost use Rattle.lk_locks.specs.declared.kinds.Phase.TheVariants.{Idle};
 ghost use Rattle.lk_locks.specs.invariants.Inside.{is_inside};
 ghost use Rattle.lk_locks.specs.invariants.WellFormed.{IsReady};
 
@@ -11,17 +13,36 @@ use crate::{
 };
 use lk_words::Words;
 
+fn has_op(kind: LockKind, op: Op) -> bool
+    ensures { result ≡ has_op kind op }
+{
+    let is_of_queue_locks = matches!(op, Op::Acquire | Op::Release);
+    match kind {
+        LockKind::Ticket | LockKind::Mcs => is_of_queue_locks,
+        LockKind::RwSimple | LockKind::RwFifo => !is_of_queue_locks,
+    }
+}
+
+fn has_step(kind: LockKind, step: StepKind) -> bool
+    ensures { result ≡ list_any (same_step step) (steps_of kind) }
+{
+    match kind {
+        LockKind::Ticket => matches!(step, StepKind::Add | StepKind::Read | StepKind::Write),
+        LockKind::Mcs => matches!(
+            step,
+            StepKind::Read | StepKind::Write | StepKind::Swap | StepKind::Cas
+        ),
+        LockKind::RwSimple | LockKind::RwFifo => matches!(step, StepKind::Section),
+    }
+}
+
 /// Whether the operation or the kind of step is one of the lock's.
 pub fn belongs(kind: LockKind, action: Move) -> bool
     ensures { result ≡ belongs kind action }
 {
-    match (kind, action) {
-        (LockKind::Ticket, Move::Call(op)) => ticket::has_op(op),
-        (LockKind::Ticket, Move::Step(step)) => ticket::has_step(step),
-        (LockKind::Mcs, Move::Call(op)) => mcs::has_op(op),
-        (LockKind::Mcs, Move::Step(step)) => mcs::has_step(step),
-        (_, Move::Call(op)) => read_write::has_op(op),
-        (_, Move::Step(step)) => read_write::has_step(step),
+    match action {
+        Move::Call(op) => has_op(kind, op),
+        Move::Step(step) => has_step(kind, step),
     }
 }
 
@@ -32,8 +53,7 @@ pub fn step_due(kind: LockKind, phase: Phase) -> Option<StepKind>
     match kind {
         LockKind::Ticket => ticket::step_due(phase),
         LockKind::Mcs => mcs::step_due(phase),
-        LockKind::RwSimple => rw_simple::step_due(phase),
-        LockKind::RwFifo => rw_fifo::step_due(phase),
+        LockKind::RwSimple | LockKind::RwFifo => read_write::step_due(phase),
     }
 }
 
@@ -48,17 +68,8 @@ pub fn is_inside(kind: LockKind, phase: Phase) -> bool
     }
 }
 
-fn may_release(kind: LockKind, phase: Phase, op: Op) -> bool
-    ensures { result ≡ may_release kind phase op }
-{
-    match kind {
-        LockKind::Ticket => ticket::may_release(phase, op),
-        LockKind::Mcs => mcs::may_release(phase, op),
-        LockKind::RwSimple | LockKind::RwFifo => read_write::may_release(phase, op),
-    }
-}
-
-fn after_call(kind: LockKind, phase: Phase, op: Op) -> Phase
+// The phase that a call leads to, where a thread in this phase may make it.
+fn after_call(kind: LockKind, phase: Phase, op: Op) -> Option<Phase>
     ensures { result ≡ after_call kind phase op }
 {
     match kind {
@@ -68,19 +79,14 @@ fn after_call(kind: LockKind, phase: Phase, op: Op) -> Phase
     }
 }
 
-// Why a call of a thread with no pending call is refused. Such a thread holds the lock, unless it is idle.
+// Why a call of a thread with no pending call is refused. What an idle thread may call acquires, and a thread that is not idle holds.
 fn refusal_of_call(kind: LockKind, phase: Phase, op: Op) -> Option<Refusal>
-    ensures { result ≡ refusal_of_call kind phase op }
+    ensures { result ≡ refusal_of_call (after_call kind phase op) (after_call kind Idle op) }
 {
-    let acquiring = matches!(op, Op::Acquire | Op::ReadLock | Op::WriteLock);
-    if acquiring {
-        if matches!(phase, Phase::Idle) {
-            None
-        } else {
-            Some(Refusal::AlreadyHolds)
-        }
-    } else if may_release(kind, phase, op) {
+    if after_call(kind, phase, op).is_some() {
         None
+    } else if after_call(kind, Phase::Idle, op).is_some() {
+        Some(Refusal::AlreadyHolds)
     } else {
         Some(Refusal::NotHolder)
     }
@@ -114,8 +120,8 @@ fn take_step<W: Words>(words: &mut W, kind: LockKind, thread: u8, phase: Phase) 
     match kind {
         LockKind::Ticket => ticket::step(words, thread, phase),
         LockKind::Mcs => mcs::step(words, thread, phase),
-        LockKind::RwSimple => rw_simple::step(words, thread, phase),
-        LockKind::RwFifo => rw_fifo::step(words, thread, phase),
+        LockKind::RwSimple => rw_simple::step(words, phase),
+        LockKind::RwFifo => rw_fifo::step(words, phase),
     }
 }
 
@@ -134,7 +140,10 @@ pub fn make_move<W: Words>(
     ensures width { W.width words.new ≡ W.width words.old }
 {
     match action {
-        Move::Call(op) => (after_call(kind, phase, op), Outcome::Called),
+        Move::Call(op) => (
+            after_call(kind, phase, op).unwrap_or(phase),
+            Outcome::Called,
+        ),
         Move::Step(_) => take_step(words, kind, thread, phase),
     }
 }

@@ -5,7 +5,7 @@
 //! `now_serving` and a write of the value read plus one.
 
 ghost use Rattle.std.specs.Prelude.{◌≡◌, []};
-ghost use Rattle.lk_locks.specs.ticket.{has_op, has_step, may_release, after_call, step_due, step, entries};
+ghost use Rattle.lk_locks.specs.ticket.{after_call, step_due, step, entries};
 ghost use Rattle.lk_locks.specs.invariants.ticket.{is_inside};
 ghost use Rattle.lk_locks.specs.invariants.WellFormed.{IsReady};
 ghost use Rattle.lk_locks.specs.declared.kinds.LockKind.TheVariants.{Ticket};
@@ -22,32 +22,14 @@ const NEXT_TICKET: usize = 0;
 
 const NOW_SERVING: usize = 1;
 
-pub fn has_op(op: Op) -> bool
-    ensures { result ≡ has_op op }
-{
-    matches!(op, Op::Acquire | Op::Release)
-}
-
-pub fn has_step(kind: StepKind) -> bool
-    ensures { result ≡ has_step kind }
-{
-    matches!(kind, StepKind::Add | StepKind::Read | StepKind::Write)
-}
-
-/// Whether a thread that is inside may give this up.
-pub fn may_release(phase: Phase, op: Op) -> bool
-    ensures { result ≡ may_release phase op }
-{
-    matches!((phase, op), (Phase::TicketInside(_), Op::Release))
-}
-
-/// The phase that a call leads to.
-pub fn after_call(phase: Phase, op: Op) -> Phase
+/// The phase that a call leads to, where a thread in this phase may make it.
+pub fn after_call(phase: Phase, op: Op) -> Option<Phase>
     ensures { result ≡ after_call phase op }
 {
     match (phase, op) {
-        (Phase::TicketInside(ticket), Op::Release) => Phase::ReadServing(ticket),
-        _ => Phase::TakeTicket,
+        (Phase::Idle, Op::Acquire) => Some(Phase::TakeTicket),
+        (Phase::TicketInside(ticket), Op::Release) => Some(Phase::ReadServing(ticket)),
+        _ => None,
     }
 }
 

@@ -1,5 +1,5 @@
 -- The room of the MCS queue lock: each step goes on with its call, and each move keeps the queue of the swaps.
-use Rattle.std.proofs.Common.{List, None, [], ap, arith, drop, false, inl, inr, length, refl, rules, set, slice_index, sym, true, ℕ, ◌*◌, ◌++◌, ◌+◌, ◌-◌, ◌<◌, ◌==◌, ◌∙◌, ◌∷◌, ◌≡◌, ◌≢◌, ◌≤◌}
+use Rattle.std.proofs.Common.{List, None, [], ap, arith, drop, false, inl, inr, length, refl, rules, set, slice_index, sym, true, unwrap_or, ℕ, ◌*◌, ◌++◌, ◌+◌, ◌-◌, ◌<◌, ◌==◌, ◌∙◌, ◌∷◌, ◌≡◌, ◌≢◌, ◌≤◌}
 use Rattle.std.proofs.lemmas.Bool.{cases_lt, eq-eqb, false≢true, lt-ltb}
 use Rattle.std.proofs.lemmas.Bool.Decides.{eqb_tells}
 use Rattle.std.proofs.lemmas.List.{get_or-set_other, get_or-set_same, length-set, set-get_or, set_past}
@@ -9,11 +9,11 @@ use Rattle.lk_locks.specs.Holding.{holder_after}
 use Rattle.lk_locks.specs.Legal.{after_entries}
 use Rattle.lk_locks.specs.Sequential.{Sequential, has, is_allowed, is_empty, is_head}
 use Rattle.lk_locks.specs.State.{phase_at}
-use Rattle.lk_locks.specs.Steps.{belongs, move_change, refusal_in}
+use Rattle.lk_locks.specs.Steps.{belongs, has_op, move_change, refusal_in}
 use Rattle.lk_locks.specs.invariants.Inside.{inside_of}
 use Rattle.lk_locks.specs.invariants.Threads.{EachOnce}
 use Rattle.lk_locks.specs.invariants.mcs.{AreLinks, IsBehind, IsFirst, IsLater, IsOutside, IsPhase, IsQueue, is_inside, last_of, locked_of, next_of, owed, tail_of}
-use Rattle.lk_locks.specs.mcs.{after_call, has_op, locked, next, step}
+use Rattle.lk_locks.specs.mcs.{after_call, locked, next, step}
 use Rattle.lk_locks.proofs.Cases.{AreOf, Begins, Fits, GoesOn, IsAgreed, KeepsLength, either_way}
 use Rattle.lk_locks.proofs.invariants.Inside.{inside_frame, inside_head, inside_more, same}
 use Rattle.lk_locks.proofs.invariants.McsLine.{IsHeadOf, apart, first_frame, first_has, head_of, last_member, locked_after_locked, locked_after_next, mcs_first, mcs_grant, mcs_head, mcs_last, mcs_later, mcs_more, mcs_out, member_of, next_after_locked, next_after_next, not_member, place, second, tail_after}
@@ -38,7 +38,8 @@ goes_on bits t ws AwaitLink = either_way (GoesOn Mcs t AwaitLink) (slice_index w
 goes_on bits t ws p = refl
 
 -- a call begins where the one before it is finished
-pub begins : (n t : ℕ) (p : Phase) (op : Op) → IsPhase n p → has_op op ≡ true → refusal_in Mcs p (Call op) ≡ None → Begins Mcs t p op
+pub begins : (n t : ℕ) (p : Phase) (op : Op) → IsPhase n p → has_op Mcs op ≡ true → refusal_in Mcs p (Call op) ≡ None
+    → Begins Mcs t p op
 begins n t Idle Acquire f h r = (refl, refl)
 begins n t McsInside Release f h r = (refl, refl)
 begins n t p op f h r = cc
@@ -73,9 +74,11 @@ step_fits n bits t ws AwaitLink h f l = either_way (Fits Mcs n) (slice_index ws 
 step_fits n bits t ws (Grant j) h f l = tt
 step_fits n bits t ws p h f l = f
 
-pub call_fits : (n : ℕ) (p : Phase) (op : Op) → IsPhase n (after_call p op)
-call_fits n p Release = tt
-call_fits n p op = tt
+pub call_fits : (n : ℕ) (p : Phase) (op : Op) → IsPhase n p
+    → IsPhase n (unwrap_or (after_call p op) p)
+call_fits n Idle Acquire f = tt
+call_fits n McsInside Release f = tt
+call_fits n p op f = f
 
 word_fits : (n : ℕ) (ws : List ℕ) (i v j : ℕ) → v ≤ n → slice_index ws j ≤ n → slice_index (set ws i v) j ≤ n
 word_fits n ws i v j h l = elim (eqb_tells j i) [

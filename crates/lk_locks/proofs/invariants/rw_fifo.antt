@@ -1,5 +1,5 @@
 -- The room of the FIFO read-write lock: each section goes on with its call, and each move keeps the counts and the flag.
-use Rattle.std.proofs.Common.{IsTrue, List, None, Some, [], ap, arith, eqb, false, inl, inr, length, refl, rules, set, slice_index, sym, true, ℕ, ◌%◌, ◌+◌, ◌<◌, ◌==◌, ◌^◌, ◌∙◌, ◌≡◌, ◌≤◌}
+use Rattle.std.proofs.Common.{IsTrue, List, None, Some, [], ap, arith, eqb, false, inl, inr, length, refl, rules, set, slice_index, sym, true, unwrap_or, ℕ, ◌%◌, ◌+◌, ◌<◌, ◌==◌, ◌^◌, ◌∙◌, ◌≡◌, ◌≤◌}
 use Rattle.std.proofs.Math.Nat.{mod-add-mod}
 use Rattle.std.proofs.lemmas.Bool.{lt-ltb}
 use Rattle.std.proofs.lemmas.Bool.Decides.{eqb_tells}
@@ -29,7 +29,7 @@ use Rattle.lk_locks.specs.read_write
 use Rattle.lk_locks.specs.declared.kinds.Act.TheVariants as act
 
 -- each section adds the next entries of the pending call
-pub goes_on : (bits t : ℕ) (ws : List ℕ) (p : Phase) → GoesOn RwFifo t p (step bits t ws p)
+pub goes_on : (bits t : ℕ) (ws : List ℕ) (p : Phase) → GoesOn RwFifo t p (step bits ws p)
 goes_on bits t ws TryRead = either_way (GoesOn RwFifo t TryRead) (slice_index ws 2 == 0) _ _ refl refl
 goes_on bits t ws TryWrite =
     either_way (GoesOn RwFifo t TryWrite) (slice_index ws 2 == 0) _ _
@@ -39,7 +39,8 @@ goes_on bits t ws AwaitReaders = either_way (GoesOn RwFifo t AwaitReaders) (slic
 goes_on bits t ws p = refl
 
 -- a call begins where the one before it is finished
-pub begins : (t : ℕ) (p : Phase) (op : Op) → IsTrue (is_phase p) → read_write.has_op op ≡ true → refusal_in RwFifo p (Call op) ≡ None → Begins RwFifo t p op
+pub begins : (t : ℕ) (p : Phase) (op : Op) → IsTrue (is_phase p) → has_op RwFifo op ≡ true → refusal_in RwFifo p (Call op) ≡ None
+    → Begins RwFifo t p op
 begins t Idle ReadLock f h r = (refl, refl)
 begins t Idle WriteLock f h r = (refl, refl)
 begins t Reading ReadUnlock f h r = (refl, refl)
@@ -52,7 +53,7 @@ pub owed_is_own : (t : ℕ) (p : Phase) → AreOf t (owed t p)
 owed_is_own t p = search rules
 
 -- no section changes how many words there are
-pub keeps_length : (bits t : ℕ) (ws : List ℕ) (p : Phase) → KeepsLength ws (step bits t ws p)
+pub keeps_length : (bits t : ℕ) (ws : List ℕ) (p : Phase) → KeepsLength ws (step bits ws p)
 keeps_length bits t ws TryRead = either_way (KeepsLength ws) (slice_index ws 2 == 0) _ _ (length-set _ _ _) refl
 keeps_length bits t ws LeaveRead = length-set _ _ _
 keeps_length bits t ws TryWrite = either_way (KeepsLength ws) (slice_index ws 2 == 0) _ _ (either_way (KeepsLength ws) (slice_index ws 0 == slice_index ws 1) _ _ (length-set _ _ _) (length-set _ _ _)) refl
@@ -62,7 +63,7 @@ keeps_length bits t ws TryDowngrade = length-set _ _ _ ∙ length-set _ _ _
 keeps_length bits t ws p = refl
 
 -- the new phase is one of the lock's
-pub step_fits : (n bits t : ℕ) (ws : List ℕ) (p : Phase) → IsPhaseOf RwFifo n p → Fits RwFifo n (step bits t ws p)
+pub step_fits : (n bits t : ℕ) (ws : List ℕ) (p : Phase) → IsPhaseOf RwFifo n p → Fits RwFifo n (step bits ws p)
 step_fits n bits t ws TryRead f = either_way (Fits RwFifo n) (slice_index ws 2 == 0) _ _ refl refl
 step_fits n bits t ws LeaveRead f = refl
 step_fits n bits t ws TryWrite f = either_way (Fits RwFifo n) (slice_index ws 2 == 0) _ _ (either_way (Fits RwFifo n) (slice_index ws 0 == slice_index ws 1) _ _ refl refl) refl
@@ -70,11 +71,14 @@ step_fits n bits t ws AwaitReaders f = either_way (Fits RwFifo n) (slice_index w
 step_fits n bits t ws LeaveWrite f = refl
 step_fits n bits t ws p f = f
 
-pub call_fits : (p : Phase) (op : Op) → IsTrue (is_phase (read_write.after_call p op))
-call_fits p ReadLock = refl
-call_fits p ReadUnlock = refl
-call_fits p WriteLock = refl
-call_fits p op = refl
+pub call_fits : (p : Phase) (op : Op) → IsTrue (is_phase p)
+    → IsTrue (is_phase (unwrap_or (read_write.after_call p op) p))
+call_fits Idle ReadLock f = refl
+call_fits Idle WriteLock f = refl
+call_fits Reading ReadUnlock f = refl
+call_fits Writing WriteUnlock f = refl
+call_fits Writing Downgrade f = refl
+call_fits p op f = f
 
 -- the counts are equal exactly where there is no reader
 pub none_read : (bits : ℕ) (ws : List ℕ) (ps : List Phase) (q : Sequential) → AgreesWith bits ws ps q → slice_index ws 0 ≡ slice_index ws 1 → q.readers ≡ []

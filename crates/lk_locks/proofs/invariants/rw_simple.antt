@@ -1,5 +1,5 @@
 -- The room of the simple read-write lock: each section goes on with its call, and each move keeps the count and the flag.
-use Rattle.std.proofs.Common.{IsTrue, List, None, [], ap, arith, false, inl, inr, length, refl, rules, set, slice_index, sym, true, ℕ, ◌%◌, ◌&&◌, ◌+◌, ◌-◌, ◌<◌, ◌==◌, ◌^◌, ◌∙◌, ◌≡◌, ◌≤◌}
+use Rattle.std.proofs.Common.{IsTrue, List, None, [], ap, arith, false, inl, inr, length, refl, rules, set, slice_index, sym, true, unwrap_or, ℕ, ◌%◌, ◌&&◌, ◌+◌, ◌-◌, ◌<◌, ◌==◌, ◌^◌, ◌∙◌, ◌≡◌, ◌≤◌}
 use Rattle.std.proofs.Math.Nat.{add-mod_right, mod-eq_of_lt}
 use Rattle.std.proofs.lemmas.Bool.{lt-ltb}
 use Rattle.std.proofs.lemmas.Bool.Decides.{eqb_tells}
@@ -26,13 +26,14 @@ use Rattle.lk_locks.specs.read_write
 use Rattle.lk_locks.specs.declared.kinds.Act.TheVariants as act
 
 -- each section adds the next entries of the pending call
-pub goes_on : (bits t : ℕ) (ws : List ℕ) (p : Phase) → GoesOn RwSimple t p (step bits t ws p)
+pub goes_on : (bits t : ℕ) (ws : List ℕ) (p : Phase) → GoesOn RwSimple t p (step bits ws p)
 goes_on bits t ws TryRead = either_way (GoesOn RwSimple t TryRead) (slice_index ws 1 == 0) _ _ refl refl
 goes_on bits t ws TryWrite = either_way (GoesOn RwSimple t TryWrite) (slice_index ws 0 == 0 && slice_index ws 1 == 0) _ _ refl refl
 goes_on bits t ws p = refl
 
 -- a call begins where the one before it is finished
-pub begins : (t : ℕ) (p : Phase) (op : Op) → IsTrue (is_phase p) → read_write.has_op op ≡ true → refusal_in RwSimple p (Call op) ≡ None → Begins RwSimple t p op
+pub begins : (t : ℕ) (p : Phase) (op : Op) → IsTrue (is_phase p) → has_op RwSimple op ≡ true → refusal_in RwSimple p (Call op) ≡ None
+    → Begins RwSimple t p op
 begins t Idle ReadLock f h r = (refl, refl)
 begins t Idle WriteLock f h r = (refl, refl)
 begins t Reading ReadUnlock f h r = (refl, refl)
@@ -45,7 +46,7 @@ pub owed_is_own : (t : ℕ) (p : Phase) → AreOf t (owed t p)
 owed_is_own t p = search rules
 
 -- no section changes how many words there are
-pub keeps_length : (bits t : ℕ) (ws : List ℕ) (p : Phase) → KeepsLength ws (step bits t ws p)
+pub keeps_length : (bits t : ℕ) (ws : List ℕ) (p : Phase) → KeepsLength ws (step bits ws p)
 keeps_length bits t ws TryRead = either_way (KeepsLength ws) (slice_index ws 1 == 0) _ _ (length-set _ _ _) refl
 keeps_length bits t ws LeaveRead = length-set _ _ _
 keeps_length bits t ws TryWrite = either_way (KeepsLength ws) (slice_index ws 0 == 0 && slice_index ws 1 == 0) _ _ (length-set _ _ _) refl
@@ -54,18 +55,21 @@ keeps_length bits t ws TryDowngrade = length-set _ _ _ ∙ length-set _ _ _
 keeps_length bits t ws p = refl
 
 -- the new phase is one of the lock's
-pub step_fits : (n bits t : ℕ) (ws : List ℕ) (p : Phase) → IsPhaseOf RwSimple n p → Fits RwSimple n (step bits t ws p)
+pub step_fits : (n bits t : ℕ) (ws : List ℕ) (p : Phase) → IsPhaseOf RwSimple n p → Fits RwSimple n (step bits ws p)
 step_fits n bits t ws TryRead f = either_way (Fits RwSimple n) (slice_index ws 1 == 0) _ _ refl refl
 step_fits n bits t ws LeaveRead f = refl
 step_fits n bits t ws TryWrite f = either_way (Fits RwSimple n) (slice_index ws 0 == 0 && slice_index ws 1 == 0) _ _ refl refl
 step_fits n bits t ws LeaveWrite f = refl
 step_fits n bits t ws p f = f
 
-pub call_fits : (p : Phase) (op : Op) → IsTrue (is_phase (read_write.after_call p op))
-call_fits p ReadLock = refl
-call_fits p ReadUnlock = refl
-call_fits p WriteLock = refl
-call_fits p op = refl
+pub call_fits : (p : Phase) (op : Op) → IsTrue (is_phase p)
+    → IsTrue (is_phase (unwrap_or (read_write.after_call p op) p))
+call_fits Idle ReadLock f = refl
+call_fits Idle WriteLock f = refl
+call_fits Reading ReadUnlock f = refl
+call_fits Writing WriteUnlock f = refl
+call_fits Writing Downgrade f = refl
+call_fits p op f = f
 
 less : (bits x : ℕ) → x + 1 < 2 ^ bits → less_one bits (x + 1) ≡ x
 less bits x h = ap (λ y. y % 2 ^ bits) (let g : x + 1 + (2 ^ bits - 1) ≡ x + 2 ^ bits = omega arith in g) ∙ add-mod_right x (2 ^ bits) ∙ mod-eq_of_lt (let g : x < 2 ^ bits = omega arith in g)

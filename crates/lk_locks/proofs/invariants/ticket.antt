@@ -1,5 +1,5 @@
 -- The room of the ticket lock: each step goes on with its call, and each move keeps the queue of the tickets.
-use Rattle.std.proofs.Common.{IsTrue, List, None, Some, [], ap, arith, drop, eqb, false, inl, inr, length, refl, rules, set, slice_index, sym, true, ℕ, ◌<◌, ◌==◌, ◌∙◌, ◌∷◌, ◌≡◌, ◌≢◌, ◌≤◌}
+use Rattle.std.proofs.Common.{IsTrue, List, None, Some, [], ap, arith, drop, eqb, false, inl, inr, length, refl, rules, set, slice_index, sym, true, unwrap_or, ℕ, ◌<◌, ◌==◌, ◌∙◌, ◌∷◌, ◌≡◌, ◌≢◌, ◌≤◌}
 use Rattle.std.proofs.lemmas.Bool.{false≢true, lt-ltb}
 use Rattle.std.proofs.lemmas.Bool.Decides.{eqb_tells}
 use Rattle.std.proofs.lemmas.List.{length-set, set-get_or}
@@ -9,12 +9,12 @@ use Rattle.lk_locks.specs.Holding.{holder_after}
 use Rattle.lk_locks.specs.Legal.{after_entries}
 use Rattle.lk_locks.specs.Sequential.{Sequential, has, is_allowed, is_head}
 use Rattle.lk_locks.specs.State.{phase_at}
-use Rattle.lk_locks.specs.Steps.{belongs, move_change, refusal_in}
+use Rattle.lk_locks.specs.Steps.{belongs, has_op, move_change, refusal_in}
 use Rattle.lk_locks.specs.invariants.Inside.{inside_of}
 use Rattle.lk_locks.specs.invariants.WellFormed.{IsPhaseOf}
 use Rattle.lk_locks.specs.invariants.ticket.{IsQueue, WaitInLine, is_inside, is_phase, owed, ticket_of}
 use Rattle.lk_locks.specs.laws.{Event}
-use Rattle.lk_locks.specs.ticket.{after_call, has_op, now_serving, reads, step}
+use Rattle.lk_locks.specs.ticket.{after_call, now_serving, reads, step}
 use Rattle.lk_locks.proofs.Cases.{AreOf, Begins, Fits, GoesOn, IsAgreed, KeepsLength, either_way}
 use Rattle.lk_locks.proofs.invariants.Inside.{inside_frame, inside_head, inside_more, same}
 use Rattle.lk_locks.proofs.Threads.{at_other, at_same, bool_tells}
@@ -35,7 +35,8 @@ goes_on bits t ws (AwaitTurn x) = either_way (λ (e : Event). GoesOn Ticket t (A
 goes_on bits t ws p = refl
 
 -- a call begins where the one before it is finished
-pub begins : (t : ℕ) (p : Phase) (op : Op) → IsTrue (is_phase p) → has_op op ≡ true → refusal_in Ticket p (Call op) ≡ None → Begins Ticket t p op
+pub begins : (t : ℕ) (p : Phase) (op : Op) → IsTrue (is_phase p) → has_op Ticket op ≡ true → refusal_in Ticket p (Call op) ≡ None
+    → Begins Ticket t p op
 begins t Idle Acquire f h r = (refl, refl)
 begins t (TicketInside x) Release f h r = (refl, refl)
 begins t p op f h r = cc
@@ -58,13 +59,11 @@ step_fits n bits t ws (ReadServing x) f = refl
 step_fits n bits t ws (PassOn x) f = refl
 step_fits n bits t ws p f = f
 
-op_fits : (t : ℕ) (op : Op) → IsTrue (is_phase (after_call (TicketInside t) op))
-op_fits t Release = refl
-op_fits t op = refl
-
-pub call_fits : (p : Phase) (op : Op) → IsTrue (is_phase (after_call p op))
-call_fits (TicketInside t) op = op_fits t op
-call_fits p op = refl
+pub call_fits : (p : Phase) (op : Op) → IsTrue (is_phase p)
+    → IsTrue (is_phase (unwrap_or (after_call p op) p))
+call_fits Idle Acquire f = refl
+call_fits (TicketInside t) Release f = refl
+call_fits p op f = f
 
 -- a queue lock allows a new request, and the release of the head
 pub allows_acquire : (q : Sequential) (t : ℕ) → q.kind ≡ Ticket → t < 64 → has q.queue t ≡ false → is_allowed q (act.Acquire t) ≡ true
