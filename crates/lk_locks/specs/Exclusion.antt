@@ -67,7 +67,7 @@ abbrev pub HasNoReaderBeside : LockKind → List Entry → Type 0
 HasNoReaderBeside kind es =
     (before after : List Entry) → es ≡ before ++ after
     → let now : Sequential = after_entries (nobody kind) before in
-      (w : ℕ) → now.writer ≡ Some w → now.readers ≡ []
+    (w : ℕ) → now.writer ≡ Some w → now.readers ≡ []
 
 -- A reader enters only after the writer before it stopped writing, and a writer only after each reader before
 -- it left, and each writer that became a reader.
