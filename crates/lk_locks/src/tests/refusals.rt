@@ -1,8 +1,12 @@
-//! For each refusal the moves that lead to it. A refused move changes nothing.
+//! For each refusal the moves that lead to it, and for each pair of refusals that can meet the one that is answered. A refused move
+//! changes nothing.
 
 use super::rows::*;
 use crate::{Keeper, LockKind, Machine, Move, PlayFault, Refusal, StepKind};
+use LockKind::{Mcs, RwFifo, RwSimple, Ticket};
+use Refusal::{AlreadyHolds, Busy, NoCall, NoSuchThread, NotHolder, WrongLock};
 use lk_words::WordArray;
+use std::alloc::Global;
 use std::process::Abort;
 
 // Plays the moves, after which one more is refused, by a machine and a keeper alike.
@@ -29,66 +33,149 @@ fn refuses(
     assert_eq!(rt; keeper.entries().len(), entries, "{refusal:?}");
 }
 
-const INSIDE: [(u8, Move); 3] = [(0, ACQUIRE), (0, ADD), (0, READ)];
+// The moves on a lock with two threads, one more, and its refusal.
+type Row<'a> = (LockKind, &'a [(u8, Move)], (u8, Move), Refusal);
 
-#[test]
-fn refusals_in_their_order(rt: HostRuntime) {
-    let called = [(0, ACQUIRE)];
-    let none: [(u8, Move); 0] = [];
-    let cases: [(&[(u8, Move)], (u8, Move), Refusal); 13] = [
-        (&none, (2, ACQUIRE), Refusal::NoSuchThread),
-        (&none, (2, READ_LOCK), Refusal::NoSuchThread),
-        (&none, (255, ACQUIRE), Refusal::NoSuchThread),
-        (&none, (0, READ_LOCK), Refusal::WrongLock),
-        (&none, (0, DOWNGRADE), Refusal::WrongLock),
-        (&none, (0, SECTION), Refusal::WrongLock),
-        (&called, (0, ACQUIRE), Refusal::Busy),
-        (&called, (0, RELEASE), Refusal::Busy),
-        (&none, (0, RELEASE), Refusal::NotHolder),
-        (&INSIDE, (0, ACQUIRE), Refusal::AlreadyHolds),
-        (&none, (0, ADD), Refusal::NoCall),
-        (&INSIDE, (0, READ), Refusal::NoCall),
-        (
-            &called,
-            (0, READ),
-            Refusal::WrongStep {
-                next: StepKind::Add,
-            },
-        ),
-    ];
-    for (moves, last, refusal) in cases {
-        let machine = Machine::new(LockKind::Ticket, 2, WordArray::new(2));
-        let keeper = Keeper::new(rt.alloc(), LockKind::Ticket, 2, WordArray::new(2));
-        refuses(&rt, machine, keeper, moves, last, refusal);
+fn refused(rt: &impl Abort, alloc: Global, rows: &[Row]) {
+    for &(kind, moves, last, refusal) in rows {
+        let machine = Machine::new(kind, 2, WordArray::new(5));
+        let keeper = Keeper::new(alloc, kind, 2, WordArray::new(5));
+        refuses(rt, machine, keeper, moves, last, refusal);
     }
 }
 
+const NONE: [(u8, Move); 0] = [];
+
+const ACQUIRES: [(u8, Move); 1] = [(0, ACQUIRE)];
+
+const READS: [(u8, Move); 1] = [(0, READ_LOCK)];
+
+const TICKET_INSIDE: [(u8, Move); 3] = [(0, ACQUIRE), (0, ADD), (0, READ)];
+
+const MCS_INSIDE: [(u8, Move); 3] = [(0, ACQUIRE), (0, WRITE), (0, SWAP)];
+
+const READING: [(u8, Move); 2] = [(0, READ_LOCK), (0, SECTION)];
+
+const WRITING: [(u8, Move); 2] = [(0, WRITE_LOCK), (0, SECTION)];
+
+const DOWNGRADES: [(u8, Move); 3] = [(0, WRITE_LOCK), (0, SECTION), (0, DOWNGRADE)];
+
+const DOWNGRADED: [(u8, Move); 4] = [(0, WRITE_LOCK), (0, SECTION), (0, DOWNGRADE), (0, SECTION)];
+
+const WRONG_READ: Refusal = Refusal::WrongStep {
+    next: StepKind::Read,
+};
+
+const WRONG_ADD: Refusal = Refusal::WrongStep {
+    next: StepKind::Add,
+};
+
+const WRONG_WRITE: Refusal = Refusal::WrongStep {
+    next: StepKind::Write,
+};
+
+// Each refusal alone, where no other could be answered.
 #[test]
-fn refusals_of_readers_and_writers(rt: HostRuntime) {
-    let reader = [(0, READ_LOCK), (0, SECTION)];
-    let writer = [(0, WRITE_LOCK), (0, SECTION), (0, DOWNGRADE)];
-    let downgraded = [(0, WRITE_LOCK), (0, SECTION), (0, DOWNGRADE), (0, SECTION)];
-    let cases: [(&[(u8, Move)], (u8, Move), Refusal); 5] = [
-        (&reader, (0, WRITE_UNLOCK), Refusal::NotHolder),
-        (&reader, (0, DOWNGRADE), Refusal::NotHolder),
-        (&reader, (0, WRITE_LOCK), Refusal::AlreadyHolds),
-        (&writer, (0, WRITE_UNLOCK), Refusal::Busy),
-        (&downgraded, (0, WRITE_UNLOCK), Refusal::NotHolder),
+fn refusals(rt: HostRuntime) {
+    let rows = [
+        (Ticket, NONE.as_slice(), (255, ACQUIRE), NoSuchThread),
+        (Ticket, NONE.as_slice(), (0, DOWNGRADE), WrongLock),
+        (Ticket, ACQUIRES.as_slice(), (0, ACQUIRE), Busy),
+        (Ticket, NONE.as_slice(), (0, RELEASE), NotHolder),
+        (Ticket, TICKET_INSIDE.as_slice(), (0, ACQUIRE), AlreadyHolds),
+        (Ticket, NONE.as_slice(), (0, ADD), NoCall),
+        (Ticket, TICKET_INSIDE.as_slice(), (0, READ), NoCall),
+        (Ticket, ACQUIRES.as_slice(), (0, READ), WRONG_ADD),
+        (Mcs, ACQUIRES.as_slice(), (0, SWAP), WRONG_WRITE),
+        (RwSimple, READING.as_slice(), (0, WRITE_UNLOCK), NotHolder),
+        (RwSimple, READING.as_slice(), (0, DOWNGRADE), NotHolder),
+        (RwSimple, READING.as_slice(), (0, WRITE_LOCK), AlreadyHolds),
+        (RwSimple, WRITING.as_slice(), (0, READ_UNLOCK), NotHolder),
+        (RwFifo, READING.as_slice(), (0, DOWNGRADE), NotHolder),
+        (RwFifo, WRITING.as_slice(), (0, READ_LOCK), AlreadyHolds),
+        (RwFifo, DOWNGRADED.as_slice(), (0, WRITE_UNLOCK), NotHolder),
     ];
-    for (moves, last, refusal) in cases {
-        let machine = Machine::new(LockKind::RwSimple, 1, WordArray::new(2));
-        let keeper = Keeper::new(rt.alloc(), LockKind::RwSimple, 1, WordArray::new(2));
-        refuses(&rt, machine, keeper, moves, last, refusal);
-        let machine = Machine::new(LockKind::RwFifo, 1, WordArray::new(3));
-        let keeper = Keeper::new(rt.alloc(), LockKind::RwFifo, 1, WordArray::new(3));
-        refuses(&rt, machine, keeper, moves, last, refusal);
+    refused(&rt, rt.alloc(), &rows);
+}
+
+// A thread that does not exist holds nothing and has no call, whatever the move.
+#[test]
+fn no_such_thread_before_any_other(rt: HostRuntime) {
+    let rows = [
+        (Ticket, NONE.as_slice(), (2, READ_LOCK), NoSuchThread),
+        (Ticket, NONE.as_slice(), (2, SECTION), NoSuchThread),
+        (Ticket, NONE.as_slice(), (2, RELEASE), NoSuchThread),
+        (Ticket, NONE.as_slice(), (2, ADD), NoSuchThread),
+        (Mcs, NONE.as_slice(), (2, DOWNGRADE), NoSuchThread),
+        (Mcs, NONE.as_slice(), (2, RELEASE), NoSuchThread),
+        (Mcs, NONE.as_slice(), (2, WRITE), NoSuchThread),
+        (RwSimple, NONE.as_slice(), (2, ACQUIRE), NoSuchThread),
+        (RwSimple, NONE.as_slice(), (2, READ_UNLOCK), NoSuchThread),
+        (RwSimple, NONE.as_slice(), (2, SECTION), NoSuchThread),
+        (RwFifo, NONE.as_slice(), (2, RELEASE), NoSuchThread),
+        (RwFifo, NONE.as_slice(), (2, DOWNGRADE), NoSuchThread),
+        (RwFifo, NONE.as_slice(), (2, SECTION), NoSuchThread),
+    ];
+    refused(&rt, rt.alloc(), &rows);
+}
+
+// Before Busy, NotHolder, AlreadyHolds, NoCall and WrongStep.
+#[test]
+fn wrong_lock_before_what_the_thread_does(rt: HostRuntime) {
+    let rows = [
+        (Ticket, ACQUIRES.as_slice(), (0, READ_LOCK), WrongLock),
+        (Ticket, NONE.as_slice(), (0, READ_UNLOCK), WrongLock),
+        (Ticket, TICKET_INSIDE.as_slice(), (0, WRITE_LOCK), WrongLock),
+        (Ticket, NONE.as_slice(), (0, SECTION), WrongLock),
+        (Ticket, ACQUIRES.as_slice(), (0, SECTION), WrongLock),
+        (Mcs, ACQUIRES.as_slice(), (0, READ_LOCK), WrongLock),
+        (Mcs, NONE.as_slice(), (0, WRITE_UNLOCK), WrongLock),
+        (Mcs, MCS_INSIDE.as_slice(), (0, READ_LOCK), WrongLock),
+        (Mcs, NONE.as_slice(), (0, ADD), WrongLock),
+        (Mcs, ACQUIRES.as_slice(), (0, SECTION), WrongLock),
+    ];
+    refused(&rt, rt.alloc(), &rows);
+}
+
+#[test]
+fn wrong_lock_of_readers_and_writers(rt: HostRuntime) {
+    for kind in [RwSimple, RwFifo] {
+        let rows = [
+            (kind, READS.as_slice(), (0, ACQUIRE), WrongLock),
+            (kind, NONE.as_slice(), (0, RELEASE), WrongLock),
+            (kind, READING.as_slice(), (0, ACQUIRE), WrongLock),
+            (kind, NONE.as_slice(), (0, READ), WrongLock),
+            (kind, READS.as_slice(), (0, CAS), WrongLock),
+        ];
+        refused(&rt, rt.alloc(), &rows);
     }
+}
+
+// Before NotHolder, and before AlreadyHolds where the pending call gives up what the thread holds.
+#[test]
+fn busy_before_who_holds(rt: HostRuntime) {
+    let leaving = [(0, ACQUIRE), (0, ADD), (0, READ), (0, RELEASE)];
+    let mcs_leaving = [(0, ACQUIRE), (0, WRITE), (0, SWAP), (0, RELEASE)];
+    let reader_leaving = [(0, READ_LOCK), (0, SECTION), (0, READ_UNLOCK)];
+    let rows = [
+        (Ticket, ACQUIRES.as_slice(), (0, RELEASE), Busy),
+        (Ticket, leaving.as_slice(), (0, ACQUIRE), Busy),
+        (Mcs, ACQUIRES.as_slice(), (0, RELEASE), Busy),
+        (Mcs, mcs_leaving.as_slice(), (0, ACQUIRE), Busy),
+        (RwSimple, READS.as_slice(), (0, READ_UNLOCK), Busy),
+        (RwSimple, reader_leaving.as_slice(), (0, READ_LOCK), Busy),
+        (RwSimple, DOWNGRADES.as_slice(), (0, WRITE_UNLOCK), Busy),
+        (RwFifo, READS.as_slice(), (0, WRITE_UNLOCK), Busy),
+        (RwFifo, reader_leaving.as_slice(), (0, WRITE_LOCK), Busy),
+        (RwFifo, DOWNGRADES.as_slice(), (0, READ_LOCK), Busy),
+    ];
+    refused(&rt, rt.alloc(), &rows);
 }
 
 #[test]
 fn release_waits_for_the_link(rt: HostRuntime) {
-    let machine = Machine::new(LockKind::Mcs, 2, WordArray::new(5));
-    let keeper = Keeper::new(rt.alloc(), LockKind::Mcs, 2, WordArray::new(5));
+    let machine = Machine::new(Mcs, 2, WordArray::new(5));
+    let keeper = Keeper::new(rt.alloc(), Mcs, 2, WordArray::new(5));
     let moves = [
         (0, ACQUIRE),
         (0, WRITE),
@@ -102,8 +189,5 @@ fn release_waits_for_the_link(rt: HostRuntime) {
         (0, READ),
         (0, READ),
     ];
-    let refusal = Refusal::WrongStep {
-        next: StepKind::Read,
-    };
-    refuses(&rt, machine, keeper, &moves, (0, WRITE), refusal);
+    refuses(&rt, machine, keeper, &moves, (0, WRITE), WRONG_READ);
 }
