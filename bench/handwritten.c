@@ -1,13 +1,17 @@
 /* A replayer of lock schedules as one would write it by hand, to measure lockreplay against.
  *
- *     cc -O2 -o handwritten handwritten.c && ./handwritten replay < SCHEDULE
+ *     cc -O2 -o handwritten handwritten.c
+ *     ./handwritten replay < SCHEDULE     sends its report as it is made, 64 KB at a time
+ *     ./handwritten batch FILE...         keeps all reports, and writes them in the end
  *
- * It keeps words and phases as the published algorithms do, reads the whole text before it replays,
- * keeps the whole report in memory, and writes it at once: the same order of work as lockreplay's.
- * The text ` hold H queue Q` is kept between two lines and made anew only where it changed; the
- * queue's text is a window that grows at its end and shrinks at its front. Nothing is proved here,
- * and nothing but schedules without a fault is meant to be replayed: a fault ends with status 2.
+ * It keeps words and phases as the published algorithms do, and reads the whole text before it
+ * replays. The text ` hold H queue Q` is kept between two lines and made anew only where it changed;
+ * the queue's text is a window that grows at its end and shrinks at its front. Nothing is proved
+ * here, and nothing but schedules without a fault is meant to be replayed: a fault ends with
+ * status 2. Different from lockreplay: a move is printed as it is made, so where `replay` cannot
+ * write, what follows was not replayed.
  */
+#include <fcntl.h>
 #include <stdint.h>
 #include <stdio.h>
 #include <stdlib.h>
@@ -15,6 +19,7 @@
 #include <unistd.h>
 
 enum { MOST_BYTES = 1048576, MOST_MOVES = 65536, MOST_THREADS = 64 };
+enum { BUFFER = 65536, MOST_LINE = 1024 };
 enum kind { TICKET, MCS, RW_SIMPLE, RW_FIFO };
 enum word { ACQUIRE, RELEASE, RLOCK, RUNLOCK, WLOCK, WUNLOCK, DOWNGRADE,
             READ, WRITE, SWAP, CAS, ADD, SECTION, WORDS };
@@ -61,8 +66,15 @@ static uint8_t number_size[256];
 
 static void fail(const char *why) { fprintf(stderr, "handwritten: %s\n", why); exit(2); }
 
-static char *put(char *at, const char *from, size_t size) { return memcpy(at, from, size) + size; }
-static char *put_number(char *at, unsigned n) { return memcpy(at, number[n], 3) + number_size[n]; }
+static char *put(char *at, const char *from, size_t size) {
+    memcpy(at, from, size);
+    return at + size;
+}
+
+static char *put_number(char *at, unsigned n) {
+    memcpy(at, number[n], 3);
+    return at + number_size[n];
+}
 
 static void show_state(void) {
     char *at = put(state, " hold ", 6);
@@ -265,37 +277,101 @@ static char *count_on(char *end, char *first) {
     return digit;
 }
 
-/* Replays all moves and answers how many bytes of report there are; a refusal ends it. */
-static size_t replay(char **report) {
-    size_t room = 1 << 20, used = 0;
-    char digits[8], *const end = digits + sizeof digits, *first = end;
-    *report = malloc(room);
+/* A report in memory: it grows where it is kept, and goes out where it is sent. */
+struct report { char *bytes; size_t used, room; int is_kept; };
+
+static void send_all(const char *bytes, size_t size) {
+    while (size > 0) {
+        ssize_t got = write(1, bytes, size);
+        if (got <= 0) fail("cannot write");
+        bytes += got;
+        size -= got;
+    }
+}
+
+static char *room_for_a_line(struct report *report) {
+    if (report->room - report->used < MOST_LINE) {
+        if (report->is_kept) {
+            report->bytes = realloc(report->bytes, report->room *= 2);
+            if (!report->bytes) fail("memory");
+        } else {
+            send_all(report->bytes, report->used);
+            report->used = 0;
+        }
+    }
+    return report->bytes + report->used;
+}
+
+static void replay(struct report *report) {
+    char digits[8], *const end = digits + sizeof digits, *first = end, *at;
     for (size_t k = 0; k < move_count; k++) {
-        if (room - used < 1024 && !(*report = realloc(*report, room *= 2))) fail("memory");
+        at = room_for_a_line(report);
         struct move move = moves[k];
         enum outcome outcome = play(move.thread, move.word);
-        if (outcome == REFUSED) return used + sprintf(*report + used, "refused line %u\n", move.line);
+        if (outcome == REFUSED) {
+            report->used += sprintf(at, "refused line %u\n", move.line);
+            return;
+        }
         first = count_on(end, first);
-        char *at = put(*report + used, first, end - first);
+        at = put(at, first, end - first);
         *at++ = ' ';
         at = put_number(at, move.thread);
         memcpy(at, middle[move.word][outcome].text, 24);
         at = put(at + middle[move.word][outcome].size, state, state_size);
-        used = at - *report;
+        report->used = at - report->bytes;
     }
-    return used + sprintf(*report + used, "end %zu\n", move_count);
+    at = room_for_a_line(report);
+    report->used += sprintf(at, "end %zu\n", move_count);
 }
 
-int main(void) {
+static void forget(void) {
+    move_count = 0;
+    kind = TICKET;
+    memset(words, 0, sizeof words);
+    memset(all, 0, sizeof all);
+    queue_front = queue_end = 0;
+    readers = 0;
+    holder = writer = announced = -1;
+}
+
+static struct report report_of(int input, int is_kept) {
     size_t size = 0;
     ssize_t got;
-    while (size < sizeof text && (got = read(0, text + size, sizeof text - size)) > 0) size += got;
-    make_tables();
+    while (size < sizeof text && (got = read(input, text + size, sizeof text - size)) > 0)
+        size += got;
+    forget();
     read_schedule(size);
     show_state();
-    char *report;
-    size_t used = replay(&report);
-    for (size_t sent = 0; sent < used; sent += got)
-        if ((got = write(1, report + sent, used - sent)) <= 0) fail("cannot write");
+    size_t room = is_kept ? 1 << 20 : BUFFER;
+    struct report report = { malloc(room), 0, room, is_kept };
+    if (!report.bytes) fail("memory");
+    replay(&report);
+    return report;
+}
+
+static void replay_files(char **files, int count) {
+    struct report *reports = calloc(count, sizeof *reports);
+    char line[32];
+    if (!reports) fail("memory");
+    for (int k = 0; k < count; k++) {
+        int input = open(files[k], O_RDONLY);
+        if (input < 0) fail(files[k]);
+        reports[k] = report_of(input, 1);
+        close(input);
+    }
+    for (int k = 0; k < count; k++) {
+        send_all(line, sprintf(line, "file %d\n", k + 1));
+        send_all(reports[k].bytes, reports[k].used);
+    }
+}
+
+int main(int count, char **given) {
+    make_tables();
+    if (count > 2 && !strcmp(given[1], "batch")) {
+        replay_files(given + 2, count - 2);
+    } else {
+        struct report report = report_of(0, 0);
+        send_all(report.bytes, report.used);
+    }
     return 0;
 }

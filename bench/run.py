@@ -4,10 +4,10 @@
     run.py PROGRAM [--rounds N] [--check] [KIND...]
 
 In each round and for each kind of bench/generate.py, `PROGRAM replay` reads the schedule from a
-file and writes the report to a file; the replayer of handwritten.c does the same; `cat` copies that
-report from a file to a file; and hold.c reads it into memory before it writes it. They take turns, so
-that what else the machine does meets all of them. Printed are medians over the rounds, of ratios the
-median of the rounds' ratios, since a machine may be fast in one round and slow in the next:
+file and writes the report to a file; the replayer of handwritten.c does the same; and `cat` copies
+that report from a file to a file. They take turns, so that what else the machine does meets all of
+them. Printed are medians over the rounds, of ratios the median of the rounds' ratios, since a
+machine may be fast in one round and slow in the next:
 
     elapsed    milliseconds of the program from start to end
     processor  milliseconds of a processor, user and kernel; what follows goes by these, since the
@@ -17,16 +17,15 @@ median of the rounds' ratios, since a machine may be fast in one round and slow 
     to hand    the program's time over that of handwritten.c
     ns a move  the program's time less that of a schedule without a move, for each move
     by hand    the same for handwritten.c
-    by holding the same for hold.c: what it costs to have such a report in memory and to write it
-    extra MB   the program's peak memory less the size of the report, in 10^6 bytes, the most seen
+    extra MB   the program's peak memory less that of a schedule without a move, in 10^6 bytes, the
+               most seen
 
-With --check it ends with 1 where a limit is passed: 4 times cat on the two reports of 14 MB; 40 ns a
-move where the lines are short, or where handwritten.c takes longer than that on this machine, its
-time; 12 MB of memory beside the report. Memory is taken as it is. Time is given a tenth more:
-measured three times over on a machine with other work on all its cores, the ratios of one program
-differed by up to 8 %. A kind that is past a limit is measured again, up to five times in all, and so
-is one whose spread is above 10 %, for then not even the ratios hold. A kind that was never measured
-quietly and within its limits fails.
+With --check it ends with 1 where a limit is passed: 1.2 times handwritten.c for each kind, 1.6
+times cat on the two reports of 14 MB, 6 MB of memory. Memory is taken as it is. Time is given a
+tenth more: measured three times over on a machine with other work on all its cores, the ratios of
+one program differed by up to 8 %. A kind that is past a limit is measured again, up to five times
+in all, and so is one whose spread is above 10 %, for then not even the ratios hold. A kind that was
+never measured quietly and within its limits fails.
 """
 import argparse
 import pathlib
@@ -40,8 +39,7 @@ sys.path.append(str(pathlib.Path(__file__).parent.parent / "fuzz"))
 import oracle
 
 LONG_LINES = {"contention", "mcs-contention"}
-SHORT_LINES = {kind for kind in generate.KINDS if "spinning" in kind or "alone" in kind}
-MOST_TO_CAT, MOST_NANOSECONDS, MOST_EXTRA = 4.0, 40.0, 12.0
+MOST_TO_HAND, MOST_TO_CAT, MOST_EXTRA = 1.2, 1.6, 6.0
 TOLERANCE = 1.1
 MOST_SPREAD = 10.0
 ATTEMPTS = 5
@@ -51,7 +49,6 @@ class Bench:
     def __init__(self, program, rounds, folder):
         self.program = program
         self.by_hand = build("handwritten", folder)
-        self.hold = build("hold", folder)
         self.rounds = rounds
         self.measure = Measure(folder)
         self.folder = pathlib.Path(folder)
@@ -75,17 +72,15 @@ class Bench:
 
     def figures(self, schedule, report):
         """Runs all rounds and answers the figures of one line of the table."""
-        runs, hands, copies, starts, holds, empties = [], [], [], [], [], []
+        runs, hands, copies, starts = [], [], [], []
         for _ in range(self.rounds):
             runs.append(self.measure.run([self.program, "replay"], schedule))
             hands.append(self.measure.run([self.by_hand, "replay"], schedule))
             copies.append(self.measure.run(["cat"], report))
             starts.append(self.measure.run([self.program, "replay"], self.start))
-            holds.append(self.measure.run([self.hold], report))
-            empties.append(self.measure.run([self.hold]))
         moves = schedule.read_bytes().count(b"\n") - 1
         took, hand, start = map(median_processor, (runs, hands, starts))
-        held = median_processor(holds) - median_processor(empties)
+        least = min(run.peak for run in starts)
         return {
             "elapsed": median_elapsed(runs) * 1e3,
             "processor": took * 1e3,
@@ -94,17 +89,15 @@ class Bench:
             "to hand": median_ratio(runs, hands),
             "ns a move": (took - start) / moves * 1e9,
             "by hand": (hand - start) / moves * 1e9,
-            "by holding": held / moves * 1e9,
-            "extra MB": (max(run.peak for run in runs) - report.stat().st_size) / 1e6,
+            "extra MB": (max(run.peak for run in runs) - least) / 1e6,
         }
 
     def passed_limits(self, kind, figures):
         """The names of the figures that are past their limit."""
         if kind in LONG_LINES and figures["to cat"] > MOST_TO_CAT * TOLERANCE:
             yield "to cat"
-        most = max(MOST_NANOSECONDS, figures["by hand"])
-        if kind in SHORT_LINES and figures["ns a move"] > most * TOLERANCE:
-            yield "ns a move"
+        if figures["to hand"] > MOST_TO_HAND * TOLERANCE:
+            yield "to hand"
         if figures["extra MB"] > MOST_EXTRA:
             yield "extra MB"
         if figures["spread"] > MOST_SPREAD:
@@ -134,7 +127,7 @@ def main():
     with tempfile.TemporaryDirectory() as folder:
         bench = Bench(str(pathlib.Path(asked.program).resolve()), asked.rounds, folder)
         names = ["elapsed", "processor", "spread %", "to cat", "to hand", "ns a move", "by hand",
-                 "by holding", "extra MB"]
+                 "extra MB"]
         print(f"{'kind':15}" + "".join(f"{name:>11}" for name in names))
         for kind in asked.kinds or kinds:
             bench.line(kind, ATTEMPTS if asked.check else 1)
