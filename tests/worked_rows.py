@@ -1,332 +1,99 @@
-"""Schedules with the reports that a person wrote down for them, as data for rows.py.
+"""The worked rows: texts, and the reports that a person wrote down for them.
 
-A row is a header and a report. Its schedule is the header line and then, for each numbered line of
-the report, its second and third word, and after them the move that the report refuses.
+They stand in three places, and nowhere else:
+
+    examples/NAME.schedule, NAME.report      lessons
+    tests/rows/NAME.schedule, NAME.report    whole reports that are no lesson
+    tests/rows/TABLE.txt                     a text and its report on one line; the head of texts.txt
+                                             says how they are written
+
+The two texts of examples/ that are too large to lie there are printed by examples/limits.sh. Two rows
+more are made by a rule, below. `rows.py` replays all of them, and `rattle_rows.py` hands those of
+files to the tests of the crate `lk_replay`.
 """
+import pathlib
+import re
+import subprocess
+from typing import NamedTuple
 
-TWO_TICKETS = "lock ticket threads 2"
-
-ENTERS = """\
-1 0 acquire called hold - queue -
-2 0 add moved hold - queue 0
-3 0 read entered hold 0 queue 0
-"""
-
-MCS_ENTERS = """\
-1 0 acquire called hold - queue -
-2 0 write moved hold - queue -
-3 0 swap entered hold 0 queue 0
-"""
-
-MCS_LATE_LINK = """\
-4 1 acquire called hold 0 queue 0
-5 1 write moved hold 0 queue 0
-6 0 release called hold 0 queue 0
-7 0 read moved hold 0 queue 0
-8 1 swap moved hold 0 queue 0,1
-9 0 cas moved hold 0 queue 0,1
-10 0 read waits hold 0 queue 0,1
-11 0 read waits hold 0 queue 0,1
-"""
-
-MCS_THIRD_LINKED_FIRST = MCS_ENTERS + """\
-4 1 acquire called hold 0 queue 0
-5 1 write moved hold 0 queue 0
-6 1 swap moved hold 0 queue 0,1
-7 2 acquire called hold 0 queue 0,1
-8 2 write moved hold 0 queue 0,1
-9 2 swap moved hold 0 queue 0,1,2
-10 2 write moved hold 0 queue 0,1,2
-11 2 write moved hold 0 queue 0,1,2
-12 2 read waits hold 0 queue 0,1,2
-13 1 write moved hold 0 queue 0,1,2
-14 1 write moved hold 0 queue 0,1,2
-15 0 release called hold 0 queue 0,1,2
-16 0 read moved hold 0 queue 0,1,2
-17 0 write left hold - queue 1,2
-18 1 read entered hold 1 queue 1,2
-19 1 release called hold 1 queue 1,2
-20 1 read moved hold 1 queue 1,2
-21 1 write left hold - queue 2
-22 2 read entered hold 2 queue 2
-23 2 release called hold 2 queue 2
-24 2 read moved hold 2 queue 2
-25 2 cas left hold - queue -
-end 25
-"""
-
-DOWNGRADE = """\
-1 0 wlock called hold - queue -
-2 0 section entered hold w0 queue -
-3 1 rlock called hold w0 queue -
-4 1 section waits hold w0 queue -
-5 0 downgrade called hold w0 queue -
-6 0 section entered hold r0 queue -
-7 1 section entered hold r0,1 queue -
-end 7
-"""
-
-# name, header, report, and the moves that come after the report's last numbered line.
-REPORTS = [
-    ("no_moves", "lock ticket threads 1", "end 0\n", ""),
-    ("ticket_enters", TWO_TICKETS, ENTERS + "end 3\n", ""),
-    ("ticket_handed_on", TWO_TICKETS, ENTERS + """\
-4 1 acquire called hold 0 queue 0
-5 1 add moved hold 0 queue 0,1
-6 1 read waits hold 0 queue 0,1
-7 0 release called hold 0 queue 0,1
-8 0 read moved hold 0 queue 0,1
-9 0 write left hold - queue 1
-10 1 read entered hold 1 queue 1
-end 10
-""", ""),
-    ("tickets_order_not_calls", TWO_TICKETS, """\
-1 1 acquire called hold - queue -
-2 0 acquire called hold - queue -
-3 0 add moved hold - queue 0
-4 1 add moved hold - queue 0,1
-5 1 read waits hold - queue 0,1
-6 0 read entered hold 0 queue 0,1
-end 6
-""", ""),
-    ("release_of_nothing", TWO_TICKETS, "refused line 2 NotHolder\n", "0 release"),
-    ("read_before_add", TWO_TICKETS, """\
-1 0 acquire called hold - queue -
-refused line 3 WrongStep next add
-""", "0 read"),
-    ("mcs_record_used_again", "lock mcs threads 1", MCS_ENTERS + """\
-4 0 release called hold 0 queue 0
-5 0 read moved hold 0 queue 0
-6 0 cas left hold - queue -
-7 0 acquire called hold - queue -
-8 0 write moved hold - queue -
-9 0 swap entered hold 0 queue 0
-end 9
-""", ""),
-    ("mcs_late_link", "lock mcs threads 2", MCS_ENTERS + MCS_LATE_LINK + """\
-12 1 write moved hold 0 queue 0,1
-13 1 write moved hold 0 queue 0,1
-14 0 read moved hold 0 queue 0,1
-15 0 write left hold - queue 1
-16 1 read entered hold 1 queue 1
-end 16
-""", ""),
-    ("mcs_grant_before_link", "lock mcs threads 2",
-     MCS_ENTERS + MCS_LATE_LINK + "refused line 13 WrongStep next read\n", "0 write"),
-    ("mcs_third_linked_before_second", "lock mcs threads 3", MCS_THIRD_LINKED_FIRST, ""),
-    ("mcs_third_linked_before_second_2_bits", "lock mcs threads 3 bits 2",
-     MCS_THIRD_LINKED_FIRST, ""),
-    ("simple_writer_after_readers", "lock rw-simple threads 3", """\
-1 0 rlock called hold - queue -
-2 0 section entered hold r0 queue -
-3 1 rlock called hold r0 queue -
-4 1 section entered hold r0,1 queue -
-5 2 wlock called hold r0,1 queue -
-6 2 section waits hold r0,1 queue -
-7 0 runlock called hold r0,1 queue -
-8 0 section left hold r1 queue -
-9 1 runlock called hold r1 queue -
-10 2 section waits hold r1 queue -
-11 1 section left hold - queue -
-12 2 section entered hold w2 queue -
-end 12
-""", ""),
-    ("simple_second_writer", "lock rw-simple threads 2", """\
-1 0 wlock called hold - queue -
-2 0 section entered hold w0 queue -
-3 1 wlock called hold w0 queue -
-4 1 section waits hold w0 queue -
-5 0 wunlock called hold w0 queue -
-6 0 section left hold - queue -
-7 1 section entered hold w1 queue -
-end 7
-""", ""),
-    ("simple_reader_passes_writer", "lock rw-simple threads 3", """\
-1 0 rlock called hold - queue -
-2 0 section entered hold r0 queue -
-3 1 wlock called hold r0 queue -
-4 1 section waits hold r0 queue -
-5 2 rlock called hold r0 queue -
-6 2 section entered hold r0,2 queue -
-end 6
-""", ""),
-    ("fifo_writer_before_later_reader", "lock rw-fifo threads 3", """\
-1 0 rlock called hold - queue -
-2 0 section entered hold r0 queue -
-3 1 wlock called hold r0 queue -
-4 1 section moved hold r0 queue 1
-5 2 rlock called hold r0 queue 1
-6 2 section waits hold r0 queue 1
-7 1 section waits hold r0 queue 1
-8 0 runlock called hold r0 queue 1
-9 0 section left hold - queue 1
-10 2 section waits hold - queue 1
-11 1 section entered hold w1 queue -
-12 1 wunlock called hold w1 queue -
-13 2 section waits hold w1 queue -
-14 1 section left hold - queue -
-15 2 section entered hold r2 queue -
-end 15
-""", ""),
-    ("fifo_writer_enters_at_once", "lock rw-fifo threads 2", """\
-1 0 wlock called hold - queue -
-2 0 section entered hold w0 queue -
-3 1 wlock called hold w0 queue -
-4 1 section waits hold w0 queue -
-end 4
-""", ""),
-    ("tickets_wrap_at_2_bits", "lock ticket threads 3 bits 2", """\
-1 0 acquire called hold - queue -
-2 0 add moved hold - queue 0
-3 0 read entered hold 0 queue 0
-4 0 release called hold 0 queue 0
-5 0 read moved hold 0 queue 0
-6 0 write left hold - queue -
-7 0 acquire called hold - queue -
-8 0 add moved hold - queue 0
-9 0 read entered hold 0 queue 0
-10 0 release called hold 0 queue 0
-11 0 read moved hold 0 queue 0
-12 0 write left hold - queue -
-13 0 acquire called hold - queue -
-14 0 add moved hold - queue 0
-15 0 read entered hold 0 queue 0
-16 0 release called hold 0 queue 0
-17 0 read moved hold 0 queue 0
-18 0 write left hold - queue -
-19 1 acquire called hold - queue -
-20 1 add moved hold - queue 1
-21 2 acquire called hold - queue 1
-22 2 add moved hold - queue 1,2
-23 2 read waits hold - queue 1,2
-24 1 read entered hold 1 queue 1,2
-25 1 release called hold 1 queue 1,2
-26 1 read moved hold 1 queue 1,2
-27 1 write left hold - queue 2
-28 2 read entered hold 2 queue 2
-end 28
-""", ""),
-    ("fifo_counts_wrap_at_2_bits", "lock rw-fifo threads 3 bits 2", """\
-1 0 rlock called hold - queue -
-2 0 section entered hold r0 queue -
-3 0 runlock called hold r0 queue -
-4 0 section left hold - queue -
-5 0 rlock called hold - queue -
-6 0 section entered hold r0 queue -
-7 0 runlock called hold r0 queue -
-8 0 section left hold - queue -
-9 0 rlock called hold - queue -
-10 0 section entered hold r0 queue -
-11 0 runlock called hold r0 queue -
-12 0 section left hold - queue -
-13 0 rlock called hold - queue -
-14 0 section entered hold r0 queue -
-15 1 wlock called hold r0 queue -
-16 1 section moved hold r0 queue 1
-17 0 runlock called hold r0 queue 1
-18 0 section left hold - queue 1
-19 1 section entered hold w1 queue -
-end 19
-""", ""),
-    ("simple_downgrade", "lock rw-simple threads 2", DOWNGRADE, ""),
-    ("fifo_downgrade", "lock rw-fifo threads 2", DOWNGRADE, ""),
-    ("fifo_writer_behind_downgrade", "lock rw-fifo threads 2", """\
-1 0 wlock called hold - queue -
-2 0 section entered hold w0 queue -
-3 1 wlock called hold w0 queue -
-4 1 section waits hold w0 queue -
-5 0 downgrade called hold w0 queue -
-6 0 section entered hold r0 queue -
-7 1 section moved hold r0 queue 1
-8 0 runlock called hold r0 queue 1
-9 0 section left hold - queue 1
-10 1 section entered hold w1 queue -
-end 10
-""", ""),
-]
-
-SIMPLE, FIFO = "lock rw-simple threads 1", "lock rw-fifo threads 1"
-ENTERING = ["0 acquire", "0 add", "0 read"]
-WRITER_DOWNGRADES = ["0 wlock", "0 section", "0 downgrade"]
-
-# header, moves, and the last line alone: which of several refusals is answered.
-LAST_LINES = [
-    (TWO_TICKETS, ["2 acquire"], "refused line 2 NoSuchThread"),
-    (TWO_TICKETS, ["2 rlock"], "refused line 2 NoSuchThread"),
-    (TWO_TICKETS, ["255 acquire"], "refused line 2 NoSuchThread"),
-    (TWO_TICKETS, ["0 rlock"], "refused line 2 WrongLock"),
-    (TWO_TICKETS, ["0 section"], "refused line 2 WrongLock"),
-    (TWO_TICKETS, ["0 add"], "refused line 2 NoCall"),
-    (TWO_TICKETS, ["0 acquire", "0 acquire"], "refused line 3 Busy"),
-    (TWO_TICKETS, ["0 acquire", "0 release"], "refused line 3 Busy"),
-    (TWO_TICKETS, ENTERING + ["0 acquire"], "refused line 5 AlreadyHolds"),
-    (TWO_TICKETS, ENTERING + ["0 read"], "refused line 5 NoCall"),
-    (SIMPLE, ["0 rlock", "0 section", "0 wunlock"], "refused line 4 NotHolder"),
-    (SIMPLE, ["0 rlock", "0 section", "0 wlock"], "refused line 4 AlreadyHolds"),
-    ("lock ticket threads 1", ["0 downgrade"], "refused line 2 WrongLock"),
-    (SIMPLE, ["0 rlock", "0 section", "0 downgrade"], "refused line 4 NotHolder"),
-    (FIFO, WRITER_DOWNGRADES + ["0 wunlock"], "refused line 5 Busy"),
-    (FIFO, WRITER_DOWNGRADES + ["0 section", "0 wunlock"], "refused line 6 NotHolder"),
-    # A faulty line behind a refused move makes the whole report its fault.
-    (TWO_TICKETS, ["0 release", "0 go"], "fault line 3 BadLine"),
-]
-
-ONE = b"lock ticket threads 1\n"
-TWO = b"lock ticket threads 2\n"
-TWO_WAIT = TWO + b"0 acquire\n0 add\n1 acquire\n1 add\n"
-CALLED = "1 0 acquire called hold - queue -\nend 1\n"
-
-# name, text, whole report.
-TEXTS = [
-    ("no_byte", b"", "fault line 1 NoHeader\n"),
-    ("skipped_lines_alone", b"\n# a\n", "fault line 3 NoHeader\n"),
-    ("lock_unknown", b"lock clh threads 2\n", "fault line 1 BadHeader\n"),
-    ("header_of_three_words", b"lock ticket threads\n", "fault line 1 BadHeader\n"),
-    ("header_ends_with_space", b"lock ticket threads 2 \n", "fault line 1 BadHeader\n"),
-    ("threads_65", b"lock ticket threads 65\n", "fault line 1 BadThreads\n"),
-    ("threads_0", b"lock ticket threads 0\n", "fault line 1 BadThreads\n"),
-    ("threads_02", b"lock ticket threads 02\n", "fault line 1 BadThreads\n"),
-    ("thread_00", TWO + b"00 acquire\n", "fault line 2 BadLine\n"),
-    ("two_spaces", TWO + b"0  acquire\n", "fault line 2 BadLine\n"),
-    ("space_before", TWO + b" 0 acquire\n", "fault line 2 BadLine\n"),
-    ("space_after", TWO + b"0 acquire \n", "fault line 2 BadLine\n"),
-    ("capital", TWO + b"0 Acquire\n", "fault line 2 BadLine\n"),
-    ("thread_256", TWO + b"256 acquire\n", "fault line 2 BadLine\n"),
-    ("carriage_return", TWO + b"0 acquire\r\n", "fault line 2 BadLine\n"),
-    ("fault_behind_a_move", TWO + b"0 acquire\n0 go\n", "fault line 3 BadLine\n"),
-    ("no_last_line_feed", ONE + b"0 acquire", CALLED),
-    ("skipped_lines_are_counted", b"# x\n\nlock ticket threads 1\n# y\n0 release\n",
-     "refused line 5 NotHolder\n"),
-    ("most_bytes", ONE + b"#" * 1_048_554, "end 0\n"),
-    ("one_byte_more", ONE + b"#" * 1_048_555, "fault TooLong\n"),
-    ("one_move_more", TWO_WAIT + b"1 read\n" * 65_533, "fault line 65538 TooManyMoves\n"),
-    ("ticket_4_threads_2_bits", b"lock ticket threads 4 bits 2\n",
-     "fault line 1 WordsTooNarrow\n"),
-    ("bits_1", b"lock ticket threads 3 bits 1\n", "fault line 1 BadHeader\n"),
-    ("bits_65", b"lock ticket threads 3 bits 65\n", "fault line 1 BadHeader\n"),
-    ("bits_02", b"lock ticket threads 3 bits 02\n", "fault line 1 BadHeader\n"),
-    ("bits_before_threads", b"lock ticket threads 65 bits 1\n", "fault line 1 BadHeader\n"),
-    ("mcs_64_threads_6_bits", b"lock mcs threads 64 bits 6\n", "fault line 1 WordsTooNarrow\n"),
-    ("mcs_63_threads_6_bits", b"lock mcs threads 63 bits 6\n", "end 0\n"),
-    ("mcs_64_threads_7_bits", b"lock mcs threads 64 bits 7\n", "end 0\n"),
-]
-TEXTS += [(f"byte_{b}_behind_acquire", ONE + b"0 acquire" + bytes([b]),
-           CALLED if b == 10 else "fault line 2 BadLine\n") for b in range(256)]
+TOP = pathlib.Path(__file__).resolve().parent.parent
+EXAMPLES, ROWS = TOP / "examples", TOP / "tests" / "rows"
+TABLES = ["texts", "refusals", "limits"]
+EARLIER = b"..\n"  # stands for the lines of a report that a row does not tell
+ESCAPES = {"|": "\n", r"\r": "\r", r"\0": "\0"}
+LOCKS = ["ticket", "mcs", "rw-simple", "rw-fifo"]
 
 
-def cuts():
-    """The first bytes of a schedule of two threads, cut inside its header and its first move."""
-    text = TWO + b"0 acquire\n0 add\n"
-    reports = {0: "fault line 1 NoHeader\n", 20: "fault line 1 BadThreads\n", 31: CALLED}
-    reports |= {k: "fault line 1 BadHeader\n" for k in range(1, 20)}
-    reports |= {k: "end 0\n" for k in (21, 22)}
-    reports |= {k: "fault line 2 BadLine\n" for k in range(23, 31)}
-    return [(f"cut_after_{k}", text[:k], reports[k]) for k in sorted(reports)]
+class Row(NamedTuple):
+    """A text, as pieces of bytes that are each repeated so many times, and its report."""
+    name: str
+    pieces: list
+    report: bytes
+
+    @property
+    def text(self):
+        return b"".join(piece * times for piece, times in self.pieces)
+
+    def is_met_by(self, report):
+        if self.report.startswith(EARLIER):
+            return report.endswith(b"\n" + self.report[len(EARLIER):])
+        return report == self.report
+
+    def status(self):
+        """The exit status of a replay: 0 where every move was accepted."""
+        return 0 if self.report.splitlines()[-1].startswith(b"end ") else 1
+
+
+def pairs(folder):
+    """A row for each file `NAME.report`. A schedule without a report is a mistake."""
+    names = {file.stem for file in folder.glob("*.report")}
+    lone = sorted({file.stem for file in folder.glob("*.schedule")} - names)
+    if lone:
+        raise ValueError(f"{folder}: no report of {', '.join(lone)}")
+    for name in sorted(names):
+        schedule = folder / f"{name}.schedule"
+        text = schedule.read_bytes() if schedule.exists() else too_large(name)
+        yield Row(name, [(text, 1)], (folder / f"{name}.report").read_bytes())
+
+
+def too_large(name):
+    return subprocess.run([EXAMPLES / "limits.sh", name], capture_output=True, check=True).stdout
+
+
+def plain(written):
+    """The bytes that a table writes with escapes."""
+    return re.sub(r"\||\\[r0]", lambda found: ESCAPES[found[0]], written).encode()
+
+
+def table(name):
+    """The rows of tests/rows/NAME.txt. What begins with `//` is a remark."""
+    for number, line in enumerate((ROWS / f"{name}.txt").read_text().splitlines(), 1):
+        if line == "" or line.startswith("//"):
+            continue
+        text, arrow, report = line.partition(" => ")
+        if not arrow or not report.endswith("|"):
+            raise ValueError(f"{name}.txt:{number}: no `TEXT => REPORT|`")
+        pieces = [(plain(piece or once), int(times or 1)) for piece, times, once
+                  in re.findall(r"\(([^()]+)\)\*(\d+)|([^()]+)", text)]
+        yield Row(f"{name}.txt:{number}: {line[:80]}", pieces, plain(report))
+
+
+def narrowest(row):
+    """The row in the narrowest words, if it is accepted and names no width.
+
+    With fewer threads than a word has values no width shows in a report.
+    """
+    header = re.search(rb"^lock \S+ threads (\d+)$", row.text, re.MULTILINE)
+    if header is None or row.status() != 0:
+        return None
+    bits = max(2, int(header[1]).bit_length())
+    text = row.text[:header.end()] + b" bits %d" % bits + row.text[header.end():]
+    return Row(f"{row.name} in {bits} bits", [(text, 1)], row.report)
 
 
 def mcs_queue_of_64():
     """Every thread swaps itself in and none links: the queue is in the order of the swaps."""
-    report, queue, number = [], [], 0
+    text, report, queue, number = ["lock mcs threads 64"], [], [], 0
     for thread in range(64):
         for word in ("acquire", "write", "swap"):
             number += 1
@@ -334,15 +101,29 @@ def mcs_queue_of_64():
             if word == "swap":
                 queue.append(str(thread))
                 outcome = "entered" if thread == 0 else "moved"
-            held = "0" if queue else "-"
-            report.append(f"{number} {thread} {word} {outcome} hold {held} "
-                          f"queue {','.join(queue) or '-'}\n")
-    return ("mcs_queue_of_64", "lock mcs threads 64", "".join(report) + "end 192\n", "")
+            text.append(f"{thread} {word}")
+            report.append(f"{number} {thread} {word} {outcome} hold {'0' if queue else '-'} "
+                          f"queue {','.join(queue) or '-'}")
+    return Row("mcs_queue_of_64", [("\n".join(text + [""]).encode(), 1)],
+               "\n".join(report + ["end 192", ""]).encode())
 
 
 def most_moves():
     """65,536 moves: two threads wait behind one another and the second looks in vain."""
+    text = b"lock ticket threads 2\n0 acquire\n0 add\n1 acquire\n1 add\n"
     report = ["1 0 acquire called hold - queue -", "2 0 add moved hold - queue 0",
               "3 1 acquire called hold - queue 0", "4 1 add moved hold - queue 0,1"]
     report += [f"{number} 1 read waits hold - queue 0,1" for number in range(5, 65_537)]
-    return ("most_moves", TWO_TICKETS, "\n".join(report) + "\nend 65536\n", "")
+    return Row("most_moves", [(text, 1), (b"1 read\n", 65_532)],
+               "\n".join(report + ["end 65536", ""]).encode())
+
+
+def rows():
+    """Every row."""
+    whole = [*pairs(EXAMPLES), *pairs(ROWS)]
+    yield from whole
+    yield from filter(None, map(narrowest, whole))
+    for name in TABLES:
+        yield from table(name)
+    yield mcs_queue_of_64()
+    yield most_moves()

@@ -1,8 +1,7 @@
-//! Worked replays and texts, texts at the limits, and devices that fail.
+//! The worked rows, what no row says, devices that fail, and refused memory.
 
 mod devices;
-mod limits;
-mod replays;
 mod refused_memory;
-mod texts;
+mod refusing;
+mod rows;
 mod worked;

@@ -1,51 +1,14 @@
-//! Each request for memory refused in turn. The refusals are real under the allocator of tests/refuse, which the test command
-//! preloads in a second run; its head says how a test speaks to it. With ample memory the same tests meet none.
+//! Each request for memory refused in turn, in each call on each worked row: those that are accepted,
+//! those that end in a refused move, and those that are no schedule.
 
-use crate::tests::replays::REPLAYS;
-use crate::tests::worked::schedule_of;
-use crate::{Ending, ReadFault, RunFault, read_schedule, read_text, replay, report_of, run};
-use std::alloc::Global;
+use crate::tests::refusing::{MOST_REQUESTS, is_last, refuse, was_refused};
+use crate::tests::rows::{WORKED, ending_due, is_due};
+use crate::{ReadFault, RunFault, Schedule, read_schedule, read_text, replay, report_of, run};
+use std::alloc::{AllocError, Global};
 use std::io;
 use std::io::Write;
 use std::process::Abort;
 use std::test::Fail;
-
-const HERE: usize = 99_999_998;
-
-const ASK: usize = 99_999_999;
-
-const ARM: usize = 100_000_000;
-
-// More than any of these calls makes.
-const MOST_REQUESTS: usize = 1000;
-
-fn is_granted(alloc: Global, size: usize) -> bool {
-    Vec::<u8>::with_capacity(alloc, size).is_ok()
-}
-
-// Refuses the request of this number from here on, the first being 1.
-fn refuse(alloc: Global, number: usize) {
-    let _ = is_granted(alloc, ARM.saturating_add(number));
-}
-
-// Whether a request was refused since then.
-fn was_refused(alloc: Global) -> bool {
-    !is_granted(alloc, ASK)
-}
-
-// Whether a round ends here: no request was refused in it. Where the call wants memory and the allocator refuses, one was in an
-// earlier round.
-fn is_last(rt: &impl Abort, alloc: Global, number: usize, refused: bool, wants: bool) -> bool {
-    assert!(rt;
-        number < MOST_REQUESTS - 1,
-        "a request was refused each time"
-    );
-    assert!(rt;
-        refused || number > 1 || !wants || is_granted(alloc, HERE),
-        "no request was made"
-    );
-    !refused
-}
 
 /// Takes the bytes that it expects, and no memory.
 #[derive(Drop)]
@@ -69,48 +32,114 @@ impl<'a> Write for Expecting<'a> {
     }
 }
 
-#[test]
-fn each_request_refused_in_read_schedule(rt: HostRuntime) -> Result<(), Fail> {
-    let alloc = rt.alloc();
-    for (name, header, report) in REPLAYS {
-        let text = schedule_of(alloc, header, report)?;
-        let whole = read_schedule(alloc, &text)?;
-        for number in 1..MOST_REQUESTS {
-            refuse(alloc, number);
-            let answer = read_schedule(alloc, &text);
-            let refused = was_refused(alloc);
-            match answer {
-                Ok(schedule) => assert!(rt; schedule.moves() == whole.moves(), "{name}"),
-                Err(fault) => assert!(rt; refused && fault == ReadFault::OutOfMemory, "{name}"),
+// What is wrong with the text, or none: its schedule has these moves.
+fn reads_as_due(rt: &impl Abort, alloc: Global, text: &[u8], due: &str) {
+    let whole = read_schedule(alloc, text);
+    let wants = match &whole {
+        Ok(schedule) => !schedule.moves().is_empty(),
+        Err(_) => false,
+    };
+    for number in 1..MOST_REQUESTS {
+        refuse(alloc, number);
+        let answer = read_schedule(alloc, text);
+        let refused = was_refused(alloc);
+        match (&answer, &whole) {
+            (Ok(found), Ok(wanted)) => assert!(rt; found.moves() == wanted.moves(), "{due}"),
+            (Err(found), Err(wanted)) if found == wanted => {}
+            (found, _) => {
+                let is_memory = matches!(found, Err(ReadFault::OutOfMemory));
+                assert!(rt; refused && is_memory, "{due}");
             }
-            if is_last(&rt, alloc, number, refused, !whole.moves().is_empty()) {
-                break;
+        }
+        if is_last(rt, alloc, number, refused, wants) {
+            break;
+        }
+    }
+}
+
+fn replays_as_due(
+    rt: &impl Abort,
+    alloc: Global,
+    schedule: &Schedule,
+    due: &str,
+) -> Result<(), AllocError> {
+    let whole = replay(alloc, schedule)?;
+    for number in 1..MOST_REQUESTS {
+        refuse(alloc, number);
+        let answer = replay(alloc, schedule);
+        let refused = was_refused(alloc);
+        match answer {
+            Ok(played) => {
+                assert!(rt; played.accepted() == whole.accepted(), "{due}");
+                assert!(rt; played.entries() == whole.entries(), "{due}");
+                assert!(rt; played.refused() == whole.refused(), "{due}");
             }
+            Err(_) => assert!(rt; refused, "{due}"),
+        }
+        if is_last(rt, alloc, number, refused, !whole.accepted().is_empty()) {
+            break;
         }
     }
     Ok(())
+}
+
+fn reports_as_due(rt: &impl Abort, alloc: Global, text: &[u8], due: &str) {
+    for number in 1..MOST_REQUESTS {
+        refuse(alloc, number);
+        let answer = report_of(alloc, text);
+        let refused = was_refused(alloc);
+        match answer {
+            Ok(found) => assert!(rt; is_due(&found, due), "{due}"),
+            Err(_) => assert!(rt; refused, "{due}"),
+        }
+        if is_last(rt, alloc, number, refused, true) {
+            break;
+        }
+    }
+}
+
+fn runs_as_due(rt: &impl Abort, alloc: Global, text: &[u8], due: &str) -> Result<(), AllocError> {
+    let report = report_of(alloc, text)?;
+    for number in 1..MOST_REQUESTS {
+        let mut input = text;
+        let mut output = Expecting { rest: &report };
+        refuse(alloc, number);
+        let answer = run(alloc, &mut input, &mut output);
+        let refused = was_refused(alloc);
+        match answer {
+            Ok(ending) => {
+                assert!(rt;
+                    ending == ending_due(due) && output.rest.is_empty(),
+                    "{due}"
+                );
+            }
+            Err(fault) => {
+                assert!(rt; refused && fault == RunFault::OutOfMemory, "{due}");
+                assert_eq!(rt; output.rest.len(), report.len(), "{due}");
+            }
+        }
+        if is_last(rt, alloc, number, refused, true) {
+            break;
+        }
+    }
+    Ok(())
+}
+
+#[test]
+fn each_request_refused_in_read_schedule(rt: HostRuntime) {
+    for rows in WORKED {
+        for &(text, due) in rows {
+            reads_as_due(&rt, rt.alloc(), text.as_bytes(), due);
+        }
+    }
 }
 
 #[test]
 fn each_request_refused_in_replay(rt: HostRuntime) -> Result<(), Fail> {
-    let alloc = rt.alloc();
-    for (name, header, report) in REPLAYS {
-        let text = schedule_of(alloc, header, report)?;
-        let schedule = read_schedule(alloc, &text)?;
-        let whole = replay(alloc, &schedule)?;
-        for number in 1..MOST_REQUESTS {
-            refuse(alloc, number);
-            let answer = replay(alloc, &schedule);
-            let refused = was_refused(alloc);
-            match answer {
-                Ok(played) => {
-                    assert!(rt; played.accepted() == whole.accepted(), "{name}");
-                    assert!(rt; played.entries() == whole.entries(), "{name}");
-                }
-                Err(_) => assert!(rt; refused, "{name}"),
-            }
-            if is_last(&rt, alloc, number, refused, !whole.accepted().is_empty()) {
-                break;
+    for rows in WORKED {
+        for &(text, due) in rows {
+            if let Ok(schedule) = read_schedule(rt.alloc(), text.as_bytes()) {
+                replays_as_due(&rt, rt.alloc(), &schedule, due)?;
             }
         }
     }
@@ -118,24 +147,12 @@ fn each_request_refused_in_replay(rt: HostRuntime) -> Result<(), Fail> {
 }
 
 #[test]
-fn each_request_refused_in_report_of(rt: HostRuntime) -> Result<(), Fail> {
-    let alloc = rt.alloc();
-    for (name, header, report) in REPLAYS {
-        let text = schedule_of(alloc, header, report)?;
-        for number in 1..MOST_REQUESTS {
-            refuse(alloc, number);
-            let answer = report_of(alloc, &text);
-            let refused = was_refused(alloc);
-            match answer {
-                Ok(found) => assert!(rt; found.as_slice() == report.as_bytes(), "{name}"),
-                Err(_) => assert!(rt; refused, "{name}"),
-            }
-            if is_last(&rt, alloc, number, refused, true) {
-                break;
-            }
+fn each_request_refused_in_report_of(rt: HostRuntime) {
+    for rows in WORKED {
+        for &(text, due) in rows {
+            reports_as_due(&rt, rt.alloc(), text.as_bytes(), due);
         }
     }
-    Ok(())
 }
 
 #[test]
@@ -159,32 +176,9 @@ fn each_request_refused_in_read_text(rt: HostRuntime) {
 
 #[test]
 fn each_request_refused_in_run(rt: HostRuntime) -> Result<(), Fail> {
-    let alloc = rt.alloc();
-    for (name, header, report) in REPLAYS {
-        let text = schedule_of(alloc, header, report)?;
-        for number in 1..MOST_REQUESTS {
-            let mut input = text.as_slice();
-            let mut output = Expecting {
-                rest: report.as_bytes(),
-            };
-            refuse(alloc, number);
-            let answer = run(alloc, &mut input, &mut output);
-            let refused = was_refused(alloc);
-            match answer {
-                Ok(ending) => {
-                    assert!(rt;
-                        ending == Ending::Accepted && output.rest.is_empty(),
-                        "{name}"
-                    );
-                }
-                Err(fault) => {
-                    assert!(rt; refused && fault == RunFault::OutOfMemory, "{name}");
-                    assert_eq!(rt; output.rest.len(), report.len(), "{name}");
-                }
-            }
-            if is_last(&rt, alloc, number, refused, true) {
-                break;
-            }
+    for rows in WORKED {
+        for &(text, due) in rows {
+            runs_as_due(&rt, rt.alloc(), text.as_bytes(), due)?;
         }
     }
     Ok(())

@@ -1,79 +1,31 @@
-//! The worked replays and texts, through every public call.
+//! What no row says: cuts and last bytes by rule, endings of other texts, and what a replay records.
 
-use crate::tests::replays::REPLAYS;
-use crate::tests::texts::{CUTS, REFUSED, WHOLE};
-use crate::{Accepted, Ending, ending_of, read_schedule, replay, report_of, run, status_of};
+use crate::{Accepted, Ending, ending_of, read_schedule, replay, report_of};
 use lk_locks::{Entry, LockKind, Move, Op, Outcome, Refusal, StepKind};
-use std::alloc::{AllocError, Global};
 use std::test::Fail;
 
-// The schedule of the second and third words of a report's lines.
-pub fn schedule_of(alloc: Global, header: &str, report: &str) -> Result<Vec<u8>, AllocError> {
-    let mut text = Vec::from_slice(alloc, header.as_bytes())?;
-    for line in report.lines() {
-        let mut words = line.split(' ').skip(1);
-        if let (Some(thread), Some(word)) = (words.next(), words.next()) {
-            text.push(b'\n')?;
-            text.extend_from_slice(thread.as_bytes())?;
-            text.push(b' ')?;
-            text.extend_from_slice(word.as_bytes())?;
-        }
-    }
-    text.push(b'\n')?;
-    Ok(text)
-}
-
-#[test]
-fn worked_replays(rt: HostRuntime) -> Result<(), Fail> {
-    let alloc = rt.alloc();
-    for (name, header, report) in REPLAYS {
-        let text = schedule_of(alloc, header, report)?;
-        let found = report_of(alloc, &text)?;
-        assert!(rt; found.as_slice() == report.as_bytes(), "{name}");
-        assert!(rt; ending_of(&found) == Ending::Accepted, "{name}");
-    }
-    Ok(())
-}
-
-#[test]
-fn whole_reports(rt: HostRuntime) -> Result<(), Fail> {
-    let alloc = rt.alloc();
-    for (text, report) in WHOLE {
-        let mut input = text.as_bytes();
-        let mut output = Vec::new(alloc);
-        let ran = run(alloc, &mut input, &mut output);
-        assert!(rt; output.as_slice() == report.as_bytes(), "{text}");
-        let status = if report.contains("end ") { 0 } else { 1 };
-        assert_eq!(rt; status_of(&ran), status, "{text}");
-    }
-    Ok(())
-}
-
-#[test]
-fn refused_moves(rt: HostRuntime) -> Result<(), Fail> {
-    let alloc = rt.alloc();
-    for (text, last) in REFUSED {
-        let mut input = text.as_bytes();
-        let mut output = Vec::new(alloc);
-        let ran = run(alloc, &mut input, &mut output);
-        assert!(rt; output.ends_with(last.as_bytes()), "{text}");
-        assert!(rt; ran == Ok(Ending::Refused), "{text}");
-        assert_eq!(rt; status_of(&ran), 1, "{text}");
-    }
-    Ok(())
-}
-
+// The schedule of a thread that enters, cut after each of its bytes.
 #[test]
 fn cut_schedules(rt: HostRuntime) -> Result<(), Fail> {
-    let alloc = rt.alloc();
-    let (_, header, report) = REPLAYS[2];
-    let text = schedule_of(alloc, header, report)?;
+    let text = b"lock ticket threads 2\n0 acquire\n0 add\n0 read\n";
     for k in 0..=text.len() {
-        let found = report_of(alloc, &text[..k])?;
-        assert!(rt; ending_of(&found) != Ending::Refused, "{k}");
-        for (cut, report) in CUTS {
-            assert!(rt; cut != k || found.as_slice() == report.as_bytes(), "{k}");
-        }
+        let found = report_of(rt.alloc(), &text[..k])?;
+        let due: &[u8] = match k {
+            0 => b"fault line 1 NoHeader\n",
+            1..=19 => b"fault line 1 BadHeader\n",
+            20 => b"fault line 1 BadThreads\n",
+            21 | 22 => b"end 0\n",
+            23..=30 => b"fault line 2 BadLine\n",
+            31 | 32 => b"1 0 acquire called hold - queue -\nend 1\n",
+            33..=36 => b"fault line 3 BadLine\n",
+            37 | 38 => b"1 0 acquire called hold - queue -\n2 0 add moved hold - queue 0\nend 2\n",
+            39..=43 => b"fault line 4 BadLine\n",
+            _ => {
+                b"1 0 acquire called hold - queue -\n2 0 add moved hold - queue 0\n\
+3 0 read entered hold 0 queue 0\nend 3\n"
+            }
+        };
+        assert!(rt; found.as_slice() == due, "{k}");
     }
     Ok(())
 }
@@ -100,10 +52,16 @@ fn endings_of_other_texts(rt: HostRuntime) {
     for (report, ending) in [
         ("", Ending::Faulty),
         ("end ", Ending::Accepted),
-        ("end 0\n\n", Ending::Faulty),
         ("end", Ending::Faulty),
+        ("refused ", Ending::Refused),
+        ("refused", Ending::Faulty),
+        ("end 0\n\n", Ending::Faulty),
         ("refused \nend 0", Ending::Accepted),
         ("end 0\nrefused x", Ending::Refused),
+        ("end 0\nrefused", Ending::Faulty),
+        ("refused x\nend", Ending::Faulty),
+        (" end 0", Ending::Faulty),
+        ("Refused x", Ending::Faulty),
         ("\n", Ending::Faulty),
     ] {
         assert!(rt; ending_of(report.as_bytes()) == ending, "{report}");
@@ -113,8 +71,11 @@ fn endings_of_other_texts(rt: HostRuntime) {
 #[test]
 fn entries_of_announced_writer(rt: HostRuntime) -> Result<(), Fail> {
     let alloc = rt.alloc();
-    let (_, header, report) = REPLAYS[13];
-    let schedule = read_schedule(alloc, &schedule_of(alloc, header, report)?)?;
+    let schedule = read_schedule(
+        alloc,
+        b"lock rw-fifo threads 3\n0 rlock\n0 section\n1 wlock\n1 section\n2 rlock\n2 section\n\
+1 section\n0 runlock\n0 section\n2 section\n1 section\n1 wunlock\n2 section\n1 section\n2 section\n",
+    )?;
     assert!(rt;
         schedule.kind() == LockKind::RwFifo && schedule.threads() == 3 && schedule.bits() == 64
     );
@@ -183,5 +144,30 @@ fn replay_up_to_a_refusal(rt: HostRuntime) -> Result<(), Fail> {
             .as_slice()
     );
     assert!(rt; played.refused() == Some((6, Refusal::AlreadyHolds)));
+    Ok(())
+}
+
+// Each thread swaps itself in and none links: the queue is in the order of the swaps.
+#[test]
+fn most_threads(rt: HostRuntime) -> Result<(), Fail> {
+    let alloc = rt.alloc();
+    let mut text = Vec::from_slice(alloc, b"lock mcs threads 64\n")?;
+    let mut last = Vec::from_slice(alloc, b"\n192 63 swap moved hold 0 queue 0")?;
+    for thread in 0..64u8 {
+        let moves = format!(in alloc; "{thread} acquire\n{thread} write\n{thread} swap\n")?;
+        text.extend_from_slice(moves.as_bytes())?;
+        if thread != 0 {
+            last.extend_from_slice(format!(in alloc; ",{thread}")?.as_bytes())?;
+        }
+    }
+    last.extend_from_slice(b"\nend 192\n")?;
+    let found = report_of(alloc, &text)?;
+    assert!(rt; found.ends_with(&last));
+    assert!(rt;
+        found.starts_with(
+            b"1 0 acquire called hold - queue -\n2 0 write moved hold - queue -\n\
+3 0 swap entered hold 0 queue 0\n"
+        )
+    );
     Ok(())
 }

@@ -1,0 +1,113 @@
+#!/usr/bin/env python3
+"""Hands the worked rows to the tests of the crate `lk_replay`.
+
+    rattle_rows.py            writes them as constants below crates/lk_replay/src/tests/rows/
+    rattle_rows.py --check    changes nothing, and ends with 1 where a file is not what would be written
+
+Rattle has no `include_str!`, and a test runs where it finds no file. So the rows that stand in files
+(worked_rows.py says where) are written down as constants by this script alone, one file for each lock
+and each table, and `make test` holds the two against each other.
+"""
+import sys
+
+from worked_rows import EXAMPLES, LOCKS, ROWS, TOP, pairs, table
+
+FOLDER = TOP / "crates" / "lk_replay" / "src" / "tests" / "rows"
+WIDTH = 60    # a longer list of a tuple's parts is laid out over several lines
+LONGEST = 90  # a longer literal is laid out with a line for each line of its text
+ESCAPES = {"\n": r"\n", "\r": r"\r", "\0": r"\0", '"': r'\"', "\\": r"\\"}
+HEAD = "//! {}\n//! Written by tests/rattle_rows.py from {}: change them there.\n\n"
+
+
+def on_one_line(text):
+    return '"' + "".join(ESCAPES.get(letter, letter) for letter in text.decode("latin-1")) + '"'
+
+
+def line_by_line(text):
+    lines = text.decode("latin-1").split("\n")
+    return '"\\\n' + "\n".join(on_one_line(line.encode("latin-1"))[1:-1] for line in lines) + '"'
+
+
+def literal(text):
+    line = on_one_line(text)
+    return line if len(line) <= LONGEST else line_by_line(text)
+
+
+def element(parts):
+    """A tuple as an element of an array, laid out as `rt fmt` does."""
+    line = ", ".join(parts)
+    if len(line) <= WIDTH and "\n" not in line:
+        return f"    ({line}),\n"
+    return "    (\n" + "".join(f"        {part},\n" for part in parts) + "    ),\n"
+
+
+def file_of(name, what, source, remark, kind, elements):
+    """A file's name and its text: one constant array."""
+    return name, (HEAD.format(what, source) + f"/// {remark}\n"
+                  + f"pub const ROWS: [{kind}; {len(elements)}] = [\n"
+                  + "".join(elements) + "];\n")
+
+
+def lock_of(row):
+    """The lock that the row's header names, or None."""
+    lines = [line.split(" ") for line in row.text.decode("latin-1").split("\n")]
+    named = [words[1] for words in lines if words[0] == "lock" and len(words) > 1]
+    return named[0] if named and named[0] in LOCKS else None
+
+
+def whole(name, what, source, rows):
+    return file_of(name, what, source,
+                   "Texts with their reports; `..` stands for earlier lines, which are not told.",
+                   "(&str, &str)",
+                   [element([literal(row.text), literal(row.report)]) for row in rows])
+
+
+def repeated(name, what, source, rows):
+    elements = []
+    for row in rows:
+        before, (piece, times), after = split(row.pieces)
+        elements.append(element([on_one_line(before), on_one_line(piece), f"{times:_}",
+                                 on_one_line(after), literal(row.report)]))
+    return file_of(name, what, source,
+                   "What stands before a piece, the piece, how often, what stands behind it, and "
+                   "the report.", "(&str, &str, usize, &str, &str)", elements)
+
+
+def split(pieces):
+    """The one piece that is repeated, and what stands on either side of it."""
+    at = max(range(len(pieces)), key=lambda k: pieces[k][1])
+    before, after = (b"".join(piece for piece, _ in part)
+                     for part in (pieces[:at], pieces[at + 1:]))
+    return before, pieces[at], after
+
+
+def files():
+    """Each file's name and text."""
+    lessons = [row for row in [*pairs(EXAMPLES), *pairs(ROWS)] if len(row.text) < 10_000]
+    for lock in LOCKS:
+        yield whole(lock.replace("-", "_"), f"Moves of a `{lock}` lock: lessons, and each refusal.",
+                    "examples/ and tests/rows/",
+                    [row for row in [*lessons, *table("refusals")] if lock_of(row) == lock])
+    yield whole("texts", "What is a schedule, and what is wrong with a text that is none.",
+                "examples/ and tests/rows/texts.txt",
+                [*[row for row in lessons if lock_of(row) is None], *table("texts")])
+    yield repeated("limits", "Texts at the limits.", "tests/rows/limits.txt", table("limits"))
+
+
+def main(is_check):
+    differ = 0
+    for name, text in files():
+        file = FOLDER / f"{name}.rt"
+        if is_check and not (file.exists() and file.read_text() == text):
+            differ += 1
+            print(f"{file.relative_to(TOP)} is not what tests/rattle_rows.py writes")
+        elif not is_check:
+            file.parent.mkdir(exist_ok=True)
+            file.write_text(text)
+    return 1 if differ else 0
+
+
+if __name__ == "__main__":
+    if sys.argv[1:] not in ([], ["--check"]):
+        sys.exit(__doc__)
+    sys.exit(main(sys.argv[1:] == ["--check"]))
