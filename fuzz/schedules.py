@@ -70,7 +70,9 @@ def stray_move(chance, name, threads, played):
 
 
 def odd_line(chance):
-    """A line that is no move, or looks like none."""
+    """A line that is no move, or looks like none. One that begins with CR is not skipped."""
+    if chance.random() < 0.1:
+        return chance.choice(["\r", "\r\r", "\r# 0 acquire", "\r0 acquire"])
     if chance.random() < 0.5:
         return f"{chance.choice(ODD_NUMBERS)} {chance.choice(WORDS)}"
     return f"{chance.randint(0, 3)}{chance.choice([' ', '  ', '', chr(9)])}{chance.choice(ODD_WORDS)}"
@@ -122,14 +124,23 @@ def changed_text(chance, text):
     return bytes(text)
 
 
+def most_moves(chance, beyond):
+    """A schedule of the most moves, or of so many more; or of the most and a line that is no move."""
+    name, threads, line = header(chance)
+    ends_oddly = chance.random() < 0.5
+    played = moves(chance, name, threads, oracle.MOST_MOVES + (0 if ends_oddly else beyond))
+    lines = [line, *(f"{thread} {word}" for thread, word in played)]
+    if ends_oddly:
+        lines.append(odd_line(chance))
+    return "\n".join(lines).encode("latin-1", "replace") + b"\n"
+
+
 def limit_text(chance):
     """A text at one of the limits, one below it, or one beyond."""
     beyond = chance.choice([-1, 0, 1, 1])
     kind = chance.randrange(4)
     if kind == 0:
-        name, threads, line = header(chance)
-        played = moves(chance, name, threads, oracle.MOST_MOVES + beyond)
-        return "\n".join([line] + [f"{t} {word}" for t, word in played]).encode() + b"\n"
+        return most_moves(chance, beyond)
     text = b"lock mcs threads 1\n" if chance.random() < 0.5 else b""
     room = oracle.MOST_BYTES + beyond - len(text)
     if kind == 1:
