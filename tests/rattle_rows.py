@@ -1,18 +1,24 @@
 #!/usr/bin/env python3
-"""Hands the worked rows to the tests of the crate `lk_replay`.
+"""Writes what tests in Rattle share with others: the worked rows, and how a request is refused.
 
-    rattle_rows.py            writes them as constants below crates/lk_replay/src/tests/rows/
+    rattle_rows.py            writes the files
     rattle_rows.py --check    changes nothing, and ends with 1 where a file is not what would be written
 
-Rattle has no `include_str!`, and a test runs where it finds no file. So the rows that stand in files
-(worked_rows.py says where) are written down as constants by this script alone, one file for each lock
-and each table, and `make test` holds the two against each other.
+Rattle has no `include_str!`, a test runs where it finds no file, and no crate is a dependency for
+tests alone. So the rows that stand in files (worked_rows.py says where) are constants of `lk_replay`,
+one file for each lock and one for each table, and four crates have one helper each, which is the
+same. This script alone writes them, and `make test` holds both against their sources.
 """
 import sys
 
 from worked_rows import EXAMPLES, LOCKS, ROWS, TOP, pairs, table
 
-FOLDER = TOP / "crates" / "lk_replay" / "src" / "tests" / "rows"
+CRATES = TOP / "crates"
+FOLDER = CRATES / "lk_replay" / "src" / "tests" / "rows"
+HELPER = CRATES / "lk_locks" / "src" / "tests" / "refusing.rt"
+ITS_COPIES = [CRATES / "lk_replay" / "src" / "tests" / "refusing.rt",
+              CRATES / "lk_workers" / "src" / "tests" / "refusing.rt",
+              CRATES / "lockreplay" / "src" / "refusing.rt"]
 WIDTH = 60    # a longer list of a tuple's parts is laid out over several lines
 LONGEST = 90  # a longer literal is laid out with a line for each line of its text
 ESCAPES = {"\n": r"\n", "\r": r"\r", "\0": r"\0", '"': r'\"', "\\": r"\\"}
@@ -81,8 +87,8 @@ def split(pieces):
     return before, pieces[at], after
 
 
-def files():
-    """Each file's name and text."""
+def rows():
+    """Each file of rows: its name and its text."""
     lessons = [row for row in [*pairs(EXAMPLES), *pairs(ROWS)] if len(row.text) < 10_000]
     for lock in LOCKS:
         yield whole(lock.replace("-", "_"), f"Moves of a `{lock}` lock: lessons, and each refusal.",
@@ -94,10 +100,15 @@ def files():
     yield repeated("limits", "Texts at the limits.", "tests/rows/limits.txt", table("limits"))
 
 
+def files():
+    """Each file that is written here, and its text."""
+    yield from ((FOLDER / f"{name}.rt", text) for name, text in rows())
+    yield from ((copy, HELPER.read_text()) for copy in ITS_COPIES)
+
+
 def main(is_check):
     differ = 0
-    for name, text in files():
-        file = FOLDER / f"{name}.rt"
+    for file, text in files():
         if is_check and not (file.exists() and file.read_text() == text):
             differ += 1
             print(f"{file.relative_to(TOP)} is not what tests/rattle_rows.py writes")

@@ -4,4 +4,5 @@ mod batches;
 mod drawn;
 mod eight;
 mod refused_memory;
+mod refusing;
 mod running;

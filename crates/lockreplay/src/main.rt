@@ -13,7 +13,7 @@ ghost use Rattle.lockreplay.specs.Jobs.{FitsJob};
 mod faults;
 mod jobs;
 #[cfg(test)]
-mod refused_memory;
+mod refusing;
 mod sending;
 mod status;
 mod command_line;

@@ -1,35 +1,12 @@
-//! Each request for memory refused in turn. The refusals are real under the allocator of tests/refuse, which the test command
-//! preloads in a second run; its head says how a test speaks to it. With ample memory the same tests meet none.
+//! Each request for memory refused in turn.
 
+use super::refusing::{MOST_REQUESTS, met_none, refuse, was_refused};
 use super::rows::*;
 use super::told;
 use crate::{History, Keeper, LockKind, PlayFault, Refusal};
 use lk_words::WordArray;
 use std::alloc::Global;
 use std::process::Abort;
-
-const HERE: usize = 99_999_998;
-
-const ASK: usize = 99_999_999;
-
-const ARM: usize = 100_000_000;
-
-// More than any of these calls makes.
-const MOST_REQUESTS: usize = 1000;
-
-fn is_granted(alloc: Global, size: usize) -> bool {
-    Vec::<u8>::with_capacity(alloc, size).is_ok()
-}
-
-// Refuses the request of this number from here on, the first being 1.
-fn refuse(alloc: Global, number: usize) {
-    let _ = is_granted(alloc, ARM.saturating_add(number));
-}
-
-// Whether a request was refused since then.
-fn was_refused(alloc: Global) -> bool {
-    !is_granted(alloc, ASK)
-}
 
 #[test]
 fn each_request_refused_in_make_room(rt: HostRuntime) {
@@ -43,11 +20,7 @@ fn each_request_refused_in_make_room(rt: HostRuntime) {
         assert!(rt; refused || history.room() >= 3);
         assert!(rt; history.entries().is_empty());
         if !refused {
-            assert!(rt;
-                number > 1 || is_granted(alloc, HERE),
-                "no request was made"
-            );
-            return;
+            return met_none(&rt, alloc, number);
         }
     }
     assert!(rt; false, "a request was refused each time");
@@ -79,11 +52,7 @@ fn each_request_refused_in_play(rt: HostRuntime) {
     let alloc = rt.alloc();
     for number in 1..MOST_REQUESTS {
         if !plays_with_one_refused(&rt, alloc, number) {
-            assert!(rt;
-                number > 1 || is_granted(alloc, HERE),
-                "no request was made"
-            );
-            return;
+            return met_none(&rt, alloc, number);
         }
     }
     assert!(rt; false, "a request was refused each time");

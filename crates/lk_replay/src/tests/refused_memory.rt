@@ -1,7 +1,7 @@
 //! Each request for memory refused in turn, in each call on each worked row: those that are accepted,
 //! those that end in a refused move, and those that are no schedule.
 
-use crate::tests::refusing::{MOST_REQUESTS, is_last, refuse, was_refused};
+use crate::tests::refusing::{MOST_REQUESTS, met_none, refuse, was_refused};
 use crate::tests::rows::{WORKED, ending_due, is_due};
 use crate::{ReadFault, RunFault, Schedule, read_schedule, read_text, replay, report_of, run};
 use std::alloc::{AllocError, Global};
@@ -9,6 +9,19 @@ use std::io;
 use std::io::Write;
 use std::process::Abort;
 use std::test::Fail;
+
+// Whether a call's rounds end here: in this one no request was refused. Where the call wants memory and the allocator refuses, one
+// was in the first round.
+fn is_last(rt: &impl Abort, alloc: Global, number: usize, refused: bool, wants: bool) -> bool {
+    assert!(rt;
+        number < MOST_REQUESTS - 1,
+        "a request was refused each time"
+    );
+    if wants && !refused {
+        met_none(rt, alloc, number);
+    }
+    !refused
+}
 
 /// Takes the bytes that it expects, and no memory.
 #[derive(Drop)]

@@ -2,7 +2,8 @@
 //! tests/refuse, which the test command preloads in a second run; its head says how a test speaks to
 //! it. With ample memory the same tests meet none.
 //!
-//! This file is the same in four crates: tests/rattle_rows.py copies that of `lk_locks`.
+//! The file is the same in four crates, since Rattle includes no file and has no dependency for tests
+//! alone. tests/rattle_rows.py copies that of `lk_locks`.
 
 use std::alloc::Global;
 use std::process::Abort;
@@ -13,7 +14,7 @@ const ASK: usize = 99_999_999;
 
 const ARM: usize = 100_000_000;
 
-/// More requests than any call makes that is tried.
+/// More than any of the calls makes.
 pub const MOST_REQUESTS: usize = 10_000;
 
 fn is_granted(alloc: Global, size: usize) -> bool {
@@ -30,16 +31,10 @@ pub fn was_refused(alloc: Global) -> bool {
     !is_granted(alloc, ASK)
 }
 
-/// Whether a call's rounds end here: in this one no request was refused. Where the call wants memory
-/// and the allocator refuses, one was in the first round.
-pub fn is_last(rt: &impl Abort, alloc: Global, number: usize, refused: bool, wants: bool) -> bool {
+/// A call that met no refusal: under that allocator it is not the first, since the call asks for memory.
+pub fn met_none(rt: &impl Abort, alloc: Global, number: usize) {
     assert!(rt;
-        number < MOST_REQUESTS - 1,
-        "a request was refused each time"
-    );
-    assert!(rt;
-        refused || number > 1 || !wants || is_granted(alloc, HERE),
+        number > 1 || is_granted(alloc, HERE),
         "no request was made"
     );
-    !refused
 }

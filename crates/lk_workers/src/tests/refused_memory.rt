@@ -1,42 +1,9 @@
-//! Each request for memory refused in turn. The refusals are real under the allocator of tests/refuse, which the test command
-//! preloads in a second run; its head says how a test speaks to it. With ample memory the same tests meet none.
+//! Each request for memory refused in turn.
 
 use super::batches::{Counts, FIVE, REPORTS, texts_of};
+use super::refusing::{MOST_REQUESTS, met_none, refuse, was_refused};
 use crate::{Draws, LiveTicket, OpenGate, batch_text, replay_many};
-use std::alloc::Global;
-use std::process::Abort;
 use std::test::Fail;
-
-const HERE: usize = 99_999_998;
-
-const ASK: usize = 99_999_999;
-
-const ARM: usize = 100_000_000;
-
-// More than any of these calls makes.
-const MOST_REQUESTS: usize = 1000;
-
-fn is_granted(alloc: Global, size: usize) -> bool {
-    Vec::<u8>::with_capacity(alloc, size).is_ok()
-}
-
-// Refuses the request of this number from here on, the first being 1.
-fn refuse(alloc: Global, number: usize) {
-    let _ = is_granted(alloc, ARM.saturating_add(number));
-}
-
-// Whether a request was refused since then.
-fn was_refused(alloc: Global) -> bool {
-    !is_granted(alloc, ASK)
-}
-
-// A call that met no refusal: under that allocator it is not the first, since the call asks for memory.
-fn met_none(rt: &impl Abort, alloc: Global, number: usize) {
-    assert!(rt;
-        number > 1 || is_granted(alloc, HERE),
-        "no request was made"
-    );
-}
 
 #[test]
 fn each_request_refused_in_opening_draws(rt: HostRuntime) {

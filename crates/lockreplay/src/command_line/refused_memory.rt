@@ -1,7 +1,7 @@
 //! Each request for memory of the command line's parse refused in turn.
 
 use super::tests::{Answer, answer_to, words_of};
-use crate::refused_memory::{MOST_REQUESTS, met_none, refuse, was_refused};
+use crate::refusing::{MOST_REQUESTS, met_none, refuse, was_refused};
 use std::test::Fail;
 
 #[test]

@@ -1,7 +1,7 @@
 //! Reports that wait, that fill what waits, and that go out by themselves.
 
 use super::send_reports;
-use crate::refused_memory::{MOST_REQUESTS, met_none, refuse, was_refused};
+use crate::refusing::{MOST_REQUESTS, met_none, refuse, was_refused};
 use lk_replay::RunFault;
 use std::alloc::{AllocError, Global};
 use std::io;

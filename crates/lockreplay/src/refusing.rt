@@ -1,5 +1,9 @@
-//! How a test has a request for memory refused. The refusals are real under the allocator of tests/refuse, which the test command
-//! preloads in a second run; its head says how a test speaks to it. With ample memory the same tests meet none.
+//! How a test has a request for memory refused. The refusals are real under the allocator of
+//! tests/refuse, which the test command preloads in a second run; its head says how a test speaks to
+//! it. With ample memory the same tests meet none.
+//!
+//! The file is the same in four crates, since Rattle includes no file and has no dependency for tests
+//! alone. tests/rattle_rows.py copies that of `lk_locks`.
 
 use std::alloc::Global;
 use std::process::Abort;
