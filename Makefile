@@ -1,7 +1,14 @@
-# make test    the one test command: proves every crate and its tests, tries each wrong body, runs every test, and tries the built
-#              program on rows, examples, failing devices, refused memory and random schedules
-# make demo    builds the program where it is missing or older than a source, and replays a schedule of two threads on a ticket lock
-# make bench   measures the built program beside `cat`, a hand-written replayer and plain reading
+# make test     the one test command: proves every crate and its tests, tries each wrong body, runs every test, and tries the built
+#               program on rows, failing devices, short and refused memory and random schedules
+# make check    the quick door: builds the program, and tries it on rows, devices, short memory and random schedules
+# make check CRATE=NAME                proves one crate and its tests, and runs them
+# make edits CRATE=NAME [EDIT=NAME]    tries a crate's wrong bodies and their right twins, or one of each
+# make twins    shows that the right twin of each wrong body that has one is proved
+# make rows     writes the worked rows down for the tests in Rattle
+# make demo     builds the program where it is missing or older than a source, and replays a schedule of two threads on a ticket lock
+# make bench    measures the built program beside `cat`, a hand-written replayer and plain reading
+#
+# docs/CHECKING.md says how long each takes, and where the time goes.
 
 PROGRAM := crates/lockreplay/out/lockreplay
 SOURCES := $(shell find crates -name out -prune -o \( -name '*.rt' -o -name '*.antt' \) -print)
@@ -9,19 +16,46 @@ LESSON  := examples/ticket-hand-over.schedule
 # crates with tests in which each request for memory is refused in turn
 REFUSING := lk_locks lk_replay lk_workers lockreplay
 FUZZ_SECONDS := 60
+SHORT_FUZZ_SECONDS := 5
+EDIT := *
 
-.PHONY: test demo bench gate tools
+.PHONY: test check edits twins rows demo bench gate tools
 
 test: gate tools
+	$(MAKE) --no-print-directory tried FUZZ_SECONDS=$(FUZZ_SECONDS)
+	tests/refuse/run.sh request $(foreach crate,$(REFUSING),crates/$(crate)/out/$(crate)_tests)
+
+ifdef CRATE
+check: tools
+	tests/rattle_rows.py --check
+	cd crates/$(CRATE) && rt check && rt test
+	$(if $(filter $(CRATE),$(REFUSING)),tests/refuse/run.sh request crates/$(CRATE)/out/$(CRATE)_tests)
+else
+check: $(PROGRAM) tools
+	$(MAKE) --no-print-directory tried FUZZ_SECONDS=$(SHORT_FUZZ_SECONDS)
+endif
+
+# The built program, and the rows by themselves. Nothing is proved here.
+.PHONY: tried
+tried:
+	tests/rattle_rows.py --check
 	tests/rows.py
 	tests/rows.py $(PROGRAM)
-	tests/examples.sh $(PROGRAM)
 	tests/process.py $(PROGRAM)
-	tests/refuse/run.sh request $(foreach crate,$(REFUSING),crates/$(crate)/out/$(crate)_tests)
+	tests/short_memory.py $(PROGRAM)
 	fuzz/fuzz.py $(PROGRAM) --seconds $(FUZZ_SECONDS)
 
 gate:
 	rt ci
+
+edits: tools
+	tests/edits.py $(wildcard crates/$(CRATE)/must-fail/$(EDIT).edit crates/$(CRATE)/twins/$(EDIT).edit)
+
+twins: tools
+	tests/edits.py $(wildcard crates/*/twins/*.edit)
+
+rows: tools
+	tests/rattle_rows.py
 
 demo: $(PROGRAM)
 	$(PROGRAM) replay < $(LESSON)
