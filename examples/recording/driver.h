@@ -1,0 +1,75 @@
+/* What runs each example of this folder: threads that take its lock and give it back.
+
+       EXAMPLE THREADS ROUNDS SEED DIRECTORY [SECONDS]
+
+   An example defines LOCK, the lock's name in a trace, and BITS, the width of its counters, and
+   includes this file; then it defines `open_lock` and `one_round`: a call that takes the lock,
+   `inside`, and a call that gives it back. The logs go to DIRECTORY. Status: 0 all threads ended;
+   1 some hang, after SECONDS (60) or where a seeded run stands still, and their logs end there;
+   2 usage; 3 memory, a thread or a write was refused. */
+#include <pthread.h>
+#include <sched.h>
+#include <stdint.h>
+#include <stdio.h>
+#include <stdlib.h>
+
+#include "../../record/lockreplay_record.h"
+
+enum { ROOM = 1 << 20, MOST_THREADS = 64 };
+
+static void open_lock(void);
+static void one_round(unsigned thread, unsigned round LR_ONLY(, lr_log *log));
+
+/* What a thread does while it has the lock: nothing, but that others get their turns meanwhile. */
+static void inside(unsigned thread, unsigned round LR_ONLY(, lr_log *log))
+{
+    if ((round * 7 + thread) % 3 == 0) sched_yield();
+    LR_SWITCH(log);
+}
+
+struct work {
+    pthread_t id;
+    unsigned thread, rounds;
+    LR_ONLY(lr_log *log;)
+};
+
+static void *work(void *argument)
+{
+    struct work *mine = (struct work *)argument;
+    LR_ONLY(lr_begin(mine->log);)
+    for (unsigned round = 0; round < mine->rounds; round++)
+        one_round(mine->thread, round LR_ONLY(, mine->log));
+    LR_ONLY(lr_end(mine->log);)
+    return NULL;
+}
+
+static int start(struct work *works, unsigned threads, unsigned rounds LR_ONLY(, lr_run *run))
+{
+    for (unsigned t = 0; t < threads; t++) {
+        works[t].thread = t;
+        works[t].rounds = rounds;
+        LR_ONLY(works[t].log = lr_log_of(run, t);)
+        if (pthread_create(&works[t].id, NULL, work, &works[t])) return 0;
+    }
+    return 1;
+}
+
+int main(int count, char **words)
+{
+    static struct work works[MOST_THREADS];
+    unsigned threads = count < 5 || count > 6 ? 0 : (unsigned)atoi(words[1]);
+    if (threads < 1 || threads > MOST_THREADS) {
+        fprintf(stderr, "usage: %s THREADS ROUNDS SEED DIRECTORY [SECONDS]\n", words[0]);
+        return 2;
+    }
+    open_lock();
+    LR_ONLY(lr_run *run = lr_open(LOCK, threads, BITS, ROOM, strtoul(words[3], NULL, 10));)
+    LR_ONLY(if (!run) return 3;)
+    if (!start(works, threads, (unsigned)atoi(words[2]) LR_ONLY(, run))) return 3;
+    LR_ONLY(unsigned missing = lr_await(run, count > 5 ? (unsigned)atoi(words[5]) : 60);)
+    LR_ONLY(if (lr_save(run, words[4])) return 3;)
+    LR_ONLY(if (missing) _Exit(1);)
+    for (unsigned t = 0; t < threads; t++) pthread_join(works[t].id, NULL);
+    LR_ONLY(lr_close(run);)
+    return 0;
+}

@@ -1,0 +1,34 @@
+/* What a thread of the read-write examples does in a round: it writes in one of three, and makes a
+   reading of every fourth writing before it gives that back; else it reads. */
+
+static rw_lock the_lock;
+
+static void open_lock(void) { monitor_open(&the_lock.monitor); }
+
+static void read_round(unsigned thread, unsigned round LR_ONLY(, lr_log *log))
+{
+    read_lock(&the_lock LR_ONLY(, log));
+    inside(thread, round LR_ONLY(, log));
+    read_unlock(&the_lock LR_ONLY(, log));
+}
+
+static void write_round(unsigned thread, unsigned round LR_ONLY(, lr_log *log))
+{
+    write_lock(&the_lock LR_ONLY(, log));
+    inside(thread, round LR_ONLY(, log));
+    if (round / 3 % 4 != 3) {
+        write_unlock(&the_lock LR_ONLY(, log));
+        return;
+    }
+    downgrade(&the_lock LR_ONLY(, log));
+    inside(thread, round LR_ONLY(, log));
+    read_unlock(&the_lock LR_ONLY(, log));
+}
+
+static void one_round(unsigned thread, unsigned round LR_ONLY(, lr_log *log))
+{
+    if ((round + thread) % 3 == 2)
+        write_round(thread, round LR_ONLY(, log));
+    else
+        read_round(thread, round LR_ONLY(, log));
+}
