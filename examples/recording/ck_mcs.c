@@ -1,0 +1,126 @@
+/* Concurrency Kit's MCS lock (ck_spinlock_mcs of Debian's libck-dev), as its header has it.
+
+   Where something is recorded, the operations that the header calls are taken over by macros: they do
+   the same, and note it. In three places its steps are not the machine's:
+     own fields     `locked` and `next` are set by plain stores before the swap. That `next` is nil is
+                    noted at the fence behind them; that `locked` is set behind the swap, where there
+                    is a predecessor, since nobody looks at it before the link
+     a load of the  before the compare-and-swap. Where it finds another record there will be none:
+     tail           it is noted as the compare-and-swap that failed. Else it is not noted */
+#define LOCK "mcs"
+enum { BITS = 64 };
+
+#include <ck_pr.h>
+
+#include "driver.h"
+
+#if defined LR_VALUES || defined LR_SEED
+
+static _Thread_local lr_log *own_log;
+
+static void noted_fence(void);
+static void *noted_swap(void *word, void *record);
+static bool noted_cas(void *word, void *old, void *record);
+static void *noted_load(void *word);
+static void noted_link(void *next, void *record);
+static unsigned noted_look(unsigned *locked);
+static void noted_grant(unsigned *locked, unsigned value);
+
+#undef ck_pr_load_ptr
+#undef ck_pr_load_uint
+#undef ck_pr_store_ptr
+#undef ck_pr_store_uint
+#define ck_pr_fence_store_atomic() noted_fence()
+#define ck_pr_fas_ptr(word, record) noted_swap(word, record)
+#define ck_pr_cas_ptr(word, old, record) noted_cas(word, old, record)
+#define ck_pr_load_ptr(word) noted_load(word)
+#define ck_pr_store_ptr(next, record) noted_link(next, record)
+#define ck_pr_load_uint(locked) noted_look(locked)
+#define ck_pr_store_uint(locked, value) noted_grant(locked, value)
+#define ck_pr_stall() sched_yield()
+
+#endif /* recorded */
+
+#include <spinlock/mcs.h>
+
+typedef struct {
+    ck_spinlock_mcs_context_t node;
+    char apart[112]; /* two records are never on one cache line */
+} record;
+
+static record records[MOST_THREADS];
+static ck_spinlock_mcs_t tail = CK_SPINLOCK_MCS_INITIALIZER;
+
+#if defined LR_VALUES || defined LR_SEED
+
+/* The thread of the record that this is a field of. */
+static unsigned thread_of(const void *field)
+{
+    return (unsigned)(((const char *)field - (const char *)records) / (long)sizeof(record));
+}
+
+static uint64_t value_of(const void *node) { return LR_RECORD(records, (const record *)node); }
+
+/* The swap that follows orders the stores before it, as the fence would. */
+static void noted_fence(void) { LR_WRITE(own_log, next, 0); }
+
+static void *noted_swap(void *word, void *node)
+{
+    void *found = __atomic_exchange_n((void **)word, node, __ATOMIC_SEQ_CST);
+    LR_SWAP(own_log, tail, value_of(found));
+    if (found) LR_WRITE(own_log, locked, 1);
+    return found;
+}
+
+static bool noted_cas(void *word, void *old, void *node)
+{
+    bool wrote = __atomic_compare_exchange_n((void **)word, &old, node, false, __ATOMIC_SEQ_CST,
+                                             __ATOMIC_SEQ_CST);
+    LR_CAS(own_log, tail, wrote);
+    return wrote;
+}
+
+static void *noted_load(void *word)
+{
+    void *found = __atomic_load_n((void **)word, __ATOMIC_SEQ_CST);
+    if (word != &tail)
+        LR_READ(own_log, next, value_of(found));
+    else if (found != &records[own_log->thread].node)
+        LR_CAS(own_log, tail, false);
+    else
+        LR_SWITCH(own_log);
+    return found;
+}
+
+static void noted_link(void *next, void *node)
+{
+    __atomic_store_n((void **)next, node, __ATOMIC_SEQ_CST);
+    LR_WRITE_OF(own_log, next, thread_of(next), value_of(node));
+}
+
+static unsigned noted_look(unsigned *locked)
+{
+    unsigned found = __atomic_load_n(locked, __ATOMIC_SEQ_CST);
+    LR_READ(own_log, locked, found);
+    return found;
+}
+
+static void noted_grant(unsigned *locked, unsigned value)
+{
+    __atomic_store_n(locked, value, __ATOMIC_SEQ_CST);
+    LR_WRITE_OF(own_log, locked, thread_of(locked), value);
+}
+
+#endif /* recorded */
+
+static void open_lock(void) {}
+
+static void one_round(unsigned thread, unsigned round LR_ONLY(, lr_log *log))
+{
+    LR_ONLY(own_log = log;)
+    LR_CALL(log, acquire);
+    ck_spinlock_mcs_lock(&tail, &records[thread].node);
+    inside(thread, round LR_ONLY(, log));
+    LR_CALL(log, release);
+    ck_spinlock_mcs_unlock(&tail, &records[thread].node);
+}

@@ -1,0 +1,216 @@
+#!/usr/bin/env python3
+"""The recording header and its examples, from the source to a checked run.
+
+    tests/recording.py LOCKTRACE LOCKREPLAY
+
+Builds examples/recording without a warning, sees that LR_OFF leaves nothing in the object code, runs
+under the sanitizers, and then runs each example by 50 seeds and by real threads. Of a right lock every
+run has to be accepted: the trace of a seeded run, the order found for the threads' logs, and each
+schedule of it; and threads have to have waited. Of a wrong one the trace has to be refused at the line
+where the mistake is first seen, which recording_mistakes.py finds by itself, and its logs have no
+order. The last line counts the cases; the status is 1 where one failed.
+"""
+import os
+import re
+import sys
+import tempfile
+from concurrent.futures import ThreadPoolExecutor
+from pathlib import Path
+
+from recording_builds import (EXAMPLES, SANITIZERS, all_builds, build, compilers,
+                              install_what_is_missing, is_nothing_left, ran)
+from recording_mistakes import MISTAKES, moves_of
+
+SEEDS = range(1, 51)
+SEEDED = ["3", "60"]  # threads and rounds
+REAL = ["4", "5000"]
+REAL_RUNS = range(3)
+SHOWN = 40  # in how many of the seeded runs a mistake has to show
+
+
+class Runs:
+    """Runs built examples, and asks the two programs about what was written down."""
+
+    def __init__(self, locktrace, lockreplay, folder):
+        self.locktrace, self.lockreplay, self.folder = locktrace, lockreplay, folder
+
+    def run(self, name, counts, seed, seconds):
+        """One run of a built example: the folder of its logs, and what is wrong with the run."""
+        target = self.folder / f"run-{name}-{seed}"
+        target.mkdir()
+        done = ran(self.folder / name, *counts, seed, target, seconds)
+        return target, "" if done.returncode == 0 else f"status {done.returncode} {done.stderr[:200]}"
+
+    def order(self, target):
+        ordered = target / "ordered"
+        ordered.mkdir()
+        return ordered, ran(self.locktrace, "order", *sorted(target.glob("thread-*.log")),
+                            "-o", ordered)
+
+    def unchecked(self, traces):
+        """What `check` says, which is silent and ends with 0 where all is accepted."""
+        done = ran(self.locktrace, "check", *traces)
+        return "" if done.returncode == 0 and not done.stdout else f"check: {done.stdout[:300]}"
+
+    def refused_line(self, trace):
+        """The line at which `check` refuses a trace, or None."""
+        done = ran(self.locktrace, "check", trace)
+        at = re.search(r":(\d+): refused", done.stdout + done.stderr)
+        return int(at.group(1)) if at and done.returncode == 1 else None
+
+    def waits(self, schedule):
+        """How many moves of a schedule wait; -1 where `lockreplay` does not accept it."""
+        report = ran(self.lockreplay, "replay", text=schedule).stdout
+        return report.count(" waits ") if report.splitlines()[-1].startswith("end ") else -1
+
+
+def schedule_of(trace):
+    """The first two words of each move, and the header."""
+    return "".join(line + "\n" if line.startswith(("#", "lock ")) else
+                   " ".join(line.split(" ")[:2]) + "\n" for line in trace.splitlines())
+
+
+def fault_of_order(runs, target):
+    """The order found for a right lock's logs, its schedules and the contention in them."""
+    ordered, done = runs.order(target)
+    traces, schedules = sorted(ordered.glob("*.trace")), sorted(ordered.glob("*.schedule"))
+    if done.returncode or not traces or not schedules:
+        return f"order: status {done.returncode} {(done.stdout + done.stderr)[:300]}"
+    waits = [runs.waits(schedule.read_text()) for schedule in schedules]
+    if min(waits) < 0:
+        return f"lockreplay refuses {schedules[waits.index(-1)].name}"
+    return runs.unchecked(traces) or ("" if sum(waits) else "nobody waited")
+
+
+def fault_of_right_seed(runs, example, seed):
+    target, fault = runs.run(f"{example}-SEED", SEEDED, seed, 60)
+    trace = target / "run.trace"
+    if fault:
+        return fault
+    if runs.waits(schedule_of(trace.read_text())) <= 0:
+        return "lockreplay refuses it, or nobody waited"
+    return runs.unchecked([trace]) or fault_of_order(runs, target)
+
+
+def fault_of_real(runs, example, number):
+    target, fault = runs.run(f"{example}-VALUES", REAL, number, 60)
+    return fault or fault_of_order(runs, target)
+
+
+def fault_of_seed_again(runs, example):
+    """The same seed gives the same run, and another seed another one."""
+    texts = []
+    for name in ["again", "and-again"]:
+        (runs.folder / name).mkdir(exist_ok=True)
+        ran(runs.folder / f"{example}-SEED", *SEEDED, 7, runs.folder / name)
+        texts.append((runs.folder / name / "run.trace").read_text())
+    ran(runs.folder / f"{example}-SEED", *SEEDED, 8, runs.folder / "again")
+    other = (runs.folder / "again" / "run.trace").read_text()
+    return "" if texts[0] == texts[1] and moves_of(other) != moves_of(texts[0]) else "other runs"
+
+
+def fault_of_wrong_seed(runs, name, first_mistake, seed):
+    """Whether the mistake showed, and what is wrong with the answers."""
+    target, _ = runs.run(f"{name}-SEED", SEEDED, seed, 60)
+    trace = target / "run.trace"
+    due = first_mistake(moves_of(trace.read_text()))
+    refused = runs.refused_line(trace)
+    if refused != due:
+        return due, f"refused at {refused}, the mistake is at {due}"
+    status = runs.order(target)[1].returncode
+    return due, "" if status == (1 if due else 0) else f"order: status {status}"
+
+
+def fault_of_wrong_real(runs, name, first_mistake, number):
+    """Logs of a wrong lock have no order, or one in which the mistake does not show."""
+    target, _ = runs.run(f"{name}-VALUES", REAL, number, 3)
+    ordered, done = runs.order(target)
+    if done.returncode == 1:
+        return ""
+    shown = [first_mistake(moves_of(trace.read_text())) for trace in ordered.glob("*.trace")]
+    return "" if done.returncode == 0 and not any(shown) else f"order: status {done.returncode}"
+
+
+class Cases:
+    """Counts what passes and what fails."""
+
+    def __init__(self):
+        self.passed = self.failed = 0
+        self.pool = ThreadPoolExecutor(os.cpu_count())
+
+    def one(self, name, fault):
+        if fault:
+            self.failed += 1
+            print(f"FAILED {name}: {fault}", flush=True)
+        else:
+            self.passed += 1
+
+    def many(self, name, work, items):
+        """A case for each item, side by side."""
+        for item, fault in zip(items, self.pool.map(work, items)):
+            self.one(f"{name} {item}", fault)
+
+
+def build_all(cases, folder):
+    """Each example by each compiler; GCC's are kept, under the name that `Runs` runs."""
+    def fault(one):
+        compiler, example, mode = one
+        name = f"{example}-{mode}" if compiler == "gcc" else f"{compiler}-{example}-{mode}"
+        return build(compiler, example, mode, folder / name)
+    cases.many("build", fault, list(all_builds()))
+    for example, mistake, _ in MISTAKES:
+        for mode in ["VALUES", "SEED"]:
+            cases.one(f"build {example} {mistake}",
+                      build("gcc", example, mode, folder / f"{example}-{mistake}-{mode}",
+                            f"-D{mistake}"))
+
+
+def object_code(cases, folder):
+    for compiler in [name for name in compilers() if "++" not in name]:
+        for level in ["-O0", "-O2"]:
+            for example in EXAMPLES:
+                left = not is_nothing_left(compiler, example, level, folder)
+                cases.one(f"{compiler} {level} {example}", "LR_OFF leaves something" if left else "")
+
+
+def sanitizers(cases, runs):
+    """Right locks, and one of each kind that hangs, under each sanitizer, in C and in C++."""
+    def fault(one):
+        compiler, example, mode, sanitizer = one
+        name = f"{compiler}-{example}-{mode}-{sanitizer}"
+        said = build(compiler, example, mode, runs.folder / name, f"-fsanitize={sanitizer}", "-g")
+        return said or runs.run(name, ["3", "200"], 1, 60)[1]
+    cases.many("sanitizer", fault, [
+        (compiler, example, mode, sanitizer) for compiler, example, mode in all_builds()
+        if compiler in ["gcc", "g++"] and mode != "OFF" for sanitizer in SANITIZERS])
+
+
+def main(locktrace, lockreplay):
+    install_what_is_missing()
+    cases = Cases()
+    with tempfile.TemporaryDirectory() as name:
+        runs = Runs(Path(locktrace).resolve(), Path(lockreplay).resolve(), Path(name))
+        build_all(cases, runs.folder)
+        object_code(cases, runs.folder)
+        sanitizers(cases, runs)
+        for example in EXAMPLES:
+            cases.many(f"{example} seed", lambda seed: fault_of_right_seed(runs, example, seed), SEEDS)
+            cases.one(f"{example} seed again", fault_of_seed_again(runs, example))
+            for number in REAL_RUNS:
+                cases.one(f"{example} real", fault_of_real(runs, example, number))
+        for example, mistake, first_mistake in MISTAKES:
+            name = f"{example}-{mistake}"
+            answers = list(cases.pool.map(
+                lambda seed: fault_of_wrong_seed(runs, name, first_mistake, seed), SEEDS))
+            for seed, (_, fault) in zip(SEEDS, answers):
+                cases.one(f"{name} seed {seed}", fault)
+            shown = sum(line is not None for line, _ in answers)
+            cases.one(f"{name} shows", "" if shown >= SHOWN else f"in {shown} seeded runs only")
+            for number in REAL_RUNS:
+                cases.one(f"{name} real", fault_of_wrong_real(runs, name, first_mistake, number))
+    print(f"{cases.passed} passed, {cases.failed} failed")
+    return 1 if cases.failed else 0
+
+
+if __name__ == "__main__":
+    sys.exit(main(*sys.argv[1:]))

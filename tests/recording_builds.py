@@ -1,0 +1,94 @@
+"""Builds the examples of examples/recording, and looks at what the header leaves in the object code."""
+import re
+import shutil
+import subprocess
+from pathlib import Path
+
+ROOT = Path(__file__).resolve().parent.parent
+SOURCES = ROOT / "examples" / "recording"
+HEADER = ROOT / "record" / "lockreplay_record.h"
+EXAMPLES = ["ticket", "mcs", "rw_simple", "rw_fifo", "ck_ticket", "ck_mcs"]
+ALSO_C_PLUS_PLUS = ["rw_simple", "rw_fifo"]
+WARNINGS = ["-Wall", "-Wextra", "-Wpedantic", "-Werror"]
+SANITIZERS = ["address,undefined", "thread"]
+
+
+def ran(*words, text=None):
+    return subprocess.run([str(word) for word in words], input=text, capture_output=True, text=True)
+
+
+def install_what_is_missing():
+    """A C and a C++ compiler, objdump, and Concurrency Kit's headers, from Debian's packages."""
+    missing = [package for package, tool in
+               [("gcc", "gcc"), ("g++", "g++"), ("binutils", "objdump")] if not shutil.which(tool)]
+    missing += [] if Path("/usr/include/ck_pr.h").exists() else ["libck-dev"]
+    if missing:
+        subprocess.run(["apt-get", "update"], check=True)
+        subprocess.run(["apt-get", "install", "-y", *missing], check=True)
+
+
+def language(compiler):
+    return ["-x", "c++", "-std=c++17"] if "++" in compiler else ["-std=c11"]
+
+
+def build(compiler, example, mode, target, *more):
+    """What the compiler says; nothing where it is content."""
+    done = ran(compiler, *language(compiler), *WARNINGS, "-O2", "-pthread", f"-DLR_{mode}", *more,
+               "-o", target, SOURCES / f"{example}.c")
+    return done.stderr + ("" if done.returncode == 0 else f"status {done.returncode}")
+
+
+def compilers():
+    return [name for name in ["gcc", "g++", "clang", "clang++"] if shutil.which(name)]
+
+
+def all_builds():
+    """Every compiler, example and mode that go together."""
+    for compiler in compilers():
+        for example in ALSO_C_PLUS_PLUS if "++" in compiler else EXAMPLES:
+            for mode in ["OFF", "VALUES", "SEED"]:
+                yield compiler, example, mode
+
+
+def end_of_call(text, start):
+    """The index behind the bracket that closes the one at `start`."""
+    depth = 0
+    for index in range(start, len(text)):
+        depth += {"(": 1, ")": -1}.get(text[index], 0)
+        if depth == 0:
+            return index + 1
+    raise ValueError("no closing bracket")
+
+
+def without_notes(text):
+    """A source with no trace of the header: no note, no inclusion, of LR_WAIT what waits."""
+    text = re.sub(r'#include ".*lockreplay_record\.h"\n', "", text)
+    while found := re.search(r"LR_[A-Z_]+(?=\()", text):
+        end = end_of_call(text, found.end())
+        kept = ""
+        if found.group() == "LR_WAIT":
+            kept = re.split(r",\s*(?![^()]*\))", text[found.end() + 1:end - 1])[2]
+        text = text[:found.start()] + kept + text[end:]
+    return text
+
+
+def object_code(compiler, source, target, *more):
+    """The instructions, symbols and section sizes of a source."""
+    done = ran(compiler, "-std=c11", "-c", *more, "-o", target, source)
+    if done.returncode:
+        return done.stderr
+    looks = [ran("objdump", "-d", "-r", target), ran("nm", target), ran("size", "-A", target)]
+    return "".join(look.stdout for look in looks)
+
+
+def is_nothing_left(compiler, example, level, folder):
+    """Whether LR_OFF gives the object code of the same source without notes and header."""
+    bare = folder / "bare" / "examples" / "recording"
+    bare.mkdir(parents=True, exist_ok=True)
+    for source in SOURCES.glob("*.[ch]"):
+        (bare / source.name).write_text(without_notes(source.read_text()))
+    target = folder / "off.o"
+    off = object_code(compiler, SOURCES / f"{example}.c", target, level, "-DLR_OFF")
+    none = object_code(compiler, SOURCES / f"{example}.c", target, level)
+    plain = object_code(compiler, bare / f"{example}.c", target, level)
+    return off == none == plain and "main" in off and "lr_" not in off
