@@ -1,0 +1,85 @@
+-- Histories that are written out: those that are legal, and what the others lack.
+use Rattle.std.proofs.Common.{◌≡◌, ℕ, zero, suc, ◌<◌, List, [], ◌∷◌, ◌++◌, refl, ap, sym, ◌∙◌, arith, rules, inl, inr, ◌⊎◌}
+use Rattle.std.specs.List.{flat_map}
+use Rattle.lk_locks.specs.Legal.{Legal, subhistory, whole_call}
+use Rattle.lk_locks.specs.Places.{Occurs}
+use Rattle.lk_locks.specs.Calls.{HasDone}
+use Rattle.lk_locks.specs.WorkedHistories.{handed_on, writers_in_turn, announced_entered, uncalled}
+use Rattle.lk_locks.specs.declared.kinds.LockKind.TheVariants.{Ticket, Mcs, RwSimple, RwFifo}
+use Rattle.lk_locks.specs.declared.kinds.Op.{Op}
+use Rattle.lk_locks.specs.declared.kinds.Op.TheVariants.{Acquire, Release, ReadLock, ReadUnlock, WriteLock, WriteUnlock, Downgrade}
+use Rattle.lk_locks.specs.declared.kinds.Entry.{Entry}
+use Rattle.lk_locks.specs.declared.kinds.Entry.TheVariants.{Called, Acted}
+
+two_threads : (P : ℕ → Type 0) → P 0 → P 1 → (t : ℕ) → t < 2 → P t
+two_threads P p q zero h = p
+two_threads P p q (suc zero) h = q
+two_threads P p q (suc (suc t)) h = absurd (omega arith)
+
+pub ticket_legal : Legal Ticket 2 handed_on
+ticket_legal = record {
+  allowed = (tt, (refl, (refl, (tt, (refl, (tt, (refl, (tt, (refl, tt)))))))));
+  well_formed = two_threads _ (Acquire ∷ Release ∷ [], ([], refl)) (Acquire ∷ [], ([], refl));
+  no_others = search rules;
+}
+
+pub mcs_legal : Legal Mcs 2 handed_on
+mcs_legal = record {
+  allowed = (tt, (refl, (refl, (tt, (refl, (tt, (refl, (tt, (refl, tt)))))))));
+  well_formed = two_threads _ (Acquire ∷ Release ∷ [], ([], refl)) (Acquire ∷ [], ([], refl));
+  no_others = search rules;
+}
+
+pub simple_legal : Legal RwSimple 2 writers_in_turn
+simple_legal = record {
+  allowed = (tt, (refl, (tt, (tt, (refl, (tt, (tt, (refl, (tt, (tt, (refl, (tt, (tt, (refl, (tt, (tt, (refl, (tt, tt))))))))))))))))));
+  well_formed = two_threads _
+      (WriteLock ∷ Downgrade ∷ ReadUnlock ∷ [], ([], refl))
+      (ReadLock ∷ ReadUnlock ∷ WriteLock ∷ [], ([], refl));
+  no_others = search rules;
+}
+
+pub fifo_legal : Legal RwFifo 2 announced_entered
+fifo_legal = record {
+  allowed = (tt, (refl, (tt, (tt, (refl, (tt, (refl, (tt, (refl, (tt, tt))))))))));
+  well_formed = two_threads _ (ReadLock ∷ ReadUnlock ∷ [], ([], refl)) (WriteLock ∷ [], ([], refl));
+  no_others = search rules;
+}
+
+no_call : (ops : List Op) (rest : List Entry)
+    → Acted 0 Acquire ∷ rest ≡ flat_map (whole_call Mcs 0) ops → ⊥
+no_call [] rest e = cc
+no_call (op ∷ ops) rest e = cc
+
+pub not_legal : Legal Mcs 2 uncalled → ⊥
+not_legal l = let w = l.well_formed 0 (omega arith) in no_call w.0 w.1.0 w.1.1
+
+pub not_of_one : (e x : Entry) → (x ≡ e → ⊥) → Occurs e (x ∷ []) → ⊥
+not_of_one e x f o = elim o [ inl d ↦ f d | inr n ↦ n ]
+
+pub not_of_two : (e x y : Entry) → (x ≡ e → ⊥) → (y ≡ e → ⊥) → Occurs e (x ∷ y ∷ []) → ⊥
+not_of_two e x y f g o = elim o [ inl d ↦ f d | inr r ↦ not_of_one e y g r ]
+
+occurs_in : (e : Entry) (start middle : List Entry) → Occurs e (start ++ e ∷ middle)
+occurs_in e [] middle = inl refl
+occurs_in e (x ∷ start) middle = inr (occurs_in e start middle)
+
+since : (t : ℕ) (op : Op) (deeds rest start middle : List Entry) → (Occurs (Called t op) rest → ⊥)
+    → Called t op ∷ rest ≡ start ++ Called t op ∷ middle → subhistory t middle ≡ deeds
+    → subhistory t rest ≡ deeds
+since t op deeds rest [] middle n e s = let m : rest ≡ middle = cc in ap (subhistory t) m ∙ s
+since t op deeds rest (x ∷ start) middle n e s =
+    let m : rest ≡ start ++ Called t op ∷ middle = cc in
+    absurd (n (rw m (occurs_in (Called t op) start middle)))
+
+-- what a thread did since its only call
+pub since_call : (t : ℕ) (op : Op) (deeds rest : List Entry) → (Occurs (Called t op) rest → ⊥)
+    → HasDone t op deeds (Called t op ∷ rest) → subhistory t rest ≡ deeds
+since_call t op deeds rest n h = since t op deeds rest h.0 h.1 n h.2 h.3
+
+none_in : (t : ℕ) (op : Op) (start middle : List Entry) → [] ≡ start ++ Called t op ∷ middle → ⊥
+none_in t op [] middle e = cc
+none_in t op (x ∷ start) middle e = cc
+
+pub nothing_done : (t : ℕ) (op : Op) (deeds : List Entry) → HasDone t op deeds [] → ⊥
+nothing_done t op deeds h = none_in t op h.0 h.1 h.2

@@ -1,0 +1,20 @@
+use Rattle.std.proofs.Common.{[], ◌∷◌, refl}
+use Rattle.std.proofs.lemmas.Bool.{false≢true}
+use Rattle.lk_locks.specs.WorkedHistories.{handed_on}
+use Rattle.lk_locks.proofs.QueueLaws.{holders_are_apart}
+use Rattle.lk_locks.proofs.WorkedHistories.{ticket_legal, not_of_two}
+use Rattle.lk_locks.specs.declared.kinds.LockKind.TheVariants.{Ticket}
+use Rattle.lk_locks.specs.declared.kinds.Op.TheVariants.{Acquire, Release}
+use Rattle.lk_locks.specs.declared.kinds.Entry.TheVariants.{Called, Acted}
+use Rattle.lk_locks.proofs.worked_histories.holders_of_queue_locks.Goals as goal
+
+pub returns-clause-apart : goal.returns-clause-apart
+returns-clause-apart c = holders_are_apart Ticket 2 handed_on ticket_legal
+
+pub returns-clause-beside : goal.returns-clause-beside
+returns-clause-beside c = λ h.
+    not_of_two (Acted 0 Release) (Called 1 Acquire) (Acted 1 Acquire) (λ e. cc) (λ e. cc)
+    (h 0 1 (Called 0 Acquire ∷ Acted 0 Acquire ∷ []) (Called 1 Acquire ∷ Acted 1 Acquire ∷ []) [] refl)
+
+pub returns-clause-overtakes : goal.returns-clause-overtakes
+returns-clause-overtakes c = λ h. false≢true (h 1 refl)

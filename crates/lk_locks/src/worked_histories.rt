@@ -1,0 +1,117 @@
+//! What the laws say of histories that are written out. A law that came to say nothing would hold of all of them, or of none.
+//!
+//! Each function's contract evaluates the definitions of one file on worked histories, and its body is empty.
+
+ghost use Rattle.std.specs.Prelude.{◌≡◌, ◌++◌, [], ◌∷◌, None, Some};
+ghost use Rattle.lk_locks.specs.WorkedHistories.{one_inside, left_free, handed_on, two_inside, overtaken, released_by_another, unasked, asked_twice, uncalled, reads, writes, two_readers, writers_in_turn, two_writers, reader_beside_writer, writer_beside_reader, writer_beside_downgraded, announced, announced_entered, reader_passes, writer_passes, ticket_moves, mcs_moves, simple_moves, fifo_moves};
+ghost use Rattle.lk_locks.specs.Legal.{Legal, subhistory};
+ghost use Rattle.lk_locks.specs.Holding.{holder_after, holding_of, waiting_of, IsListed, Free, HeldBy, ReadBy, WrittenBy};
+ghost use Rattle.lk_locks.specs.Places.{Occurs};
+ghost use Rattle.lk_locks.specs.Exclusion.{IsQueueLock, HasOneHolder, IsHeldInTurn, IsHeldByHead, HasStoppedWriting, HasOneWriter, IsNeverBesideReader, HasNoReaderBeside, IsAnnouncedFirst};
+ghost use Rattle.lk_locks.specs.Order.{requested, entered, IsInOrder};
+ghost use Rattle.lk_locks.specs.Calls.{ActsOnce, ActsInCalls, ReturnsNext};
+ghost use Rattle.lk_locks.specs.Runs.{after_moves, new_lock};
+ghost use Rattle.lk_locks.specs.MainTheorem.{IsAsPromised};
+ghost use Rattle.lk_locks.specs.declared.kinds.LockKind.TheVariants.{Ticket, Mcs, RwSimple, RwFifo};
+ghost use Rattle.lk_locks.specs.declared.kinds.Op.TheVariants.{Acquire, Release, WriteLock, WriteUnlock, Downgrade};
+ghost use Rattle.lk_locks.specs.declared.kinds.Entry.TheVariants.{Called, Acted, Returned};
+
+/// Hand-overs are legal. No thread enters before its turn, releases what another holds, or acts in no call; and no thread is above
+/// the lock's.
+pub fn legal_histories()
+    ensures ticket { Legal Ticket 2 handed_on }
+    ensures mcs { Legal Mcs 2 handed_on }
+    ensures simple { Legal RwSimple 2 writers_in_turn }
+    ensures fifo { Legal RwFifo 2 announced_entered }
+    ensures overtaken { Legal Mcs 2 overtaken → ⊥ }
+    ensures another { Legal Ticket 2 released_by_another → ⊥ }
+    ensures unasked { Legal Ticket 2 unasked → ⊥ }
+    ensures uncalled { Legal Mcs 2 uncalled → ⊥ }
+    ensures writers { Legal RwSimple 2 two_writers → ⊥ }
+    ensures passed { Legal RwFifo 3 reader_passes → ⊥ }
+    ensures strangers { Legal Ticket 1 handed_on → ⊥ }
+    ensures own { subhistory 1 handed_on ≡ Called 1 Acquire ∷ Acted 1 Acquire ∷ Returned 1 Acquire ∷ [] }
+{}
+
+/// Who holds, and who is in line.
+pub fn holders_of_histories()
+    ensures nobody { holding_of Ticket [] ≡ Free }
+    ensures first { holding_of Ticket one_inside ≡ HeldBy 0 }
+    ensures free { holding_of Mcs left_free ≡ Free }
+    ensures second { holding_of Mcs handed_on ≡ HeldBy 1 }
+    ensures asked { waiting_of Ticket one_inside ≡ 0 ∷ 1 ∷ [] }
+    ensures left { waiting_of Mcs handed_on ≡ 1 ∷ [] }
+    ensures writer { holding_of RwSimple (writes 0) ≡ WrittenBy 0 }
+    ensures readers { holding_of RwSimple two_readers ≡ ReadBy (0 ∷ 1 ∷ []) }
+    ensures simple { waiting_of RwSimple two_readers ≡ [] }
+    ensures reader { holding_of RwFifo announced ≡ ReadBy (0 ∷ []) }
+    ensures announced { waiting_of RwFifo announced ≡ 1 ∷ [] }
+    ensures entered { holding_of RwFifo announced_entered ≡ WrittenBy 1 }
+    ensures none_waits { waiting_of RwFifo announced_entered ≡ [] }
+    ensures listed { IsListed (ReadBy (0 ∷ 1 ∷ [])) }
+    ensures turned { IsListed (ReadBy (1 ∷ 0 ∷ [])) → ⊥ }
+    ensures no_reader { IsListed (ReadBy []) → ⊥ }
+{}
+
+/// Two of the locks are queue locks. One thread is inside such a lock, the head of its queue, and it alone releases.
+pub fn holders_of_queue_locks()
+    ensures ticket { IsQueueLock Ticket }
+    ensures mcs { IsQueueLock Mcs }
+    ensures simple { IsQueueLock RwSimple → ⊥ }
+    ensures fifo { IsQueueLock RwFifo → ⊥ }
+    ensures apart { HasOneHolder handed_on }
+    ensures beside { HasOneHolder two_inside → ⊥ }
+    ensures in_turn { IsHeldInTurn None handed_on }
+    ensures not_in_turn { IsHeldInTurn None two_inside → ⊥ }
+    ensures another { IsHeldInTurn None released_by_another → ⊥ }
+    ensures head { IsHeldByHead Mcs handed_on }
+    ensures overtakes { IsHeldByHead Mcs overtaken → ⊥ }
+{}
+
+/// A writer is alone.
+pub fn writers_of_read_write_locks()
+    ensures unlocked { HasStoppedWriting 0 (Acted 0 WriteUnlock ∷ []) }
+    ensures downgraded { HasStoppedWriting 0 (Acted 0 Downgrade ∷ []) }
+    ensures another { HasStoppedWriting 0 (Acted 1 WriteUnlock ∷ Acted 1 Downgrade ∷ []) → ⊥ }
+    ensures in_turn { HasOneWriter writers_in_turn }
+    ensures at_once { HasOneWriter two_writers → ⊥ }
+    ensures alone { IsNeverBesideReader RwSimple writers_in_turn }
+    ensures reader { IsNeverBesideReader RwSimple reader_beside_writer → ⊥ }
+    ensures writer { IsNeverBesideReader RwSimple writer_beside_reader → ⊥ }
+    ensures downgraded_reader { IsNeverBesideReader RwSimple writer_beside_downgraded → ⊥ }
+    ensures first { IsAnnouncedFirst announced_entered }
+    ensures reader_passes { IsAnnouncedFirst reader_passes → ⊥ }
+    ensures writer_passes { IsAnnouncedFirst writer_passes → ⊥ }
+{}
+
+/// Who asked first enters first.
+pub fn order_of_entering()
+    ensures asked { requested one_inside ≡ 0 ∷ 1 ∷ [] }
+    ensures first { entered one_inside ≡ 0 ∷ [] }
+    ensures both { entered handed_on ≡ 0 ∷ 1 ∷ [] }
+    ensures in_order { IsInOrder handed_on }
+    ensures out_of_order { IsInOrder overtaken → ⊥ }
+    ensures not_asked { IsInOrder unasked → ⊥ }
+{}
+
+/// A call acts once before it returns. Before its act stands a call, and what follows is the return.
+pub fn acts_of_calls()
+    ensures once { ActsOnce Mcs handed_on }
+    ensures never { ActsOnce Mcs unasked → ⊥ }
+    ensures twice { ActsOnce Mcs asked_twice → ⊥ }
+    ensures simple { ActsOnce RwSimple writers_in_turn }
+    ensures unannounced { ActsOnce RwFifo (writes 0) → ⊥ }
+    ensures called { ActsInCalls Mcs handed_on }
+    ensures not_called { ActsInCalls Mcs uncalled → ⊥ }
+    ensures acts_next { ActsInCalls Mcs asked_twice → ⊥ }
+{}
+
+/// Moves lead to the entries that they are due, and refused ones to none. What they lead to is as promised.
+pub fn runs_of_moves()
+    ensures ticket { (after_moves (new_lock Ticket 2 (0 ∷ 0 ∷ []) 2) ticket_moves).entries ≡ handed_on }
+    ensures mcs { (after_moves (new_lock Mcs 2 (0 ∷ 0 ∷ 0 ∷ 0 ∷ 0 ∷ []) 2) mcs_moves).entries ≡ handed_on }
+    ensures simple { (after_moves (new_lock RwSimple 2 (0 ∷ 0 ∷ []) 2) simple_moves).entries ≡ two_readers }
+    ensures fifo { (after_moves (new_lock RwFifo 2 (0 ∷ 0 ∷ 0 ∷ []) 2) fifo_moves).entries ≡ announced_entered }
+    ensures queue_lock { IsAsPromised Mcs 2 handed_on }
+    ensures read_write_lock { IsAsPromised RwFifo 2 announced_entered }
+{}
