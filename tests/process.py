@@ -68,6 +68,24 @@ SPINNING_REPORT = (
     + b"end 65536\n"
 )
 
+# The longest report but for the numerals: 64 threads in line, and the last of them spins.
+CROWD = b",".join(b"%d" % thread for thread in range(64))
+CROWDED = (
+    b"lock ticket threads 64\n"
+    + b"".join(b"%d acquire\n%d add\n" % (thread, thread) for thread in range(64))
+    + b"63 read\n" * (65_536 - 128)
+)
+CROWDED_REPORT = (
+    b"".join(
+        b"%d %d acquire called hold - queue %s\n%d %d add moved hold - queue %s\n"
+        % (2 * k + 1, k, b",".join(CROWD.split(b",")[:k]) or b"-",
+           2 * k + 2, k, b",".join(CROWD.split(b",")[:k + 1]))
+        for k in range(64)
+    )
+    + b"".join(b"%d 63 read waits hold - queue %s\n" % (k, CROWD) for k in range(129, 65_537))
+    + b"end 65536\n"
+)
+
 PATIENCE = 100  # seconds
 
 passed = 0
@@ -214,13 +232,35 @@ def cut_output(what, words, stdin, report):
           error=(error, OUTPUT), status=(status, 3))
 
 
+def reader_leaves_early():
+    """A reader of the pipe that takes the first 65,536 bytes of a report of 14 MB, and leaves."""
+    case("a report of 14 MB", ["replay"], 0, CROWDED_REPORT, stdin=CROWDED)
+    size = 65_536
+    reader, writer = os.pipe()
+    taken = bytearray()
+
+    def leave():
+        while len(taken) < size and (piece := os.read(reader, size - len(taken))):
+            taken.extend(piece)
+        os.close(reader)
+
+    leaver = threading.Thread(target=leave)
+    leaver.start()
+    _, error, status = run(["replay"], stdin=CROWDED, stdout=writer)
+    os.close(writer)
+    leaver.join()
+    check("a reader that leaves after 65,536 bytes of 14 MB",
+          output=(bytes(taken), CROWDED_REPORT[:size]), error=(error, OUTPUT), status=(status, 3))
+
+
 def command_line():
     case("a word that is no text", [b"\xff"], 2, error=FOREIGN)
     case("a file's name that is no text", ["batch", "--workers", "2", b"a\xffb"], 2, error=FOREIGN)
     case("no words", [], 2, error=is_usage)
     case("a word too many", ["replay", "x"], 2, error=is_usage)
     case("an unknown command", ["play"], 2, error=is_refusal)
-    case("nine workers", ["batch", "--workers", "9", "empty"], 2, error=is_refusal)
+    for workers in ("0", "9"):
+        case(f"{workers} workers", ["batch", "--workers", workers, "empty"], 2, error=is_refusal)
     case("no number of workers", ["batch", "empty"], 2, error=is_usage)
     case("no file", ["batch", "--workers", "2"], 2, error=is_usage)
     case("help", ["--help"], 0, is_help)
@@ -321,6 +361,7 @@ def main():
         standard_output(["batch", "--workers", "2", "spinning", "empty"], b"",
                         batch_text([SPINNING_REPORT, EMPTY_REPORT]))
         standard_output(["--help"], b"", b"")
+        reader_leaves_early()
         command_line()
         batches()
         files()
