@@ -12,7 +12,7 @@ use Rattle.lk_workers.specs.declared.live.LivePhase.{LivePhase}
 use Rattle.lk_workers.specs.declared.live.LivePhase.TheVariants.{Idle, Waiting, Inside, Leaving}
 use Rattle.lk_workers.specs.declared.live.rule.SeatState.{SeatState}
 use Rattle.lk_workers.specs.Seats.{Table, serving_of, thread_in, thread_of}
-use Rattle.lk_workers.specs.SeatSteps.{LiveStep, take_step, look_step, read_step, pass_step, after}
+use Rattle.lk_workers.specs.SeatSteps.{LiveStep, take_step, look_step, read_step, pass_step, moved, after}
 use Rattle.lk_workers.specs.invariants.Running.{FitsPhase}
 use Rattle.lk_workers.specs.LockState.{Happens, IsEvent, due_in}
 use Rattle.lk_workers.proofs.Sums.{set_same}
@@ -33,7 +33,7 @@ happens : (live : LiveStep) (id : ℕ) (s : Table) (r : SeatState) (p : LivePhas
     → live.leaves r (get_or s.words live.word 0) ≡ e.word → thread_of (live.next r (get_or s.words live.word 0)) ≡ e.phase
     → ((i : ℕ) → step 64 i s.words (due_in p r.ticket) ≡ to (set s.words live.word (live.leaves r (get_or s.words live.word 0))) e.phase e.outcome)
     → Happens s (after live id s r) id live.word (due_in r.phase r.ticket) e
-happens live id s r p e low at is word phase machine = let found : ℕ = get_or s.words live.word 0 in let q : SeatState = live.next r found in record {
+happens live id s r p e low at is word phase machine = let found : ℕ = get_or s.words live.word 0 in let q : SeatState = moved live r found in record {
   leaves = get_or-set_same s.words live.word (live.leaves r found) 0 low ∙ word;
   other_word = λ i n. get_or-set_other s.words live.word i (live.leaves r found) 0 n;
   seat = (q, set_here s.views id (q ∷ []) (there s.views id (r ∷ []) at), phase);

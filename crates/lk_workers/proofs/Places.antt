@@ -6,7 +6,7 @@ use mathlib.Core.Logic.{dite}
 use native.Mathlib.Decide.{ℕ_discrete}
 use lib.Seq.{map-set}
 use lib.ListN.{length-map}
-use Rattle.lk_workers.specs.Counting.{times, same}
+use Rattle.lk_workers.specs.Counting.{occurrences, indicator}
 use Rattle.std.proofs.lemmas.List.Elements.{All-head, All-tail, All-cons}
 use Rattle.std.proofs.lemmas.List.{get_or-map, length-replicate}
 use Rattle.lk_replay.specs.Report.{report_text}
@@ -36,12 +36,12 @@ module _ (F : ℕ → List ℕ) where
   stays (j ∷ ks) os k b e = stays ks (set os j (Some (F j))) k (let l = length-set os j (Some (F j)) in omega arith)
       (dite (ℕ_discrete k j) (λ is. ap (λ i. get_or (set os j (Some (F j))) i None) is ∙ get_or-set_same os j (Some (F j)) None (omega arith) ∙ ap (λ i. Some (F i)) (sym is)) (λ no. get_or-set_other os j k (Some (F j)) None no ∙ e))
 
-  pub hit : (ks : List ℕ) (os : List (Option (List ℕ))) (k : ℕ) → k < length os → 1 ≤ times k ks → get_or (placed os (pairs_of ks)) k None ≡ Some (F k)
+  pub hit : (ks : List ℕ) (os : List (Option (List ℕ))) (k : ℕ) → k < length os → 1 ≤ occurrences k ks → get_or (placed os (pairs_of ks)) k None ≡ Some (F k)
   hit [] os k b t = absurd (omega arith)
   hit (j ∷ ks) os k b t = dite (ℕ_discrete k j)
       (λ is. stays ks (set os j (Some (F j))) k (let l = length-set os j (Some (F j)) in omega arith)
       (ap (λ i. get_or (set os j (Some (F j))) i None) is ∙ get_or-set_same os j (Some (F j)) None (omega arith) ∙ ap (λ i. Some (F i)) (sym is)))
-      (λ no. hit ks (set os j (Some (F j))) k (let l = length-set os j (Some (F j)) in omega arith) (let z : same k j ≡ 0 = grind arith in omega arith))
+      (λ no. hit ks (set os j (Some (F j))) k (let l = length-set os j (Some (F j)) in omega arith) (let z : indicator k j ≡ 0 = grind arith in omega arith))
 
 pub goes : {X Y : Type 0} (slots : List Y) (i : ℕ) (y : Y) (old rest : List (ℕ × X)) (x : ℕ × X) → old ≡ x ∷ rest → All (λ p. p.0 < length slots) old → All (λ p. p.0 < length (set slots i y)) rest
 goes slots i y old rest x s a k d h = subst (λ n. (get_or rest k d).0 < n) (sym (length-set slots i y)) (All-tail (λ p. p.0 < length slots) x rest (subst (All (λ p. p.0 < length slots)) s a) k d h)

@@ -4,7 +4,7 @@ use Rattle.std.specs.List.{flat_map}
 use mathlib.Core.Option.{some}
 use lib.ListN.{get_elem?}
 use Rattle.atomic_table.specs.Table.{State}
-use Rattle.lk_workers.specs.Counting.{total, times, IsEachBelow}
+use Rattle.lk_workers.specs.Counting.{sum_over, occurrences, IsEachBelow}
 use Rattle.lk_workers.specs.declared.draws.Hand.{Hand}
 use Rattle.lk_workers.specs.invariants.DrawRule.{Drawn}
 
@@ -17,9 +17,9 @@ pub record DrawState (draws : ℕ) (s : State (Unit {0}) Hand) : Type 0 where
   -- the numbers in the lists of all seats are those below the word, each once
   pub numbers : IsEachBelow (word_of s) (flat_map (λ v. v.drawn) s.views)
   -- what was drawn and what is left is all
-  pub all : word_of s + total (λ v. v.left) s.views ≡ draws
+  pub all : word_of s + sum_over (λ v. v.left) s.views ≡ draws
   -- no two seats have one number
-  pub apart : (i j : ℕ) (v w : Hand) (x : ℕ) → i ≢ j → get_elem? s.views i ≡ some v → get_elem? s.views j ≡ some w → 1 ≤ times x v.drawn → times x w.drawn ≡ 0
+  pub apart : (i j : ℕ) (v w : Hand) (x : ℕ) → i ≢ j → get_elem? s.views i ≡ some v → get_elem? s.views j ≡ some w → 1 ≤ occurrences x v.drawn → occurrences x w.drawn ≡ 0
   -- the next draw is greater than each number that a seat has
   pub greater : (i : ℕ) (v : Hand) → get_elem? s.views i ≡ some v → All (λ x. x < word_of s) v.drawn
   -- a seat with all draws has each number below the word

@@ -14,7 +14,7 @@ use Rattle.lk_locks.specs.ticket.{step}
 use Rattle.lk_workers.specs.declared.live.LivePhase.{LivePhase}
 use Rattle.lk_workers.specs.declared.live.LivePhase.TheVariants.{Idle, Waiting, Inside, Leaving}
 use Rattle.lk_workers.specs.declared.live.rule.SeatState.{SeatState}
-use Rattle.lk_workers.specs.Seats.{Table, next_of, serving_of, over, thread_of, IsHolding}
+use Rattle.lk_workers.specs.Seats.{Table, next_of, serving_of, sum_over_seats, thread_of, IsHolding}
 use Rattle.lk_workers.specs.SeatSteps.{LiveStep, after}
 use Rattle.lk_workers.specs.invariants.Running.{Running}
 
@@ -36,9 +36,9 @@ pub record LockState (s : Table) : Type 0 where
   pub differ : (id k id' k' : ℕ) (r r' : SeatState) (t : ℕ) → IsAt s.views id k r → IsAt s.views id' k' r' → HasTicket t r → HasTicket t r' → (id ≡ id') × (k ≡ k')
   -- each number from `serving` up to but not including `next` is the ticket of a seat
   pub each : (t : ℕ) → serving_of s ≤ t → t < next_of s → (id : ℕ) × (k : ℕ) × (r : SeatState) × IsAt s.views id k r × HasTicket t r
-  pub taken : over (λ r. r.taken) s.views ≡ next_of s
+  pub taken : sum_over_seats (λ r. r.taken) s.views ≡ next_of s
   pub some_taken : (id k : ℕ) (r : SeatState) → IsAt s.views id k r → r.phase ≢ Idle → 1 ≤ r.taken
-  pub left : next_of s + over (λ r. r.left) s.views ≤ 2 ^ 40
+  pub left : next_of s + sum_over_seats (λ r. r.left) s.views ≤ 2 ^ 40
   pub seen : (id k : ℕ) (r : SeatState) → IsAt s.views id k r → r.seen ≤ serving_of s
   pub two_at_most : (id : ℕ) (v : List SeatState) → get_elem? s.views id ≡ some v → length v ≤ 2
 

@@ -2,19 +2,28 @@
 --
 -- The correspondence is this project's own: a seat is a thread, and each of its calls is one event of the lock of Mellor-Crummey and
 -- Scott, "Algorithms for Scalable Synchronization on Shared-Memory Multiprocessors", ACM TOCS 9(1), 1991, section 2.2.
-use Rattle.std.specs.Prelude.{ℕ, ◌+◌, ◌≤◌, List, slice_index, Option, Some, None, ⊤}
+use Rattle.std.specs.Prelude.{ℕ, ◌+◌, ◌≤◌, List, [], ◌∷◌, ◌++◌, slice_index, Option, Some, None, ⊤}
 use Rattle.atomic_table.specs.Table.{State}
 use Rattle.atomic_table.specs.Seated.{TableId}
 use Rattle.lk_locks.specs.declared.kinds.Phase.{Phase}
 use Rattle.lk_locks.specs.declared.kinds.Phase.TheVariants.{AwaitTurn, TicketInside, PassOn}
 use Rattle.lk_workers.specs.declared.live.LivePhase.{LivePhase}
 use Rattle.lk_workers.specs.declared.live.LivePhase.TheVariants.{Idle, Waiting, Inside, Leaving}
+use Rattle.lk_workers.specs.declared.live.rule.Operation.{Operation}
 use Rattle.lk_workers.specs.declared.live.rule.SeatState.{SeatState}
-use Rattle.lk_workers.specs.Counting.{same, total}
+use Rattle.lk_workers.specs.Counting.{indicator, sum_over}
 
--- phase, ticket, takes left, tickets taken, the last `now_serving` known, and the loads of it
-abbrev pub seat_state : LivePhase → ℕ → ℕ → ℕ → ℕ → ℕ → SeatState
-seat_state phase ticket left taken seen loads = record { phase = phase; ticket = ticket; left = left; taken = taken; seen = seen; loads = loads }
+-- an atomic operation of a seat: its word, and what it adds or stores there, which is 0 of a load
+abbrev pub operation : ℕ → ℕ → Operation
+operation word operand = record { word = word; operand = operand }
+
+-- phase, ticket, takes left, tickets taken, the last `now_serving` known, the loads of it, and the operations made, the last at the end
+abbrev pub seat_state : LivePhase → ℕ → ℕ → ℕ → ℕ → ℕ → List Operation → SeatState
+seat_state phase ticket left taken seen loads made = record { phase = phase; ticket = ticket; left = left; taken = taken; seen = seen; loads = loads; made = made }
+
+-- the seat with one operation more
+abbrev pub noted : Operation → SeatState → SeatState
+noted o r = seat_state r.phase r.ticket r.left r.taken r.seen r.loads (r.made ++ o ∷ [])
 
 -- what a contract sees of a seat: its lock, and what is known of it
 pub record Live : Type 0 where
@@ -26,8 +35,8 @@ abbrev pub Table : Type 0
 Table = State (Unit {0}) (List SeatState)
 
 -- the seats of all views, added up
-abbrev pub over : (SeatState → ℕ) → List (List SeatState) → ℕ
-over f views = total (total f) views
+abbrev pub sum_over_seats : (SeatState → ℕ) → List (List SeatState) → ℕ
+sum_over_seats f views = sum_over (sum_over f) views
 
 -- the two words
 abbrev pub next_of : Table → ℕ
@@ -61,18 +70,18 @@ IsHolding Inside = ⊤
 IsHolding Leaving = ⊤
 
 -- 1 where the seat has the ticket x, else 0
-abbrev pub has_in : ℕ → LivePhase → ℕ → ℕ
-has_in x Idle t = 0
-has_in x Waiting t = same x t
-has_in x Inside t = same x t
-has_in x Leaving t = same x t
+abbrev pub ticket_indicator_in : ℕ → LivePhase → ℕ → ℕ
+ticket_indicator_in x Idle t = 0
+ticket_indicator_in x Waiting t = indicator x t
+ticket_indicator_in x Inside t = indicator x t
+ticket_indicator_in x Leaving t = indicator x t
 
-abbrev pub has : ℕ → SeatState → ℕ
-has x r = has_in x r.phase r.ticket
+abbrev pub ticket_indicator : ℕ → SeatState → ℕ
+ticket_indicator x r = ticket_indicator_in x r.phase r.ticket
 
 abbrev pub with_seen : ℕ → SeatState → SeatState
-with_seen n r = seat_state r.phase r.ticket r.left r.taken n r.loads
+with_seen n r = seat_state r.phase r.ticket r.left r.taken n r.loads r.made
 
 -- not both seats are inside or leaving, and no ticket is that of both
 abbrev pub AreApart : SeatState → SeatState → Type 0
-AreApart r q = ¬ (IsHolding r.phase × IsHolding q.phase) × ((x : ℕ) → has x r + has x q ≤ 1)
+AreApart r q = ¬ (IsHolding r.phase × IsHolding q.phase) × ((x : ℕ) → ticket_indicator x r + ticket_indicator x q ≤ 1)

@@ -5,13 +5,13 @@
 //! call is one atomic operation, nothing spins, and a caller can do what it likes between two steps. A `LiveSeat` is a thread of the
 //! lock, which `split` makes and `join` takes away. A waiting seat that is dropped keeps its ticket: no later one is served.
 
-ghost use Rattle.std.specs.Prelude.{◌≡◌, ℕ, ◌+◌, ◌-◌, ◌%◌, ◌^◌, ◌<◌, ◌≤◌, ◌==◌, max, if◌then◌else◌, [], ◌∷◌, Option, IfOk};
+ghost use Rattle.std.specs.Prelude.{◌≡◌, ℕ, ◌+◌, ◌-◌, ◌%◌, ◌^◌, ◌<◌, ◌≤◌, ◌==◌, max, if◌then◌else◌, [], ◌∷◌, ◌++◌, Option, IfOk};
 ghost use Rattle.lk_locks.specs.declared.kinds.Outcome.TheVariants.{Moved, Waits, Entered, Left};
 ghost use Rattle.lk_locks.specs.laws.{event, take_event, look_event, read_event, pass_event};
 ghost use Rattle.lk_workers.specs.declared.live.LivePhase.TheVariants.{Idle, Waiting, Inside, Leaving};
-ghost use Rattle.lk_workers.specs.Seats.{Live, seat_state, ticket_in, thread_of, with_seen, AreApart};
+ghost use Rattle.lk_workers.specs.Seats.{Live, seat_state, operation, ticket_in, thread_of, with_seen, AreApart};
 ghost use Rattle.lk_workers.specs.LockState.{IsEnd};
-ghost use Rattle.lk_workers.specs.SeatSteps.{take_step, look_step, read_step, pass_step, joined, rest_of, share_of, cut_left, cut_right};
+ghost use Rattle.lk_workers.specs.SeatSteps.{take_step, look_step, read_step, pass_step, moved, joined, rest_of, share_of, cut_left, cut_right};
 
 pub mod laws;
 mod rule;
@@ -68,20 +68,20 @@ pub struct LiveSeat {
 impl Model for LiveSeat {
     ghost use Rattle.std.specs.Prelude.{◌≡◌, ◌<◌, ◌^◌, [], ◌∷◌};
     ghost use Rattle.lk_workers.specs.Seats.{Live, seat_state};
-    ghost use Rattle.lk_workers.specs.invariants.Running.{loads_of};
+    ghost use Rattle.lk_workers.specs.invariants.Running.{loads_of, made_of};
 
     ghost Value = { Live };
 
-    ghost view = { λ s. record { table = s.seat.table_id; state = seat_state s.phase s.ticket s.left s.taken s.seen (loads_of s.seat.me.0) } };
+    ghost view = { λ s. record { table = s.seat.table_id; state = seat_state s.phase s.ticket s.left s.taken s.seen (loads_of s.seat.me.0) (made_of s.seat.me.0) } };
 
-    ghost invariant = { λ s. (s.seat.me ≡ (seat_state s.phase s.ticket s.left s.taken s.seen (loads_of s.seat.me.0) ∷ [], [])) × (s.ticket < 2 ^ 40) };
+    ghost invariant = { λ s. (s.seat.me ≡ (seat_state s.phase s.ticket s.left s.taken s.seen (loads_of s.seat.me.0) (made_of s.seat.me.0) ∷ [], [])) × (s.ticket < 2 ^ 40) };
 }
 
 impl LiveSeat {
     // A seat that took nothing yet.
     fn idle(seat: Seat<(), View>, left: u64, seen: u64) -> LiveSeat
-        requires { seat.me ≡ (seat_state Idle 0 left 0 seen 0 ∷ [], []) }
-        ensures { (result.table ≡ seat.table_id) × (result.state ≡ seat_state Idle 0 left 0 seen 0) }
+        requires { seat.me ≡ (seat_state Idle 0 left 0 seen 0 [] ∷ [], []) }
+        ensures { (result.table ≡ seat.table_id) × (result.state ≡ seat_state Idle 0 left 0 seen 0 []) }
     {
         LiveSeat {
             seat,
@@ -150,7 +150,7 @@ impl LiveTicket {
     /// There was no memory for the words.
     pub fn open(alloc: Global, takes: u64) -> Result<(LiveTicket, LiveSeat), AllocError>
         requires { takes ≤ 2 ^ 40 }
-        ensures { IfOk result (λ r. (r.1.table ≡ r.0) × (r.1.state ≡ seat_state Idle 0 takes 0 0 0)) }
+        ensures { IfOk result (λ r. (r.1.table ≡ r.0) × (r.1.state ≡ seat_state Idle 0 takes 0 0 0 [])) }
     {
         let (table, seat) = Table::of_words(alloc, &[0, 0], &takes)?;
         Ok((LiveTicket { table }, LiveSeat::idle(seat, takes, 0)))
@@ -161,7 +161,8 @@ impl LiveTicket {
         requires own { seat.old.table ≡ self.now }
         requires idle { (seat.old.state.phase ≡ Idle) × (0 < seat.old.state.left) }
         ensures own { seat.new.table ≡ self.now }
-        ensures seat { seat.new.state ≡ take_step.next seat.old.state result }
+        ensures seat { seat.new.state ≡ moved take_step seat.old.state result }
+        ensures operation { seat.new.state.made ≡ seat.old.state.made ++ operation 0 1 ∷ [] }
         ensures seen { seat.old.state.seen ≤ result }
         ensures event { take_event 64 result ≡ event ((result + 1) % 2 ^ 64) (thread_of seat.new.state) Moved }
     {
@@ -178,7 +179,8 @@ impl LiveTicket {
         requires own { seat.old.table ≡ self.now }
         requires waiting { seat.old.state.phase ≡ Waiting }
         ensures own { seat.new.table ≡ self.now }
-        ensures seat { seat.new.state ≡ look_step.next seat.old.state seat.new.state.seen }
+        ensures seat { seat.new.state ≡ moved look_step seat.old.state seat.new.state.seen }
+        ensures operation { seat.new.state.made ≡ seat.old.state.made ++ operation 1 0 ∷ [] }
         ensures later { seat.old.state.seen ≤ seat.new.state.seen }
         ensures answer { result ≡ (seat.new.state.seen == seat.old.state.ticket) }
         ensures event { look_event seat.old.state.ticket seat.new.state.seen ≡ event seat.new.state.seen (thread_of seat.new.state) (if result then Entered else Waits) }
@@ -197,7 +199,8 @@ impl LiveTicket {
         requires own { seat.old.table ≡ self.now }
         requires inside { seat.old.state.phase ≡ Inside }
         ensures own { seat.new.table ≡ self.now }
-        ensures seat { seat.new.state ≡ read_step.next seat.old.state seat.old.state.ticket }
+        ensures seat { seat.new.state ≡ moved read_step seat.old.state seat.old.state.ticket }
+        ensures operation { seat.new.state.made ≡ seat.old.state.made ++ operation 1 0 ∷ [] }
         ensures event { read_event seat.new.state.seen ≡ event seat.new.state.seen (thread_of seat.new.state) Moved }
     {
         let serving = self.table.shared.load::<ReadServing>(&mut seat.seat, 1);
@@ -210,7 +213,8 @@ impl LiveTicket {
         requires own { seat.old.table ≡ self.now }
         requires leaving { seat.old.state.phase ≡ Leaving }
         ensures own { seat.new.table ≡ self.now }
-        ensures seat { seat.new.state ≡ pass_step.next seat.old.state seat.old.state.ticket }
+        ensures seat { seat.new.state ≡ moved pass_step seat.old.state seat.old.state.ticket }
+        ensures operation { seat.new.state.made ≡ seat.old.state.made ++ operation 1 (seat.old.state.ticket + 1) ∷ [] }
         ensures event { pass_event 64 seat.old.state.ticket ≡ event seat.new.state.seen (thread_of seat.new.state) Left }
     {
         let next = seat.ticket + 1;

@@ -4,14 +4,14 @@
 //! are texts, and one such share for each worker is all the draws there are. When all seats are joined again, the numbers below the
 //! word were drawn once each. So each report has one place, and no place stays empty.
 
-ghost use Rattle.std.specs.Prelude.{◌≡◌, ℕ, ◌+◌, ◌*◌, ◌<◌, ◌≤◌, length, map, All, IsSome, None, Some, option_map, replicate, IfOk};
+ghost use Rattle.std.specs.Prelude.{◌≡◌, ℕ, ◌+◌, ◌-◌, ◌*◌, ◌<◌, ◌≤◌, ◌++◌, length, map, All, IsSome, None, Some, option_map, replicate, IfOk};
 ghost use Rattle.std.specs.Thread.{IsSync};
 ghost use Rattle.lk_replay.specs.Report.{report_text};
-ghost use Rattle.lk_workers.specs.Drawing.{IsSeatOf};
-ghost use Rattle.lk_workers.specs.invariants.Collected.{IsWorkOf, IsFresh, IsBack, IsEachOnce, placed};
+ghost use Rattle.lk_workers.specs.Drawing.{IsSeatOf, drawer};
+ghost use Rattle.lk_workers.specs.invariants.Collected.{bytes_of, numbered, MayWork, IsDone, IsEachOnce, placed};
 
 use crate::draws::{DrawSeat, Draws};
-use crate::gate::Gate;
+use crate::gate::{Gate, Opened};
 use lk_replay::report_of;
 use std::alloc::{AllocError, Global};
 use std::thread::{Threads, join};
@@ -19,71 +19,62 @@ use std::thread::{Threads, join};
 // A text's number and its report.
 type Numbered = (usize, Vec<u8>);
 
-// The report of one text, between the gate's two calls.
-fn replay_one<G: Gate>(
+// A seat that comes back, and the reports of the texts whose numbers it drew.
+type Done = (DrawSeat, Vec<Numbered>);
+
+// What all workers share.
+#[derive(Drop)]
+struct Batch<'a, G> {
     alloc: Global,
-    text: &[u8],
-    number: u32,
-    gate: &G,
-) -> Result<Vec<u8>, AllocError>
-    ensures { IfOk result (λ v. v.items ≡ report_text text.now) }
-{
-    gate.begin(number);
-    let report = report_of(alloc, text);
-    gate.end(number);
-    report
+    draws: &'a Draws,
+    texts: &'a [Vec<u8>],
+    gate: &'a G,
 }
 
-// One worker: the reports of the texts whose numbers its seat draws.
-fn work<G: Gate>(
-    alloc: Global,
-    draws: &Draws,
-    seat: &mut DrawSeat,
-    texts: &[Vec<u8>],
-    gate: &G,
-) -> Result<Vec<Numbered>, AllocError>
-    requires own { IsFresh draws.now (length texts.now + 1) seat.old }
-    requires texts { length texts.now ≤ 65536 }
-    ensures own { IsBack draws.now (length texts.now + 1) seat.new }
-    ensures reports { IfOk result (λ v. IsWorkOf (map (λ t. t.items) texts.now) seat.new.drawn (map (λ p. (p.0, p.1.items)) v.items)) }
-{
-    let mut reports = Vec::new(alloc);
-    for _ in 0..texts.len() + 1 {
-        let number = draws.draw(seat);
-        if number >= texts.len() as u64 {
-            return Ok(reports);
-        }
-        let number = number as usize;
-        let report = replay_one(alloc, texts[number].as_slice(), number as u32, gate)?;
-        reports.push((number, report))?;
+impl<'a, G: Gate> Batch<'a, G> {
+    // The report of one text, between the gate's two calls.
+    fn replay_one(&self, text: &[u8], number: u32) -> Result<Vec<u8>, AllocError>
+        ensures { IfOk result (λ v. v.items ≡ report_text text.now) }
+    {
+        let opened = Opened::begin(self.gate, number);
+        opened.end(report_of(self.alloc, text))
     }
-    unreachable!()
+
+    // One worker: the reports of the texts whose numbers its seat draws.
+    fn work(&self, mut seat: DrawSeat) -> Result<Done, AllocError>
+        requires { MayWork self.now.draws.now self.now.texts.now 1 seat }
+        ensures { IfOk result (λ r. IsDone self.now.draws.now self.now.texts.now 1 r.0 r.1.items) }
+    {
+        let mut reports = Vec::new(self.alloc);
+        for _ in 0..self.texts.len() + 1 {
+            let number = self.draws.draw(&mut seat);
+            if number >= self.texts.len() as u64 {
+                return Ok((seat, reports));
+            }
+            let number = number as usize;
+            let report = self.replay_one(self.texts[number].as_slice(), number as u32)?;
+            reports.push((number, report))?;
+        }
+        unreachable!()
+    }
+
+    // Leaves the seat with the draws of `half` of its workers, and gives those of the others to another one.
+    fn deal(&self, seat: &mut DrawSeat, workers: u8, half: u8) -> DrawSeat
+        requires own { MayWork self.now.draws.now self.now.texts.now workers seat.old }
+        requires half { (1 ≤ half) × (half < workers) }
+        ensures kept { MayWork self.now.draws.now self.now.texts.now half seat.new }
+        ensures given { MayWork self.now.draws.now self.now.texts.now (workers - half) result }
+    {
+        let share = self.texts.len() as u64 + 1;
+        self.draws.split(seat, u64::from(workers - half) * share)
+    }
 }
 
-// Splits off the shares of some workers.
-fn deal(draws: &Draws, seat: &mut DrawSeat, share: u64, half: u8, rest: u8) -> DrawSeat
-    requires own { IsFresh draws.now ((half + rest) * share) seat.old }
-    requires share { share ≤ 65537 }
-    ensures kept { IsFresh draws.now (half * share) seat.new }
-    ensures given { IsFresh draws.now (rest * share) result }
-{
-    draws.split(seat, u64::from(rest) * share)
-}
-
-// What two groups of workers bring back.
-fn gather(
-    draws: &Draws,
-    _texts: &[Vec<u8>],
-    front: (DrawSeat, Vec<Numbered>),
-    back: (DrawSeat, Vec<Numbered>),
-    _half: u8,
-    _rest: u8,
-) -> Result<(DrawSeat, Vec<Numbered>), AllocError>
-    requires own { IsBack draws.now (_half * (length _texts.now + 1)) front.0 × IsBack draws.now (_rest * (length _texts.now + 1)) back.0 }
-    requires front { IsWorkOf (map (λ t. t.items) _texts.now) front.0.drawn (map (λ p. (p.0, p.1.items)) front.1.items) }
-    requires back { IsWorkOf (map (λ t. t.items) _texts.now) back.0.drawn (map (λ p. (p.0, p.1.items)) back.1.items) }
-    ensures own { IfOk result (λ r. IsBack draws.now ((_half + _rest) * (length _texts.now + 1)) r.0) }
-    ensures reports { IfOk result (λ r. IsWorkOf (map (λ t. t.items) _texts.now) r.0.drawn (map (λ p. (p.0, p.1.items)) r.1.items)) }
+// What two groups of workers bring back, as one.
+fn gather(draws: &Draws, front: Done, back: Done) -> Result<Done, AllocError>
+    requires { IsSeatOf draws.now front.0 × IsSeatOf draws.now back.0 }
+    ensures { IfOk result (λ r. (r.0 ≡ drawer draws.now (front.0.drawn ++ back.0.drawn) (front.0.left + back.0.left))
+        × (r.1.items ≡ front.1.items ++ back.1.items)) }
 {
     let (mut seat, mut reports) = front;
     let (other, mut more) = back;
@@ -95,39 +86,61 @@ fn gather(
 // This many workers, in halves side by side.
 fn work_all<G: Gate, R: Threads + Sync>(
     rt: &R,
-    alloc: Global,
-    draws: &Draws,
+    batch: Batch<'_, G>,
     mut seat: DrawSeat,
-    texts: &[Vec<u8>],
     workers: u8,
-    gate: &G,
-) -> Result<(DrawSeat, Vec<Numbered>), AllocError>
-    requires own { IsFresh draws.now (workers * (length texts.now + 1)) seat }
-    requires texts { (length texts.now ≤ 65536) × (1 ≤ workers) }
-    ensures own { IfOk result (λ r. IsBack draws.now (workers * (length texts.now + 1)) r.0) }
-    ensures reports { IfOk result (λ r. IsWorkOf (map (λ t. t.items) texts.now) r.0.drawn (map (λ p. (p.0, p.1.items)) r.1.items)) }
+) -> Result<Done, AllocError>
+    requires { MayWork batch.draws.now batch.texts.now workers seat }
+    ensures { IfOk result (λ r. IsDone batch.entry.draws.now batch.entry.texts.now workers r.0 r.1.items) }
 {
     if workers == 1 {
-        let reports = work(alloc, draws, &mut seat, texts, gate)?;
-        return Ok((seat, reports));
+        return batch.work(seat);
     }
     let half = workers / 2;
     let rest = workers - half;
-    let other = deal(draws, &mut seat, texts.len() as u64 + 1, half, rest);
+    let other = batch.deal(&mut seat, workers, half);
+    let Batch {
+        alloc,
+        draws,
+        texts,
+        gate,
+    } = batch;
     let (front, back) = join(
         rt,
-        move || -> Result<(DrawSeat, Vec<Numbered>), AllocError>
-            requires { IsSync R.row × IsSync G.row × IsFresh draws.now (half * (length texts.now + 1)) seat × (length texts.now ≤ 65536) × (1 ≤ half) }
-            ensures own { IfOk result (λ r. IsBack draws.entry.now (half * (length texts.entry.now + 1)) r.0) }
-            ensures reports { IfOk result (λ r. IsWorkOf (map (λ t. t.items) texts.entry.now) r.0.drawn (map (λ p. (p.0, p.1.items)) r.1.items)) }
-        { work_all(rt, alloc, draws, seat, texts, half, gate) },
-        move || -> Result<(DrawSeat, Vec<Numbered>), AllocError>
-            requires { IsSync R.row × IsSync G.row × IsFresh draws.now (rest * (length texts.now + 1)) other × (length texts.now ≤ 65536) × (1 ≤ rest) }
-            ensures own { IfOk result (λ r. IsBack draws.entry.now (rest * (length texts.entry.now + 1)) r.0) }
-            ensures reports { IfOk result (λ r. IsWorkOf (map (λ t. t.items) texts.entry.now) r.0.drawn (map (λ p. (p.0, p.1.items)) r.1.items)) }
-        { work_all(rt, alloc, draws, other, texts, rest, gate) },
+        move || -> Result<Done, AllocError>
+            requires { IsSync R.row × IsSync G.row × MayWork draws.now texts.now half seat }
+            ensures { IfOk result (λ r. IsDone draws.entry.now texts.entry.now half r.0 r.1.items) }
+        {
+            work_all(
+                rt,
+                Batch {
+                    alloc,
+                    draws,
+                    texts,
+                    gate,
+                },
+                seat,
+                half,
+            )
+        },
+        move || -> Result<Done, AllocError>
+            requires { IsSync R.row × IsSync G.row × MayWork draws.now texts.now rest other }
+            ensures { IfOk result (λ r. IsDone draws.entry.now texts.entry.now rest r.0 r.1.items) }
+        {
+            work_all(
+                rt,
+                Batch {
+                    alloc,
+                    draws,
+                    texts,
+                    gate,
+                },
+                other,
+                rest,
+            )
+        },
     );
-    gather(draws, texts, front?, back?, half, rest)
+    gather(draws, front?, back?)
 }
 
 // The reports of all texts, each once, in some order.
@@ -140,11 +153,17 @@ fn draw_all<G: Gate, R: Threads + Sync>(
 ) -> Result<Vec<Numbered>, AllocError>
     requires workers { (1 ≤ workers) × (workers ≤ 8) }
     requires texts { length texts.now ≤ 65536 }
-    ensures { IfOk result (λ v. IsEachOnce (map (λ t. t.items) texts.now) (map (λ p. (p.0, p.1.items)) v.items)) }
+    ensures { IfOk result (λ v. IsEachOnce (bytes_of texts.now) (numbered v.items)) }
 {
     let share = texts.len() as u64 + 1;
     let (draws, seat) = Draws::open(alloc, u64::from(workers) * share)?;
-    let (seat, reports) = work_all(rt, alloc, &draws, seat, texts, workers, gate)?;
+    let batch = Batch {
+        alloc,
+        draws: &draws,
+        texts,
+        gate,
+    };
+    let (seat, reports) = work_all(rt, batch, seat, workers)?;
     draws.close(seat);
     Ok(reports)
 }
@@ -161,7 +180,7 @@ fn empty_places(alloc: Global, count: usize) -> Result<Vec<Option<Vec<u8>>>, All
 
 fn place_all(mut places: Vec<Option<Vec<u8>>>, reports: Vec<Numbered>) -> Vec<Option<Vec<u8>>>
     requires { All (λ p. p.0 < length places.items) reports.items }
-    ensures { map (option_map (λ v. v.items)) result.items ≡ placed (map (option_map (λ v. v.items)) places.items) (map (λ p. (p.0, p.1.items)) reports.items) }
+    ensures { map (option_map (λ v. v.items)) result.items ≡ placed (map (option_map (λ v. v.items)) places.items) (numbered reports.items) }
 {
     for (number, report) in reports {
         places[number] = Some(report);

@@ -3,6 +3,7 @@
 mod batches;
 mod drawn;
 mod eight;
+mod gates;
 mod refused_memory;
 mod refusing;
 mod running;

@@ -31,10 +31,15 @@ pub fn was_refused(alloc: Global) -> bool {
     !is_granted(alloc, ASK)
 }
 
+/// Whether this run is the one under that allocator.
+pub fn is_refusing(alloc: Global) -> bool {
+    !is_granted(alloc, HERE)
+}
+
 /// A call that met no refusal: under that allocator it is not the first, since the call asks for memory.
 pub fn met_none(rt: &impl Abort, alloc: Global, number: usize) {
     assert!(rt;
-        number > 1 || is_granted(alloc, HERE),
+        number > 1 || !is_refusing(alloc),
         "no request was made"
     );
 }

@@ -1,8 +1,16 @@
 -- Invariants. What workers that draw the numbers of texts bring back.
-use Rattle.std.specs.Prelude.{Option, Some, slice_set, ◌∷◌, ◌≡◌, ℕ, ◌+◌, ◌<◌, ◌≤◌, List, [], map, length, filter, ltb, slice_index_or}
+use Rattle.std.specs.Prelude.{Option, Some, Vec, slice_set, ◌∷◌, ◌≡◌, ℕ, ◌+◌, ◌*◌, ◌<◌, ◌≤◌, List, [], map, length, filter, ltb, slice_index_or}
+use Rattle.std.specs.declared.alloc.Global.{Global}
 use Rattle.lk_replay.specs.Report.{report_text}
-use Rattle.lk_workers.specs.Counting.{times}
+use Rattle.lk_workers.specs.Counting.{occurrences}
 use Rattle.lk_workers.specs.Drawing.{Counter, Drawer, IsSeatOf}
+
+-- the bytes of texts, and of reports with the numbers of their texts
+abbrev pub bytes_of : List (Vec ℕ Global) → List (List ℕ)
+bytes_of texts = map (λ t. t.items) texts
+
+abbrev pub numbered : List (ℕ × Vec ℕ Global) → List (ℕ × List ℕ)
+numbered reports = map (λ p. (p.0, p.1.items)) reports
 
 -- the report of text k
 abbrev pub report_at : List (List ℕ) → ℕ → List ℕ
@@ -14,7 +22,7 @@ reports_of texts drawn = map (λ k. (k, report_at texts k)) (filter (λ k. ltb k
 
 -- a number past the texts was drawn
 abbrev pub IsThrough : List (List ℕ) → List ℕ → Type 0
-IsThrough texts drawn = (x : ℕ) × (length texts ≤ x) × (1 ≤ times x drawn)
+IsThrough texts drawn = (x : ℕ) × (length texts ≤ x) × (1 ≤ occurrences x drawn)
 
 -- the reports of all texts whose numbers were drawn, until there was none
 abbrev pub IsWorkOf : List (List ℕ) → List ℕ → List (ℕ × List ℕ) → Type 0
@@ -27,9 +35,17 @@ IsFresh c share s = IsSeatOf c s × (s.drawn ≡ []) × (s.left ≡ share)
 abbrev pub IsBack : Counter → ℕ → Drawer → Type 0
 IsBack c share s = IsSeatOf c s × (length s.drawn + s.left ≡ share)
 
+-- a seat with the draws of these many workers, each of whom may draw once more than there are texts
+abbrev pub MayWork : Counter → List (Vec ℕ Global) → ℕ → Drawer → Type 0
+MayWork c texts workers s = IsFresh c (workers * (length texts + 1)) s × (1 ≤ workers) × (length texts ≤ 65536)
+
+-- a seat that comes back from these many workers, with their reports
+abbrev pub IsDone : Counter → List (Vec ℕ Global) → ℕ → Drawer → List (ℕ × Vec ℕ Global) → Type 0
+IsDone c texts workers s reports = IsBack c (workers * (length texts + 1)) s × IsWorkOf (bytes_of texts) s.drawn (numbered reports)
+
 -- the number of each text stands there once, with its report, and no other number
 abbrev pub IsEachOnce : List (List ℕ) → List (ℕ × List ℕ) → Type 0
-IsEachOnce texts ps = (ks : List ℕ) × (ps ≡ reports_of texts ks) × ((k : ℕ) → k < length texts → times k (filter (λ j. ltb j (length texts)) ks) ≡ 1)
+IsEachOnce texts ps = (ks : List ℕ) × (ps ≡ reports_of texts ks) × ((k : ℕ) → k < length texts → occurrences k (filter (λ j. ltb j (length texts)) ks) ≡ 1)
 
 -- the reports put into their places
 abbrev pub placed : List (Option (List ℕ)) → List (ℕ × List ℕ) → List (Option (List ℕ))

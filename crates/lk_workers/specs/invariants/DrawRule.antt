@@ -1,16 +1,16 @@
 -- Invariants. The rule of the draw counter in counting form, and what its steps tell.
 use Rattle.std.specs.Prelude.{◌≡◌, ℕ, ◌+◌, ◌-◌, ◌^◌, ◌<◌, ◌≤◌, [], ◌∷◌, ◌++◌, length, slice_index, All}
 use Rattle.atomic_table.specs.Table.{State, Me, Step}
-use Rattle.lk_workers.specs.Counting.{total, times, once_below}
+use Rattle.lk_workers.specs.Counting.{sum_over, occurrences, once_below}
 use Rattle.lk_workers.specs.declared.draws.Hand.{Hand}
 use Rattle.lk_workers.specs.Drawing.{hand}
 
 -- each number is drawn as often as it is below the word, and what is drawn and what is left is all
 pub record Drawn (draws : ℕ) (s : State (Unit {0}) Hand) : Type 0 where
   pub one_word : length s.words ≡ 1
-  pub once : (x : ℕ) → total (λ v. times x v.drawn) s.views ≡ once_below x (slice_index s.words 0)
-  pub many : total (λ v. length v.drawn) s.views ≡ slice_index s.words 0
-  pub all : slice_index s.words 0 + total (λ v. v.left) s.views ≡ draws
+  pub once : (x : ℕ) → sum_over (λ v. occurrences x v.drawn) s.views ≡ once_below x (slice_index s.words 0)
+  pub many : sum_over (λ v. length v.drawn) s.views ≡ slice_index s.words 0
+  pub all : slice_index s.words 0 + sum_over (λ v. v.left) s.views ≡ draws
   pub few : draws ≤ 2 ^ 40
 
 -- the word found is appended. It is greater than each number of the list, and there are at least as many numbers below it

@@ -5,9 +5,10 @@ use lib.ListN.{get_elem?}
 use Rattle.atomic_table.specs.Table.{Me, Step}
 use Rattle.lk_workers.specs.declared.live.LivePhase.{LivePhase}
 use Rattle.lk_workers.specs.declared.live.LivePhase.TheVariants.{Idle, Waiting, Inside, Leaving}
+use Rattle.lk_workers.specs.declared.live.rule.Operation.{Operation}
 use Rattle.lk_workers.specs.declared.live.rule.SeatState.{SeatState}
 use Rattle.lk_workers.specs.Counting.{once_below}
-use Rattle.lk_workers.specs.Seats.{Table, next_of, serving_of, over, has, AreApart}
+use Rattle.lk_workers.specs.Seats.{Table, operation, noted, next_of, serving_of, sum_over_seats, ticket_indicator, AreApart}
 use Rattle.lk_workers.specs.SeatSteps.{LiveStep}
 
 abbrev pub Sees : Type 0
@@ -23,6 +24,11 @@ FitsPhase serving Leaving t taken = (t ≡ serving) × (1 ≤ taken)
 abbrev pub loads_of : List SeatState → ℕ
 loads_of [] = 0
 loads_of (r ∷ rs) = r.loads
+
+-- the operations of the first seat of a view
+abbrev pub made_of : List SeatState → List Operation
+made_of [] = []
+made_of (r ∷ rs) = r.made
 
 -- one seat by itself, where this ticket is served
 abbrev pub Fits : ℕ → SeatState → Type 0
@@ -40,10 +46,10 @@ ViewFits serving v = Each (Fits serving) v × (length v ≤ 2)
 pub record Running (takes : ℕ) (s : Table) : Type 0 where
   pub two_words : length s.words ≡ 2
   pub served : serving_of s ≤ next_of s
-  pub tickets : (x : ℕ) → over (has x) s.views + once_below x (serving_of s) ≡ once_below x (next_of s)
+  pub tickets : (x : ℕ) → sum_over_seats (ticket_indicator x) s.views + once_below x (serving_of s) ≡ once_below x (next_of s)
   pub seats : (id : ℕ) (v : List SeatState) → get_elem? s.views id ≡ some v → ViewFits (serving_of s) v
-  pub taken : over (λ r. r.taken) s.views ≡ next_of s
-  pub left : next_of s + over (λ r. r.left) s.views ≤ 2 ^ 40
+  pub taken : sum_over_seats (λ r. r.taken) s.views ≡ next_of s
+  pub left : next_of s + sum_over_seats (λ r. r.left) s.views ≤ 2 ^ 40
 
 abbrev pub TakeTells : SeatState → ℕ → Type 0
 TakeTells r found = (r.seen ≤ found) × (found < 2 ^ 40) × (r.taken < 2 ^ 40)
@@ -57,13 +63,14 @@ ReadTells r found = found ≡ r.ticket
 abbrev pub PassTells : SeatState → ℕ → Type 0
 PassTells r found = ⊤
 
-abbrev pub CountTells : SeatState → ℕ → Type 0
-CountTells r found = (r.left ≤ 2 ^ 40) × (r.taken ≤ 2 ^ 40)
-
--- a step of the only seat of a view
+-- a step of the only seat of a view, with a note of the word and the operand that the table's own step has
 abbrev pub OfOne : LiveStep → (SeatState → ℕ → Type 0) → Step (Unit {0}) → Sees → ℕ → Sees → Type 0
-OfOne live tells st v found w = (r : SeatState) → v.0 ≡ r ∷ [] → (w ≡ (live.next r found ∷ [], v.1)) × tells r found
+OfOne live tells st v found w = (r : SeatState) → v.0 ≡ r ∷ [] → (w ≡ (noted (operation st.word st.first) (live.next r found) ∷ [], v.1)) × tells r found
 
--- two seats side by side are apart
+-- nothing changes, and what one seat has is few
+abbrev pub Counts : Step (Unit {0}) → Sees → ℕ → Sees → Type 0
+Counts st v found w = (w ≡ v) × (st.word ≡ 0) × ((r : SeatState) → v.0 ≡ r ∷ [] → (r.left ≤ 2 ^ 40) × (r.taken ≤ 2 ^ 40))
+
+-- nothing changes, and two seats side by side are apart
 abbrev pub Compares : Step (Unit {0}) → Sees → ℕ → Sees → Type 0
-Compares st v found w = (w ≡ v) × ((r q : SeatState) → v.0 ≡ r ∷ q ∷ [] → AreApart r q)
+Compares st v found w = (w ≡ v) × (st.word ≡ 0) × ((r q : SeatState) → v.0 ≡ r ∷ q ∷ [] → AreApart r q)

@@ -10,6 +10,12 @@ use atomic_table::{Join, Play, Shared, Split, TableRule};
 use std::collections::LinkedList;
 use std::marker::PhantomData;
 
+/// An atomic operation: its word, and what it adds or stores there. No value of it is made.
+pub struct Operation {
+    pub word: u64,
+    pub operand: u64,
+}
+
 /// What is known of one seat. No value of it is made.
 pub struct SeatState {
     pub phase: LivePhase,
@@ -18,6 +24,7 @@ pub struct SeatState {
     pub taken: u64,
     pub seen: u64,
     pub loads: u64,
+    pub made: LinkedList<Operation>,
 }
 
 pub type View = LinkedList<SeatState>;
@@ -35,7 +42,7 @@ impl TableRule<(), View, u64> for TicketRule {
 
     ghost holds = { Running };
 
-    ghost first = { λ takes. seat_state Idle 0 takes 0 0 0 ∷ [] };
+    ghost first = { λ takes. seat_state Idle 0 takes 0 0 0 [] ∷ [] };
 }
 
 pub struct Take;
@@ -78,10 +85,9 @@ impl Play<(), View> for Pass {
 pub struct Count;
 
 impl Play<(), View> for Count {
-    ghost use Rattle.lk_workers.specs.SeatSteps.{count_step};
-    ghost use Rattle.lk_workers.specs.invariants.Running.{OfOne, CountTells};
+    ghost use Rattle.lk_workers.specs.invariants.Running.{Counts};
 
-    ghost then = { OfOne count_step CountTells };
+    ghost then = { Counts };
 }
 
 // Two seats side by side are apart, which the rule alone knows.

@@ -1,13 +1,9 @@
-//! Batches: worked reports, and gates that only workers side by side pass.
+//! Batches: worked reports, and a begin and an end of each text.
 
 use crate::{Gate, OpenGate, batch_text, replay_many};
 use std::alloc::{AllocError, Global};
-use std::sync::atomic::{AtomicBool, AtomicU32, Ordering};
+use std::sync::atomic::{AtomicU32, Ordering};
 use std::test::Fail;
-use std::thread;
-
-// How often a gate turns before it notes that nobody came.
-const TURNS: u64 = 100_000_000;
 
 const NO_MOVES: &str = "lock ticket threads 1\n";
 
@@ -51,7 +47,8 @@ pub fn texts_of(alloc: Global, texts: &[&str]) -> Result<Vec<Vec<u8>>, AllocErro
     Ok(all)
 }
 
-fn many_texts(alloc: Global, count: usize) -> Result<Vec<Vec<u8>>, AllocError> {
+/// So many texts of three moves.
+pub fn many_texts(alloc: Global, count: usize) -> Result<Vec<Vec<u8>>, AllocError> {
     let mut all = Vec::new(alloc);
     for _ in 0..count {
         all.push(Vec::from_slice(alloc, ONE_ENTERS.as_bytes())?)?;
@@ -119,67 +116,6 @@ impl Gate for Counts {
     }
 }
 
-// The first `begin` waits until this many were called.
-#[derive(Drop)]
-struct Gathering {
-    wanted: u32,
-    begun: AtomicU32,
-    failed: AtomicBool,
-}
-
-impl Gathering {
-    fn of(wanted: u32) -> Gathering {
-        Gathering {
-            wanted,
-            begun: AtomicU32::new(0),
-            failed: AtomicBool::new(false),
-        }
-    }
-}
-
-impl Gate for Gathering {
-    fn begin(&self, _number: u32) {
-        if self.begun.fetch_add(1, Ordering::SeqCst) > 0 {
-            return;
-        }
-        for _ in 0..TURNS {
-            if self.begun.load(Ordering::SeqCst) == self.wanted {
-                return;
-            }
-            thread::yield_now();
-        }
-        self.failed.store(true, Ordering::SeqCst);
-    }
-
-    fn end(&self, _number: u32) {}
-}
-
-// The first two texts wait for each other's begin.
-#[derive(Drop)]
-struct Meeting {
-    began: [AtomicBool; 2],
-    failed: AtomicBool,
-}
-
-impl Gate for Meeting {
-    fn begin(&self, number: u32) {
-        if number >= 2 {
-            return;
-        }
-        let mine = number as usize;
-        self.began[mine].store(true, Ordering::SeqCst);
-        for _ in 0..TURNS {
-            if self.began[1 - mine].load(Ordering::SeqCst) {
-                return;
-            }
-            thread::yield_now();
-        }
-        self.failed.store(true, Ordering::SeqCst);
-    }
-
-    fn end(&self, _number: u32) {}
-}
-
 #[test]
 fn five_schedules(rt: HostRuntime) -> Result<(), Fail> {
     let texts = texts_of(rt.alloc(), &FIVE)?;
@@ -201,32 +137,6 @@ fn no_schedules(rt: HostRuntime) -> Result<(), Fail> {
     let reports = replay_many(&rt, rt.alloc(), &[], 8, &OpenGate)?;
     assert!(rt; reports.is_empty());
     assert!(rt; batch_text(rt.alloc(), &reports)?.is_empty());
-    Ok(())
-}
-
-#[test]
-fn two_texts_wait_for_each_other(rt: HostRuntime) -> Result<(), Fail> {
-    let texts = texts_of(rt.alloc(), &[NO_MOVES, ONE_ENTERS])?;
-    assert!(rt; texts.len() == 2);
-    let gate = Meeting {
-        began: [AtomicBool::new(false), AtomicBool::new(false)],
-        failed: AtomicBool::new(false),
-    };
-    let reports = replay_many(&rt, rt.alloc(), &texts, 2, &gate)?;
-    assert_eq!(rt; reports.len(), 2);
-    assert!(rt; !gate.failed.load(Ordering::SeqCst));
-    Ok(())
-}
-
-// So the texts are drawn, and not cut into parts beforehand.
-#[test]
-fn the_first_waits_for_three_others(rt: HostRuntime) -> Result<(), Fail> {
-    let texts = many_texts(rt.alloc(), 4)?;
-    assert!(rt; texts.len() == 4);
-    let gate = Gathering::of(4);
-    let reports = replay_many(&rt, rt.alloc(), &texts, 2, &gate)?;
-    assert_eq!(rt; reports.len(), 4);
-    assert!(rt; !gate.failed.load(Ordering::SeqCst));
     Ok(())
 }
 

@@ -1,8 +1,11 @@
 //! Each request for memory refused in turn.
 
 use super::batches::{Counts, FIVE, REPORTS, texts_of};
-use super::refusing::{MOST_REQUESTS, met_none, refuse, was_refused};
-use crate::{Draws, LiveTicket, OpenGate, batch_text, replay_many};
+use super::refusing::{MOST_REQUESTS, is_refusing, met_none, refuse, was_refused};
+use crate::{Draws, Gate, LiveTicket, OpenGate, batch_text, replay_many};
+use std::alloc::Global;
+use std::process::Abort;
+use std::sync::atomic::{AtomicBool, AtomicU32, Ordering};
 use std::test::Fail;
 
 #[test]
@@ -65,6 +68,48 @@ fn each_request_refused_in_a_batch(rt: HostRuntime) -> Result<(), Fail> {
         }
     }
     panic!(rt; "a request was refused each time")
+}
+
+// Has the first request behind `begin` refused, and notes at `end` whether there was one.
+#[derive(Drop)]
+struct Refusing {
+    alloc: Global,
+    refused: AtomicBool,
+    ended: AtomicU32,
+}
+
+impl Gate for Refusing {
+    fn begin(&self, _number: u32) {
+        refuse(self.alloc, 1);
+    }
+
+    fn end(&self, _number: u32) {
+        self.refused
+            .store(was_refused(self.alloc), Ordering::SeqCst);
+        self.ended.fetch_add(1, Ordering::SeqCst);
+    }
+}
+
+// One worker, so that no thread starts: a report is made behind `begin` and before `end`, and a refused one has its `end`.
+#[test]
+fn a_request_between_begin_and_end_is_refused(rt: HostRuntime) -> Result<(), Fail> {
+    let alloc = rt.alloc();
+    let texts = texts_of(alloc, &FIVE)?;
+    assert!(rt; texts.len() == 5);
+    let gate = Refusing {
+        alloc,
+        refused: AtomicBool::new(false),
+        ended: AtomicU32::new(0),
+    };
+    let answer = replay_many(&rt, alloc, &texts, 1, &gate);
+    let refuses = is_refusing(alloc);
+    assert_eq!(rt; gate.refused.load(Ordering::SeqCst), refuses);
+    assert_eq!(rt; answer.is_err(), refuses);
+    assert_eq!(rt;
+        gate.ended.load(Ordering::SeqCst),
+        if refuses { 1 } else { 5 }
+    );
+    Ok(())
 }
 
 #[test]
