@@ -17,8 +17,9 @@ import tempfile
 from concurrent.futures import ThreadPoolExecutor
 from pathlib import Path
 
-from recording_builds import (EXAMPLES, SANITIZERS, all_builds, build, compilers,
-                              install_what_is_missing, is_nothing_left, ran)
+from recording_builds import (EXAMPLES, ROOT, SANITIZERS, WARNINGS, all_builds, build,
+                              build_of_the_guide, compilers, install_what_is_missing,
+                              is_nothing_left, language, ran)
 from recording_mistakes import MISTAKES, moves_of
 
 SEEDS = range(1, 51)
@@ -39,7 +40,8 @@ class Runs:
         target = self.folder / f"run-{name}-{seed}"
         target.mkdir()
         done = ran(self.folder / name, *counts, seed, target, seconds)
-        return target, "" if done.returncode == 0 else f"status {done.returncode} {done.stderr[:200]}"
+        fault = f"status {done.returncode} {done.stderr[:200]}"
+        return target, "" if done.returncode == 0 else fault
 
     def order(self, target):
         ordered = target / "ordered"
@@ -55,7 +57,7 @@ class Runs:
     def refused_line(self, trace):
         """The line at which `check` refuses a trace, or None."""
         done = ran(self.locktrace, "check", trace)
-        at = re.search(r":(\d+): refused", done.stdout + done.stderr)
+        at = re.search(r"\.trace:(\d+): ", done.stdout + done.stderr)
         return int(at.group(1)) if at and done.returncode == 1 else None
 
     def waits(self, schedule):
@@ -169,12 +171,12 @@ def object_code(cases, folder):
     for compiler in [name for name in compilers() if "++" not in name]:
         for level in ["-O0", "-O2"]:
             for example in EXAMPLES:
-                left = not is_nothing_left(compiler, example, level, folder)
-                cases.one(f"{compiler} {level} {example}", "LR_OFF leaves something" if left else "")
+                nothing = is_nothing_left(compiler, example, level, folder)
+                cases.one(f"{compiler} {level} {example}", "" if nothing else "LR_OFF leaves code")
 
 
 def sanitizers(cases, runs):
-    """Right locks, and one of each kind that hangs, under each sanitizer, in C and in C++."""
+    """The right locks under each sanitizer, in C and in C++."""
     def fault(one):
         compiler, example, mode, sanitizer = one
         name = f"{compiler}-{example}-{mode}-{sanitizer}"
@@ -185,6 +187,31 @@ def sanitizers(cases, runs):
         if compiler in ["gcc", "g++"] and mode != "OFF" for sanitizer in SANITIZERS])
 
 
+def header(cases, folder):
+    """What the header writes, by a program that knows every line, in C and in C++."""
+    for compiler in compilers():
+        said = ran(compiler, *language(compiler), *WARNINGS, "-g", "-pthread",
+                   "-fsanitize=address,undefined", "-o", folder / "header",
+                   ROOT / "tests" / "recording_header.c").stderr
+        done = ran(folder / "header", folder)
+        cases.one(f"{compiler} header", said + done.stdout + done.stderr)
+
+
+def guide(cases, runs):
+    """The way of docs/GUIDE.md: its lock by seeds and by threads, and with its mistake."""
+    folder = runs.folder / "guide"
+    (folder / "logs").mkdir(parents=True)
+    trace = folder / "logs" / "run.trace"
+    cases.one("guide, by seed", build_of_the_guide("SEED", folder, False) or
+              ran("./try", 17, folder=folder).stderr or runs.unchecked([trace]))
+    cases.one("guide, by threads", build_of_the_guide("VALUES", folder, False) or
+              ran("./try", folder=folder).stderr or fault_of_order(runs, folder / "logs"))
+    fault = build_of_the_guide("SEED", folder, True) or ran("./try", 17, folder=folder).stderr
+    shown = f"{trace.relative_to(folder)}:{runs.refused_line(trace)}: "
+    in_guide = shown in (ROOT / "docs" / "GUIDE.md").read_text()
+    cases.one("guide, wrong", fault or ("" if in_guide else f"the guide has not {shown}"))
+
+
 def main(locktrace, lockreplay):
     install_what_is_missing()
     cases = Cases()
@@ -192,9 +219,12 @@ def main(locktrace, lockreplay):
         runs = Runs(Path(locktrace).resolve(), Path(lockreplay).resolve(), Path(name))
         build_all(cases, runs.folder)
         object_code(cases, runs.folder)
+        header(cases, runs.folder)
+        guide(cases, runs)
         sanitizers(cases, runs)
         for example in EXAMPLES:
-            cases.many(f"{example} seed", lambda seed: fault_of_right_seed(runs, example, seed), SEEDS)
+            cases.many(f"{example} seed",
+                       lambda seed: fault_of_right_seed(runs, example, seed), SEEDS)
             cases.one(f"{example} seed again", fault_of_seed_again(runs, example))
             for number in REAL_RUNS:
                 cases.one(f"{example} real", fault_of_real(runs, example, number))

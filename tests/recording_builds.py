@@ -13,8 +13,9 @@ WARNINGS = ["-Wall", "-Wextra", "-Wpedantic", "-Werror"]
 SANITIZERS = ["address,undefined", "thread"]
 
 
-def ran(*words, text=None):
-    return subprocess.run([str(word) for word in words], input=text, capture_output=True, text=True)
+def ran(*words, text=None, folder=None):
+    return subprocess.run([str(word) for word in words], input=text, cwd=folder,
+                          capture_output=True, text=True)
 
 
 def install_what_is_missing():
@@ -36,6 +37,17 @@ def build(compiler, example, mode, target, *more):
     done = ran(compiler, *language(compiler), *WARNINGS, "-O2", "-pthread", f"-DLR_{mode}", *more,
                "-o", target, SOURCES / f"{example}.c")
     return done.stderr + ("" if done.returncode == 0 else f"status {done.returncode}")
+
+
+def build_of_the_guide(mode, folder, wrong):
+    """Builds the guide's lock, or that with the mistake which the guide plants, as `folder/try`."""
+    guide = (ROOT / "docs" / "GUIDE.md").read_text()
+    text = re.search(r"```c\n(.*?)```", guide, re.DOTALL).group(1)
+    if wrong:
+        text = text.replace("served != ticket", "served < ticket")
+    (folder / "try.c").write_text(text)
+    return ran("gcc", "-O2", *WARNINGS, "-pthread", f"-DLR_{mode}", "-I", ROOT, "try.c", "-o", "try",
+               folder=folder).stderr
 
 
 def compilers():

@@ -59,6 +59,7 @@ static void every_note(void)
     LR_READ(log, now_serving, UINT64_MAX);
     LR_READ_OF(log, locked, 2, 1);
     LR_WRITE_OF(log, next, 63, 1);
+    LR_WRITE_OF(log, next, -1, 1);
     LR_SWITCH(log);
     lr_end(log);
     check_log("every note", run,
@@ -66,7 +67,7 @@ static void every_note(void)
               "acquire\nwrite next left 0\nswap tail found 0\nrelease\nread next found 3\n"
               "cas tail done\ncas tail failed\nadd next_ticket found 65535\n"
               "read now_serving found 18446744073709551615\nread locked of 2 found 1\n"
-              "write next of 63 left 1\ndropped 0\n");
+              "write next of 63 left 1\nwrite next of 255 left 1\ndropped 0\n");
 }
 
 static void every_section(void)
@@ -139,6 +140,8 @@ static void what_cannot_be_opened_or_saved(void)
     check("65 threads", !lr_open("mcs", 65, 64, 1, 0));
     check("1 bit", !lr_open("mcs", 1, 1, 1, 0));
     check("65 bits", !lr_open("mcs", 1, 65, 1, 0));
+    check("as many threads as values", !lr_open("mcs", 4, 2, 1, 0));
+    check("no such lock", !lr_open("clh", 1, 64, 1, 0));
     check("more moves than bytes", !lr_open("mcs", 1, 64, SIZE_MAX, 0));
     lr_run *run = one_thread("mcs", 64, 0);
     lr_end(lr_log_of(run, 0));

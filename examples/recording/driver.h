@@ -15,7 +15,8 @@
 
 #include "../../record/lockreplay_record.h"
 
-enum { ROOM = 1 << 20, MOST_THREADS = 64 };
+/* A log has room for so many moves a round. */
+enum { MOST_MOVES = 128, MOST_THREADS = 64 };
 
 static void open_lock(void);
 static void one_round(unsigned thread, unsigned round LR_ONLY(, lr_log *log));
@@ -62,10 +63,12 @@ int main(int count, char **words)
         fprintf(stderr, "usage: %s THREADS ROUNDS SEED DIRECTORY [SECONDS]\n", words[0]);
         return 2;
     }
+    unsigned rounds = (unsigned)atoi(words[2]);
     open_lock();
-    LR_ONLY(lr_run *run = lr_open(LOCK, threads, BITS, ROOM, strtoul(words[3], NULL, 10));)
+    LR_ONLY(size_t room = (size_t)rounds * MOST_MOVES;)
+    LR_ONLY(lr_run *run = lr_open(LOCK, threads, BITS, room, strtoul(words[3], NULL, 10));)
     LR_ONLY(if (!run) return 3;)
-    if (!start(works, threads, (unsigned)atoi(words[2]) LR_ONLY(, run))) return 3;
+    if (!start(works, threads, rounds LR_ONLY(, run))) return 3;
     LR_ONLY(unsigned missing = lr_await(run, count > 5 ? (unsigned)atoi(words[5]) : 60);)
     LR_ONLY(if (lr_save(run, words[4])) return 3;)
     LR_ONLY(if (missing) _Exit(1);)
