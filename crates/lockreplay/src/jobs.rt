@@ -8,10 +8,10 @@ ghost use Rattle.lockreplay.specs.Jobs.{EndsJob, IsFitJob};
 #[cfg(test)]
 mod tests;
 
+use crate::command_line::Job;
 use crate::faults::ProgramFault;
 use crate::sending::send_reports;
 use crate::status::batch_status;
-use crate::command_line::Job;
 use lk_replay::{RunFault, read_text, run, status_of};
 use lk_workers::{OpenGate, replay_many};
 use std::alloc::Global;

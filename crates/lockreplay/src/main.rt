@@ -10,21 +10,21 @@ ghost use Rattle.std.specs.Io.KnownBytes.{Appends};
 ghost use Rattle.lk_replay.specs.Devices.{AppendsFront};
 ghost use Rattle.lockreplay.specs.Jobs.{FitsJob};
 
+mod command_line;
 mod faults;
 mod jobs;
 #[cfg(test)]
 mod refusing;
 mod sending;
 mod status;
-mod command_line;
 
+use command_line::{Job, ParseFault, parse_words};
 use faults::ProgramFault;
 use jobs::perform;
 use lk_replay::send;
 use std::env;
 use std::io::{ErrorKind, Write};
 use std::process::ExitCode;
-use command_line::{Job, ParseFault, parse_words};
 
 /// The status of a command line that asks for nothing that the program does.
 const USAGE_STATUS: u8 = 2;

@@ -2,8 +2,8 @@
 ghost use Rattle.lockreplay.specs.Jobs.{FitsJob};
 
 use super::perform;
-use crate::faults::ProgramFault;
 use crate::command_line::{Job, ParseFault, parse_words};
+use crate::faults::ProgramFault;
 use std::alloc::Global;
 use std::io;
 use std::io::{ErrorKind, Read, Write};
