@@ -14,6 +14,7 @@ for those before it. `rt ci` tries every wrong body from nothing, and is the jud
 `N passed, M failed` last, and ends with 1 where one failed.
 """
 import pathlib
+import re
 import shutil
 import subprocess
 import sys
@@ -89,7 +90,9 @@ def check(edit, folder):
     lines = ran.stdout.splitlines()
     if "logic=proved" not in lines[-1] and "logic=not-proved" not in ran.stdout:
         raise BadEdit(f"it did not reach the prover: {' '.join(lines[-3:])[:300]}")
-    return ran.returncode == 0, next((line for line in lines if ": error" in line), "")
+    said = [line for line in lines if re.match(r"(note: )?\S+:\d+:\d+:", line)]
+    errors = [line for line in said if ": error" in line]
+    return ran.returncode == 0, "" if ran.returncode == 0 else (errors + said + [""])[0]
 
 
 def try_edit(edit, folder):

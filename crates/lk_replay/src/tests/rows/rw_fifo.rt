@@ -6,8 +6,8 @@ pub const ROWS: [(&str, &str); 29] = [
     (
         "\
 # FIFO read-write lock on words of 2 bits: the counts of readers wrap.
-# Both counts are 3 before move 13. With the reader of move 14 they are 0 and 3: the writer compares
-# them for equality alone (16) and enters when they are 0 and 0 (19).
+# Both counts are 3 before move 13. With the reader of move 14 they are 0 and 3: the writer
+# compares them for equality alone (16) and enters when they are 0 and 0 (19).
 lock rw-fifo threads 3 bits 2
 0 rlock
 0 section
@@ -121,8 +121,8 @@ end 15
     (
         "\
 # FIFO read-write lock: one writer at a time is announced.
-# Thread 1 is announced (move 4). Thread 2 wants to write too and waits without being announced (6),
-# also while thread 1 writes (9). Its turn comes with a clear flag (12).
+# Thread 1 is announced (move 4). Thread 2 wants to write too and waits without being announced
+# (6), also while thread 1 writes (9). Its turn comes with a clear flag (12).
 lock rw-fifo threads 3
 0 rlock
 0 section
@@ -158,8 +158,8 @@ end 13
     (
         "\
 # FIFO read-write lock: a writer waits behind a thread that downgrades.
-# At move 7 the flag is clear but there is a reader, the former writer. So thread 1 is announced, and
-# enters once that reader has left (10).
+# At move 7 the flag is clear but there is a reader, the former writer. So thread 1 is announced,
+# and enters once that reader has left (10).
 lock rw-fifo threads 2
 0 wlock
 0 section
@@ -188,7 +188,8 @@ end 10
     ),
     (
         "\
-# FIFO read-write lock: a writer that finds nobody announces itself and enters in one section (move 2).
+# FIFO read-write lock: a writer that finds nobody announces itself and enters in one section
+# (move 2).
 # A second writer waits before it may announce itself: `queue` stays empty (4).
 lock rw-fifo threads 2
 0 wlock

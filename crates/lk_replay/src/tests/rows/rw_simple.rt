@@ -45,8 +45,8 @@ end 7
     (
         "\
 # Simple read-write lock: a reader passes a waiting writer.
-# Thread 1 waits to write (move 4) and leaves no trace: `queue` stays empty. Thread 2 calls later and
-# reads at once (6). Where readers keep coming, the writer waits for ever.
+# Thread 1 waits to write (move 4) and leaves no trace: `queue` stays empty. Thread 2 calls later
+# and reads at once (6). Where readers keep coming, the writer waits for ever.
 lock rw-simple threads 3
 0 rlock
 0 section
@@ -92,8 +92,8 @@ end 7
     (
         "\
 # Simple read-write lock: a writer enters once every reader has left.
-# Two readers are inside together (move 4). The writer looks at 6 and at 10, when one of them is still
-# inside. A reader is inside up to its own section, not only up to its call (9 to 11).
+# Two readers are inside together (move 4). The writer looks at 6 and at 10, when one of them is
+# still inside. A reader is inside up to its own section, not only up to its call (9 to 11).
 lock rw-simple threads 3
 0 rlock
 0 section

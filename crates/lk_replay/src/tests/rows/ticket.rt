@@ -5,7 +5,7 @@
 pub const ROWS: [(&str, &str); 44] = [
     (
         "\
-# BadLine: a line that is no move makes the report this one line, though the moves before it are fine.
+# BadLine: a line that is no move makes the report this one line, whatever stands before it.
 lock ticket threads 1
 0 acquire
 0 add
@@ -26,7 +26,7 @@ lock ticket threads 4 bits 2
     ),
     (
         "\
-# Busy: the thread is in the middle of a call already. The moves before the refused one are reported.
+# Busy: the thread is in the middle of a call already. The moves before this one are reported.
 lock ticket threads 1
 0 acquire
 0 acquire
