@@ -1,4 +1,4 @@
-"""Builds the examples of examples/recording, and looks at what the header leaves in the object code."""
+"""Builds the examples of examples/recording, and sees what the header leaves in the object code."""
 import re
 import shutil
 import subprocess
@@ -46,8 +46,8 @@ def build_of_the_guide(mode, folder, wrong):
     if wrong:
         text = text.replace("served != ticket", "served < ticket")
     (folder / "try.c").write_text(text)
-    return ran("gcc", "-O2", *WARNINGS, "-pthread", f"-DLR_{mode}", "-I", ROOT, "try.c", "-o", "try",
-               folder=folder).stderr
+    return ran("gcc", "-O2", *WARNINGS, "-pthread", f"-DLR_{mode}", "-I", ROOT, "-o", "try",
+               "try.c", folder=folder).stderr
 
 
 def compilers():

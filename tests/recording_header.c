@@ -1,4 +1,4 @@
-/* What the recording header writes, note by note: one thread, so that every line is known. C11, C++17.
+/* What the recording header writes, note by note, by one thread: every line is known. C11, C++17.
 
        recording_header DIRECTORY
 
@@ -123,7 +123,8 @@ static void a_full_log_counts_what_it_drops(void)
     LR_READ(log, now_serving, 0);
     lr_end(log);
     check_log("a full log", run,
-              "lock ticket threads 1 bits 64 thread 0\nacquire\nadd next_ticket found 0\ndropped 2\n");
+              "lock ticket threads 1 bits 64 thread 0\n"
+              "acquire\nadd next_ticket found 0\ndropped 2\n");
 }
 
 static void a_log_that_has_not_ended_says_so(void)

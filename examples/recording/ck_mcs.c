@@ -1,12 +1,12 @@
 /* Concurrency Kit's MCS lock (ck_spinlock_mcs of Debian's libck-dev), as its header has it.
 
-   Where something is recorded, the operations that the header calls are taken over by macros: they do
-   the same, and note it. In three places its steps are not the machine's:
-     own fields     `locked` and `next` are set by plain stores before the swap. That `next` is nil is
-                    noted at the fence behind them; that `locked` is set behind the swap, where there
-                    is a predecessor, since nobody looks at it before the link
-     a load of the  before the compare-and-swap. Where it finds another record there will be none:
-     tail           it is noted as the compare-and-swap that failed. Else it is not noted */
+   Where something is recorded, the operations that the header calls are taken over by macros: they
+   do the same, and note it. In three places its steps are not the machine's:
+     `next`     is set by a plain store: noted at the fence behind it
+     `locked`   is set before the swap: noted behind it, where there is a predecessor. Nobody looks
+                at it before the link
+     the tail   is loaded before the compare-and-swap. Where that finds another record, there is no
+                compare-and-swap: the load is noted as one that failed. Else it is not noted */
 #define LOCK "mcs"
 enum { BITS = 64 };
 

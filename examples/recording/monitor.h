@@ -1,5 +1,5 @@
-/* The monitor of the read-write examples, a POSIX mutex and a condition, with a count of its sections
-   where they are noted. */
+/* The monitor of the read-write examples, a POSIX mutex and a condition. Where its sections are
+   noted, it counts them. */
 
 typedef struct {
     pthread_mutex_t mutex;
