@@ -169,11 +169,11 @@ def build_all(cases, folder):
 
 
 def object_code(cases, folder):
-    for compiler in [name for name in compilers() if "++" not in name]:
-        for level in ["-O0", "-O2"]:
-            for example in EXAMPLES:
-                nothing = is_nothing_left(compiler, example, level, folder)
-                cases.one(f"{compiler} {level} {example}", "" if nothing else "LR_OFF leaves code")
+    def fault(one):
+        return "" if is_nothing_left(*one, folder / "-".join(one)) else "LR_OFF leaves code"
+    cases.many("object code", fault, [
+        (compiler, example, level) for compiler in compilers() if "++" not in compiler
+        for example in EXAMPLES for level in ["-O0", "-O2"]])
 
 
 def sanitizers(cases, runs):

@@ -94,7 +94,9 @@ def object_code(compiler, source, target, *more):
 
 
 def is_nothing_left(compiler, example, level, folder):
-    """Whether LR_OFF gives the object code of the same source without notes and header."""
+    """Whether LR_OFF gives the object code of the same source without notes and header.
+
+    The folder is one of its own."""
     bare = folder / "bare" / "examples" / "recording"
     bare.mkdir(parents=True, exist_ok=True)
     for source in SOURCES.glob("*.[ch]"):
