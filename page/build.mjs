@@ -1,0 +1,62 @@
+#!/usr/bin/env node
+// Builds page/lockreplay.html, one file, from page/src, docs/LOCKS.md, examples/ and the proved module:
+//
+//     node page/build.mjs MODULE.wasm            writes the page
+//     node page/build.mjs MODULE.wasm --check    fails where the page is not what this would write
+//
+// It needs Node alone and fetches nothing. The same sources and module give the same bytes anywhere.
+
+import { createHash } from 'node:crypto';
+import { readFileSync, readdirSync, writeFileSync } from 'node:fs';
+import { dirname, join } from 'node:path';
+import { fileURLToPath } from 'node:url';
+import { setFlagsFromString } from 'node:v8';
+import { bundle } from './build/bundle.mjs';
+import { lessonsOf, storedOf } from './build/lessons.mjs';
+import { codeOf } from './src/locks_code.js';
+
+const HERE = dirname(fileURLToPath(import.meta.url));
+const PAGE = join(HERE, 'lockreplay.html');
+const SOURCES = join(HERE, 'src');
+
+const read = (...path) => readFileSync(join(HERE, ...path), 'utf8');
+
+// `<` never stands in the data, so that no text of a lesson can end the script.
+const asScript = (data) => JSON.stringify(data).replaceAll('<', '\\u003c');
+
+const style = () => readdirSync(join(SOURCES, 'style')).sort()
+  .map((name) => read('src', 'style', name)).join('').trimEnd();
+
+// A script runs only where its bytes are these.
+function policy(script) {
+  const hash = createHash('sha256').update(script).digest('base64');
+  return `default-src 'none'; script-src 'sha256-${hash}' 'wasm-unsafe-eval'; `
+    + "style-src 'unsafe-inline'; base-uri 'none'; form-action 'none'";
+}
+
+function build(module) {
+  const lessons = lessonsOf(join(HERE, '..', 'examples'));
+  const code = codeOf(read('..', 'docs', 'LOCKS.md'));
+  const data = {
+    module: module.toString('base64'), code, lessons, stored: storedOf(module, lessons),
+  };
+  const script = `${bundle(SOURCES, 'main.js')}\nstart(${asScript(data)});`;
+  // Functions, so that no `$` of a source is taken for a sign of the replacement.
+  return read('src', 'index.html').replace('{{STYLE}}', style)
+    .replace('{{POLICY}}', () => policy(`\n${script}\n`)).replace('{{SCRIPT}}', () => script);
+}
+
+const [modulePath, option] = process.argv.slice(2);
+if (!modulePath || (option && option !== '--check')) {
+  console.error('usage: node page/build.mjs MODULE.wasm [--check]');
+  process.exit(2);
+}
+// Node needs to be asked for 64-bit memory up to version 23; later ones have it.
+if (Number(process.versions.node.split('.')[0]) < 24) setFlagsFromString('--experimental-wasm-memory64');
+const built = build(readFileSync(modulePath));
+if (!option) {
+  writeFileSync(PAGE, built);
+} else if (readFileSync(PAGE, 'utf8') !== built) {
+  console.error('page/lockreplay.html is not what its sources build to: run `make page`');
+  process.exit(1);
+}

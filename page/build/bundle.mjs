@@ -1,0 +1,33 @@
+// Puts ES modules into one script: each becomes a function's result, those that it needs before it. It
+// knows the two forms that page/src uses: `import { a, b } from './x.js';` and `export` before a
+// declaration.
+
+import { readFileSync } from 'node:fs';
+import { join } from 'node:path';
+
+const IMPORT = /^import \{([^}]+)\} from '\.\/([\w]+\.js)';\n/gm;
+const EXPORT = /^export (async function|function|class|const) (\w+)/gm;
+
+const variable = (file) => `m_${file.replace('.js', '')}`;
+
+function wrapped(file, source) {
+  const names = [...source.matchAll(EXPORT)].map(([, , name]) => name);
+  const body = source
+    .replace(IMPORT, (_, list, from) => `const {${list.trimEnd().replace(/,$/, '')} } = ${variable(from)};\n`)
+    .replace(EXPORT, '$1 $2');
+  if (/^(import|export) /m.test(body)) throw new Error(`${file}: an import or export of another form`);
+  return `const ${variable(file)} = (() => {\n${body}return { ${names.join(', ')} };\n})();\n`;
+}
+
+export function bundle(folder, first) {
+  const done = new Map();
+  const add = (file, above) => {
+    if (above.includes(file)) throw new Error(`modules in a circle: ${[...above, file].join(' ')}`);
+    if (done.has(file)) return;
+    const source = readFileSync(join(folder, file), 'utf8');
+    for (const [, , needed] of source.matchAll(IMPORT)) add(needed, [...above, file]);
+    done.set(file, wrapped(file, source));
+  };
+  add(first, []);
+  return `'use strict';\n${[...done.values()].join('')}const { start } = ${variable(first)};`;
+}

@@ -1,0 +1,34 @@
+// The lessons of examples/, and what the machine answers on them.
+
+import { readFileSync, readdirSync } from 'node:fs';
+import { join } from 'node:path';
+import { LOCKS } from '../src/codes.js';
+import { Machine } from '../src/machine.js';
+import { remarksOf } from '../src/remarks.js';
+import { Run } from '../src/run.js';
+import { Recorder } from '../src/stored.js';
+
+const GROUPS = [...LOCKS, 'refused', 'fault'];
+const KINDS = { ticket: 'ticket', mcs: 'mcs', simple: 'rw-simple', fifo: 'rw-fifo', refused: 'refused', fault: 'fault' };
+
+// In the order of the groups, and by name in each.
+export function lessonsOf(folder) {
+  const lessons = readdirSync(folder).filter((file) => file.endsWith('.schedule')).sort().map((file) => {
+    const text = readFileSync(join(folder, file));
+    const name = file.replace('.schedule', '');
+    const group = KINDS[name.split('-')[0]];
+    if (!group) throw new Error(`${file}: its name begins with none of ${Object.keys(KINDS).join(', ')}`);
+    return { name, group, title: remarksOf(text).title || name, text: text.toString('base64') };
+  });
+  return lessons.sort((one, other) => GROUPS.indexOf(one.group) - GROUPS.indexOf(other.group));
+}
+
+// Each lesson played from its first move to its end, every answer kept.
+export function storedOf(module, lessons) {
+  const recorder = new Recorder(new Machine(module));
+  for (const { text } of lessons) {
+    const run = new Run(recorder, new Uint8Array(Buffer.from(text, 'base64')));
+    for (let move = 0; run.hasLock && move <= run.count; move += 1) run.state(move);
+  }
+  return recorder.kept();
+}

@@ -1,0 +1,53 @@
+// The write that ended a wait, and the step that found it. A thread waits in the phases whose line of
+// code says `await`: from the move on that put it there where it is in line, else from its first look in
+// vain. The step that goes on had waited for the last change of a word that it looks at.
+
+import { IN_LINE, NO_WORD, OUTCOME } from './codes.js';
+import { placeAfter } from './run.js';
+
+// The words whose last change ended a wait in this phase. A section's are in its line of code; a step of
+// one operation looks at the word that its record names.
+function watchedWords(lines, wordNames, phase, touched) {
+  const line = lines.get(phase);
+  return line.words.length ? line.words.map((name) => wordNames.indexOf(name)) : [touched];
+}
+
+function noteChanges(records, move, changedAt) {
+  if (records.touched(move) !== NO_WORD && records.left(move) !== records.found(move)) {
+    changedAt.set(records.touched(move), move);
+  }
+  if (records.alsoChanged(move) !== NO_WORD) changedAt.set(records.alsoChanged(move), move);
+}
+
+// Since which move its thread waits, after this move; 0 where it does not.
+function waitingSince(records, move, since, awaited) {
+  if (!awaited.has(records.phase(move))) return 0;
+  if (records.outcome(move) === OUTCOME.waits) return since || move;
+  return records.standing(move) & IN_LINE ? move : 0;
+}
+
+// Arrows {from, to} in the order of `to`. `awaited` has the waiting lines of the lock's code by phase.
+export function arrowsOf(run, awaited, wordNames) {
+  const { records } = run;
+  const arrows = [];
+  const changedAt = new Map();
+  const since = new Array(256).fill(0);
+  const phase = new Array(256).fill(0);
+  for (let move = 1; move <= records.count; move += 1) {
+    const thread = records.thread(move);
+    if (since[thread] && records.outcome(move) !== OUTCOME.waits) {
+      const words = watchedWords(awaited, wordNames, phase[thread], records.touched(move));
+      const from = Math.max(...words.map((word) => changedAt.get(word) ?? 0));
+      if (from > since[thread] && records.thread(from) !== thread) arrows.push({ from, to: move });
+    }
+    since[thread] = waitingSince(records, move, since[thread], awaited);
+    phase[thread] = records.phase(move);
+    noteChanges(records, move, changedAt);
+  }
+  return arrows;
+}
+
+// The arrows that end at moves `from` to `to`; `ends` has where each arrow ends.
+export function arrowsBetween(arrows, ends, from, to) {
+  return arrows.slice(placeAfter(ends, from - 1), placeAfter(ends, to));
+}

@@ -1,0 +1,57 @@
+// Texts as bytes: what a file holds is never changed by showing it.
+
+export function sameBytes(one, other) {
+  return one === other
+    || (one.length === other.length && one.every((value, at) => value === other[at]));
+}
+
+export function toBase64(bytes) {
+  let letters = '';
+  for (let at = 0; at < bytes.length; at += 8192) {
+    letters += String.fromCharCode(...bytes.subarray(at, at + 8192));
+  }
+  return btoa(letters);
+}
+
+export function fromBase64(text) {
+  return Uint8Array.from(atob(text), (letter) => letter.charCodeAt(0));
+}
+
+// Base64 for the fragment of a link.
+export const toLink = (bytes) => toBase64(bytes)
+  .replaceAll('+', '-').replaceAll('/', '_').replaceAll('=', '');
+export const fromLink = (text) => fromBase64(text.replaceAll('-', '+').replaceAll('_', '/'));
+
+// Bytes as letters. What is no UTF-8 is shown byte by byte, and goes back to the same bytes.
+export function lettersOf(bytes) {
+  try {
+    return { letters: new TextDecoder('utf-8', { fatal: true, ignoreBOM: true }).decode(bytes), plain: false };
+  } catch {
+    let letters = '';
+    for (let at = 0; at < bytes.length; at += 8192) {
+      letters += String.fromCharCode(...bytes.subarray(at, at + 8192));
+    }
+    return { letters, plain: true };
+  }
+}
+
+export function bytesOf(letters, plain) {
+  if (!plain || /[^\0-\xff]/.test(letters)) return new TextEncoder().encode(letters);
+  return Uint8Array.from(letters, (letter) => letter.charCodeAt(0));
+}
+
+// The bytes before line `number`, counted from 1.
+export function beforeLine(bytes, number) {
+  let at = 0;
+  for (let line = 1; line < number && at >= 0; line += 1) at = bytes.indexOf(10, at) + 1 || -1;
+  return at < 0 ? bytes : bytes.subarray(0, at);
+}
+
+export const throughLine = (bytes, number) => beforeLine(bytes, number + 1);
+
+// Line `number` of the text as letters, without its line feed.
+export function lineOf(bytes, number) {
+  const start = beforeLine(bytes, number).length;
+  const end = bytes.indexOf(10, start);
+  return lettersOf(bytes.subarray(start, end < 0 ? bytes.length : end)).letters;
+}

@@ -1,0 +1,123 @@
+// Puts what is shown into the page's parts.
+
+import { codeView } from './code_view.js';
+import { lanesPicture, numbersPicture } from './lanes.js';
+import { columnX, lanesOf, layOutLanes } from './layout.js';
+import { legend } from './legend.js';
+import { lockName, lockOf } from './locks.js';
+import { byId, html, show, write } from './markup.js';
+import { nowView, spokenText } from './now.js';
+import { quizForm, resultView, scoreText } from './quiz.js';
+import { sliderPicture } from './slider.js';
+import { texts } from './texts.js';
+
+const LANES_SHARE = 0.29;
+const LANES_LEAST = 120;
+
+// The sizes of the parts, read before anything is written, so that a step lays the page out once.
+export function measured() {
+  const size = (id) => ({ width: byId(id).clientWidth, height: byId(id).clientHeight });
+  return {
+    lanes: { width: byId('lanes').clientWidth, height: Math.max(LANES_LEAST, innerHeight * LANES_SHARE) },
+    memory: size('memory-picture'), slider: size('slider-picture'),
+  };
+}
+
+export function drawTime(page, view, room) {
+  const box = byId('lanes');
+  const lanes = lanesOf(view.run, page.mode === 'play');
+  const layout = layOutLanes(view.run, view.move, lanes, room, page.zoomed);
+  box.style.height = `${Math.min(layout.height, room.height)}px`;
+  if (page.moved) revealLane(box, view, layout);
+  page.moved = false;
+  const top = Math.max(0, Math.floor(box.scrollTop / layout.laneHeight) - 1);
+  const bottom = Math.min(lanes.length - 1, Math.ceil((box.scrollTop + room.height) / layout.laneHeight));
+  show(byId('numbers'), numbersPicture(view, layout));
+  show(box, lanesPicture(view, layout, top, bottom));
+  show(byId('legend'), legend(view.run));
+  const resting = view.run.threads - lanes.length;
+  write(byId('resting'), resting > 0 ? texts.resting(texts.threads(resting)) : '');
+  page.layout = { ...layout, x: (move) => columnX(layout, move) };
+}
+
+// Scrolls so that the lane of the current move is in view.
+function revealLane(box, view, layout) {
+  const index = view.move ? layout.lanes.indexOf(view.run.records.thread(view.move)) : 0;
+  const top = index * layout.laneHeight;
+  if (top < box.scrollTop) box.scrollTop = top;
+  else if (top + layout.laneHeight > box.scrollTop + box.clientHeight) {
+    box.scrollTop = top + layout.laneHeight - box.clientHeight;
+  }
+}
+
+// The picture as large as fits; one that fits at no scale is scrolled. Many threads make it small at once.
+const SCALES = [1.3, 1.2, 1.1, 1, 0.9];
+const LAST_SCALE = 0.8;
+const NARROWEST = 340;
+const MANY_THREADS = 12;
+
+function scaledPicture(size, lock, view, state) {
+  const width = Math.max(NARROWEST, size.width);
+  const least = lock.leastWidth(view, state);
+  const scales = view.run.threads > MANY_THREADS ? [] : SCALES.filter((scale) => width / scale >= least);
+  for (const scale of scales) {
+    const picture = lock.draw({ ...view, width: width / scale, scale }, state);
+    if (picture.height <= size.height) return picture;
+  }
+  return lock.draw({ ...view, width: width / LAST_SCALE, scale: LAST_SCALE }, state);
+}
+
+export function drawMemory(view, state, size) {
+  const lock = lockOf(view.run);
+  const caption = lock.caption(view, state);
+  const resting = lock.restingNote?.({ ...view, width: size.width }, state) ?? '';
+  write(byId('memory-title'), texts.memoryTitles[lockName(view.run)]);
+  show(byId('memory-caption'), html`<span class="${caption.missing ? 'missing' : ''}">${caption.text}</span>
+    ${resting && html`<span class="soft">${resting}</span>`}`);
+  show(byId('memory-picture'), scaledPicture(size, lock, view, state));
+}
+
+export function drawCode(session, view, state) {
+  const box = byId('code-lines');
+  show(box, codeView(view, state, session.lines[view.run.kind]));
+}
+
+export function drawNow(page, view, state) {
+  const { quiz, session } = page;
+  const asks = quiz.asks(session);
+  const form = byId('quiz-form');
+  const same = form && asks && Number(form.dataset.move) === view.move && form.dataset.of === page.opened;
+  if (!same) {
+    show(byId('now'), html`${quiz.on && html`<p class="score">${scoreText(quiz)}</p>`}
+      ${asks ? quizForm(view, state) : nowView(view, state)}
+      ${quiz.on && quiz.result && resultView(quiz)}
+      ${quiz.on && !asks && view.move === view.run.count && html`<p class="hint">${texts.quiz.last}</p>`}`);
+    const made = byId('quiz-form');
+    if (made) Object.assign(made.dataset, { move: view.move, of: page.opened });
+  }
+  write(byId('spoken'), asks ? texts.spoken.hidden : spokenText(view, state));
+}
+
+// Last of all: it asks where things came to stand.
+export function revealCode() {
+  const box = byId('code-lines');
+  if (box.scrollHeight > box.clientHeight) box.querySelector('.here')?.scrollIntoView({ block: 'nearest' });
+}
+
+export function drawSlider(view, width) {
+  show(byId('slider-picture'), sliderPicture(view, width));
+  const input = byId('slider');
+  input.max = view.run.count;
+  input.value = view.move;
+  input.setAttribute('aria-valuetext', texts.spoken.move(view.move, view.run.count));
+  write(byId('position'), `${view.move} of ${view.run.count}`);
+}
+
+export function drawHead(session) {
+  const { run, remarks, lesson } = session;
+  const title = remarks.title || lesson || texts.untitled;
+  write(byId('title'), title);
+  document.title = `${title} - ${texts.product}`;
+  write(byId('subtitle'), run.hasLock
+    ? texts.subtitle(texts.lockNames[lockName(run)], texts.threads(run.threads), run.bits) : texts.noLock);
+}

@@ -1,0 +1,53 @@
+// Which moves and which threads are in view, and where they stand. Only these are drawn, so a step costs
+// the same in a schedule of 65,536 moves as in one of ten.
+
+import { LOCKS } from './codes.js';
+
+const GUTTER = 122;
+const COLUMN = { narrowest: 16, least: 44, most: 66, widest: 120 };
+const WIDE_WORDS = 56;
+const LANE = { tallest: 85, lowest: 38 };
+// From how many threads on only those that move are drawn.
+const MANY_THREADS = 8;
+// How far along the view the current move stands in a long schedule.
+const HERE = 0.6;
+
+export function lanesOf(run, all) {
+  const threads = Array.from({ length: run.threads }, (_, thread) => thread);
+  if (all || run.threads <= MANY_THREADS) return threads;
+  const moving = threads.filter((thread) => run.movesOf.has(thread));
+  return moving.length ? moving : threads.slice(0, MANY_THREADS);
+}
+
+// Read-write calls have longer words.
+const leastColumn = (run) => (LOCKS[run.kind].startsWith('rw') ? WIDE_WORDS : COLUMN.least);
+
+function columnWidth(run, room, zoom) {
+  const fitting = room / Math.max(1, run.count + 0.4);
+  const least = leastColumn(run);
+  const wanted = Math.min(Math.max(COLUMN.most, least), Math.max(least, fitting)) * zoom;
+  return Math.min(COLUMN.widest, Math.max(COLUMN.narrowest, wanted));
+}
+
+function firstMove(run, move, visible) {
+  if (run.count <= visible) return 1;
+  const wanted = Math.round(move - HERE * visible) + 1;
+  return Math.min(Math.max(1, wanted), run.count - visible + 1);
+}
+
+// `room` has the width and the height that the lanes may take.
+export function layOutLanes(run, move, lanes, room, zoom) {
+  const column = columnWidth(run, room.width - GUTTER - 12, zoom);
+  const visible = Math.max(1, Math.floor((room.width - GUTTER - 8) / column));
+  const first = firstMove(run, move, visible);
+  const laneHeight = Math.min(LANE.tallest, Math.max(LANE.lowest, room.height / lanes.length));
+  return {
+    gutter: GUTTER, column, first, last: Math.min(run.count, first + visible - 1), laneHeight,
+    width: room.width, now: move, lanes, height: laneHeight * lanes.length,
+  };
+}
+
+export const LOW_LANE = 62;
+
+export const columnX = (layout, move) => layout.gutter + (move - layout.first + 0.6) * layout.column;
+export const laneMiddle = (layout, index) => layout.laneHeight * (index + (layout.laneHeight < LOW_LANE ? 0.5 : 0.54));

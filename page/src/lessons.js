@@ -1,0 +1,31 @@
+// The lessons: the schedules of examples/, by lock and title.
+
+import { byId, html, show } from './markup.js';
+import { texts } from './texts.js';
+
+export const FIRST_LESSON = 'mcs-late-link';
+
+export function lessonsView(lessons, current) {
+  const groups = [...new Set(lessons.map(({ group }) => group))];
+  return html`${groups.map((group) => html`<section><h3>${texts.lessons.groups[group]}</h3><ul>
+    ${lessons.filter((one) => one.group === group).map((one) => html`<li><button type="button" data-lesson="${one.name}"
+      ${one.name === current && html`aria-current="true"`}><b>${one.title}</b><span>${one.name}</span></button></li>`)}
+    </ul></section>`)}`;
+}
+
+// The dialog in which a lesson is chosen.
+export function lessonsDialog(lessons, choose) {
+  const dialog = byId('lessons');
+  dialog.addEventListener('click', (event) => {
+    const chosen = event.target.closest('[data-lesson]');
+    if (event.target === dialog) dialog.close();
+    if (!chosen) return;
+    dialog.close();
+    choose(chosen.dataset.lesson);
+  });
+  return (current) => {
+    show(byId('lesson-list'), lessonsView(lessons, current));
+    dialog.showModal();
+    dialog.querySelector('[aria-current]')?.focus();
+  };
+}

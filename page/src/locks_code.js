@@ -1,0 +1,32 @@
+// The locks' code, as docs/LOCKS.md has it: the build takes its blocks from there. A line knows its kind
+// of step, its phase, and the words that a waiting section looks at.
+
+import { LOCKS, PHASE } from './codes.js';
+
+const LINE = /^(?<code>.*?)\s*(?:-- (?<kind>\w+) (?<phase>\w+)(?: looks at (?<words>.+))?)?$/;
+
+export function codeLine(text) {
+  const { code, kind = '', phase = '', words = '' } = text.match(LINE).groups;
+  return { code, kind, phase: PHASE[phase], call: phase, words: words ? words.split(', ') : [] };
+}
+
+// The blocks of docs/LOCKS.md, one for each lock.
+export function codeOf(document) {
+  return Object.fromEntries(LOCKS.map((lock) => {
+    const block = document.split(`\n\`\`\`${lock}\n`)[1].split('\n```')[0];
+    return [lock, block.split('\n')];
+  }));
+}
+
+// The waiting lines by phase.
+export function awaitedLines(lines) {
+  return new Map(lines.filter(({ code }) => code.trimStart().startsWith('await'))
+    .map((line) => [line.phase, line]));
+}
+
+// The calls and kinds of step of a lock, as a schedule names them.
+export function ownWords(lines) {
+  const words = lines.filter(({ kind }) => kind && kind !== 'inside')
+    .map(({ kind, call }) => (kind === 'call' ? call : kind));
+  return [...new Set(words)];
+}

@@ -1,0 +1,119 @@
+// The proved machine, a WebAssembly module with 64-bit memory. Its one function reads a schedule text,
+// plays it, and writes a record for each move and the state after the last one. This file copies the
+// text in and the bytes out, and gives the bytes their names; it knows no rule of any lock.
+
+import { MOST_MOVES } from './codes.js';
+
+export const RECORD_BYTES = 56;
+export const STATE_BYTES = 2304;
+const PAGE_BYTES = 65536;
+const THREADS_AT = 192;
+const THREAD_BYTES = 16;
+const WORDS_AT = 1216;
+
+// A browser or Node of before the final standard takes the pages as a number.
+function growBy(memory, pages) {
+  try {
+    memory.grow(BigInt(pages));
+  } catch {
+    memory.grow(pages);
+  }
+}
+
+// Moves are lines, so a text has no more of them than pieces between line feeds.
+function recordsAsked(text) {
+  let lines = 1;
+  for (let at = text.indexOf(10); at >= 0; at = text.indexOf(10, at + 1)) lines += 1;
+  return Math.min(lines, MOST_MOVES);
+}
+
+export class Machine {
+  constructor(module) {
+    const { exports } = new WebAssembly.Instance(new WebAssembly.Module(module));
+    this.exports = exports;
+    // Whole words of 8 bytes, so that no slice begins across one.
+    this.base = (Number(exports.__heap_base.value) + 7) & ~7;
+    this.text = null;
+  }
+
+  // The machine's memory from its heap on, at least so many bytes.
+  lend(bytes) {
+    const { memory } = this.exports;
+    const missing = this.base + bytes - memory.buffer.byteLength;
+    if (missing > 0) growBy(memory, Math.ceil(missing / PAGE_BYTES));
+    return new Uint8Array(memory.buffer);
+  }
+
+  // Plays at most `most` moves of the text's first `length` bytes. The text stays in the machine's memory
+  // from play to play.
+  play(text, most, withRecords, length = text.length) {
+    const recordsAt = STATE_BYTES + ((text.length + 7) & ~7);
+    const room = withRecords ? recordsAsked(text) * RECORD_BYTES : 0;
+    const memory = this.lend(recordsAt + room);
+    if (this.text !== text) memory.set(text, this.base + STATE_BYTES);
+    this.text = text;
+    const base = BigInt(this.base);
+    const size = BigInt(STATE_BYTES);
+    this.exports.play(base + size, BigInt(length), BigInt(most), base + BigInt(recordsAt),
+      BigInt(room), base, size);
+    const bytes = new Uint8Array(this.exports.memory.buffer, this.base, recordsAt + room);
+    const state = new State(bytes.slice(0, STATE_BYTES));
+    const played = withRecords ? state.played * RECORD_BYTES : 0;
+    return { state, records: bytes.slice(recordsAt, recordsAt + played) };
+  }
+}
+
+// The state after the moves played, or the fault of a text.
+export class State {
+  constructor(bytes) {
+    this.bytes = bytes;
+    this.view = new DataView(bytes.buffer, bytes.byteOffset, bytes.byteLength);
+  }
+
+  number(at) { return this.view.getUint32(at, true); }
+  get answer() { return this.number(0); }
+  get reason() { return this.number(4); }
+  get line() { return this.number(8); }
+  get wantedStep() { return this.number(12); }
+  get kind() { return this.number(16); }
+  get threads() { return this.number(20); }
+  get bits() { return this.number(24); }
+  get played() { return this.number(28); }
+  get moves() { return this.number(32); }
+  get wordCount() { return this.number(36); }
+  get holderKind() { return this.number(40); }
+  get holders() { return [...this.bytes.subarray(64, 64 + this.number(44))]; }
+  get queue() { return [...this.bytes.subarray(128, 128 + this.number(48))]; }
+  phase(thread) { return this.bytes[THREADS_AT + THREAD_BYTES * thread]; }
+  dueStep(thread) { return this.bytes[THREADS_AT + THREAD_BYTES * thread + 1]; }
+  allows(thread, call) { return (this.bytes[THREADS_AT + THREAD_BYTES * thread + 2] >> call & 1) === 1; }
+  phaseNumber(thread) { return this.view.getBigUint64(THREADS_AT + THREAD_BYTES * thread + 8, true); }
+  word(index) { return this.view.getBigUint64(WORDS_AT + 8 * index, true); }
+}
+
+// The records of all moves played. Moves are counted from 1.
+export class Records {
+  constructor(bytes) {
+    this.bytes = bytes;
+    this.view = new DataView(bytes.buffer, bytes.byteOffset, bytes.byteLength);
+    this.count = bytes.length / RECORD_BYTES;
+  }
+
+  byte(move, at) { return this.bytes[(move - 1) * RECORD_BYTES + at]; }
+  word(move, at) { return this.view.getUint16((move - 1) * RECORD_BYTES + at, true); }
+  value(move, at) { return this.view.getBigUint64((move - 1) * RECORD_BYTES + at, true); }
+  line(move) { return this.view.getUint32((move - 1) * RECORD_BYTES, true); }
+  thread(move) { return this.byte(move, 4); }
+  action(move) { return this.byte(move, 5); }
+  code(move) { return this.byte(move, 6); }
+  outcome(move) { return this.byte(move, 7); }
+  phase(move) { return this.byte(move, 8); }
+  standing(move) { return this.byte(move, 9); }
+  touched(move) { return this.word(move, 10); }
+  alsoChanged(move) { return this.word(move, 12); }
+  found(move) { return this.value(move, 16); }
+  left(move) { return this.value(move, 24); }
+  alsoFound(move) { return this.value(move, 32); }
+  alsoLeft(move) { return this.value(move, 40); }
+  phaseNumber(move) { return this.value(move, 48); }
+}

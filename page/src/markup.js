@@ -1,0 +1,36 @@
+// Markup that cannot be broken by what it shows: every value is escaped unless it is markup itself.
+
+class Markup {
+  constructor(text) { this.text = text; }
+}
+
+const ESCAPES = { '&': '&amp;', '<': '&lt;', '>': '&gt;', '"': '&quot;', "'": '&#39;' };
+const escaped = (text) => text.replace(/[&<>"']/g, (letter) => ESCAPES[letter]);
+
+function part(value) {
+  if (value instanceof Markup) return value.text;
+  if (Array.isArray(value)) return value.map(part).join('');
+  if (value === null || value === undefined || value === false) return '';
+  return escaped(String(value));
+}
+
+// html`<b>${name}</b>`: for HTML and SVG alike.
+export function html(pieces, ...values) {
+  let text = pieces[0];
+  values.forEach((value, i) => { text += part(value) + pieces[i + 1]; });
+  return new Markup(text);
+}
+
+// Shows markup in a node, or nothing where it is what the node shows already.
+export function show(node, markup) {
+  if (node.shown === markup.text) return;
+  node.shown = markup.text;
+  node.innerHTML = markup.text;
+}
+
+// Writing the same text again would lay the page out again.
+export function write(node, text) {
+  if (node.textContent !== text) node.textContent = text;
+}
+
+export const byId = (id) => document.getElementById(id);

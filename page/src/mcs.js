@@ -1,0 +1,174 @@
+// Memory of the MCS lock: the tail, and the threads' records in the order of the queue that the machine
+// names. A link is drawn where the word says so; one that is missing is drawn as missing.
+
+import { PHASE, PHASES } from './codes.js';
+import { html } from './markup.js';
+import { fillOf, picture, standingOf, useOf, wordBox } from './shapes.js';
+import { say, texts } from './texts.js';
+
+const TAIL = 0;
+const nextOf = (thread) => 1 + 2 * thread;
+const lockedOf = (thread) => 2 + 2 * thread;
+const isLocked = (word) => word !== TAIL && word % 2 === 0;
+const ownerOf = (word) => (word - 1) >> 1;
+const named = (value) => Number(value) - 1;
+
+const OWN_VARIABLE = { SetLocked: 'pred', LinkTo: 'pred', Grant: 'succ' };
+const RECORD = { narrowest: 132, widest: 156, height: 108, gap: 56, top: 96, row: 184, left: 20 };
+// So many records beside one another are not broken into rows for a larger picture's sake.
+const BESIDE = 4;
+
+function valueText(word, value, names) {
+  if (isLocked(word)) return String(value);
+  return value === 0n ? texts.nil : names.short(named(value));
+}
+
+function wordName(word, names) {
+  if (word === TAIL) return 'tail';
+  return `${names.short(ownerOf(word))}.${isLocked(word) ? 'locked' : 'next'}`;
+}
+
+// Who is drawn: the queue in its order, then who is in a call, then who rests, where there is room.
+function order(view, state, most) {
+  const { run, move } = view;
+  const others = Array.from({ length: run.threads }, (_, thread) => thread)
+    .filter((thread) => !state.queue.includes(thread));
+  const calling = others.filter((thread) => standingOf(run, move, thread) !== 'rest');
+  const resting = others.filter((thread) => standingOf(run, move, thread) === 'rest');
+  const busy = [...state.queue, ...calling];
+  const fits = busy.length + resting.length <= Math.max(most, busy.length);
+  return { shown: fits ? [...busy, ...resting] : busy, hidden: fits ? [] : resting };
+}
+
+function layOut(view, state) {
+  const room = view.width - 2 * RECORD.left;
+  const most = Math.max(1, Math.floor((room + RECORD.gap) / (RECORD.narrowest + RECORD.gap)));
+  const { shown, hidden } = order(view, state, most);
+  const inRow = Math.min(most, Math.max(1, shown.length));
+  const width = Math.min(RECORD.widest, (room - (inRow - 1) * RECORD.gap) / inRow);
+  const gap = inRow > 1 ? Math.min(88, (room - inRow * width) / (inRow - 1)) : RECORD.gap;
+  const places = new Map(shown.map((thread, i) => [thread, {
+    x: RECORD.left + (i % inRow) * (width + gap), row: Math.floor(i / inRow),
+    y: RECORD.top + Math.floor(i / inRow) * RECORD.row,
+  }]));
+  return { places, hidden, width, rows: Math.max(1, Math.ceil(shown.length / inRow)) };
+}
+
+function recordField(view, y, label, word, state, width) {
+  const value = valueText(word, state.word(word), view.names);
+  const use = useOf(view.run, view.move, word);
+  return html`<text class="mono field" x="14" y="${y + 19}">${label}</text>
+    ${wordBox(76, y, width - 88, value, use)}`;
+}
+
+function ownVariable(view, state, thread, width) {
+  const name = OWN_VARIABLE[PHASES[state.phase(thread)]];
+  if (!name) return null;
+  const value = view.names.short(Number(state.phaseNumber(thread)));
+  return html`<g transform="translate(0,${RECORD.height + 12})">
+    <rect class="own" x=".5" width="${width - 1}" height="28" rx="8"/>
+    <text class="mono value" x="${width / 2}" y="19" text-anchor="middle">${name} = ${value}</text>
+    <text class="note" x="${width / 2}" y="45" text-anchor="middle">${texts.ownVariable(view.names.of(thread))}</text>
+  </g>`;
+}
+
+function record(view, state, thread, place, width) {
+  const standing = standingOf(view.run, view.move, thread);
+  const fill = fillOf(standing);
+  const label = texts.standing[standing];
+  return html`<g class="record ${standing}" transform="translate(${place.x},${place.y})">
+    <rect class="frame" width="${width}" height="${RECORD.height}" rx="10"/>
+    <path class="head" ${fill ? html`fill="${fill}"` : ''} d="M0 10a10 10 0 0 1 10 -10h${width - 20}a10 10 0 0 1 10 10v22h-${width}z"/>
+    ${fill && html`<rect class="plate" x="6" y="4" width="${width - 12}" height="23" rx="6"/>`}
+    <text class="name" x="14" y="21">${view.names.of(thread)}</text>
+    <text class="standing" x="${width - 13}" y="21" text-anchor="end">${label}</text>
+    ${recordField(view, 40, 'next', nextOf(thread), state, width)}
+    ${recordField(view, 73, 'locked', lockedOf(thread), state, width)}
+    ${ownVariable(view, state, thread, width)}</g>`;
+}
+
+// From a record's next to the record that follows it in the queue.
+function link(from, to, width, linked) {
+  const y = from.y + 54;
+  if (from.row !== to.row) {
+    const low = from.y + RECORD.row - 18;
+    const path = `M${from.x + width - 12} ${y}h26V${low}H${to.x + 30}V${to.y - 4}`;
+    return html`<path class="link ${linked ? '' : 'missing'}" d="${path}"/>`;
+  }
+  if (linked) return html`<path class="link" d="M${from.x + width - 12} ${y}H${to.x - 4}"/>`;
+  return html`<path class="link missing" d="M${from.x + width + 3} ${y}H${to.x - 4}"/>
+    <text class="missing-text" x="${(from.x + width + to.x) / 2 - 2}" y="${y - 9}" text-anchor="middle">${texts.noLink}</text>`;
+}
+
+const isLinked = (state, before, after) => named(state.word(nextOf(before))) === after;
+
+function links(state, layout) {
+  return state.queue.slice(1).map((after, i) => {
+    const before = state.queue[i];
+    return link(layout.places.get(before), layout.places.get(after), layout.width,
+      isLinked(state, before, after));
+  });
+}
+
+function tail(view, state, layout) {
+  const place = layout.places.get(named(state.word(TAIL)));
+  const x = place && place.x + layout.width / 2;
+  const path = place && (x < 160 ? `M${x} 52V${place.y - 4}` : `M156 38H${x - 10}q10 0 10 10V${place.y - 4}`);
+  return html`<text class="mono word-name strong" x="24" y="43">tail</text>
+    ${wordBox(70, 24, 86, valueText(TAIL, state.word(TAIL), view.names), useOf(view.run, view.move, TAIL))}
+    ${place && html`<path class="link" d="${path}"/>`}`;
+}
+
+function caption(view, state) {
+  const { queue } = state;
+  const gap = queue.findIndex((after, i) => i > 0 && !isLinked(state, queue[i - 1], after));
+  if (gap > 0) {
+    return { missing: true, text: say(texts.captions.missingLink, {
+      before: view.names.of(queue[gap - 1]), after: view.names.of(queue[gap]) }) };
+  }
+  if (queue.length > 1) return { text: texts.captions.allLinked };
+  return { text: queue.length ? say(texts.captions.aloneInLine, { first: view.names.of(queue[0]) })
+    : texts.captions.nobodyInLine };
+}
+
+function draw(view, state) {
+  const layout = layOut(view, state);
+  const height = RECORD.top + layout.rows * RECORD.row - 14;
+  const { text } = caption(view, state);
+  return picture(view, height, text, html`${tail(view, state, layout)}
+    ${[...layout.places].map(([thread, place]) => record(view, state, thread, place, layout.width))}
+    ${links(state, layout)}`);
+}
+
+function leastWidth(view, state) {
+  const busy = Math.max(state.queue.length, Math.min(view.run.threads, BESIDE));
+  const beside = Math.min(BESIDE, busy);
+  return 2 * RECORD.left + beside * RECORD.narrowest + (beside - 1) * RECORD.gap;
+}
+
+function restingNote(view, state) {
+  const { hidden } = layOut(view, state);
+  return hidden.length ? texts.restingThreads(hidden.map((thread) => view.names.short(thread)).join(', ')) : '';
+}
+
+// The sentence of a look for a successor that finds none is another one.
+function variant(run, move, phase) {
+  return phase === PHASE.ReadNext && run.records.found(move) === 0n ? 'nil' : null;
+}
+
+function values(view, move, phase) {
+  const { run, names } = view;
+  const found = run.records.found(move);
+  const foundName = found === 0n ? texts.nil : names.of(named(found));
+  const other = [PHASE.LinkTo, PHASE.Grant].includes(phase)
+    ? names.of(Number(run.phaseNumberBefore(move))) : '';
+  return { foundName, foundWhose: `${foundName}’s`, other, otherWhose: `${other}’s` };
+}
+
+// Below a lane's mark: what the move found.
+function mark(run, move, names) {
+  const word = run.records.touched(move);
+  return valueText(word, run.records.found(move), names);
+}
+
+export const mcs = { leastWidth, wordName, valueText, mark, variant, values, draw, caption, restingNote };

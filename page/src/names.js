@@ -1,0 +1,22 @@
+// What threads and the values of words are called.
+
+import { texts } from './texts.js';
+
+export class Names {
+  constructor(given = new Map()) {
+    this.given = given;
+  }
+
+  has(thread) { return this.given.has(thread); }
+  of(thread) { return this.given.get(thread) ?? texts.thread(thread); }
+  // Short enough for a small mark: the number, or a name's first letter where no other begins so.
+  mark(thread) {
+    const name = this.given.get(thread);
+    if (!name) return String(thread);
+    const letter = [...name][0].toUpperCase();
+    const alike = [...this.given.values()].filter((other) => [...other][0].toUpperCase() === letter);
+    return alike.length === 1 ? letter : String(thread);
+  }
+  short(thread) { return this.given.get(thread) ?? texts.shortThread(thread); }
+  list(threads) { return threads.map((thread) => this.of(thread)).join(', '); }
+}

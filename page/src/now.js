@@ -1,0 +1,95 @@
+// The move just made: its outcome, one sentence on what it did, what it wrote, who holds, who is in line,
+// and the report's own line.
+
+import { ACTION, OUTCOMES, wordOf } from './codes.js';
+import { casFails } from './lanes.js';
+import { lockName } from './locks.js';
+import { html } from './markup.js';
+import { reportLine } from './report.js';
+import { sentence, writtenWords } from './sentences.js';
+import { standingOf, useOf } from './shapes.js';
+import { unlinkedAfter } from './spans.js';
+import { texts } from './texts.js';
+
+function pill(view, thread) {
+  const standing = standingOf(view.run, view.move, thread);
+  return html`<span class="pill ${standing}" data-thread="${thread}">${view.names.of(thread)}</span>`;
+}
+
+const dash = html`<span class="soft">${texts.nobody}</span>`;
+const MODES = ['', '', texts.asReader, texts.asWriter];
+
+function holdersList(view, state) {
+  if (!state.holders.length) return dash;
+  const mode = MODES[state.holderKind];
+  return html`${state.holders.map((thread) => pill(view, thread))}${mode && html`<span class="soft">${mode}</span>`}`;
+}
+
+// Between two of an MCS line: an arrow, or the gap where no link is written yet.
+function queueList(view, state) {
+  if (!state.queue.length) return dash;
+  const mcs = lockName(view.run) === 'mcs';
+  return state.queue.map((thread, i) => {
+    const open = mcs && i > 0 && unlinkedAfter(view.run, view.run.lastMoveOf(thread, view.move));
+    const gap = open ? html`<span class="gap missing" title="${texts.notLinked}">⇢</span>` : html`<span class="gap">→</span>`;
+    return html`${i > 0 && gap}${pill(view, thread)}`;
+  });
+}
+
+function outcomePill(records, move) {
+  const name = OUTCOMES[records.outcome(move)];
+  const fails = casFails(records, move);
+  return html`<span class="outcome ${fails ? 'fails' : name}" data-outcome="${name}">${fails ? texts.fails : texts.outcomes[name]}</span>`;
+}
+
+function questions(view) {
+  const question = view.remarks.ask.get(view.move);
+  const answer = view.remarks.answer.get(view.move);
+  if (!question) return null;
+  return html`<div class="question"><p><b>${texts.question}</b> ${question}</p>
+    ${answer && html`<details ${view.answered && 'open'}><summary>${texts.showAnswer}<kbd>A</kbd></summary><p>${answer}</p></details>`}</div>`;
+}
+
+function factList(view, state, rows) {
+  return html`<dl class="facts">${rows}
+    <dt>${texts.facts.holds}</dt><dd data-holders>${holdersList(view, state)}</dd>
+    <dt>${texts.facts.line}</dt><dd data-queue>${queueList(view, state)}</dd></dl>`;
+}
+
+function startView(view, state) {
+  return html`<div class="head"><b>0</b><span>${texts.before}</span></div>
+    <p class="say">${view.remarks.about || texts.start}</p><p class="hint">${texts.startHint}</p>
+    ${factList(view, state, '')}${questions(view)}`;
+}
+
+export function nowView(view, state) {
+  const { run, move, names } = view;
+  if (!move) return startView(view, state);
+  const { records } = run;
+  const wrote = writtenWords(view, move, useOf);
+  const rows = html`<dt>${texts.facts.wrote}</dt><dd class="mono">${wrote.length ? wrote.join(', ')
+    : html`<span class="soft">${texts.noWord}</span>`}</dd>`;
+  return html`<div class="head"><b>${move}</b><span>${names.of(records.thread(move))},
+      <span class="mono">${wordOf(records.action(move), records.code(move))}</span></span>${outcomePill(records, move)}</div>
+    <p class="say">${sentence(view, move)}</p>${factList(view, state, rows)}${questions(view)}
+    <p class="report-line" title="${texts.facts.report}"><code>${reportLine(run, move)}</code></p>`;
+}
+
+// The same for whoever listens.
+export function spokenText(view, state) {
+  const { run, move, names } = view;
+  const holds = state.holders.length ? names.list(state.holders) : texts.nobody;
+  const line = state.queue.length ? names.list(state.queue) : texts.nobody;
+  const question = view.remarks.ask.get(move);
+  const parts = [move ? texts.spoken.move(move, run.count) : texts.spoken.start(run.count)];
+  if (move) {
+    const { records } = run;
+    const call = records.action(move) === ACTION.call;
+    parts.push(`${names.of(records.thread(move))}, ${wordOf(records.action(move), records.code(move))}${call ? '' : `, ${OUTCOMES[records.outcome(move)]}`}.`);
+    parts.push(sentence(view, move));
+  }
+  parts.push(texts.spoken.holds(holds), texts.spoken.line(line));
+  if (question) parts.push(texts.spoken.ask(question));
+  if (view.hidden) parts.push(texts.spoken.hidden);
+  return parts.join(' ');
+}

@@ -1,0 +1,42 @@
+// A schedule of one's own: opened, pasted, dropped or edited, and what is said of it.
+
+import { faultAdvice, refusalAdvice } from './advice.js';
+import { MOST_BYTES } from './codes.js';
+import { html } from './markup.js';
+import { ownWords } from './locks_code.js';
+import { lastLine } from './report.js';
+import { texts } from './texts.js';
+
+const T = texts.own;
+
+export function adviceOf(session) {
+  const { run, names } = session;
+  if (run.fault) return faultAdvice(run, run.hasLock ? ownWords(session.lines[run.kind]) : texts.faults.moves.split(', '));
+  return run.refusal ? refusalAdvice(run, names) : null;
+}
+
+// What the text came to: the report's last line, and in words what is wrong and what could stand there.
+export function verdictView(session, advice) {
+  const { run } = session;
+  if (!run.known) return html`<p class="verdict bad"><b>${texts.notStored}</b></p>`;
+  const report = html`<p class="report-line"><code>${lastLine(run)}</code></p>`;
+  if (!advice) return html`<p class="verdict good">${run.count ? T.ends(run.count) : T.noMoves}</p>${report}`;
+  return html`<div class="verdict bad">
+    ${advice.line > 0 && html`<b>${T.line(advice.line)}</b>`}
+    ${advice.found !== undefined && html`<code class="found-line">${advice.found || ' '}</code>`}
+    ${advice.say.map((line) => html`<p>${line}</p>`)}
+    ${advice.mended && html`<button type="button" data-mend="${advice.mended}">${T.fix(advice.mended)}</button>`}
+    ${advice.returns && html`<button type="button" data-returns="true">${T.removeReturns}</button>`}
+    ${run.count > 0 && html`<p class="soft">${T.stepThrough(run.count)}</p>`}</div>${report}`;
+}
+
+// A file's bytes: no more than show that it is too long.
+export const bytesOfFile = async (file) => new Uint8Array(await file.slice(0, MOST_BYTES + 1).arrayBuffer());
+
+export function saveAs(name, bytes) {
+  const link = document.createElement('a');
+  link.href = URL.createObjectURL(new Blob([bytes], { type: 'text/plain' }));
+  link.download = name;
+  link.click();
+  setTimeout(() => URL.revokeObjectURL(link.href), 10000);
+}

@@ -1,0 +1,44 @@
+// Choosing who moves: for each thread its due step, or the calls that the machine would accept.
+
+import { ACTION, CALLS, LOCKS, MOST_BYTES, MOST_MOVES, STEPS } from './codes.js';
+import { html } from './markup.js';
+import { standingOf } from './shapes.js';
+import { texts } from './texts.js';
+
+const T = texts.play;
+
+// The moves that the machine accepts next from this thread, as words of a schedule.
+export function choicesOf(state, thread) {
+  const due = state.dueStep(thread);
+  if (due) return [{ word: STEPS[due], action: ACTION.step }];
+  return CALLS.filter((_, call) => state.allows(thread, call)).map((word) => ({ word, action: ACTION.call }));
+}
+
+function threadRow(view, state, thread) {
+  const choices = choicesOf(state, thread);
+  const call = choices[0]?.action === ACTION.call;
+  return html`<li><span class="disc ${standingOf(view.run, view.move, thread)}">${view.names.mark(thread)}</span>
+    <span class="who">${view.names.of(thread)}</span><span class="choices">${choices.map(({ word }) => html`<button type="button"
+      class="mono ${call ? 'may' : 'due'}" data-thread="${thread}" data-word="${word}"
+      aria-label="${view.names.of(thread)}: ${word}">${word}</button>`)}</span></li>`;
+}
+
+export const hasRoom = (session) => session.move < MOST_MOVES && session.run.text.length + 32 <= MOST_BYTES;
+
+export function playView(session, state) {
+  if (!session.run.hasLock) return html`<p class="hint">${T.faulty}</p>`;
+  if (!hasRoom(session)) return html`<p class="hint">${T.full}</p>`;
+  const { run, move } = session;
+  const view = session.view();
+  const threads = Array.from({ length: run.threads }, (_, thread) => thread);
+  return html`<p class="hint">${move < run.count ? T.branch(move) : T.hint}</p>
+    <ul class="threads">${threads.map((thread) => threadRow(view, state, thread))}</ul>`;
+}
+
+// The header of a new schedule. Whether it may stand so the machine says.
+export function newHeader(form) {
+  const { lock, threads, bits } = Object.fromEntries(new FormData(form));
+  return `lock ${lock} threads ${threads}${bits === '64' ? '' : ` bits ${bits}`}\n`;
+}
+
+export const lockOptions = () => html`${LOCKS.map((lock) => html`<option value="${lock}">${texts.lockNames[lock]}</option>`)}`;

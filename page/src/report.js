@@ -1,0 +1,43 @@
+// Lines of the report, from what the machine answered.
+
+import { OUTCOMES, STEPS, wordOf } from './codes.js';
+
+const HOLDER_LETTERS = ['', '', 'r', 'w'];
+
+export const holdersText = (state) => (state.holders.length
+  ? HOLDER_LETTERS[state.holderKind] + state.holders.join(',') : '-');
+export const queueText = (state) => state.queue.join(',') || '-';
+
+export function moveText(run, move) {
+  const { records } = run;
+  return `${records.thread(move)} ${wordOf(records.action(move), records.code(move))}`;
+}
+
+export function reportLine(run, move) {
+  const state = run.state(move);
+  const outcome = OUTCOMES[run.records.outcome(move)];
+  return `${move} ${moveText(run, move)} ${outcome} hold ${holdersText(state)} queue ${queueText(state)}`;
+}
+
+function faultLine(fault) {
+  return fault.line ? `fault line ${fault.line} ${fault.name}` : `fault ${fault.name}`;
+}
+
+function refusedLine(refusal) {
+  const wanted = refusal.wanted ? ` next ${STEPS[refusal.wanted]}` : '';
+  return `refused line ${refusal.line} ${refusal.name}${wanted}`;
+}
+
+// The report's last line.
+export function lastLine(run) {
+  if (run.fault) return faultLine(run.fault);
+  return run.refusal ? refusedLine(run.refusal) : `end ${run.count}`;
+}
+
+// The whole report of a schedule text.
+export function reportOf(run) {
+  const lines = [];
+  for (let move = 1; !run.fault && move <= run.count; move += 1) lines.push(reportLine(run, move));
+  lines.push(lastLine(run));
+  return `${lines.join('\n')}\n`;
+}

@@ -1,0 +1,59 @@
+// Memory of the FIFO read-write lock: both counts of readers, on a wheel where words are narrow, the flag,
+// who is inside, and who is at the monitor.
+
+import { html } from './markup.js';
+import { monitor, monitorHeight, room, sectionMark } from './read_write.js';
+import { readersCaption } from './rw_simple.js';
+import { picture, useOf, wordBox } from './shapes.js';
+import { say, texts } from './texts.js';
+import { HANDS, hasWheel, wheelOf, wheelPlaced } from './wheel.js';
+
+const WORDS = ['readAcquires', 'readReleases', 'flag'];
+const ACQUIRES = 0;
+const RELEASES = 1;
+const FLAG = 2;
+
+function counts(view, state) {
+  const wheel = wheelPlaced(view.run.bits, 116, 182, 58);
+  const hands = [{ value: state.word(RELEASES), style: HANDS.inner },
+    { value: state.word(ACQUIRES), style: HANDS.outer }];
+  return html`${wheelOf(wheel, hands, [])}
+    <path class="hand outer" d="M36 282h26"/><text class="note" x="72" y="286">${WORDS[ACQUIRES]}</text>
+    <path class="hand inner" d="M36 304h26"/><text class="note" x="72" y="308">${WORDS[RELEASES]}</text>`;
+}
+
+function draw(view, state) {
+  const box = (word, x, width) => wordBox(x, 40, width, String(state.word(word)),
+    useOf(view.run, view.move, word), WORDS[word]);
+  const wheel = hasWheel(view.run.bits);
+  const left = wheel ? 232 : 24;
+  const roomHeight = 44 + 32 * Math.max(1, Math.ceil(state.holders.length / 7));
+  const height = Math.max(wheel ? 330 : 230, 128 + roomHeight + monitorHeight(view, state));
+  return picture(view, height, caption(view, state).text,
+    html`${box(ACQUIRES, 24, 116)}${box(RELEASES, 156, 116)}${box(FLAG, 288, 70)}
+      ${wheel && counts(view, state)}${room(view, state, left, 92, 256)}
+      ${monitor(view, state, left + 4, 112 + roomHeight)}`);
+}
+
+const plain = readersCaption(WORDS);
+
+function caption(view, state) {
+  const { text } = plain(view, state);
+  if (!state.queue.length) return { text };
+  const announced = say(texts.captions.announced, { writer: view.names.of(state.queue[0]) });
+  return { text: `${text} ${announced}` };
+}
+
+function values(view, move) {
+  const state = view.run.state(move);
+  return { acquires: state.word(ACQUIRES), releases: state.word(RELEASES) };
+}
+
+const leastWidth = () => 512;
+
+export const rwFifo = {
+  leastWidth,
+  wordName: (word) => WORDS[word], valueText: (_, value) => String(value),
+  mark: sectionMark(['acq.', 'rel.', 'flag']), values, draw, caption,
+  goesRound: ['TryRead', 'LeaveRead', 'TryDowngrade'],
+};

@@ -1,0 +1,45 @@
+// Shapes that more than one picture uses.
+
+import { html } from './markup.js';
+import { standingAfter } from './spans.js';
+
+// How a picture shows what a thread's standing is: by a class, and always by a word or a pattern too.
+export const standingOf = (run, move, thread) => standingAfter(run, run.lastMoveOf(thread, move));
+
+const HATCHED = { line: 'hatch', reads: 'ruled' };
+export const fillOf = (standing) => (HATCHED[standing] ? `url(#${HATCHED[standing]})` : '');
+
+// A thread as a disc with its mark.
+export function token(x, y, view, thread, radius = 13) {
+  const standing = standingOf(view.run, view.move, thread);
+  return html`<g class="token ${standing}"><circle cx="${x}" cy="${y}" r="${radius}"/>
+    <text x="${x}" y="${y + 4.5}" text-anchor="middle">${view.names.mark(thread)}</text></g>`;
+}
+
+// A word of memory as a box: plain, read by this move, or changed by it.
+export function wordBox(x, y, width, value, use, label = '') {
+  return html`${label && html`<text class="mono word-name" x="${x}" y="${y - 7}">${label}</text>`}
+    <rect class="word ${use}" x="${x}" y="${y}" width="${width}" height="28" rx="6"/>
+    <text class="mono value" x="${x + width / 2}" y="${y + 19}" text-anchor="middle">${value}</text>`;
+}
+
+// How the move used a word: 'changed', 'read' or ''.
+export function useOf(run, move, word) {
+  if (!move) return '';
+  const { records } = run;
+  if (records.alsoChanged(move) === word) return 'changed';
+  if (records.touched(move) !== word) return '';
+  return records.left(move) === records.found(move) && !writes(records, move) ? 'read' : 'changed';
+}
+
+// A write of the value that stood there is a write all the same.
+const WRITING = new Set([2, 3, 5]);
+const writes = (records, move) => WRITING.has(records.code(move));
+
+// A picture of the view's width, with how tall it is on the screen.
+export function picture(view, height, label, body) {
+  const { width, scale } = view;
+  const drawn = html`<svg viewBox="0 0 ${width} ${height}" width="${width * scale}" height="${height * scale}"
+    role="img" aria-label="${label}">${body}</svg>`;
+  return Object.assign(drawn, { height: height * scale });
+}

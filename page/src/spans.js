@@ -1,0 +1,45 @@
+// What a thread was doing between its moves: in a call, in line, holding, in line and not linked. All of
+// it is read off the records that the machine wrote; a stretch of moves is found by bisection.
+
+import { AS_WRITER, HOLDS, IN_LINE, LOCKS, OUTCOME, PHASE } from './codes.js';
+import { placeAfter } from './run.js';
+
+const UNLINKED = [PHASE.SetLocked, PHASE.LinkTo];
+const IN_A_CALL = [OUTCOME.called, OUTCOME.moved, OUTCOME.waits];
+
+// One of holds, reads, writes, line, call, rest.
+export function standingAfter(run, move) {
+  if (!move) return 'rest';
+  const standing = run.records.standing(move);
+  if (standing & HOLDS) {
+    if (!LOCKS[run.kind].startsWith('rw')) return 'holds';
+    return standing & AS_WRITER ? 'writes' : 'reads';
+  }
+  if (standing & IN_LINE) return 'line';
+  return IN_A_CALL.includes(run.records.outcome(move)) ? 'call' : 'rest';
+}
+
+export const unlinkedAfter = (run, move) => move > 0 && UNLINKED.includes(run.records.phase(move));
+
+// Stretches {kind, from, to} of one thread over moves `from` to `to`, where something is the same from
+// move to move. One that began before `from` begins there.
+function stretches(run, thread, from, to, kindAfter) {
+  const moves = run.movesOf.get(thread) ?? [];
+  let place = placeAfter(moves, from - 1);
+  let open = { kind: kindAfter(run, moves[place - 1] ?? 0), from: from - 1 };
+  const found = [];
+  for (; place < moves.length && moves[place] <= to; place += 1) {
+    const kind = kindAfter(run, moves[place]);
+    if (kind === open.kind) continue;
+    found.push({ ...open, to: moves[place] });
+    open = { kind, from: moves[place] };
+  }
+  found.push({ ...open, to: to + 1 });
+  return found;
+}
+
+export const spansOf = (run, thread, from, to) => stretches(run, thread, from, to, standingAfter)
+  .filter(({ kind }) => kind !== 'rest');
+
+export const unlinkedSpans = (run, thread, from, to) => stretches(run, thread, from, to, unlinkedAfter)
+  .filter(({ kind }) => kind);
