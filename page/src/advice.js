@@ -6,7 +6,7 @@ import {
 } from './codes.js';
 import { lineOf } from './bytes.js';
 import { nearest } from './nearest.js';
-import { say, texts } from './texts.js';
+import { fill, say, texts } from './texts.js';
 
 const T = texts.faults;
 const WORDS = [...CALLS, ...STEPS.slice(1)];
@@ -64,7 +64,7 @@ function tooNarrow(words) {
   const bits = Number(words[5]);
   const enough = Math.max(2, threads.toString(2).length);
   return {
-    say: [say(T.tooNarrow, { threads, bits, places: 2 ** bits }), say(T.could, { could: say(T.atLeastBits, { bits: enough }) })],
+    say: [say(T.tooNarrow, { threads, bits, places: 2 ** bits }), say(T.could, { could: fill(T.atLeastBits, { bits: enough }) })],
     mended: [...words.slice(0, 5), enough].join(' '),
   };
 }
@@ -78,7 +78,7 @@ function moveAdvice(words, ownWords) {
   const meant = nearest(words[1], WORDS);
   const own = say(T.ownMoves, { moves: ownWords.join(', ') });
   return {
-    say: [say(T.unknownMove, { found: words[1] }), meant ? say(T.meant, { meant }) : `${own}.`],
+    say: [say(T.unknownMove, { found: words[1] }), meant ? say(T.meant, { meant }) : own],
     mended: meant && `${words[0]} ${meant}`,
   };
 }
@@ -107,9 +107,9 @@ export function faultAdvice(run, ownWords) {
 // What the thread could do instead of the refused move, as the machine says.
 function possibleMoves(state, thread) {
   const due = state.dueStep(thread);
-  if (due) return [say(texts.refused.step, { word: wordOf(1, due) }).replace(/^M/, 'm')];
+  if (due) return [fill(texts.refused.step, { word: wordOf(1, due) })];
   return CALLS.filter((_, call) => state.allows(thread, call))
-    .map((word) => say(texts.refused.call, { word }).replace(/^C/, 'c'));
+    .map((word) => fill(texts.refused.call, { word }));
 }
 
 export function refusalAdvice(run, names) {

@@ -35,7 +35,7 @@ export function codeView(view, state, lines) {
     const here = made && (made.call ? kind === 'call' && call === made.call
       : phase !== undefined && phase === made.phase && kind !== 'inside');
     const threads = first ? threadsAt(state, phase, view.run.threads) : [];
-    return html`<div class="line ${kind || 'plain'} ${here ? 'here' : ''}" ${phase !== undefined && html`data-phase="${PHASES[phase]}"`}
+    return html`<div class="code-line ${kind || 'plain'} ${here ? 'here' : ''}" ${phase !== undefined && html`data-phase="${PHASES[phase]}"`}
       ${here && html`aria-current="step"`}><code>${code}</code><span class="discs">${marks(view, threads)}</span></div>`;
   })}`;
 }

@@ -68,7 +68,7 @@ export function listen(page) {
     page.beginNew(event.target);
   });
   byId('slider').addEventListener('input', (event) => page.go(Number(event.target.value)));
-  byId('lanes').addEventListener('scroll', () => page.draw());
+  for (const id of ['lanes', 'memory-picture']) byId(id).addEventListener('scroll', () => page.draw());
   addEventListener('resize', () => page.draw());
   addEventListener('hashchange', () => page.openFragment());
   addEventListener('beforeprint', () => page.drawPaper());

@@ -19,7 +19,7 @@ export function measured() {
   const size = (id) => ({ width: byId(id).clientWidth, height: byId(id).clientHeight });
   return {
     lanes: { width: byId('lanes').clientWidth, height: Math.max(LANES_LEAST, innerHeight * LANES_SHARE) },
-    memory: size('memory-picture'), slider: size('slider-picture'),
+    memory: { ...size('memory-picture'), scrolled: byId('memory-picture').scrollTop }, slider: size('slider-picture'),
   };
 }
 
@@ -60,11 +60,12 @@ function scaledPicture(size, lock, view, state) {
   const width = Math.max(NARROWEST, size.width);
   const least = lock.leastWidth(view, state);
   const scales = view.run.threads > MANY_THREADS ? [] : SCALES.filter((scale) => width / scale >= least);
+  const shown = { from: size.scrolled / LAST_SCALE, to: (size.scrolled + size.height) / LAST_SCALE };
   for (const scale of scales) {
-    const picture = lock.draw({ ...view, width: width / scale, scale }, state);
+    const picture = lock.draw({ ...view, width: width / scale, scale, shown }, state);
     if (picture.height <= size.height) return picture;
   }
-  return lock.draw({ ...view, width: width / LAST_SCALE, scale: LAST_SCALE }, state);
+  return lock.draw({ ...view, width: width / LAST_SCALE, scale: LAST_SCALE, shown }, state);
 }
 
 export function drawMemory(view, state, size) {

@@ -20,7 +20,7 @@ const rounded = (number) => Math.round(number * 10) / 10;
 function parts(layout, span) {
   const edge = layout.now + 0.4;
   const from = Math.max(span.from, layout.first - 0.6);
-  const to = Math.min(span.to, layout.last + 0.6);
+  const to = Math.min(span.to, layout.last + 0.4);
   return [{ from, to: Math.min(to, edge), style: '' }, { from: Math.max(from, edge), to, style: 'future' }]
     .filter((part) => part.to > part.from)
     .map((part) => ({ x: columnX(layout, part.from), width: (part.to - part.from) * layout.column, style: part.style }));
@@ -169,7 +169,7 @@ export function numbersPicture(view, layout) {
   const numbers = [];
   for (let move = layout.first; move <= layout.last; move += 1) {
     const here = move === layout.now;
-    if (!here && move % every) continue;
+    if (!here && (move % every || Math.abs(move - layout.now) < every)) continue;
     const asked = view.remarks.ask.has(move);
     numbers.push(html`<text class="number ${here ? 'here' : ''} ${move > layout.now ? 'future' : ''}"
       x="${rounded(columnX(layout, move))}" y="22" text-anchor="middle" data-move="${move}">${move}</text>

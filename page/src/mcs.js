@@ -14,9 +14,10 @@ const ownerOf = (word) => (word - 1) >> 1;
 const named = (value) => Number(value) - 1;
 
 const OWN_VARIABLE = { SetLocked: 'pred', LinkTo: 'pred', Grant: 'succ' };
-const RECORD = { narrowest: 132, widest: 156, height: 108, gap: 56, top: 96, row: 184, left: 20 };
+const RECORD = { narrowest: 132, widest: 156, height: 108, gap: 46, top: 96, row: 184, left: 20 };
 // So many records beside one another are not broken into rows for a larger picture's sake.
 const BESIDE = 4;
+const MOST_NAMED = 8;
 
 function valueText(word, value, names) {
   if (isLocked(word)) return String(value);
@@ -102,10 +103,10 @@ function link(from, to, width, linked) {
 
 const isLinked = (state, before, after) => named(state.word(nextOf(before))) === after;
 
-function links(state, layout) {
+function links(view, state, layout) {
   return state.queue.slice(1).map((after, i) => {
     const before = state.queue[i];
-    return link(layout.places.get(before), layout.places.get(after), layout.width,
+    return inView(view, layout.places.get(before)) && link(layout.places.get(before), layout.places.get(after), layout.width,
       isLinked(state, before, after));
   });
 }
@@ -131,13 +132,20 @@ function caption(view, state) {
     : texts.captions.nobodyInLine };
 }
 
+// Only the rows in view are drawn, where the picture is taller than its box.
+function inView(view, place) {
+  const { from, to } = view.shown;
+  return place.y + RECORD.row >= from && place.y <= to;
+}
+
 function draw(view, state) {
   const layout = layOut(view, state);
+  const places = [...layout.places].filter(([, place]) => inView(view, place));
   const height = RECORD.top + layout.rows * RECORD.row - 14;
   const { text } = caption(view, state);
   return picture(view, height, text, html`${tail(view, state, layout)}
-    ${[...layout.places].map(([thread, place]) => record(view, state, thread, place, layout.width))}
-    ${links(state, layout)}`);
+    ${places.map(([thread, place]) => record(view, state, thread, place, layout.width))}
+    ${links(view, state, layout)}`);
 }
 
 function leastWidth(view, state) {
@@ -148,6 +156,7 @@ function leastWidth(view, state) {
 
 function restingNote(view, state) {
   const { hidden } = layOut(view, state);
+  if (hidden.length > MOST_NAMED) return texts.manyResting(texts.threads(hidden.length));
   return hidden.length ? texts.restingThreads(hidden.map((thread) => view.names.short(thread)).join(', ')) : '';
 }
 

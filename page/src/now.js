@@ -56,9 +56,12 @@ function factList(view, state, rows) {
     <dt>${texts.facts.line}</dt><dd data-queue>${queueList(view, state)}</dd></dl>`;
 }
 
+// Words between backticks are code.
+const withCode = (text) => text.split('`').map((part, i) => (i % 2 ? html`<code>${part}</code>` : part));
+
 function startView(view, state) {
   return html`<div class="head"><b>0</b><span>${texts.before}</span></div>
-    <p class="say">${view.remarks.about || texts.start}</p><p class="hint">${texts.startHint}</p>
+    <p class="${view.remarks.about ? 'about' : 'say'}">${withCode(view.remarks.about || texts.start)}</p><p class="hint">${texts.startHint}</p>
     ${factList(view, state, '')}${questions(view)}`;
 }
 

@@ -30,6 +30,9 @@ export function verdictView(session, advice) {
     ${run.count > 0 && html`<p class="soft">${T.stepThrough(run.count)}</p>`}</div>${report}`;
 }
 
+// Where there is no lock to show: what a schedule looks like.
+export const nothingView = (verdict) => html`${verdict}<p>${T.begins}</p><pre class="mono">${T.template}</pre><p class="hint">${T.forms}</p>`;
+
 // A file's bytes: no more than show that it is too long.
 export const bytesOfFile = async (file) => new Uint8Array(await file.slice(0, MOST_BYTES + 1).arrayBuffer());
 

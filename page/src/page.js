@@ -9,7 +9,7 @@ import { FIRST_LESSON, lessonsDialog } from './lessons.js';
 import { keysDialog } from './keys.js';
 import { fragmentOf, readFragment } from './link.js';
 import { byId, html, show } from './markup.js';
-import { adviceOf, bytesOfFile, saveAs, verdictView } from './own.js';
+import { adviceOf, bytesOfFile, nothingView, saveAs, verdictView } from './own.js';
 import { choicesOf, hasRoom, newHeader, playView } from './play.js';
 import { paper } from './print.js';
 import { givenOf, Quiz } from './quiz.js';
@@ -114,9 +114,20 @@ export class Page {
   }
 
   step(by) {
-    if (this.quiz.on && by > 0 && this.quiz.asks(this.session)) return this.askFocus();
+    if (this.quiz.on && by > 0 && this.askNext()) return;
     this.go(this.session.move + by);
-    return this.quiz.asks(this.session) && this.askFocus();
+    if (this.quiz.asks(this.session)) this.askFocus();
+  }
+
+  // Asks for the next move, where there is one.
+  askNext() {
+    if (this.quiz.result) {
+      this.quiz.result = null;
+      this.draw();
+    }
+    if (!this.quiz.asks(this.session)) return false;
+    this.askFocus();
+    return true;
   }
 
   sameThread(way) {
@@ -146,11 +157,9 @@ export class Page {
 
   // Stops where a question is asked, and at the end.
   runOn() {
-    if (this.quiz.asks(this.session)) return this.pause();
     this.step(1);
     const { move, run, remarks } = this.session;
-    if (move >= run.count || remarks.ask.has(move)) this.pause();
-    return undefined;
+    if (move >= run.count || remarks.ask.has(move) || this.quiz.asks(this.session)) this.pause();
   }
 
   pause() {
@@ -312,7 +321,7 @@ export class Page {
     const advice = adviceOf(session);
     const verdict = verdictView(session, advice);
     show(byId('verdict'), verdict);
-    show(byId('nothing-verdict'), session.run.hasLock ? html`` : verdict);
+    show(byId('nothing-verdict'), session.run.hasLock ? html`` : nothingView(mode === 'lessons' ? verdict : null));
     if (mode === 'lessons') return;
     this.editor.fill(session.run.text);
     this.editor.mark({ here: session.run.hasLock ? session.line() : 0, fault: advice?.line ?? 0 });

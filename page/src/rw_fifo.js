@@ -49,7 +49,7 @@ function values(view, move) {
   return { acquires: state.word(ACQUIRES), releases: state.word(RELEASES) };
 }
 
-const leastWidth = () => 512;
+const leastWidth = (view) => (hasWheel(view.run.bits) ? 512 : 400);
 
 export const rwFifo = {
   leastWidth,

@@ -55,6 +55,7 @@ export const texts = {
   ticketStrip: 'The tickets that are out, in the order of the line, and the next one',
   wheel: (bits, places) => `${bits} bits: ${places} numbers, then round`,
   restingThreads: (names) => `At rest: ${names}`,
+  manyResting: (threads) => `At rest: ${threads}`,
   inside: 'inside',
   nobodyInside: 'nobody',
   atMonitor: 'at the monitor',
@@ -128,6 +129,8 @@ export const texts = {
     line: (number) => `Line ${number}`,
     large: (bytes) => `${bytes} bytes: too much to edit here.`,
     template: 'lock mcs threads 2\n0 acquire\n',
+    begins: 'A schedule begins with a header. Then comes one move in each line: a thread’s number, and a call or a step.',
+    forms: 'Locks: ticket, mcs, rw-simple, rw-fifo. Threads: 1 to 64. Behind them may stand the width of words, as in “bits 2”.',
     stepThrough: (count) => (count === 1
       ? 'The move before it can be stepped through.'
       : `The ${count} moves before it can be stepped through.`),
@@ -329,12 +332,15 @@ export const texts = {
     unknownMove: 'Unknown move “{found}”.',
     moveShape: 'This is no move. A move is a thread’s number, one blank, and a word.',
     moves: 'acquire, release, rlock, runlock, wlock, wunlock, downgrade, read, write, swap, cas, add, section',
-    ownMoves: '{moves} are the moves of this lock',
+    ownMoves: 'The moves of this lock are {moves}.',
   },
 };
 
 // Puts values into a text.
+export const fill = (text, values) => text.replace(/\{(\w+)\}/g, (_, name) => values[name]);
+
+// The same as a sentence: it begins with a capital letter.
 export function say(text, values) {
-  const line = text.replace(/\{(\w+)\}/g, (_, name) => values[name]);
+  const line = fill(text, values);
   return line.charAt(0).toUpperCase() + line.slice(1);
 }

@@ -104,6 +104,6 @@ function caption(view, state) {
 const mark = (run, move) => String(run.records.found(move));
 const values = (view, move) => ({ number: view.run.phaseNumberBefore(move) });
 
-const leastWidth = () => 576;
+const leastWidth = (view) => (hasWheel(view.run.bits) ? 576 : 420);
 
 export const ticket = { leastWidth, wordName, valueText, mark, values, draw, caption, goesRound: ['TakeTicket', 'PassOn'] };

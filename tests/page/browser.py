@@ -32,6 +32,9 @@ def chromium(width=1440, height=900, dark=False, arguments=()):
                 "width": width, "height": height, "deviceScaleFactor": 1, "mobile": False})
             scheme = {"name": "prefers-color-scheme", "value": "dark" if dark else "light"}
             driver.execute_cdp_cmd("Emulation.setEmulatedMedia", {"features": [scheme]})
+            # What the browser asked for before the first page is its own affair.
+            driver.get("about:blank")
+            driver.get_log("performance")
             yield driver
         finally:
             driver.quit()

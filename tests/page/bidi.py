@@ -1,0 +1,79 @@
+"""Debian's Firefox, headless, spoken to by WebDriver BiDi over its own web socket."""
+import contextlib
+import json
+import re
+import subprocess
+import tempfile
+import threading
+
+import websocket
+
+PATIENCE = 120
+LISTENS = re.compile(rb"WebDriver BiDi listening on (ws://\S+)")
+
+
+class Firefox:
+    """One browsing context, and what was asked of the net while it was open."""
+
+    def __init__(self, address):
+        self.socket = websocket.create_connection(f"{address}/session", timeout=PATIENCE, suppress_origin=True)
+        self.number = 0
+        self.requests = []
+        self.ask("session.new", {"capabilities": {}})
+        self.ask("session.subscribe", {"events": ["network.beforeRequestSent"]})
+        self.context = self.ask("browsingContext.getTree", {})["contexts"][0]["context"]
+
+    def ask(self, method, params):
+        self.number += 1
+        self.socket.send(json.dumps({"id": self.number, "method": method, "params": params}))
+        while True:
+            answer = json.loads(self.socket.recv())
+            if answer.get("method") == "network.beforeRequestSent":
+                self.requests.append(answer["params"]["request"]["url"])
+            if answer.get("id") == self.number:
+                assert answer["type"] == "success", answer
+                return answer["result"]
+
+    def open(self, url):
+        self.ask("browsingContext.navigate", {"context": self.context, "url": "about:blank", "wait": "complete"})
+        self.ask("browsingContext.navigate", {"context": self.context, "url": url, "wait": "complete"})
+
+    def run(self, script, value=None):
+        """What the script gives, as JSON; `value` is its first argument."""
+        function = f"(text) => {{ const value = JSON.parse(text); return JSON.stringify((() => {{ {script} }})() ?? null); }}"
+        answer = self.ask("script.callFunction", {
+            "functionDeclaration": function, "awaitPromise": False, "target": {"context": self.context},
+            "arguments": [{"type": "string", "value": json.dumps(value)}]})
+        assert answer["type"] == "success", answer
+        return json.loads(answer["result"]["value"])
+
+    def press(self, key):
+        """A key, as the browser would have it from a keyboard."""
+        actions = [{"type": "keyDown", "value": key}, {"type": "keyUp", "value": key}]
+        self.ask("input.performActions", {
+            "context": self.context, "actions": [{"type": "key", "id": "keyboard", "actions": actions}]})
+
+
+@contextlib.contextmanager
+def firefox():
+    with tempfile.TemporaryDirectory(ignore_cleanup_errors=True) as profile:
+        process = subprocess.Popen(
+            ["firefox-esr", "--headless", "--no-remote", "--profile", profile, "--remote-debugging-port", "0"],
+            stdout=subprocess.DEVNULL, stderr=subprocess.PIPE)
+        try:
+            browser = Firefox(address_of(process))
+            yield browser
+            browser.socket.close()
+        finally:
+            process.terminate()
+            process.wait(PATIENCE)
+
+
+def address_of(process):
+    """Where the browser listens, as it says on its standard error, which is read on to its end."""
+    for line in process.stderr:
+        found = LISTENS.search(line)
+        if found:
+            threading.Thread(target=process.stderr.read, daemon=True).start()
+            return found[1].decode()
+    raise AssertionError("Firefox ended before it listened")

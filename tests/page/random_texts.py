@@ -1,0 +1,56 @@
+"""The page's report of random schedules and texts is the program's, byte for byte."""
+import base64
+import random
+import sys
+
+from browser import TOP, open_page, run
+from reports import reports_of
+
+sys.path.insert(0, str(TOP / "fuzz"))
+import schedules  # noqa: E402
+
+SEED = 20260719
+TEXTS = 2000
+LONGEST = 300
+IN_BATCH = 100
+REPORTS = """
+const { report, fromBase64 } = window.lockreplay;
+return arguments[0].map((text) => report(fromBase64(text)));
+"""
+
+
+def texts_drawn(count, seed=SEED):
+    chance = random.Random(seed)
+    return [schedules.random_text(chance, LONGEST) for _ in range(count)]
+
+
+def page_reports(driver, texts):
+    coded = [base64.b64encode(text).decode("ascii") for text in texts]
+    return run(driver, REPORTS, coded)
+
+
+def covered(texts, reports):
+    """The locks and widths of the schedules that were played."""
+    played = [text for text, report in zip(texts, reports) if not report.startswith("fault")]
+    headers = [line.split() for text in played for line in text.decode("latin-1").split("\n")
+               if line.startswith("lock ")]
+    return {words[1] for words in headers}, {words[5] for words in headers if len(words) > 5}
+
+
+def compare(driver, texts, reports):
+    for first in range(0, len(texts), IN_BATCH):
+        mine = page_reports(driver, texts[first:first + IN_BATCH])
+        for text, shown, report in zip(texts[first:], mine, reports[first:]):
+            assert shown == report, (text, shown[-200:], report[-200:])
+
+
+def two_thousand(driver, program):
+    texts = texts_drawn(TEXTS)
+    reports = reports_of(program, texts)
+    locks, widths = covered(texts, reports)
+    assert locks == {"ticket", "mcs", "rw-simple", "rw-fifo"} and len(widths) > 30, (locks, widths)
+    open_page(driver)
+    compare(driver, texts, reports)
+
+
+CHECKS = [two_thousand]

@@ -1,0 +1,73 @@
+#!/usr/bin/python3
+"""Tests of page/lockreplay.html in real browsers: tests/page/run.py PROGRAM [MODULE...]
+
+Each module has its browser, three at a time. After each, the browser's log must have no error, and no
+request may have left the page. Needs Debian's chromium, chromium-driver, python3-selenium, firefox-esr
+and python3-websocket.
+"""
+import concurrent.futures
+import importlib
+import json
+import os
+import sys
+import time
+import traceback
+
+from browser import PAGE, chromium
+
+IN_CHROMIUM = ["random_texts", "lessons", "playing", "own_texts", "without_machine", "keyboard", "quizzing",
+               "large", "looks", "links", "paper"]
+IN_FIREFOX = ["firefox"]
+AT_ONCE = 3
+OWN = (PAGE.as_uri(), "about:blank", "data:", "blob:")
+
+
+def stays_silent(driver):
+    """Nothing was asked of anybody, and nothing went wrong unseen."""
+    for entry in driver.get_log("performance"):
+        message = json.loads(entry["message"])["message"]
+        if message["method"] == "Network.requestWillBeSent":
+            url = message["params"]["request"]["url"]
+            assert url.startswith(OWN), f"a request left the page: {url}"
+    errors = [entry["message"] for entry in driver.get_log("browser") if entry["level"] == "SEVERE"]
+    assert not errors, errors
+
+
+def in_chromium(name, program):
+    module = importlib.import_module(name)
+    with chromium() as driver:
+        for check in module.CHECKS:
+            check(driver, program)
+            stays_silent(driver)
+
+
+def run_module(name, program):
+    """What to print of a module, and whether all is well."""
+    begun = time.monotonic()
+    try:
+        if name in IN_FIREFOX:
+            importlib.import_module(name).check_all(program)
+        else:
+            in_chromium(name, program)
+    except Exception:
+        return f"FAILED {name}\n{traceback.format_exc()}", False
+    return f"ok {name} ({time.monotonic() - begun:.0f} s)", True
+
+
+def main(words):
+    if not words:
+        sys.exit(__doc__)
+    program = os.path.abspath(words[0])
+    names = words[1:] or IN_FIREFOX + IN_CHROMIUM
+    with concurrent.futures.ProcessPoolExecutor(AT_ONCE) as pool:
+        results = [pool.submit(run_module, name, program) for name in names]
+        well = True
+        for done in concurrent.futures.as_completed(results):
+            text, fine = done.result()
+            print(text, flush=True)
+            well = well and fine
+    return 0 if well else 1
+
+
+if __name__ == "__main__":
+    sys.exit(main(sys.argv[1:]))

@@ -1,0 +1,56 @@
+#!/usr/bin/python3
+"""Takes the pictures of the documents: tests/page/screenshots.py writes docs/pictures/*.png, each below 200 KB."""
+import subprocess
+import sys
+
+from browser import TOP, chromium, open_page, run
+
+PICTURES = TOP / "docs" / "pictures"
+MOST_BYTES = 200_000
+PLAY = "window.lockreplay.page.setMode('play')"
+QUIZ = "window.lockreplay.page.toggleQuiz()"
+FAULT = """
+const text = 'lock mcs threads 2\\n0 acquire\\n0 write\\n0 swap\\n0 realease\\n';
+window.lockreplay.page.openOwn(new TextEncoder().encode(text));
+window.lockreplay.page.go(3);
+"""
+
+# Name of the picture, fragment of the page, dark or light, and what else is done before.
+SHOTS = [
+    ("late-link", "#lesson=mcs-late-link&move=9", False, ""),
+    ("out-of-order-dark", "#lesson=mcs-third-linked-before-second&move=12", True, ""),
+    ("tickets-go-round", "#lesson=ticket-wraps-at-2-bits&move=23", False, ""),
+    ("announced-writer", "#lesson=fifo-counts-wrap-at-2-bits&move=16", False, ""),
+    ("play", "#lesson=mcs-late-link&move=9", False, PLAY),
+    ("quiz", "#lesson=fifo-reader-waits-behind-writer&move=9", False, QUIZ),
+    ("your-own", "#lesson=mcs-late-link&move=0", False, FAULT),
+]
+
+
+def shrink(path):
+    """Fewer colours, where the tool for it is there; the picture is flat, so nothing is seen of it."""
+    subprocess.run(["pngquant", "--force", "--strip", "--speed", "1", "--output", str(path), "128", str(path)],
+                   check=False)
+
+
+def take(name, fragment, dark, before):
+    path = PICTURES / f"{name}.png"
+    with chromium(dark=dark) as driver:
+        open_page(driver, fragment)
+        if before:
+            run(driver, before)
+        run(driver, "document.activeElement.blur()")
+        driver.save_screenshot(str(path))
+    shrink(path)
+    assert path.stat().st_size < MOST_BYTES, (name, path.stat().st_size)
+
+
+def main():
+    PICTURES.mkdir(exist_ok=True)
+    for shot in SHOTS:
+        take(*shot)
+    return 0
+
+
+if __name__ == "__main__":
+    sys.exit(main())
