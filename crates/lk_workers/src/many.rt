@@ -32,6 +32,17 @@ struct Batch<'a, G> {
 }
 
 impl<'a, G: Gate> Batch<'a, G> {
+    fn new(alloc: Global, draws: &'a Draws, texts: &'a [Vec<u8>], gate: &'a G) -> Batch<'a, G>
+        ensures { (result.draws.now ≡ draws.now) × (result.texts.now ≡ texts.now) }
+    {
+        Batch {
+            alloc,
+            draws,
+            texts,
+            gate,
+        }
+    }
+
     // The report of one text, between the gate's two calls.
     fn replay_one(&self, text: &[u8], number: u32) -> Result<Vec<u8>, AllocError>
         ensures { IfOk result (λ v. v.items ≡ report_text text.now) }
@@ -110,35 +121,11 @@ fn work_all<G: Gate, R: Threads + Sync>(
         move || -> Result<Done, AllocError>
             requires { IsSync R.row × IsSync G.row × MayWork draws.now texts.now half seat }
             ensures { IfOk result (λ r. IsDone draws.entry.now texts.entry.now half r.0 r.1.items) }
-        {
-            work_all(
-                rt,
-                Batch {
-                    alloc,
-                    draws,
-                    texts,
-                    gate,
-                },
-                seat,
-                half,
-            )
-        },
+        { work_all(rt, Batch::new(alloc, draws, texts, gate), seat, half) },
         move || -> Result<Done, AllocError>
             requires { IsSync R.row × IsSync G.row × MayWork draws.now texts.now rest other }
             ensures { IfOk result (λ r. IsDone draws.entry.now texts.entry.now rest r.0 r.1.items) }
-        {
-            work_all(
-                rt,
-                Batch {
-                    alloc,
-                    draws,
-                    texts,
-                    gate,
-                },
-                other,
-                rest,
-            )
-        },
+        { work_all(rt, Batch::new(alloc, draws, texts, gate), other, rest) },
     );
     gather(draws, front?, back?)
 }
