@@ -11,7 +11,8 @@ use Rattle.lk_locks.specs.declared.kinds.Entry.TheVariants.{Called, Acted, Retur
 -- in these entries t called op, and since then did this
 abbrev pub HasDone : ℕ → Op → List Entry → List Entry → Type 0
 HasDone t op deeds es =
-    (start middle : List Entry) × (es ≡ start ++ Called t op ∷ middle) × (subhistory t middle ≡ deeds)
+    (start middle : List Entry) × (es ≡ start ++ Called t op ∷ middle)
+    × (subhistory t middle ≡ deeds)
 
 -- where a call returns it was called, and since then its thread did nothing but act once, after the
 -- announcement of a FIFO writer

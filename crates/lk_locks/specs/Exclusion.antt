@@ -57,7 +57,8 @@ HasStoppedWriting t es = Occurs (Acted t WriteUnlock) es ⊎ Occurs (Acted t Dow
 
 -- between two writers the first stops writing
 abbrev pub HasOneWriter : List Entry → Type 0
-HasOneWriter es = (t u : ℕ) → Between (Acted t WriteLock) (Acted u WriteLock) (HasStoppedWriting t) es
+HasOneWriter es =
+    (t u : ℕ) → Between (Acted t WriteLock) (Acted u WriteLock) (HasStoppedWriting t) es
 
 abbrev pub NeverTwoWriters : Type 0
 NeverTwoWriters = (kind : LockKind) (n : ℕ) (es : List Entry) → Legal kind n es → HasOneWriter es
@@ -72,7 +73,8 @@ HasNoReaderBeside kind es =
 -- A reader enters only after the writer before it stopped writing, and a writer only after each reader before
 -- it left, and each writer that became a reader.
 pub record IsNeverBesideReader (kind : LockKind) (es : List Entry) : Type 0 where
-  pub then_reader : (t u : ℕ) → Between (Acted t WriteLock) (Acted u ReadLock) (HasStoppedWriting t) es
+  pub then_reader : (t u : ℕ)
+      → Between (Acted t WriteLock) (Acted u ReadLock) (HasStoppedWriting t) es
   pub then_writer : (t u : ℕ)
       → Between (Acted t ReadLock) (Acted u WriteLock) (Occurs (Acted t ReadUnlock)) es
   pub downgraded_writer : (t u : ℕ)
@@ -86,8 +88,10 @@ NeverAWriterBesideAReader =
 -- between the announcement of a FIFO writer and a later reader's entering, or another's announcement, stands
 -- that writer's entering
 pub record IsAnnouncedFirst (es : List Entry) : Type 0 where
-  pub then_reader : (t u : ℕ) → Between (Announced t) (Acted u ReadLock) (Occurs (Acted t WriteLock)) es
-  pub then_announced : (t u : ℕ) → Between (Announced t) (Announced u) (Occurs (Acted t WriteLock)) es
+  pub then_reader : (t u : ℕ)
+      → Between (Announced t) (Acted u ReadLock) (Occurs (Acted t WriteLock)) es
+  pub then_announced : (t u : ℕ)
+      → Between (Announced t) (Announced u) (Occurs (Acted t WriteLock)) es
 
 abbrev pub AnnouncedWriterGoesFirst : Type 0
 AnnouncedWriterGoesFirst = (n : ℕ) (es : List Entry) → Legal RwFifo n es → IsAnnouncedFirst es

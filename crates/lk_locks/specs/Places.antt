@@ -9,4 +9,5 @@ Occurs e (x ∷ xs) = (x ≡ e) ⊎ Occurs e xs
 
 -- what holds of the entries between each a and each later b
 abbrev pub Between : Entry → Entry → (List Entry → Type 0) → List Entry → Type 0
-Between a b P es = (before middle after : List Entry) → es ≡ before ++ a ∷ middle ++ b ∷ after → P middle
+Between a b P es =
+    (before middle after : List Entry) → es ≡ before ++ a ∷ middle ++ b ∷ after → P middle

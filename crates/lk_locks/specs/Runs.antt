@@ -22,8 +22,9 @@ new_lock kind bits ws n =
 -- what holds of the history that each list of moves leaves on a new lock, with enough words, all 0
 abbrev pub OfEveryRun : (LockKind → ℕ → List Entry → Type 0) → Type 0
 OfEveryRun Holds =
-    (kind : LockKind) (bits : ℕ) (ws : List ℕ) (n : ℕ) (ms : List (ℕ × Move)) → n ≤ 64 → n < 2 ^ bits
-    → word_count kind n ≤ length ws → ((i : ℕ) → i < length ws → slice_index ws i ≡ 0)
+    (kind : LockKind) (bits : ℕ) (ws : List ℕ) (n : ℕ) (ms : List (ℕ × Move))
+    → n ≤ 64 → n < 2 ^ bits → word_count kind n ≤ length ws
+    → ((i : ℕ) → i < length ws → slice_index ws i ≡ 0)
     → Holds kind n (after_moves (new_lock kind bits ws n) ms).entries
 
 -- whatever moves are played, the history of a new lock is legal

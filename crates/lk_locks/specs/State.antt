@@ -25,4 +25,4 @@ phase_at phases t = get_or phases t Idle
 
 -- at the start all threads are idle. The words are the caller's, all 0
 abbrev pub start : LockKind → ℕ → List ℕ → ℕ → State
-start kind bits words threads = record { kind = kind; bits = bits; words = words; phases = replicate threads Idle }
+start kind bits ws n = record { kind = kind; bits = bits; words = ws; phases = replicate n Idle }

@@ -87,7 +87,7 @@ abbrev pub refusal_at : LockKind → Phase → Option StepKind → Move → Opti
 refusal_at kind p None (Call op) = refusal_of_call (after_call kind p op) (after_call kind Idle op)
 refusal_at kind p (Some next) (Call op) = Some Busy
 refusal_at kind p None (Step step) = Some NoCall
-refusal_at kind p (Some next) (Step step) = if same_step next step then None else Some (WrongStep next)
+refusal_at kind p (Some next) (Step s) = if same_step next s then None else Some (WrongStep next)
 
 abbrev pub refusal_in : LockKind → Phase → Move → Option Refusal
 refusal_in kind p m = refusal_at kind p (step_due kind p) m

@@ -1,5 +1,5 @@
--- Definitions. Histories written out, and moves that lead to some of them. On these the laws are evaluated: each holds of
--- histories that are as they should be, and fails of one that is not. This project's own.
+-- Definitions. Histories written out, and moves that lead to some of them. On these the laws are evaluated:
+-- each holds of histories that are as they should be, and fails of one that is not. This project's own.
 use Rattle.std.specs.Prelude.{ℕ, List, [], ◌∷◌, ◌++◌}
 use Rattle.lk_locks.specs.declared.kinds.Op.TheVariants.{Acquire, Release, ReadLock, ReadUnlock, WriteLock, WriteUnlock, Downgrade}
 use Rattle.lk_locks.specs.declared.kinds.StepKind.TheVariants.{Read, Write, Swap, Add, Section}
@@ -12,7 +12,9 @@ use Rattle.lk_locks.specs.declared.kinds.Entry.TheVariants.{Called, Announced, A
 
 -- thread 0 is inside, and thread 1 has asked
 abbrev pub one_inside : List Entry
-one_inside = Called 0 Acquire ∷ Acted 0 Acquire ∷ Returned 0 Acquire ∷ Called 1 Acquire ∷ Acted 1 Acquire ∷ []
+one_inside =
+    Called 0 Acquire ∷ Acted 0 Acquire ∷ Returned 0 Acquire
+    ∷ Called 1 Acquire ∷ Acted 1 Acquire ∷ []
 
 -- thread 0 has left
 abbrev pub left_free : List Entry
@@ -28,11 +30,15 @@ two_inside = one_inside ++ Returned 1 Acquire ∷ []
 
 -- thread 1 enters before thread 0, which asked before it
 abbrev pub overtaken : List Entry
-overtaken = Called 0 Acquire ∷ Acted 0 Acquire ∷ Called 1 Acquire ∷ Acted 1 Acquire ∷ Returned 1 Acquire ∷ []
+overtaken =
+    Called 0 Acquire ∷ Acted 0 Acquire
+    ∷ Called 1 Acquire ∷ Acted 1 Acquire ∷ Returned 1 Acquire ∷ []
 
 -- thread 1 releases what thread 0 holds
 abbrev pub released_by_another : List Entry
-released_by_another = Called 0 Acquire ∷ Acted 0 Acquire ∷ Returned 0 Acquire ∷ Called 1 Release ∷ Acted 1 Release ∷ []
+released_by_another =
+    Called 0 Acquire ∷ Acted 0 Acquire ∷ Returned 0 Acquire
+    ∷ Called 1 Release ∷ Acted 1 Release ∷ []
 
 -- thread 0 enters, and never asked
 abbrev pub unasked : List Entry
@@ -102,22 +108,22 @@ writer_passes = announced ++ Called 2 WriteLock ∷ Announced 2 ∷ []
 
 abbrev pub ticket_moves : List (ℕ × Move)
 ticket_moves =
-    (0, Call Acquire) ∷ (0, Step Add) ∷ (0, Step Read) ∷ (0, Step Read) ∷ (0, Call Acquire) ∷ (1, Call Acquire)
-    ∷ (1, Step Add) ∷ (1, Step Read) ∷ (1, Call Release) ∷ (0, Call Release) ∷ (0, Step Read) ∷ (0, Step Write)
-    ∷ (2, Call Acquire) ∷ (1, Step Read) ∷ []
+    (0, Call Acquire) ∷ (0, Step Add) ∷ (0, Step Read) ∷ (0, Step Read) ∷ (0, Call Acquire)
+    ∷ (1, Call Acquire) ∷ (1, Step Add) ∷ (1, Step Read) ∷ (1, Call Release) ∷ (0, Call Release)
+    ∷ (0, Step Read) ∷ (0, Step Write) ∷ (2, Call Acquire) ∷ (1, Step Read) ∷ []
 
 abbrev pub mcs_moves : List (ℕ × Move)
 mcs_moves =
-    (0, Call Acquire) ∷ (0, Step Write) ∷ (0, Step Swap) ∷ (1, Call Acquire) ∷ (1, Step Add) ∷ (1, Step Write)
-    ∷ (1, Step Swap) ∷ (1, Step Write) ∷ (1, Step Write) ∷ (1, Step Read) ∷ (0, Call Release) ∷ (0, Step Read)
-    ∷ (0, Step Write) ∷ (1, Step Read) ∷ []
+    (0, Call Acquire) ∷ (0, Step Write) ∷ (0, Step Swap) ∷ (1, Call Acquire) ∷ (1, Step Add)
+    ∷ (1, Step Write) ∷ (1, Step Swap) ∷ (1, Step Write) ∷ (1, Step Write) ∷ (1, Step Read)
+    ∷ (0, Call Release) ∷ (0, Step Read) ∷ (0, Step Write) ∷ (1, Step Read) ∷ []
 
 abbrev pub simple_moves : List (ℕ × Move)
 simple_moves =
-    (0, Call WriteLock) ∷ (0, Step Section) ∷ (0, Call Downgrade) ∷ (0, Step Section) ∷ (0, Call WriteUnlock)
-    ∷ (1, Call ReadLock) ∷ (1, Step Section) ∷ (1, Step Section) ∷ []
+    (0, Call WriteLock) ∷ (0, Step Section) ∷ (0, Call Downgrade) ∷ (0, Step Section)
+    ∷ (0, Call WriteUnlock) ∷ (1, Call ReadLock) ∷ (1, Step Section) ∷ (1, Step Section) ∷ []
 
 abbrev pub fifo_moves : List (ℕ × Move)
 fifo_moves =
-    (0, Call ReadLock) ∷ (0, Step Section) ∷ (1, Call WriteLock) ∷ (1, Step Section) ∷ (1, Step Section)
-    ∷ (0, Call ReadUnlock) ∷ (0, Step Section) ∷ (1, Step Section) ∷ []
+    (0, Call ReadLock) ∷ (0, Step Section) ∷ (1, Call WriteLock) ∷ (1, Step Section)
+    ∷ (1, Step Section) ∷ (0, Call ReadUnlock) ∷ (0, Step Section) ∷ (1, Step Section) ∷ []

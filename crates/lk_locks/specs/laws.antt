@@ -33,7 +33,10 @@ take_event bits found = event ((found + 1) % 2 ^ bits) (AwaitTurn found) Moved
 
 -- the read of `now_serving` by a thread that waits with this ticket
 abbrev pub look_event : ℕ → ℕ → Event
-look_event ticket found = if found == ticket then event found (TicketInside ticket) Entered else event found (AwaitTurn ticket) Waits
+look_event ticket found =
+    if found == ticket
+    then event found (TicketInside ticket) Entered
+    else event found (AwaitTurn ticket) Waits
 
 -- the read of `now_serving` by a thread that releases
 abbrev pub read_event : ℕ → Event

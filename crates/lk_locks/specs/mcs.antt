@@ -58,11 +58,15 @@ step bits i ws (LinkTo j) = to (set ws (next j) (i + 1)) AwaitGrant Moved
 step bits i ws AwaitGrant =
     if slice_index ws (locked i) == 0 then to ws McsInside Entered else to ws AwaitGrant Waits
 step bits i ws ReadNext =
-    if slice_index ws (next i) == 0 then to ws CasTail Moved else to ws (Grant (slice_index ws (next i) - 1)) Moved
+    if slice_index ws (next i) == 0
+    then to ws CasTail Moved
+    else to ws (Grant (slice_index ws (next i) - 1)) Moved
 step bits i ws CasTail =
     if slice_index ws tail == i + 1 then to (set ws tail 0) Idle Left else to ws AwaitLink Moved
 step bits i ws AwaitLink =
-    if slice_index ws (next i) == 0 then to ws AwaitLink Waits else to ws (Grant (slice_index ws (next i) - 1)) Moved
+    if slice_index ws (next i) == 0
+    then to ws AwaitLink Waits
+    else to ws (Grant (slice_index ws (next i) - 1)) Moved
 step bits i ws (Grant j) = to (set ws (locked j) 0) Idle Left
 step bits i ws p = to ws p Waits
 

@@ -26,15 +26,12 @@ after_call Writing WriteUnlock = Some LeaveWrite
 after_call Writing Downgrade = Some TryDowngrade
 after_call p op = None
 
--- The step that a thread takes next. Only a FIFO writer awaits readers.
+-- the step that a thread takes next: a section, unless it is idle or inside
 abbrev pub step_due : Phase → Option StepKind
-step_due TryRead = Some Section
-step_due LeaveRead = Some Section
-step_due TryWrite = Some Section
-step_due AwaitReaders = Some Section
-step_due LeaveWrite = Some Section
-step_due TryDowngrade = Some Section
-step_due p = None
+step_due Idle = None
+step_due Reading = None
+step_due Writing = None
+step_due p = Some Section
 
 -- The entries of a section. A FIFO writer announces itself where it sets the flag; a call acts where it
 -- succeeds.

@@ -32,7 +32,9 @@ step bits ws TryRead =
 step bits ws LeaveRead = to (raised bits ws read_releases) Idle Left
 step bits ws TryWrite =
     if slice_index ws flag == 0
-    then (if are_gone ws then to (set ws flag 1) Writing Entered else to (set ws flag 1) AwaitReaders Moved)
+    then (if are_gone ws
+    then to (set ws flag 1) Writing Entered
+    else to (set ws flag 1) AwaitReaders Moved)
     else to ws TryWrite Waits
 step bits ws AwaitReaders =
     if are_gone ws then to ws Writing Entered else to ws AwaitReaders Waits

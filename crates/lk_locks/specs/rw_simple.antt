@@ -19,7 +19,9 @@ flag = 1
 -- a section of a thread in this phase
 abbrev pub step : ℕ → List ℕ → Phase → Change
 step bits ws TryRead =
-    if slice_index ws flag == 0 then to (raised bits ws readers) Reading Entered else to ws TryRead Waits
+    if slice_index ws flag == 0
+    then to (raised bits ws readers) Reading Entered
+    else to ws TryRead Waits
 step bits ws LeaveRead = to (set ws readers (less_one bits (slice_index ws readers))) Idle Left
 step bits ws TryWrite =
     if slice_index ws readers == 0 && slice_index ws flag == 0

@@ -24,18 +24,13 @@ pub fn after_call(phase: Phase, op: Op) -> Option<Phase>
     }
 }
 
-/// The step that a thread takes next.
+/// The step that a thread takes next: a section, unless it is idle or inside.
 pub fn step_due(phase: Phase) -> Option<StepKind>
     ensures { result ≡ step_due phase }
 {
     match phase {
-        Phase::TryRead
-        | Phase::LeaveRead
-        | Phase::TryWrite
-        | Phase::AwaitReaders
-        | Phase::LeaveWrite
-        | Phase::TryDowngrade => Some(StepKind::Section),
-        _ => None,
+        Phase::Idle | Phase::Reading | Phase::Writing => None,
+        _ => Some(StepKind::Section),
     }
 }
 

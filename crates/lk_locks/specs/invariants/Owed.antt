@@ -20,4 +20,5 @@ owed_of RwFifo t p = rw_fifo.owed t p
 
 -- thread t's entries, with the rest of its pending call, are whole calls
 abbrev pub IsInTurn : LockKind → List Entry → ℕ → Phase → Type 0
-IsInTurn kind es t p = (ops : List Op) × (subhistory t es ++ owed_of kind t p ≡ flat_map (whole_call kind t) ops)
+IsInTurn kind es t p =
+    (ops : List Op) × (subhistory t es ++ owed_of kind t p ≡ flat_map (whole_call kind t) ops)

@@ -22,7 +22,8 @@ AreLinks kind n ws = Unit {0}
 
 pub record WellFormed (s : State) : Type 0 where
   pub enough : word_count s.kind (length s.phases) ≤ length s.words
-  pub phases_fit : (t : ℕ) → t < length s.phases → IsPhaseOf s.kind (length s.phases) (phase_at s.phases t)
+  pub phases_fit : (t : ℕ) → t < length s.phases
+      → IsPhaseOf s.kind (length s.phases) (phase_at s.phases t)
   pub links_fit : AreLinks s.kind (length s.phases) s.words
 
 pub record IsMachine (threads : ℕ) (s : State) : Type 0 where

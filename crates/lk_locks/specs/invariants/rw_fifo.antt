@@ -38,6 +38,7 @@ owed i p = []
 pub record AgreesWith (bits : ℕ) (ws : List ℕ) (ps : List Phase) (q : Sequential) : Type 0 where
   pub narrow : length ps < 2 ^ bits
   pub left : slice_index ws read_releases < 2 ^ bits
-  pub came : slice_index ws read_acquires ≡ (slice_index ws read_releases + length q.readers) % 2 ^ bits
+  pub came : slice_index ws read_acquires
+      ≡ (slice_index ws read_releases + length q.readers) % 2 ^ bits
   pub flag_is : slice_index ws flag ≡ flag_of q.writer q.announced
   pub holders : AreHolders ps q

@@ -48,12 +48,14 @@ ticket_of p = None
 -- the threads wait with the tickets from x on
 abbrev pub WaitInLine : ℕ → List Phase → ℕ → List ℕ → Type 0
 WaitInLine bits ps x [] = Unit {0}
-WaitInLine bits ps x (t ∷ ts) = (phase_at ps t ≡ AwaitTurn x) × WaitInLine bits ps (plus_one bits x) ts
+WaitInLine bits ps x (t ∷ ts) =
+    (phase_at ps t ≡ AwaitTurn x) × WaitInLine bits ps (plus_one bits x) ts
 
 -- the first may be inside, and the others wait
 abbrev pub IsLine : ℕ → List Phase → ℕ → List ℕ → Type 0
 IsLine bits ps x [] = Unit {0}
-IsLine bits ps x (t ∷ ts) = (ticket_of (phase_at ps t) ≡ Some x) × WaitInLine bits ps (plus_one bits x) ts
+IsLine bits ps x (t ∷ ts) =
+    (ticket_of (phase_at ps t) ≡ Some x) × WaitInLine bits ps (plus_one bits x) ts
 
 -- The queue is the threads with a ticket, in the order of the tickets. A word has more values than there are threads, so tickets differ.
 pub record IsQueue (bits : ℕ) (ws : List ℕ) (ps : List Phase) (queue : List ℕ) : Type 0 where

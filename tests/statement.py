@@ -1,0 +1,101 @@
+#!/usr/bin/env python3
+"""Counts the lines of definitions that a reader must believe to read the main theorem.
+
+    tests/statement.py [NAME]
+
+From `MainTheorem.EveryRunIsAsPromised`, or from another definition given as FILE.NAME, it follows each name to
+its definition in crates/lk_locks/specs, and prints for each file the definitions that are reached, with their
+lines. Blank lines, comments and `use` lines do not count.
+"""
+
+import re
+import sys
+from pathlib import Path
+
+SPECS = Path(__file__).resolve().parent.parent / "crates" / "lk_locks" / "specs"
+THEOREM = "MainTheorem.EveryRunIsAsPromised"
+
+IMPORT = re.compile(r"use Rattle\.lk_locks\.specs\.([\w.]+?)(?:\.\{(.*)\})?$")
+DEFINITION = re.compile(r"(?:abbrev pub|pub record|pub data)\s+(\S+)")
+NAME = re.compile(r"(?<![\w.])([A-Za-z_]\w*)(?:\.([A-Za-z_]\w*))?")
+
+
+class Definitions:
+    """The definitions of one file: their lines, and what each imported name stands for."""
+
+    def __init__(self, module, lines):
+        self.module = module
+        self.lines = {}
+        self.names = {}
+        self.modules = {}
+        name = None
+        for line in lines:
+            if line.startswith("use "):
+                self.add_import(line)
+            elif line.strip() and not line.lstrip().startswith("--") and not line.startswith("pub mod"):
+                opens = DEFINITION.match(line)
+                name = opens.group(1) if opens else name
+                self.lines.setdefault(name, []).append(line)
+
+    def add_import(self, line):
+        found = IMPORT.match(line)
+        if not found or found.group(1).startswith("declared"):
+            return
+        module, names = found.groups()
+        if names is None:
+            self.modules[module.split(".")[-1]] = module
+        else:
+            self.names.update((name.strip(), module) for name in names.split(","))
+
+    def named_in(self, definition):
+        """Each (file, name) that the definition's text may speak of."""
+        for first, second in NAME.findall("\n".join(self.lines[definition])):
+            if second and first in self.modules:
+                yield self.modules[first], second
+            elif first in self.lines:
+                yield self.module, first
+            elif first in self.names:
+                yield self.names[first], first
+
+
+def read_all():
+    files = {}
+    for path in SPECS.rglob("*.antt"):
+        module = ".".join(path.relative_to(SPECS).with_suffix("").parts)
+        files[module] = Definitions(module, path.read_text().splitlines())
+    return files
+
+
+def reached(files, root):
+    """What is reached from a definition, itself among it."""
+    seen, waiting = set(), [root]
+    while waiting:
+        module, name = waiting.pop()
+        if (module, name) in seen or name not in files[module].lines:
+            continue
+        seen.add((module, name))
+        waiting.extend(files[module].named_in(name))
+    return seen
+
+
+def main():
+    module, _, name = (sys.argv[1] if len(sys.argv) > 1 else THEOREM).rpartition(".")
+    files = read_all()
+    if module not in files or name not in files[module].lines:
+        sys.exit(f"no definition {module}.{name}")
+    found = reached(files, (module, name))
+    total = 0
+    for module in sorted({module for module, _ in found}):
+        counts = {
+            name: len(lines)
+            for name, lines in files[module].lines.items()
+            if (module, name) in found
+        }
+        total += sum(counts.values())
+        listed = ", ".join(f"{name} {count}" for name, count in counts.items())
+        print(f"{module:12} {sum(counts.values()):4}  {listed}")
+    print(f"{total} lines in {len(found)} definitions")
+
+
+if __name__ == "__main__":
+    main()
