@@ -10,31 +10,32 @@ use Rattle.lockreplay.specs.Commands.{batch_rows, digit}
 use Rattle.lockreplay.proofs.PlainLines.{no_hyphen, plain_digit}
 
 -- the digit is a numeral, and writes the number
-is_number : (workers : ℕ) → 1 ≤ workers → workers ≤ 8
+is_number : (workers : ℕ) → workers ≤ 9
     → (digits_value 10 (without_leading_plus (digit workers)) ≡ workers) × (without_leading_plus (digit workers) ≡ digit workers) × (digit_value (48 + workers) < 10)
-is_number zero few many = absurd (omega (arith, few))
-is_number (suc zero) few many = (refl, refl, omega arith)
-is_number (suc (suc zero)) few many = (refl, refl, omega arith)
-is_number (suc (suc (suc zero))) few many = (refl, refl, omega arith)
-is_number (suc (suc (suc (suc zero)))) few many = (refl, refl, omega arith)
-is_number (suc (suc (suc (suc (suc zero))))) few many = (refl, refl, omega arith)
-is_number (suc (suc (suc (suc (suc (suc zero)))))) few many = (refl, refl, omega arith)
-is_number (suc (suc (suc (suc (suc (suc (suc zero))))))) few many = (refl, refl, omega arith)
-is_number (suc (suc (suc (suc (suc (suc (suc (suc zero)))))))) few many = (refl, refl, omega arith)
-is_number (suc (suc (suc (suc (suc (suc (suc (suc (suc k))))))))) few many = absurd (omega (arith, many))
+is_number zero most = (refl, refl, omega arith)
+is_number (suc zero) most = (refl, refl, omega arith)
+is_number (suc (suc zero)) most = (refl, refl, omega arith)
+is_number (suc (suc (suc zero))) most = (refl, refl, omega arith)
+is_number (suc (suc (suc (suc zero)))) most = (refl, refl, omega arith)
+is_number (suc (suc (suc (suc (suc zero))))) most = (refl, refl, omega arith)
+is_number (suc (suc (suc (suc (suc (suc zero)))))) most = (refl, refl, omega arith)
+is_number (suc (suc (suc (suc (suc (suc (suc zero))))))) most = (refl, refl, omega arith)
+is_number (suc (suc (suc (suc (suc (suc (suc (suc zero)))))))) most = (refl, refl, omega arith)
+is_number (suc (suc (suc (suc (suc (suc (suc (suc (suc zero))))))))) most = (refl, refl, omega arith)
+is_number (suc (suc (suc (suc (suc (suc (suc (suc (suc (suc k)))))))))) most = absurd (omega (arith, most))
 
-is_numeral : (workers : ℕ) → 1 ≤ workers → workers ≤ 8 → IsNumeral 10 (without_leading_plus (digit workers))
-is_numeral workers few many =
-    let number = is_number workers few many in
+is_numeral : (workers : ℕ) → workers ≤ 9 → IsNumeral 10 (without_leading_plus (digit workers))
+is_numeral workers most =
+    let number = is_number workers most in
     rw (number.1) (omega arith, (number.2, tt))
 
 -- `get_one::<u8>` of the digit
 pub reads_digit : {E : Type 0} (gives : Text → Result ℕ E → Type 0) → ((t : Text) (r : Result ℕ E) → gives t r → ParsesUnsigned 8 10 t r)
-    → (workers : ℕ) (r : Option ℕ) → 1 ≤ workers → workers ≤ 8 → ReadsOne gives (digit workers) r → r ≡ Some workers
-reads_digit gives parses workers (Some n) few many read = ap Some ((parses _ _ read).1 ∙ (is_number workers few many).0)
-reads_digit gives parses workers None few many read =
-    let number = is_number workers few many in
-    absurd (parses _ _ read.1 (is_numeral workers few many, omega (arith, number.0, many)))
+    → (workers : ℕ) (r : Option ℕ) → workers ≤ 9 → ReadsOne gives (digit workers) r → r ≡ Some workers
+reads_digit gives parses workers (Some n) most read = ap Some ((parses _ _ read).1 ∙ (is_number workers most).0)
+reads_digit gives parses workers None most read =
+    let number = is_number workers most in
+    absurd (parses _ _ read.1 (is_numeral workers most, omega (arith, number.0, most)))
 
 -- what stands in the rows
 pub finds_digit : (workers : ℕ) (files : List Text) → one_of (codes "workers") (batch_rows workers files) ≡ Some (digit workers)

@@ -8,7 +8,7 @@ ghost use Rattle.std.specs.Prelude.{◌≡◌, ℕ, ◌<◌, ◌≤◌, List, le
 ghost use Rattle.std.specs.List.{list_all};
 ghost use Rattle.clap.specs.Words.{app_of, found_of, kind_of, rows_of};
 ghost use Rattle.clap.specs.declared.builder.command.Command.TheViews.{out-Command};
-ghost use Rattle.lockreplay.specs.CommandLines.{AnswersBatch, AsksFor, Word, batch_line, is_plain, replay_line};
+ghost use Rattle.lockreplay.specs.CommandLines.{AnswersBatch, AnswersNoJob, AsksFor, IsUnfit, Word, batch_line, is_plain, replay_line};
 ghost use Rattle.lockreplay.specs.Commands.{batch_app, batch_rows, program_app};
 ghost use Rattle.lockreplay.specs.Jobs.{FitsJob};
 ghost use Rattle.lockreplay.specs.declared.command_line.ParseFault.TheVariants.{OutOfMemory};
@@ -128,6 +128,8 @@ fn batch_given(alloc: Global, batch: &ArgMatches<'_>) -> Result<Job, ParseFault>
     ensures fits { FitsJob result }
     ensures plain { (workers : ℕ) → (files : List Word) → rows_of (found_of batch.now) ≡ batch_rows workers files
         → 1 ≤ workers → workers ≤ 8 → 0 < length files → AnswersBatch workers files result }
+    ensures unfit { (workers : ℕ) → (files : List Word) → rows_of (found_of batch.now) ≡ batch_rows workers files
+        → IsUnfit workers → AnswersNoJob result }
 {
     let workers = batch.get_one::<u8>("workers").unwrap_or(0);
     let given = batch.get_strs("files").unwrap_or(&[]);
@@ -162,6 +164,9 @@ pub fn parse_words(alloc: Global, words: &[String]) -> Result<Job, ParseFault>
     ensures replay { map string_bytes words.now ≡ replay_line → AsksFor (λ job. job ≡ Job.Replay) result }
     ensures batch { (workers : ℕ) → (files : List Word) → map string_bytes words.now ≡ batch_line workers files
         → 1 ≤ workers → workers ≤ 8 → 0 < length files → list_all is_plain files ≡ true → AnswersBatch workers files result }
+    // 0 or 9 workers get no job, whatever the parser says of them
+    ensures unfit { (workers : ℕ) → (files : List Word) → map string_bytes words.now ≡ batch_line workers files
+        → IsUnfit workers → 0 < length files → list_all is_plain files ≡ true → AnswersNoJob result }
 {
     let command = program_command(alloc)?;
     let matches = match command.try_get_matches_from(words) {

@@ -7,25 +7,20 @@ ghost use Rattle.lockreplay.specs.Faults.{fault_from, fault_status};
 mod tests;
 
 use lk_replay::RunFault;
-use thiserror::Error;
+use std::fmt;
 
 /// Why the program gives no report. Shown, it is the line for standard error, without its end.
-#[derive(Clone, Copy, PartialEq, Eq, Debug, Drop, Error)]
+#[derive(Clone, Copy, PartialEq, Eq, Debug, Drop)]
 pub enum ProgramFault {
     /// Standard input failed.
-    #[error("lockreplay: cannot read standard input")]
     Input,
     /// Standard output failed, or took nothing. Some of the bytes may be written.
-    #[error("lockreplay: cannot write")]
     Output,
     /// A request for memory was refused.
-    #[error("lockreplay: out of memory")]
     Memory,
     /// A batch of more than 65,536 files.
-    #[error("lockreplay: too many files")]
     TooManyFiles,
     /// The file of this number, from 1, cannot be opened or read.
-    #[error("lockreplay: cannot read file {0}")]
     File(u32),
 }
 
@@ -43,6 +38,26 @@ impl ProgramFault {
         }
     }
 }
+
+/// The line for standard error, without its end. Written by hand, since what a derive writes has no contract.
+impl fmt::Display for ProgramFault {
+    ghost use Rattle.std.specs.Prelude.{Some};
+    ghost use Rattle.lockreplay.specs.Faults.{fault_text};
+
+    ghost output = { λ fault. Some (fault_text fault) };
+
+    fn fmt<W: fmt::Write>(&self, f: &mut fmt::Formatter<W>) -> fmt::Result {
+        match self {
+            ProgramFault::Input => f.write_str("lockreplay: cannot read standard input"),
+            ProgramFault::Output => f.write_str("lockreplay: cannot write"),
+            ProgramFault::Memory => f.write_str("lockreplay: out of memory"),
+            ProgramFault::TooManyFiles => f.write_str("lockreplay: too many files"),
+            ProgramFault::File(number) => write!(f, "lockreplay: cannot read file {number}"),
+        }
+    }
+}
+
+impl std::error::Error for ProgramFault {}
 
 /// A fault of a run on standard input and output.
 impl From<RunFault> for ProgramFault {

@@ -14,6 +14,7 @@ fn each_request_refused_in_parse_words(rt: HostRuntime) -> Result<(), Fail> {
     for (line, want) in [
         ("replay", Answer::Replay),
         ("batch --workers 2 a b", two),
+        ("batch --workers 2", Answer::Usage),
         ("batch --workers 9 a", Answer::Usage),
         ("batch a", Answer::Usage),
         ("replay x", Answer::Usage),

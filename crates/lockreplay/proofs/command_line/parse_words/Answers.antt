@@ -61,3 +61,20 @@ returns-clause-batch c = λ workers files line few many some plain.
       | in_default-via-in_default w ↦
           absurd (none-some (codes "batch") (w.in_default.ensures.name ∙ first_of_pairs _ _ (out-ArgMatches c.in-Ok.matches).subcommand _ _ found))
     ]
+
+pub returns-in-Some-clause-unfit : goal.returns-in-Some-clause-unfit
+returns-in-Some-clause-unfit c = λ workers files line unfit some plain.
+    let found = (c.in-Ok.ensures.matches (ap is_simple c.in_ok-command.ensures ∙ is_simple_program)).1 ∙ ap₂ subcommand_of c.in_ok-command.ensures line ∙ batch_found workers files some plain in
+    c.batch_given.ensures.unfit workers files (same_Some _ _ (c.in-Some.ensures.rows ∙ ap (option_map (λ p. p.1)) found)) unfit
+
+pub returns-clause-unfit : goal.returns-clause-unfit
+returns-clause-unfit c = λ workers files line unfit some plain.
+    let found = (c.in-Ok.ensures.matches (ap is_simple c.in_ok-command.ensures ∙ is_simple_program)).1 ∙ ap₂ subcommand_of c.in_ok-command.ensures line ∙ batch_found workers files some plain in
+    elim c.in_default.branch [
+      | in_default-via-in-Some+else-eq w ↦
+          let name = w.in-Some.ensures.name ∙ first_of_pairs _ _ (out-ArgMatches c.in-Ok.matches).subcommand _ _ found in
+          let same : bytes_eq w.in-Some.name.now (codes "batch") ≡ true = ap (λ t. bytes_eq t (codes "batch")) (same_Some _ _ name) in
+          absurd (true≢false (sym same ∙ sym w.eq.ensures ∙ w.if-eq.false))
+      | in_default-via-in_default w ↦
+          absurd (none-some (codes "batch") (w.in_default.ensures.name ∙ first_of_pairs _ _ (out-ArgMatches c.in-Ok.matches).subcommand _ _ found))
+    ]

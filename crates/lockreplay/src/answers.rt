@@ -1,0 +1,98 @@
+//! What the program leaves once it knows what it is asked for: a status, and a text on one of its two outputs.
+
+ghost use Rattle.std.specs.Prelude.{◌≡◌, IfErr, IfOk, true};
+ghost use Rattle.std.specs.Io.KnownBytes.{Appends};
+ghost use Rattle.lk_replay.specs.Devices.{AppendsFront};
+ghost use Rattle.lockreplay.specs.Answers.{EndsProgram, TellsOf};
+ghost use Rattle.lockreplay.specs.Faults.{fault_line, fault_status};
+ghost use Rattle.lockreplay.specs.Jobs.{FitsJob};
+
+#[cfg(test)]
+mod tests;
+
+use crate::command_line::{Job, ParseFault};
+use crate::faults::ProgramFault;
+use crate::jobs::perform;
+use lk_replay::send;
+use std::alloc::Global;
+use std::io::{Read, Write};
+use std::rt::Files;
+use std::thread::Threads;
+
+/// The status of a command line that asks for nothing that the program does.
+const USAGE_STATUS: u8 = 2;
+
+/// The end of the program.
+#[derive(Clone, Copy, PartialEq, Eq, Debug)]
+pub struct Ended {
+    /// The status that it ends with.
+    pub status: u8,
+    /// Whether standard error took all that was to be told there. Where it did not, the status alone tells.
+    pub told: bool,
+}
+
+/// Writes the help, and gives the status of a job that was done.
+fn help<W: Write>(output: &mut W, text: &str) -> Result<u8, ProgramFault>
+    ensures done { IfOk result (λ status. (status ≡ 0) × Appends (W.contents output.old) (W.contents output.new) text.now) }
+    ensures cut { IfErr result (λ e. (e ≡ ProgramFault.Output) × AppendsFront (W.contents output.old) (W.contents output.new) text.now) }
+{
+    let Ok(()) = send(output, text.as_bytes()) else {
+        return Err(ProgramFault::Output);
+    };
+    Ok(0)
+}
+
+/// Says in one line what ends the program.
+fn tell_fault<E: Write>(errors: &mut E, fault: ProgramFault) -> Ended
+    ensures status { result.status ≡ fault_status fault }
+    ensures line { result.told ≡ true → Appends (E.contents errors.old) (E.contents errors.new) (fault_line fault) }
+{
+    let told = writeln!(errors, "{fault}").is_ok();
+    Ended {
+        status: fault.status(),
+        told,
+    }
+}
+
+/// Gives the status of what was done, or tells what ended it.
+fn finish<E: Write>(errors: &mut E, ending: Result<u8, ProgramFault>) -> Ended
+    ensures { TellsOf ending (E.contents errors.old) (E.contents errors.new) result }
+{
+    match ending {
+        Ok(status) => Ended { status, told: true },
+        Err(fault) => tell_fault(errors, fault),
+    }
+}
+
+/// Says why the words ask for nothing.
+fn tell_usage<E: Write>(errors: &mut E, text: &str) -> Ended
+    ensures status { result.status ≡ 2 }
+    ensures text { result.told ≡ true → Appends (E.contents errors.old) (E.contents errors.new) text.now }
+{
+    let told = send(errors, text.as_bytes()).is_ok();
+    Ended {
+        status: USAGE_STATUS,
+        told,
+    }
+}
+
+/// Does the job that was asked for, or tells why there is none.
+pub fn answer<R: Files + Threads + Sync, I: Read, O: Write, E: Write>(
+    rt: &R,
+    alloc: Global,
+    asked: Result<Job, ParseFault>,
+    input: &mut I,
+    output: &mut O,
+    errors: &mut E,
+) -> Ended
+    requires { FitsJob asked }
+    ensures { EndsProgram asked (I.remaining input.old) (O.contents output.old) (O.contents output.new) (E.contents errors.old) (E.contents errors.new) result }
+{
+    match asked {
+        Ok(job) => finish(errors, perform(rt, alloc, &job, input, output)),
+        Err(ParseFault::Help(text)) => finish(errors, help(output, &text)),
+        Err(ParseFault::Usage(text)) => tell_usage(errors, &text),
+        Err(ParseFault::TooManyFiles) => finish(errors, Err(ProgramFault::TooManyFiles)),
+        Err(ParseFault::OutOfMemory) => finish(errors, Err(ProgramFault::Memory)),
+    }
+}
