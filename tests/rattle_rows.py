@@ -87,9 +87,18 @@ def split(pieces):
     return before, pieces[at], after
 
 
+def bare(row):
+    """A lesson without its comments. Where its report names a line, each keeps its `#`."""
+    lines = row.text.split(b"\n")
+    if row.status() == 0:
+        lines = [line for line in lines if line[:1] != b"#"]
+    text = b"\n".join(b"#" if line[:1] == b"#" else line for line in lines)
+    return row._replace(pieces=[(text, 1)])
+
+
 def rows():
     """Each file of rows: its name and its text."""
-    lessons = [row for row in [*pairs(EXAMPLES), *pairs(ROWS)] if len(row.text) < 10_000]
+    lessons = [bare(row) for row in [*pairs(EXAMPLES), *pairs(ROWS)] if len(row.text) < 10_000]
     for lock in LOCKS:
         yield whole(lock.replace("-", "_"), f"Moves of a `{lock}` lock: lessons, and each refusal.",
                     "examples/ and tests/rows/",

@@ -5,10 +5,6 @@
 pub const ROWS: [(&str, &str); 31] = [
     (
         "\
-# MCS lock: the successor is in the queue before its predecessor can know of it.
-# Thread 0 reads an empty `next` (move 7). Then thread 1 swaps itself in (8), so the
-# compare-and-swap fails (9), and thread 0 has to wait for the link (10, 11). Thread 1 sets
-# `locked` (12) and only then links (13). Now the lock can be handed over (14 to 16).
 lock mcs threads 2
 0 acquire
 0 write
@@ -49,9 +45,6 @@ end 16
     ),
     (
         "\
-# MCS lock: without contention, and the same record used again at once.
-# The swap finds an empty queue and enters (move 3). The release finds no successor (5), and its
-# compare-and-swap clears the tail (6). The next acquire starts from the same record (8, 9).
 lock mcs threads 1
 0 acquire
 0 write
@@ -78,10 +71,6 @@ end 9
     ),
     (
         "\
-# MCS lock: the third in the queue has linked itself before the second.
-# At move 12 thread 2 spins on its record though nobody's `next` leads there from the holder:
-# thread 1 links at move 14. The queue is in the order of the swaps all the same, and so is the
-# hand-over.
 lock mcs threads 3
 0 acquire
 0 write

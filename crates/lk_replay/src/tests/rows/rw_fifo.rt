@@ -5,9 +5,6 @@
 pub const ROWS: [(&str, &str); 29] = [
     (
         "\
-# FIFO read-write lock on words of 2 bits: the counts of readers wrap.
-# Both counts are 3 before move 13. With the reader of move 14 they are 0 and 3: the writer
-# compares them for equality alone (16) and enters when they are 0 and 0 (19).
 lock rw-fifo threads 3 bits 2
 0 rlock
 0 section
@@ -54,9 +51,6 @@ end 19
     ),
     (
         "\
-# FIFO read-write lock: a writer becomes a reader in one section.
-# At move 6 `w0` turns into `r0` without a moment in which the lock is free; the reader that waited
-# enters beside it (7).
 lock rw-fifo threads 2
 0 wlock
 0 section
@@ -79,9 +73,6 @@ end 7
     ),
     (
         "\
-# FIFO read-write lock: a reader may not pass an announced writer.
-# Thread 1 cannot write yet and announces itself (move 4: `queue 1`). From then on the reader that
-# calls later waits (6, and 10 where nobody is inside), until the writer has entered and left.
 lock rw-fifo threads 3
 0 rlock
 0 section
@@ -120,9 +111,6 @@ end 15
     ),
     (
         "\
-# FIFO read-write lock: one writer at a time is announced.
-# Thread 1 is announced (move 4). Thread 2 wants to write too and waits without being announced
-# (6), also while thread 1 writes (9). Its turn comes with a clear flag (12).
 lock rw-fifo threads 3
 0 rlock
 0 section
@@ -157,9 +145,6 @@ end 13
     ),
     (
         "\
-# FIFO read-write lock: a writer waits behind a thread that downgrades.
-# At move 7 the flag is clear but there is a reader, the former writer. So thread 1 is announced,
-# and enters once that reader has left (10).
 lock rw-fifo threads 2
 0 wlock
 0 section
@@ -187,16 +172,7 @@ end 10
 ",
     ),
     (
-        "\
-# FIFO read-write lock: a writer that finds nobody announces itself and enters in one section
-# (move 2).
-# A second writer waits before it may announce itself: `queue` stays empty (4).
-lock rw-fifo threads 2
-0 wlock
-0 section
-1 wlock
-1 section
-",
+        "lock rw-fifo threads 2\n0 wlock\n0 section\n1 wlock\n1 section\n",
         "\
 1 0 wlock called hold - queue -
 2 0 section entered hold w0 queue -

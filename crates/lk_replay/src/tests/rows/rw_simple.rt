@@ -4,13 +4,7 @@
 /// Texts with their reports; `..` stands for earlier lines, which are not told.
 pub const ROWS: [(&str, &str); 28] = [
     (
-        "\
-# AlreadyHolds: these locks are not reentrant, not even for a reader that would read twice.
-lock rw-simple threads 1
-0 rlock
-0 section
-0 rlock
-",
+        "#\nlock rw-simple threads 1\n0 rlock\n0 section\n0 rlock\n#\n",
         "\
 1 0 rlock called hold - queue -
 2 0 section entered hold r0 queue -
@@ -19,9 +13,6 @@ refused line 5 AlreadyHolds
     ),
     (
         "\
-# Simple read-write lock: a writer becomes a reader in one section.
-# At move 6 `w0` turns into `r0` without a moment in which the lock is free; the reader that waited
-# enters beside it (7).
 lock rw-simple threads 2
 0 wlock
 0 section
@@ -43,18 +34,7 @@ end 7
 ",
     ),
     (
-        "\
-# Simple read-write lock: a reader passes a waiting writer.
-# Thread 1 waits to write (move 4) and leaves no trace: `queue` stays empty. Thread 2 calls later
-# and reads at once (6). Where readers keep coming, the writer waits for ever.
-lock rw-simple threads 3
-0 rlock
-0 section
-1 wlock
-1 section
-2 rlock
-2 section
-",
+        "lock rw-simple threads 3\n0 rlock\n0 section\n1 wlock\n1 section\n2 rlock\n2 section\n",
         "\
 1 0 rlock called hold - queue -
 2 0 section entered hold r0 queue -
@@ -67,8 +47,6 @@ end 6
     ),
     (
         "\
-# Simple read-write lock: a second writer waits for the first.
-# There is no reader at move 4, but the flag is set.
 lock rw-simple threads 2
 0 wlock
 0 section
@@ -91,9 +69,6 @@ end 7
     ),
     (
         "\
-# Simple read-write lock: a writer enters once every reader has left.
-# Two readers are inside together (move 4). The writer looks at 6 and at 10, when one of them is
-# still inside. A reader is inside up to its own section, not only up to its call (9 to 11).
 lock rw-simple threads 3
 0 rlock
 0 section

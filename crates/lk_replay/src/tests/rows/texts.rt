@@ -3,17 +3,8 @@
 
 /// Texts with their reports; `..` stands for earlier lines, which are not told.
 pub const ROWS: [(&str, &str); 71] = [
-    (
-        "# BadHeader: no lock of this name.\nlock clh threads 2\n",
-        "fault line 2 BadHeader\n",
-    ),
-    (
-        "\
-# NoHeader: no line but comments and empty ones. The line named is the one after the last.
-
-",
-        "fault line 3 NoHeader\n",
-    ),
+    ("#\nlock clh threads 2\n#\n", "fault line 2 BadHeader\n"),
+    ("#\n\n", "fault line 3 NoHeader\n"),
     ("", "fault line 1 NoHeader\n"),
     ("\n", "fault line 2 NoHeader\n"),
     ("\n# a\n", "fault line 3 NoHeader\n"),

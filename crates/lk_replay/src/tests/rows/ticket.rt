@@ -4,78 +4,43 @@
 /// Texts with their reports; `..` stands for earlier lines, which are not told.
 pub const ROWS: [(&str, &str); 44] = [
     (
-        "\
-# BadLine: a line that is no move makes the report this one line, whatever stands before it.
-lock ticket threads 1
-0 acquire
-0 add
-0 looks
-",
+        "#\nlock ticket threads 1\n0 acquire\n0 add\n0 looks\n#\n",
         "fault line 5 BadLine\n",
     ),
     (
-        "# BadThreads: a lock has 1 to 64 threads.\nlock ticket threads 65\n",
+        "#\nlock ticket threads 65\n#\n",
         "fault line 2 BadThreads\n",
     ),
     (
-        "\
-# WordsTooNarrow: words of 2 bits keep 4 numbers apart, and a lock needs more numbers than threads.
-lock ticket threads 4 bits 2
-",
+        "#\nlock ticket threads 4 bits 2\n#\n",
         "fault line 2 WordsTooNarrow\n",
     ),
     (
-        "\
-# Busy: the thread is in the middle of a call already. The moves before this one are reported.
-lock ticket threads 1
-0 acquire
-0 acquire
-",
+        "#\nlock ticket threads 1\n0 acquire\n0 acquire\n#\n",
         "1 0 acquire called hold - queue -\nrefused line 4 Busy\n",
     ),
     (
-        "\
-# NoCall: a step of a thread that is in the middle of no call.
-lock ticket threads 1
-0 add
-",
+        "#\nlock ticket threads 1\n0 add\n#\n",
         "refused line 3 NoCall\n",
     ),
     (
-        "\
-# NoSuchThread: the lock has thread 0 only. The line of the report counts every line of this text,
-# the comments and the header too.
-lock ticket threads 1
-1 acquire
-",
+        "#\n#\nlock ticket threads 1\n1 acquire\n#\n",
         "refused line 4 NoSuchThread\n",
     ),
     (
-        "\
-# NotHolder: the thread gives back what it does not hold.
-lock ticket threads 1
-0 release
-",
+        "#\nlock ticket threads 1\n0 release\n#\n",
         "refused line 3 NotHolder\n",
     ),
     (
-        "# WrongLock: a ticket lock has no readers.\nlock ticket threads 1\n0 rlock\n",
+        "#\nlock ticket threads 1\n0 rlock\n#\n",
         "refused line 3 WrongLock\n",
     ),
     (
-        "\
-# WrongStep: the call's next step is another one, and the report names it.
-lock ticket threads 1
-0 acquire
-0 read
-",
+        "#\nlock ticket threads 1\n0 acquire\n0 read\n#\n",
         "1 0 acquire called hold - queue -\nrefused line 4 WrongStep next add\n",
     ),
     (
         "\
-# Ticket lock: hand-over in the order of the tickets.
-# Thread 1 draws its ticket while thread 0 is inside (move 5), looks in vain (6), and enters once
-# thread 0 has written now_serving (9). The holder leaves `queue` only with that write.
 lock ticket threads 2
 0 acquire
 0 add
@@ -103,17 +68,7 @@ end 10
 ",
     ),
     (
-        "\
-# Ticket lock: the order is that of the tickets, not of the calls.
-# Thread 1 calls first, thread 0 draws first (move 3). So thread 1 waits and thread 0 enters.
-lock ticket threads 2
-1 acquire
-0 acquire
-0 add
-1 add
-1 read
-0 read
-",
+        "lock ticket threads 2\n1 acquire\n0 acquire\n0 add\n1 add\n1 read\n0 read\n",
         "\
 1 1 acquire called hold - queue -
 2 0 acquire called hold - queue -
@@ -126,9 +81,6 @@ end 6
     ),
     (
         "\
-# Ticket lock on words of 2 bits: the tickets wrap.
-# Thread 0 uses up the tickets 0, 1 and 2. Thread 1 draws ticket 3 (move 20) and thread 2 draws
-# ticket 0 (22). The smaller ticket waits behind the greater one (23), and is served after it (28).
 lock ticket threads 3 bits 2
 0 acquire
 0 add
