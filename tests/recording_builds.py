@@ -94,9 +94,8 @@ def object_code(compiler, source, target, *more):
 
 
 def is_nothing_left(compiler, example, level, folder):
-    """Whether LR_OFF gives the object code of the same source without notes and header.
-
-    The folder is one of its own."""
+    """Whether LR_OFF gives the object code of the same source without notes and header, and
+    LR_VALUES another one. The folder is one of its own."""
     bare = folder / "bare" / "examples" / "recording"
     bare.mkdir(parents=True, exist_ok=True)
     for source in SOURCES.glob("*.[ch]"):
@@ -105,4 +104,5 @@ def is_nothing_left(compiler, example, level, folder):
     off = object_code(compiler, SOURCES / f"{example}.c", target, level, "-DLR_OFF")
     none = object_code(compiler, SOURCES / f"{example}.c", target, level)
     plain = object_code(compiler, bare / f"{example}.c", target, level)
-    return off == none == plain and "main" in off and "lr_" not in off
+    noted = object_code(compiler, SOURCES / f"{example}.c", target, level, "-DLR_VALUES")
+    return off == none == plain and "main" in off and "lr_" not in off and "lr_" in noted
