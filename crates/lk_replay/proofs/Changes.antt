@@ -50,7 +50,7 @@ queue_shown Mcs q h is = refl
 queue_shown RwSimple q h is = absurd is
 queue_shown RwFifo q h is = absurd is
 
-allowed_rest : (q : Sequential) (xs ys : List Entry) → AreEnabled q (xs ++ ys) → AreEnabled (after_entries q xs) ys
+pub allowed_rest : (q : Sequential) (xs ys : List Entry) → AreEnabled q (xs ++ ys) → AreEnabled (after_entries q xs) ys
 allowed_rest q [] ys f = f
 allowed_rest q (x ∷ xs) ys f = allowed_rest (after_entry q x) xs ys f.1
 

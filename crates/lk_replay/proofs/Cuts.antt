@@ -29,7 +29,7 @@ cut_first byte text at none here =
 pub has_piece : (p : ℕ → Bool) (text : List ℕ) → 0 < length (slice_split p text)
 has_piece p text = omega (arith, length-slice_split p text)
 
-before_pieces : (piece : List ℕ) (pieces : List (List ℕ)) → 0 < length pieces → without_empty_end (piece ∷ pieces) ≡ piece ∷ without_empty_end pieces
+pub before_pieces : (piece : List ℕ) (pieces : List (List ℕ)) → 0 < length pieces → without_empty_end (piece ∷ pieces) ≡ piece ∷ without_empty_end pieces
 before_pieces piece [] h = absurd (omega arith)
 before_pieces piece (next ∷ pieces) h = refl
 

@@ -15,7 +15,7 @@ onto_front x [] others some = absurd (omega arith)
 onto_front x (part ∷ parts) others some = refl
 
 -- a text is cut before and behind a byte at which it is cut
-split_append : (p : ℕ → Bool) (xs : List ℕ) (y : ℕ) (ys : List ℕ) → p y ≡ true → slice_split p (xs ++ y ∷ ys) ≡ slice_split p xs ++ slice_split p ys
+pub split_append : (p : ℕ → Bool) (xs : List ℕ) (y : ℕ) (ys : List ℕ) → p y ≡ true → slice_split p (xs ++ y ∷ ys) ≡ slice_split p xs ++ slice_split p ys
 split_append p [] y ys here = slice_split-cons_yes p y ys here
 split_append p (x ∷ xs) y ys here = elim (cases_Bool (p x)) [
   | inl cuts ↦ slice_split-cons_yes p x (xs ++ y ∷ ys) cuts ∙ ap (λ parts. [] ∷ parts) (split_append p xs y ys here) ∙ ap (λ parts. parts ++ slice_split p ys) (sym (slice_split-cons_yes p x xs cuts))

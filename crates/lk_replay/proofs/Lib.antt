@@ -9,7 +9,8 @@ pub mod Digits
 pub mod Transfers
 pub mod Reports
 pub mod LastLines
-pub mod Blocks
 pub mod Lists
-pub mod Windows
-pub mod Queued
+pub mod Texts
+pub mod Listing
+pub mod Passed
+pub mod Printed

@@ -1,9 +1,21 @@
 -- What was played, and what the rest gives.
-use Rattle.std.proofs.Common.{◌≡◌, ℕ, ◌+◌, ◌<◌, ◌≤◌, List, [], ◌∷◌, ◌++◌, map, length, Option, None, Some, Ok, Err, refl, ap, sym, ◌∙◌, append_assoc, append-nil, drop, get_or, subst, drop-cons, add-one}
-use Rattle.std.specs.List.{flat_map}
+use Rattle.std.proofs.Common.{◌≡◌, ℕ, ◌+◌, ◌<◌, ◌≤◌, List, [], ◌∷◌, ◌++◌, map, length, Option, None, Some, Ok, Err, refl, ap, sym, ◌∙◌, append_assoc, append-nil, drop, get_or, subst, drop-cons, add-one, ◌-◌, arith, length-append}
+use Rattle.std.specs.List.{flat_map, sum}
+use Rattle.std.proofs.lemmas.List.Sums.{sum_by_push}
 use Rattle.std.proofs.Math.ListN.{length-set}
 use Rattle.std.proofs.lemmas.List.{drop_all}
 use Rattle.lk_locks.specs.Steps.{refusal_of, change_of}
+use Rattle.lk_locks.specs.Entries.{entries_of, move_entries}
+use Rattle.lk_locks.specs.State.{phase_at}
+use Rattle.lk_locks.specs.ticket
+use Rattle.lk_locks.specs.mcs
+use Rattle.lk_locks.specs.rw_simple
+use Rattle.lk_locks.specs.rw_fifo
+use Rattle.lk_locks.specs.declared.kinds.LockKind.TheVariants.{Ticket, Mcs, RwSimple, RwFifo}
+use Rattle.lk_locks.specs.declared.kinds.Move.TheVariants.{Call, Step}
+use Rattle.lk_locks.specs.declared.kinds.Outcome.TheVariants.{Moved, Entered, Left}
+use Rattle.lk_locks.specs.declared.kinds.Phase.{Phase}
+use Rattle.lk_locks.specs.declared.kinds.Phase.TheVariants.{TakeTicket, AwaitTurn, PassOn, SwapTail, AwaitGrant, CasTail, Grant, TryRead, LeaveRead, TryWrite, AwaitReaders, LeaveWrite, TryDowngrade}
 use Rattle.lk_locks.specs.Play.{RecordedLock, after_play, IsPlayAnswer}
 use Rattle.lk_locks.specs.declared.kinds.Entry.{Entry}
 use Rattle.lk_locks.specs.declared.kinds.LockKind.{LockKind}
@@ -14,18 +26,21 @@ use Rattle.lk_locks.specs.declared.faults.PlayFault.{PlayFault}
 use Rattle.lk_locks.specs.declared.faults.PlayFault.TheVariants.{Refused, OutOfMemory}
 use Rattle.lk_replay.specs.declared.schedule.Line.{Line}
 use Rattle.lk_replay.specs.Replay.{Replay, Replayed, replay_from}
-use Rattle.lk_replay.specs.Report.{lines_text, move_text, state_text, last_line}
 use Rattle.lk_replay.specs.declared.played.Accepted.{Accepted}
 
 abbrev pub accepted_of : Line → Outcome → Accepted
 accepted_of l p = record { line = l.number; thread = l.thread; action = l.action; outcome = p }
 
--- what is shown where these moves and entries come before the replay
-abbrev pub after : LockKind → ℕ → List Accepted → List Entry → Replay → Replayed
-after kind threads accepted entries r = record { kind = kind; threads = threads; accepted = accepted ++ map (λ m. m.accepted) r.made; entries = entries ++ flat_map (λ m. m.entries) r.made; refused = r.refused }
-
-abbrev pub rest_text : LockKind → ℕ → List Entry → Replay → List ℕ
-rest_text kind count es r = lines_text kind count es r.made r.refused
+-- what is shown where these moves, what they added, and their entries come before the replay
+abbrev pub after : LockKind → ℕ → List Accepted → List ℕ → List Entry → Replay → Replayed
+after kind threads accepted added entries r = record {
+  kind = kind;
+  threads = threads;
+  accepted = accepted ++ map (λ m. m.accepted) r.made;
+  added = added ++ map (λ m. length m.entries) r.made;
+  entries = entries ++ flat_map (λ m. m.entries) r.made;
+  refused = r.refused;
+}
 
 ap2 : {A B C : Type 0} (f : A → B → C) {a b : A} {c d : B} → a ≡ b → c ≡ d → f a c ≡ f b d
 ap2 f e g = rw (e, g) refl
@@ -49,67 +64,53 @@ no_memory (Some x) o p h = absurd h
 pub next_line : (ms : List Line) (i : ℕ) (d : Line) → i < length ms → drop i ms ≡ get_or ms i d ∷ drop (i + 1) ms
 next_line ms i d h = drop-cons ms i d h ∙ rw add-one refl
 
-line_step : (k : RecordedLock) (l : Line) (ls : List Line) (count : ℕ) (p : Outcome) → IsPlayAnswer (refusal_of k.state l.thread l.action) (change_of k.state l.thread l.action).outcome (Ok p)
-    → rest_text k.state.kind count k.entries (replay_from k.state (l ∷ ls)) ≡ (move_text (count + 1) (accepted_of l p) ++ state_text k.state.kind (after_play k l.thread l.action).entries) ++ rest_text k.state.kind (count + 1) (after_play k l.thread l.action).entries (replay_from (after_play k l.thread l.action).state ls)
-line_step k l ls count p h = let a = was_accepted _ _ _ h in rw (a.0, a.1) refl
+ap3 : {A B C D : Type 0} (f : A → B → C → D) {a b : A} {c d : B} {x y : C} → a ≡ b → c ≡ d → x ≡ y → f a c x ≡ f b d y
+ap3 f e g h = rw (e, g, h) refl
 
-line_stop : (k : RecordedLock) (l : Line) (ls : List Line) (count : ℕ) (x : Refusal) → refusal_of k.state l.thread l.action ≡ Some x
-    → rest_text k.state.kind count k.entries (replay_from k.state (l ∷ ls)) ≡ last_line 0 (Some (l.number, x))
-line_stop k l ls count x h = rw h refl
-
--- one line more
-pub text_moved : (out new kept text : List ℕ) (k m : RecordedLock) (ms : List Line) (i : ℕ) (d : Line) (count next : ℕ) (p : Outcome) → i < length ms → next ≡ count + 1
-    → IsPlayAnswer (refusal_of k.state (get_or ms i d).thread (get_or ms i d).action) (change_of k.state (get_or ms i d).thread (get_or ms i d).action).outcome (Ok p)
-    → m ≡ after_play k (get_or ms i d).thread (get_or ms i d).action → new ≡ out ++ (move_text next (accepted_of (get_or ms i d) p) ++ kept) → kept ≡ state_text m.state.kind m.entries
-    → out ++ rest_text k.state.kind count k.entries (replay_from k.state (drop i ms)) ≡ text → new ++ rest_text m.state.kind next m.entries (replay_from m.state (drop (i + 1) ms)) ≡ text
-text_moved out new kept text k m ms i d count next p h n a e f s w =
-    let l : Line = get_or ms i d in
-    let rest : List ℕ = rest_text k.state.kind (count + 1) (after_play k l.thread l.action).entries (replay_from (after_play k l.thread l.action).state (drop (i + 1) ms)) in
-    let line : List ℕ = move_text (count + 1) (accepted_of l p) ++ state_text k.state.kind (after_play k l.thread l.action).entries in
-    rw (f, s, e, n) (append_assoc out line rest
-    ∙ ap (λ xs. out ++ xs) (sym (line_step k l (drop (i + 1) ms) count p a)) ∙ ap (λ xs. out ++ rest_text k.state.kind count k.entries (replay_from k.state xs)) (sym (next_line ms i d h)) ∙ w)
-
--- the line of a refused move
-pub text_stopped : (out new text : List ℕ) (k : RecordedLock) (ms : List Line) (i : ℕ) (d : Line) (count : ℕ) (x y : Refusal) (f : PlayFault) → i < length ms
-    → IsPlayAnswer (refusal_of k.state (get_or ms i d).thread (get_or ms i d).action) (change_of k.state (get_or ms i d).thread (get_or ms i d).action).outcome (Err f) → f ≡ Refused x
-    → y ≡ x → new ≡ out ++ last_line 0 (Some ((get_or ms i d).number, y)) → out ++ rest_text k.state.kind count k.entries (replay_from k.state (drop i ms)) ≡ text → new ≡ text
-text_stopped out new text k ms i d count x y f h a e u g w =
-    (g ∙ ap (λ z. out ++ last_line 0 (Some ((get_or ms i d).number, z))) u) ∙ ap (λ xs. out ++ xs) (sym (line_stop k (get_or ms i d) (drop (i + 1) ms) count x (was_refused _ _ _ _ e a)))
-    ∙ ap (λ xs. out ++ rest_text k.state.kind count k.entries (replay_from k.state xs)) (sym (next_line ms i d h)) ∙ w
-
--- the line at the end
-pub text_ended : (out new text : List ℕ) (k : RecordedLock) (ms : List Line) (i count : ℕ) → length ms ≤ i → new ≡ out ++ last_line count None
-    → out ++ rest_text k.state.kind count k.entries (replay_from k.state (drop i ms)) ≡ text → new ≡ text
-text_ended out new text k ms i count all ended written = ended ∙ ap (λ ls. out ++ rest_text k.state.kind count k.entries (replay_from k.state ls)) (sym (drop_all i ms all)) ∙ written
+-- how many entries a move adds
+abbrev pub added_by : RecordedLock → Line → ℕ
+added_by k l = length (entries_of k.state l.thread l.action)
 
 -- one move more
-moved : (kind : LockKind) (n : ℕ) (k : RecordedLock) (l : Line) (ls : List Line) (acc : List Accepted) (p : Outcome) → IsPlayAnswer (refusal_of k.state l.thread l.action) (change_of k.state l.thread l.action).outcome (Ok p)
-    → after kind n (acc ++ accepted_of l p ∷ []) (after_play k l.thread l.action).entries (replay_from (after_play k l.thread l.action).state ls) ≡ after kind n acc k.entries (replay_from k.state (l ∷ ls))
-moved kind n k l ls acc p h =
+moved : (kind : LockKind) (n : ℕ) (k : RecordedLock) (l : Line) (ls : List Line) (acc : List Accepted) (adds : List ℕ) (p : Outcome)
+    → IsPlayAnswer (refusal_of k.state l.thread l.action) (change_of k.state l.thread l.action).outcome (Ok p)
+    → after kind n (acc ++ accepted_of l p ∷ []) (adds ++ added_by k l ∷ []) (after_play k l.thread l.action).entries (replay_from (after_play k l.thread l.action).state ls)
+    ≡ after kind n acc adds k.entries (replay_from k.state (l ∷ ls))
+moved kind n k l ls acc adds p h =
     let a = was_accepted _ _ _ h in
-    rw (a.0, a.1) (ap2 (λ (xs : List Accepted) (ys : List Entry). record { kind = kind; threads = n; accepted = xs; entries = ys; refused = (replay_from (after_play k l.thread l.action).state ls).refused }) (append_assoc acc _ _) (append_assoc k.entries _ _))
+    rw (a.0, a.1) (ap3 (λ (xs : List Accepted) (ns : List ℕ) (ys : List Entry). record { kind = kind; threads = n; accepted = xs; added = ns; entries = ys; refused = (replay_from (after_play k l.thread l.action).state ls).refused })
+    (append_assoc acc _ _) (append_assoc adds _ _) (append_assoc k.entries _ _))
 
-pub shown_moved : (kind : LockKind) (n : ℕ) (acc new : List Accepted) (to : Replayed) (k m : RecordedLock) (ms : List Line) (i : ℕ) (d : Line) (p : Outcome) → i < length ms
+pub shown_moved : (kind : LockKind) (n : ℕ) (acc new : List Accepted) (adds more : List ℕ) (to : Replayed) (k m : RecordedLock) (ms : List Line) (i : ℕ) (d : Line) (p : Outcome) → i < length ms
     → IsPlayAnswer (refusal_of k.state (get_or ms i d).thread (get_or ms i d).action) (change_of k.state (get_or ms i d).thread (get_or ms i d).action).outcome (Ok p)
-    → m ≡ after_play k (get_or ms i d).thread (get_or ms i d).action → new ≡ acc ++ accepted_of (get_or ms i d) p ∷ []
-    → after kind n acc k.entries (replay_from k.state (drop i ms)) ≡ to → after kind n new m.entries (replay_from m.state (drop (i + 1) ms)) ≡ to
-shown_moved kind n acc new to k m ms i d p h a e g w =
-    rw (g, e) (moved kind n k (get_or ms i d) (drop (i + 1) ms) acc p a ∙ ap (λ xs. after kind n acc k.entries (replay_from k.state xs)) (sym (next_line ms i d h)) ∙ w)
+    → m ≡ after_play k (get_or ms i d).thread (get_or ms i d).action → new ≡ acc ++ accepted_of (get_or ms i d) p ∷ [] → more ≡ adds ++ added_by k (get_or ms i d) ∷ []
+    → after kind n acc adds k.entries (replay_from k.state (drop i ms)) ≡ to → after kind n new more m.entries (replay_from m.state (drop (i + 1) ms)) ≡ to
+shown_moved kind n acc new adds more to k m ms i d p h a e g f w =
+    rw (g, f, e) (moved kind n k (get_or ms i d) (drop (i + 1) ms) acc adds p a ∙ ap (λ xs. after kind n acc adds k.entries (replay_from k.state xs)) (sym (next_line ms i d h)) ∙ w)
 
-stop : (kind : LockKind) (n : ℕ) (k : RecordedLock) (l : Line) (ls : List Line) (acc : List Accepted) (x : Refusal) → refusal_of k.state l.thread l.action ≡ Some x
-    → after kind n acc k.entries (replay_from k.state (l ∷ ls)) ≡ record { kind = kind; threads = n; accepted = acc ++ []; entries = k.entries ++ []; refused = Some (l.number, x) }
-stop kind n k l ls acc x h = rw h refl
+stop : (kind : LockKind) (n : ℕ) (k : RecordedLock) (l : Line) (ls : List Line) (acc : List Accepted) (adds : List ℕ) (x : Refusal) → refusal_of k.state l.thread l.action ≡ Some x
+    → after kind n acc adds k.entries (replay_from k.state (l ∷ ls)) ≡ record { kind = kind; threads = n; accepted = acc ++ []; added = adds ++ []; entries = k.entries ++ []; refused = Some (l.number, x) }
+stop kind n k l ls acc adds x h = rw h refl
 
 -- a refused move
-pub shown_stopped : (kind : LockKind) (n : ℕ) (acc : List Accepted) (to : Replayed) (k m : RecordedLock) (ms : List Line) (i : ℕ) (d : Line) (x y : Refusal) (f : PlayFault) → i < length ms
+pub shown_stopped : (kind : LockKind) (n : ℕ) (acc : List Accepted) (adds : List ℕ) (to : Replayed) (k m : RecordedLock) (ms : List Line) (i : ℕ) (d : Line) (x y : Refusal) (f : PlayFault) → i < length ms
     → IsPlayAnswer (refusal_of k.state (get_or ms i d).thread (get_or ms i d).action) (change_of k.state (get_or ms i d).thread (get_or ms i d).action).outcome (Err f) → f ≡ Refused x → y ≡ x → m ≡ k
-    → k.state.kind ≡ kind → length k.state.phases ≡ n
-    → after kind n acc k.entries (replay_from k.state (drop i ms)) ≡ to
-    → record { kind = m.state.kind; threads = length m.state.phases; accepted = acc; entries = m.entries; refused = Some ((get_or ms i d).number, y) } ≡ to
-shown_stopped kind n acc to k m ms i d x y f h a e u g v t w =
+    → (kind_is : LockKind) → kind_is ≡ kind → length k.state.phases ≡ n
+    → after kind n acc adds k.entries (replay_from k.state (drop i ms)) ≡ to
+    → record { kind = kind_is; threads = length m.state.phases; accepted = acc; added = adds; entries = m.entries; refused = Some ((get_or ms i d).number, y) } ≡ to
+shown_stopped kind n acc adds to k m ms i d x y f h a e u g kind_is v t w =
     let l : Line = get_or ms i d in
-    rw (u, g, v, t) (ap2 (λ (xs : List Accepted) (ys : List Entry). record { kind = kind; threads = n; accepted = xs; entries = ys; refused = Some (l.number, x) }) (sym (append-nil acc)) (sym (append-nil k.entries))
-    ∙ sym (stop kind n k l (drop (i + 1) ms) acc x (was_refused _ _ _ _ e a)) ∙ ap (λ xs. after kind n acc k.entries (replay_from k.state xs)) (sym (next_line ms i d h)) ∙ w)
+    rw (u, g, v, t) (ap3 (λ (xs : List Accepted) (ns : List ℕ) (ys : List Entry). record { kind = kind; threads = n; accepted = xs; added = ns; entries = ys; refused = Some (l.number, x) }) (sym (append-nil acc)) (sym (append-nil adds)) (sym (append-nil k.entries))
+    ∙ sym (stop kind n k l (drop (i + 1) ms) acc adds x (was_refused _ _ _ _ e a)) ∙ ap (λ xs. after kind n acc adds k.entries (replay_from k.state xs)) (sym (next_line ms i d h)) ∙ w)
+
+-- all moves were played
+pub shown_ended : (kind : LockKind) (n : ℕ) (acc : List Accepted) (adds : List ℕ) (to : Replayed) (k : RecordedLock) (ms : List Line) (i : ℕ) → length ms ≤ i
+    → (kind_is : LockKind) → kind_is ≡ kind → length k.state.phases ≡ n
+    → after kind n acc adds k.entries (replay_from k.state (drop i ms)) ≡ to
+    → record { kind = kind_is; threads = length k.state.phases; accepted = acc; added = adds; entries = k.entries; refused = None } ≡ to
+shown_ended kind n acc adds to k ms i all kind_is v t w =
+    rw (v, t) (ap3 (λ (xs : List Accepted) (ns : List ℕ) (ys : List Entry). record { kind = kind; threads = n; accepted = xs; added = ns; entries = ys; refused = None }) (sym (append-nil acc)) (sym (append-nil adds)) (sym (append-nil k.entries))
+    ∙ ap (λ xs. after kind n acc adds k.entries (replay_from k.state xs)) (sym (drop_all i ms all)) ∙ w)
 
 -- the number of threads stays
 pub same_threads : (k m : RecordedLock) (t : ℕ) (a : Move) → m ≡ after_play k t a → length m.state.phases ≡ length k.state.phases
@@ -117,3 +118,61 @@ same_threads k m t a e = rw e (length-set k.state.phases t (change_of k.state t 
 
 pub same_kind : (k m : RecordedLock) (t : ℕ) (a : Move) → m ≡ after_play k t a → m.state.kind ≡ k.state.kind
 same_kind k m t a e = rw e refl
+
+-- ---- how many entries a move adds
+
+ticket_few : (t : ℕ) (p : Phase) (o : Outcome) → length (ticket.entries t p o) ≤ 3
+ticket_few t TakeTicket Moved = omega arith
+ticket_few t (AwaitTurn n) Entered = omega arith
+ticket_few t (PassOn n) Left = omega arith
+ticket_few t p o = omega arith
+
+mcs_few : (t : ℕ) (p : Phase) (o : Outcome) → length (mcs.entries t p o) ≤ 3
+mcs_few t SwapTail Moved = omega arith
+mcs_few t SwapTail Entered = omega arith
+mcs_few t AwaitGrant Entered = omega arith
+mcs_few t CasTail Left = omega arith
+mcs_few t (Grant u) Left = omega arith
+mcs_few t p o = omega arith
+
+simple_few : (t : ℕ) (p : Phase) (o : Outcome) → length (rw_simple.entries t p o) ≤ 3
+simple_few t TryRead Entered = omega arith
+simple_few t LeaveRead Left = omega arith
+simple_few t TryWrite Entered = omega arith
+simple_few t LeaveWrite Left = omega arith
+simple_few t TryDowngrade Entered = omega arith
+simple_few t p o = omega arith
+
+fifo_few : (t : ℕ) (p : Phase) (o : Outcome) → length (rw_fifo.entries t p o) ≤ 3
+fifo_few t TryRead Entered = omega arith
+fifo_few t LeaveRead Left = omega arith
+fifo_few t TryWrite Moved = omega arith
+fifo_few t TryWrite Entered = omega arith
+fifo_few t AwaitReaders Entered = omega arith
+fifo_few t LeaveWrite Left = omega arith
+fifo_few t TryDowngrade Entered = omega arith
+fifo_few t p o = omega arith
+
+move_few : (kind : LockKind) (t : ℕ) (p : Phase) (m : Move) (o : Outcome) → length (move_entries kind t p m o) ≤ 3
+move_few kind t p (Call op) o = omega arith
+move_few Ticket t p (Step step) o = ticket_few t p o
+move_few Mcs t p (Step step) o = mcs_few t p o
+move_few RwSimple t p (Step step) o = simple_few t p o
+move_few RwFifo t p (Step step) o = fifo_few t p o
+
+-- the entries that a move added are those behind the earlier ones
+pub record Adds (k : RecordedLock) (t : ℕ) (a : Move) (n : ℕ) : Type 0 where
+  pub count : n ≡ length (entries_of k.state t a)
+  pub few : n ≤ 3
+
+pub adds : (k m : RecordedLock) (t : ℕ) (a : Move) (after before : List Entry) → m ≡ after_play k t a → after ≡ m.entries → before ≡ k.entries → Adds k t a (length after - length before)
+adds k m t a after before e f g =
+    let size : length after ≡ length k.entries + length (entries_of k.state t a) = ap length f ∙ ap (λ (r : RecordedLock). length r.entries) e ∙ length-append k.entries (entries_of k.state t a) in
+    let count : length after - length before ≡ length (entries_of k.state t a) = omega (arith, size, ap length g) in
+    record { count = count; few = omega (arith, count, move_few k.state.kind t (phase_at k.state.phases t) a (change_of k.state t a).outcome) }
+
+-- all of them are the history
+pub sum_more : (ns more : List ℕ) (k m : RecordedLock) (t : ℕ) (a : Move) (n : ℕ) → more ≡ ns ++ n ∷ [] → n ≡ length (entries_of k.state t a) → m ≡ after_play k t a → sum ns ≡ length k.entries → sum more ≡ length m.entries
+sum_more ns more k m t a n is size e all =
+    ap sum is ∙ sum_by_push (λ (x : ℕ). x) ns n
+    ∙ omega (arith, size, all, ap (λ (r : RecordedLock). length r.entries) e, length-append k.entries (entries_of k.state t a))

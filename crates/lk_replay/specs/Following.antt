@@ -1,12 +1,13 @@
 -- Invariants: what a report follows of a history, entry by entry.
-use Rattle.std.specs.Prelude.{ℕ, List, [], Option, None}
+use Rattle.std.specs.Prelude.{◌≡◌, ℕ, ◌+◌, ◌<◌, List, [], ◌∷◌, ◌++◌, Option, None, nat_lt, if◌then◌else◌, take, drop, length}
+use Rattle.std.specs.List.{AllByRecursion}
 use Rattle.lk_locks.specs.Holding.{Holding, held_by_one, shared_by, one_or_none, holder_after}
 use Rattle.lk_locks.specs.Legal.{after_entries}
 use Rattle.lk_locks.specs.Sequential.{Sequential, nobody}
 use Rattle.lk_locks.specs.declared.kinds.LockKind.{LockKind}
 use Rattle.lk_locks.specs.declared.kinds.LockKind.TheVariants.{Ticket, Mcs, RwSimple, RwFifo}
 use Rattle.lk_locks.specs.declared.kinds.Entry.{Entry}
-use Rattle.lk_replay.specs.Report.{shown_text}
+use Rattle.lk_replay.specs.Report.{later_numbers, shown_text}
 
 -- the sequential object, and who holds a queue lock
 pub record Following : Type 0 where
@@ -35,3 +36,19 @@ waiting_in kind q = q.queue
 -- the end of a report's line
 abbrev pub followed_text : Following → List ℕ
 followed_text f = shown_text (holding_in f.kind f.sequential f.holder) (waiting_in f.kind f.sequential)
+
+-- the threads of an ascending list up to this one, and those above it
+abbrev pub up_to : List ℕ → ℕ → List ℕ
+up_to [] t = []
+up_to (x ∷ xs) t = if nat_lt t x then [] else x ∷ up_to xs t
+
+abbrev pub above : List ℕ → ℕ → List ℕ
+above [] t = []
+above (x ∷ xs) t = if nat_lt t x then x ∷ xs else above xs t
+
+-- the texts are those of the requests and of the readers, each number behind a comma, and the numbers are bytes
+pub record AreListed (q : Sequential) (requests readers : List ℕ) : Type 0 where
+  pub requests_are : requests ≡ later_numbers q.queue
+  pub readers_are : readers ≡ later_numbers q.readers
+  pub requests_fit : AllByRecursion (λ t. t < 256) q.queue
+  pub readers_fit : AllByRecursion (λ t. t < 256) q.readers

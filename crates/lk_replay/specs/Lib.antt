@@ -7,5 +7,6 @@ pub mod Reads
 pub mod Replay
 pub mod Report
 pub mod Following
+pub mod Printing
 pub mod Ending
 pub mod Devices

@@ -58,12 +58,12 @@ pub fn read_text<R: Read>(alloc: Global, input: &mut R) -> Result<Vec<u8>, RunFa
     Ok(text)
 }
 
-/// Writes all of the bytes, and flushes.
+/// Writes all of the bytes.
 ///
 /// # Errors
 ///
-/// A write that fails or takes nothing, or a flush that fails, is `Write`. What was written then is a front of the bytes.
-pub fn send<W: Write>(output: &mut W, bytes: &[u8]) -> Result<(), RunFault>
+/// A write that fails or takes nothing is `Write`. What was written then is a front of the bytes.
+pub(crate) fn write_whole<W: Write>(output: &mut W, bytes: &[u8]) -> Result<(), RunFault>
     ensures written { OnOk result (Appends (W.contents output.old) (W.contents output.new) bytes.now) }
     ensures front { OnErr result (AppendsFront (W.contents output.old) (W.contents output.new) bytes.now) }
     ensures fault { IfErr result (λ e. e ≡ RunFault.Write) }
@@ -76,6 +76,20 @@ pub fn send<W: Write>(output: &mut W, bytes: &[u8]) -> Result<(), RunFault>
             Err(_) => return Err(RunFault::Write),
         }
     }
+    Ok(())
+}
+
+/// Writes all of the bytes, and flushes.
+///
+/// # Errors
+///
+/// A write that fails or takes nothing, or a flush that fails, is `Write`. What was written then is a front of the bytes.
+pub fn send<W: Write>(output: &mut W, bytes: &[u8]) -> Result<(), RunFault>
+    ensures written { OnOk result (Appends (W.contents output.old) (W.contents output.new) bytes.now) }
+    ensures front { OnErr result (AppendsFront (W.contents output.old) (W.contents output.new) bytes.now) }
+    ensures fault { IfErr result (λ e. e ≡ RunFault.Write) }
+{
+    write_whole(output, bytes)?;
     match output.flush() {
         Ok(()) => Ok(()),
         Err(_) => Err(RunFault::Write),

@@ -1,23 +1,48 @@
 //! From a schedule text on a reader to its report on a writer.
 
-ghost use Rattle.std.specs.Prelude.{◌≡◌, OnOk, IfOk, IfSome, Ok, Err, Result};
+ghost use Rattle.std.specs.Prelude.{◌≡◌, ◌++◌, [], OnErr, OnOk, IfErr, IfOk, IfSome, Ok, Err, Result};
 ghost use Rattle.std.specs.Io.KnownBytes.{Appends, Keeps};
 ghost use Rattle.lk_replay.specs.Devices.{AppendsFront, IfErrOf};
 ghost use Rattle.lk_replay.specs.Ending.{ending_of, status_of};
 ghost use Rattle.lk_replay.specs.Report.{report_text};
 
-use crate::devices::{RunFault, read_text, send};
+use crate::devices::{RunFault, read_text};
 use crate::ending::{Ending, ending_of};
-use crate::report::report_of;
+use crate::output_buffer::OutputBuffer;
+use crate::report::{Printer, prepare};
 use std::alloc::Global;
 use std::io::{Read, Write};
 
+// Writes what is printed, through a buffer in which nothing waits.
+fn print<W: Write>(
+    output: &mut W,
+    buffer: &mut OutputBuffer,
+    printer: &mut Printer<'_>,
+) -> Result<(), RunFault>
+    requires { buffer.old ≡ [] }
+    ensures written { OnOk result (Appends (W.contents output.old) (W.contents output.new) (printer.old.lines ++ printer.old.last)) }
+    ensures front { OnErr result (AppendsFront (W.contents output.old) (W.contents output.new) (printer.old.lines ++ printer.old.last)) }
+    ensures last { printer.new.last ≡ printer.old.last }
+    ensures fault { IfErr result (λ e. e ≡ RunFault.Write) }
+{
+    while printer.left() > 0 {
+        printer.next();
+        buffer.push(output, printer.front())?;
+        buffer.push(output, printer.end())?;
+    }
+    buffer.push(output, printer.last())?;
+    buffer.send_whole(output)
+}
+
 /// Reads a schedule text, and writes its report and nothing else.
+///
+/// All moves are played before the first byte goes out. Then the report is printed, and each 65,536 bytes of it are written, so
+/// that the memory that this takes does not grow with the report.
 ///
 /// # Errors
 ///
-/// `Read` where the input failed, `OutOfMemory` where a request for memory was refused; nothing was written then, since the
-/// report is whole before its first byte goes out. `Write` where the output failed or took nothing: what was written is a
+/// `Read` where the input failed, `OutOfMemory` where a request for memory was refused; nothing was written then, since the last
+/// request is made before the first byte goes out. `Write` where the output failed or took nothing: what was written is a
 /// front of the report.
 pub fn run<R: Read, W: Write>(
     alloc: Global,
@@ -33,11 +58,15 @@ pub fn run<R: Read, W: Write>(
     ensures no_memory { IfErrOf result RunFault.OutOfMemory (Keeps (W.contents output.old) (W.contents output.new)) }
 {
     let text = read_text(alloc, input)?;
-    let Ok(report) = report_of(alloc, &text) else {
+    let Ok(prepared) = prepare(alloc, &text) else {
         return Err(RunFault::OutOfMemory);
     };
-    send(output, &report)?;
-    Ok(ending_of(&report))
+    let Ok(mut buffer) = OutputBuffer::new(alloc) else {
+        return Err(RunFault::OutOfMemory);
+    };
+    let mut printer = prepared.printer();
+    print(output, &mut buffer, &mut printer)?;
+    Ok(ending_of(printer.last()))
 }
 
 /// The exit status of a run: 0 where every move was accepted, 1 where one was refused or the text is no schedule, and 3 after

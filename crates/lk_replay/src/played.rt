@@ -6,7 +6,7 @@ ghost use Rattle.lk_locks.specs.State.{word_count};
 ghost use Rattle.lk_replay.specs.Replay.{replayed_of};
 
 use crate::Schedule;
-use lk_locks::{Entry, Keeper, Move, Outcome, PlayFault, Refusal, words_needed};
+use lk_locks::{Entry, Keeper, LockKind, Move, Outcome, PlayFault, Refusal, words_needed};
 use lk_words::WordArray;
 use std::alloc::{AllocError, Global};
 use std::marker::Model;
@@ -23,33 +23,42 @@ pub struct Accepted {
 /// What playing a schedule up to its first refused move gave.
 #[derive(Drop)]
 pub struct Played {
+    kind: LockKind,
     accepted: Vec<Accepted>,
+    // How many entries each of them added.
+    added: Vec<u8>,
     keeper: Keeper<WordArray>,
     refused: Option<(u32, Refusal)>,
 }
 
 impl Model for Played {
-    ghost use Rattle.std.specs.Prelude.{length};
+    ghost use Rattle.std.specs.Prelude.{◌≡◌, ◌≤◌, length};
+    ghost use Rattle.std.specs.List.{sum};
     ghost use Rattle.lk_replay.specs.Replay.{Replayed};
 
     ghost Value = { Replayed };
 
     ghost view = { λ a. record {
-      kind = a.keeper.state.kind;
+      kind = a.kind;
       threads = length a.keeper.state.phases;
       accepted = a.accepted.items;
+      added = a.added.items;
       entries = a.keeper.entries;
       refused = a.refused;
     } };
+
+    ghost invariant = { λ a. (a.kind ≡ a.keeper.state.kind) × (length a.accepted.items ≤ 65536) × (length a.added.items ≡ length a.accepted.items) × (sum a.added.items ≡ length a.keeper.entries) };
 }
 
 impl Played {
-    ghost use Rattle.std.specs.Prelude.{◌≡◌};
+    ghost use Rattle.std.specs.Prelude.{◌≡◌, ◌≤◌, length};
+    ghost use Rattle.std.specs.List.{sum};
     ghost use Rattle.lk_locks.specs.Legal.{Legal};
 
     /// The accepted moves, in order.
     pub fn accepted(&self) -> &[Accepted]
-        ensures { result.now ≡ self.now.accepted }
+        ensures accepted { result.now ≡ self.now.accepted }
+        ensures few { length result.now ≤ 65536 }
     {
         self.accepted.as_slice()
     }
@@ -60,6 +69,22 @@ impl Played {
         ensures legal { Legal self.now.kind self.now.threads result.now }
     {
         self.keeper.entries()
+    }
+
+    // How many entries each accepted move added.
+    pub(crate) fn added(&self) -> &[u8]
+        ensures added { result.now ≡ self.now.added }
+        ensures each { length result.now ≡ length self.now.accepted }
+        ensures all { sum result.now ≡ length self.now.entries }
+    {
+        self.added.as_slice()
+    }
+
+    // The lock.
+    pub(crate) fn kind(&self) -> LockKind
+        ensures { result ≡ self.now.kind }
+    {
+        self.kind
     }
 
     /// The line of the first refused move, and why it was refused.
@@ -90,18 +115,26 @@ pub fn replay(alloc: Global, schedule: &Schedule) -> Result<Played, AllocError>
     ensures { IfOk result (λ played. played ≡ replayed_of schedule.now) }
 {
     let mut keeper = new_keeper(alloc, schedule);
-    let mut accepted = Vec::new(alloc);
-    for line in schedule.moves() {
+    let moves = schedule.moves();
+    let mut accepted = Vec::with_capacity(alloc, moves.len())?;
+    let mut added = Vec::with_capacity(alloc, moves.len())?;
+    for line in moves {
+        let before = keeper.entries().len();
         match keeper.play(line.thread, line.action) {
-            Ok(outcome) => accepted.push(Accepted {
-                line: line.number,
-                thread: line.thread,
-                action: line.action,
-                outcome,
-            })?,
+            Ok(outcome) => {
+                added.push((keeper.entries().len() - before) as u8)?;
+                accepted.push(Accepted {
+                    line: line.number,
+                    thread: line.thread,
+                    action: line.action,
+                    outcome,
+                })?;
+            }
             Err(PlayFault::Refused(refusal)) => {
                 return Ok(Played {
+                    kind: schedule.kind(),
                     accepted,
+                    added,
                     keeper,
                     refused: Some((line.number, refusal)),
                 });
@@ -110,7 +143,9 @@ pub fn replay(alloc: Global, schedule: &Schedule) -> Result<Played, AllocError>
         }
     }
     Ok(Played {
+        kind: schedule.kind(),
         accepted,
+        added,
         keeper,
         refused: None,
     })

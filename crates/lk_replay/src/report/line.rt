@@ -1,101 +1,135 @@
-//! A line of a report, whose end, who holds and who waits, is kept from line to line.
+//! The end of a report's line, who holds and who waits, which is kept from line to line.
 
-use crate::played::Accepted;
+ghost use Rattle.std.specs.Prelude.{◌≡◌, ◌+◌, ◌≤◌, ◌++◌, length};
+ghost use Rattle.lk_locks.specs.Holding.{held_by_one, one_or_none, shared_by};
+ghost use Rattle.lk_replay.specs.Following.{followed_text};
+ghost use Rattle.lk_replay.specs.Report.{holding_text, queue_text};
+
 use crate::report::followed::Followed;
-use crate::report::numerals::Numeral;
-use crate::report::queued::show_entry;
-use crate::report::state::StateTexts;
-use crate::report::window::Window;
-use lk_locks::{Entry, LockKind};
-use std::alloc::{AllocError, Global};
+use crate::report::numerals::thread_block;
+use crate::report::text::Text;
+use lk_locks::{Entry, LockKind, Op};
+use std::marker::Model;
 
-/// The end of a line, and what it shows.
+/// What a lock's history is followed to, and the text of it that ends a line.
 #[derive(Drop)]
 pub struct KeptLine {
-    end: Window,
-    texts: StateTexts,
     followed: Followed,
+    end: Text,
+}
+
+impl Model for KeptLine {
+    ghost use Rattle.std.specs.Prelude.{◌≡◌};
+    ghost use Rattle.lk_replay.specs.Following.{Following, followed_text};
+
+    ghost Value = { Following };
+
+    ghost view = { λ a. a.followed };
+
+    ghost invariant = { λ a. a.end ≡ followed_text a.followed };
+}
+
+// Appends a thread's number, or that there is none.
+fn push_one(end: &mut Text, thread: Option<u8>)
+    requires { length end.old + 16 ≤ 320 }
+    ensures held { end.new ≡ end.old ++ holding_text (held_by_one thread) }
+    ensures waits { end.new ≡ end.old ++ queue_text (one_or_none thread) }
+    ensures few { length end.new ≤ length end.old + 3 }
+{
+    match thread {
+        Some(thread) => {
+            let (block, len) = thread_block(b' ', thread);
+            end.push(&block[1..len]);
+        }
+        None => end.push(b"-"),
+    }
+}
+
+// Appends who holds a read-write lock.
+fn push_sharers(end: &mut Text, followed: &Followed)
+    requires { length end.old ≤ 16 }
+    ensures holders { end.new ≡ end.old ++ holding_text (shared_by followed.now.sequential.readers followed.now.sequential.writer) }
+    ensures few { length end.new ≤ length end.old + 257 }
+{
+    if let Some(thread) = followed.writer() {
+        let (block, len) = thread_block(b'w', thread);
+        end.push_block(&block, len);
+    } else if followed.is_read() {
+        end.push(b"r");
+        end.push(followed.readers_text());
+    } else {
+        end.push(b"-");
+    }
+}
+
+// Shows who holds and who waits.
+fn show(end: &mut Text, followed: &Followed)
+    ensures { end.new ≡ followed_text followed.now }
+{
+    end.clear();
+    match followed.kind() {
+        LockKind::Ticket | LockKind::Mcs => {
+            push_one(end, followed.holder());
+            end.push(b" queue ");
+            end.push(followed.queue_text());
+        }
+        LockKind::RwSimple => {
+            push_sharers(end, followed);
+            end.push(b" queue -");
+        }
+        LockKind::RwFifo => {
+            push_sharers(end, followed);
+            end.push(b" queue ");
+            push_one(end, followed.announced());
+        }
+    }
+    end.push(b"\n");
 }
 
 impl KeptLine {
-    ghost use Rattle.std.specs.Prelude.{◌≡◌, ◌++◌, [], OnOk, IfOk};
-    ghost use Rattle.lk_locks.specs.Exclusion.{IsQueueLock};
-    ghost use Rattle.lk_locks.specs.Holding.{shared_by, one_or_none};
-    ghost use Rattle.lk_locks.specs.Legal.{AreEnabled};
-    ghost use Rattle.lk_replay.specs.Following.{following, followed_by, followed_text};
-    ghost use Rattle.lk_replay.specs.Report.{move_text, shown_text};
+    ghost use Rattle.std.specs.Prelude.{◌≡◌, [], ◌∷◌};
+    ghost use Rattle.lk_locks.specs.Legal.{AreEnabled, IsEnabled};
+    ghost use Rattle.lk_replay.specs.Following.{followed_by, followed_text, following};
 
-    /// The line of a lock with so many threads and no history yet.
-    pub fn new(alloc: Global, kind: LockKind, threads: u8) -> Result<KeptLine, AllocError>
-        ensures followed { IfOk result (λ line. line.followed ≡ following kind []) }
-        ensures shown { IfOk result (λ line. line.end ≡ followed_text line.followed) }
+    /// The line's end of a lock with no history yet.
+    pub fn new(kind: LockKind) -> KeptLine
+        ensures { result ≡ following kind [] }
     {
-        Ok(KeptLine {
-            end: Window::new(alloc, b"- queue -\n")?,
-            texts: StateTexts::new(alloc, threads)?,
-            followed: Followed::new(kind),
-        })
+        let followed = Followed::new(kind);
+        let mut end = Text::new();
+        show(&mut end, &followed);
+        KeptLine { followed, end }
     }
 
-    // Shows who holds a read-write lock, and who waits for it.
-    fn show(&mut self, waits: Option<u8>) -> Result<(), AllocError>
-        ensures shown { OnOk result (self.new.end ≡ shown_text (shared_by self.old.followed.sequential.readers self.old.followed.sequential.writer) (one_or_none waits)) }
-        ensures followed { self.new.followed ≡ self.old.followed }
+    // Goes along with an entry that may come, and shows what it changes.
+    fn note(&mut self, entry: Entry)
+        requires { IsEnabled self.old.sequential entry }
+        ensures { self.new ≡ followed_by self.old (entry ∷ []) }
     {
-        self.end.clear();
-        self.texts
-            .push_to(&mut self.end, self.followed.sequential(), waits)
+        match entry {
+            Entry::Called(_, _) => {}
+            Entry::Returned(_, op) if op != Op::Acquire => {}
+            _ => {
+                self.followed.note(entry);
+                show(&mut self.end, &self.followed);
+            }
+        }
     }
 
-    // Shows who holds a queue lock and who waits for it after the next entries of the history.
-    #[tactic(auto, using(crate::proofs::Changes::queue_shown))]
-    fn show_entries(&mut self, entries: &[Entry]) -> Result<(), AllocError>
-        requires queue { IsQueueLock self.old.followed.kind }
-        requires shown { self.old.end ≡ followed_text self.old.followed }
-        requires may { AreEnabled self.old.followed.sequential entries.now }
-        ensures followed { OnOk result (self.new.followed ≡ followed_by self.old.followed entries.now) }
-        ensures shown { OnOk result (self.new.end ≡ followed_text self.new.followed) }
+    /// Goes along with the next entries of a legal history.
+    pub fn follow(&mut self, entries: &[Entry])
+        requires { AreEnabled self.old.sequential entries.now }
+        ensures { self.new ≡ followed_by self.old entries.now }
     {
         for entry in entries {
-            show_entry(&mut self.end, &self.texts.numerals, &self.followed, *entry)?;
-            self.followed.note(*entry);
-        }
-        Ok(())
-    }
-
-    /// Shows who holds and who waits after the next entries of the history.
-    pub fn follow(&mut self, entries: &[Entry]) -> Result<(), AllocError>
-        requires shown { self.old.end ≡ followed_text self.old.followed }
-        requires may { AreEnabled self.old.followed.sequential entries.now }
-        ensures followed { OnOk result (self.new.followed ≡ followed_by self.old.followed entries.now) }
-        ensures shown { OnOk result (self.new.end ≡ followed_text self.new.followed) }
-    {
-        match self.followed.kind() {
-            LockKind::Ticket | LockKind::Mcs => self.show_entries(entries),
-            LockKind::RwSimple => {
-                self.followed.follow(entries);
-                self.show(None)
-            }
-            LockKind::RwFifo => {
-                self.followed.follow(entries);
-                let waits = self.followed.sequential().announced();
-                self.show(waits)
-            }
+            self.note(*entry);
         }
     }
 
-    /// Appends the line of the accepted move number `count` to a report.
-    pub fn push_to(
-        &mut self,
-        out: &mut Vec<u8>,
-        count: &Numeral,
-        accepted: &Accepted,
-    ) -> Result<(), AllocError>
-        ensures written { OnOk result (out.new.items ≡ out.old.items ++ (move_text count.now accepted.now ++ self.old.end)) }
-        ensures kept { self.new.end ≡ self.old.end }
-        ensures followed { self.new.followed ≡ self.old.followed }
+    /// Who holds and who waits, and the end of the line.
+    pub fn end(&self) -> &[u8]
+        ensures { result.now ≡ followed_text self.now }
     {
-        self.end
-            .push_line(out, count, &self.texts.numerals, accepted)
+        self.end.as_slice()
     }
 }

@@ -1,13 +1,12 @@
-//! Numbers whose digits are printed once and kept.
+//! Numbers as text.
 
-ghost use Rattle.std.specs.Prelude.{◌≡◌, ◌≤◌, decimal, length};
+ghost use Rattle.std.specs.Prelude.{◌≡◌, ◌+◌, ◌≤◌, ◌++◌, ◌∷◌, [], decimal, length, take};
 
-use crate::report::blocks::BLOCK;
+use crate::report::text::BLOCK;
 use itoa::Buffer;
-use std::alloc::{AllocError, Global};
 use std::marker::Model;
 
-/// A number, and its digits at the end of a block.
+/// A number, and its digits at the front of a block.
 #[derive(Drop)]
 pub struct Numeral {
     number: u32,
@@ -16,17 +15,17 @@ pub struct Numeral {
 }
 
 impl Model for Numeral {
-    ghost use Rattle.std.specs.Prelude.{◌≡◌, ◌-◌, ◌<◌, ◌≤◌, ℕ, decimal, drop};
+    ghost use Rattle.std.specs.Prelude.{◌≡◌, ◌<◌, ◌≤◌, ℕ, decimal, take};
 
     ghost Value = { ℕ };
 
     ghost view = { λ a. a.number };
 
-    ghost invariant = { λ a. (0 < a.digits) × (a.digits ≤ 16) × (drop (16 - a.digits) a.block ≡ decimal a.number) };
+    ghost invariant = { λ a. (0 < a.digits) × (a.digits ≤ 16) × (take a.digits a.block ≡ decimal a.number) };
 }
 
 impl Numeral {
-    ghost use Rattle.std.specs.Prelude.{◌≡◌, ◌+◌, ◌-◌, ◌<◌, ◌≤◌, ◌^◌, decimal, drop};
+    ghost use Rattle.std.specs.Prelude.{◌≡◌, ◌+◌, ◌≤◌, ◌<◌, ◌^◌, decimal, length, take};
 
     /// Prints the number.
     pub fn of(number: u32) -> Numeral
@@ -35,7 +34,7 @@ impl Numeral {
         let mut buffer = Buffer::new();
         let text = buffer.format(number).as_bytes();
         let mut block = [b'0'; BLOCK];
-        block[BLOCK - text.len()..].copy_from_slice(text);
+        block[..text.len()].copy_from_slice(text);
         Numeral {
             number,
             block,
@@ -48,9 +47,9 @@ impl Numeral {
         requires { self.old + 1 < 2 ^ 32 }
         ensures { self.new ≡ self.old + 1 }
     {
-        let block = &mut self.block;
-        if block[BLOCK - 1] < b'9' {
-            block[BLOCK - 1] += 1;
+        let last = self.digits - 1;
+        if self.block[last] < b'9' {
+            self.block[last] += 1;
             self.number += 1;
         } else {
             *self = Numeral::of(self.number + 1);
@@ -59,17 +58,44 @@ impl Numeral {
 
     /// The digits.
     pub fn digits(&self) -> &[u8]
-        ensures { result.now ≡ decimal self.now }
+        ensures digits { result.now ≡ decimal self.now }
+        ensures few { length result.now ≤ 16 }
     {
-        &self.block[BLOCK - self.digits..]
+        &self.block[..self.digits]
     }
 
-    /// The block that ends with the digits, and how many they are.
+    /// The block that begins with the digits, and how many they are.
     pub fn block(&self) -> (&[u8; BLOCK], usize)
-        ensures text { drop (16 - result.1) result.0.now ≡ decimal self.now }
+        ensures text { take result.1 result.0.now ≡ decimal self.now }
         ensures fits { result.1 ≤ 16 }
     {
         (&self.block, self.digits)
+    }
+}
+
+/// A byte, the digits of a thread's number and a space, and how long that is without the space.
+pub fn thread_block(lead: u8, thread: u8) -> ([u8; BLOCK], usize)
+    ensures text { take result.1 result.0 ≡ lead ∷ decimal thread }
+    ensures spaced { take (result.1 + 1) result.0 ≡ lead ∷ (decimal thread ++ 32 ∷ []) }
+    ensures fits { result.1 ≤ 4 }
+    ensures width { result.1 ≡ length (decimal thread) + 1 }
+{
+    let tens = b'0' + thread / 10 % 10;
+    let ones = b'0' + thread % 10;
+    let mut block = [b' '; BLOCK];
+    block[0] = lead;
+    if thread >= 100 {
+        block[1] = b'0' + thread / 100;
+        block[2] = tens;
+        block[3] = ones;
+        (block, 4)
+    } else if thread >= 10 {
+        block[1] = tens;
+        block[2] = ones;
+        (block, 3)
+    } else {
+        block[1] = ones;
+        (block, 2)
     }
 }
 
@@ -84,52 +110,5 @@ pub fn width(thread: u8) -> usize
         2
     } else {
         1
-    }
-}
-
-/// The numerals of the threads of a lock.
-#[derive(Drop)]
-pub struct Numerals {
-    kept: Vec<Numeral>,
-}
-
-impl Model for Numerals {
-    ghost use Rattle.std.specs.Prelude.{◌≡◌, ◌<◌, ℕ, List, length, slice_index};
-
-    ghost Value = { List ℕ };
-
-    ghost view = { λ a. a.kept.items };
-
-    ghost invariant = { λ a. (k : ℕ) → k < length a.kept.items → slice_index a.kept.items k ≡ k };
-}
-
-impl Numerals {
-    ghost use Rattle.std.specs.Prelude.{◌≡◌, ◌-◌, ◌≤◌, decimal, drop};
-
-    /// The numerals below `count`.
-    pub fn below(alloc: Global, count: u8) -> Result<Numerals, AllocError> {
-        let mut kept = Vec::with_capacity(alloc, usize::from(count))?;
-        for number in 0..count {
-            kept.push(Numeral::of(u32::from(number)))?;
-        }
-        Ok(Numerals { kept })
-    }
-
-    /// A block that ends with the digits of a thread's number, and how many they are.
-    pub fn block(&self, thread: u8) -> ([u8; BLOCK], usize)
-        ensures text { drop (16 - result.1) result.0 ≡ decimal thread }
-        ensures fits { result.1 ≤ 16 }
-    {
-        match self.kept.get(usize::from(thread)) {
-            Some(numeral) => {
-                let (block, len) = numeral.block();
-                (*block, len)
-            }
-            None => {
-                let numeral = Numeral::of(u32::from(thread));
-                let (block, len) = numeral.block();
-                (*block, len)
-            }
-        }
     }
 }

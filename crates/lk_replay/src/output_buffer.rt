@@ -1,0 +1,94 @@
+//! Bytes that wait for an output, in memory that is asked for once: no request can be refused after some bytes went out.
+//!
+//! It is std's `BufWriter` with a contract that says what was written where a write fails.
+
+ghost use Rattle.std.specs.Prelude.{◌≡◌, ◌+◌, ◌++◌, ◌≤◌, [], length, IfErr, IfOk, OnErr, OnOk};
+ghost use Rattle.std.specs.Io.KnownBytes.{Appends};
+ghost use Rattle.lk_replay.specs.Devices.{AppendsFront, Passes};
+
+use crate::devices::{RunFault, send, write_whole};
+use std::alloc::{AllocError, Global};
+use std::io::Write;
+use std::marker::Model;
+
+// The most bytes that wait: as many as a pipe of Linux holds.
+const MOST_WAITING: usize = 65_536;
+
+/// Bytes on their way to an output. They wait until there are 65,536, since many small writes cost more than the bytes.
+#[derive(Drop)]
+pub struct OutputBuffer {
+    bytes: Vec<u8>,
+}
+
+impl Model for OutputBuffer {
+    ghost use Rattle.std.specs.Prelude.{ℕ, ◌≤◌, List, length, vec_capacity};
+
+    ghost Value = { List ℕ };
+
+    ghost view = { λ a. a.bytes.items };
+
+    ghost invariant = { λ a. (65536 ≤ vec_capacity a.bytes) × (length a.bytes.items ≤ 65536) };
+}
+
+impl OutputBuffer {
+    /// An empty buffer. It asks for all of its memory.
+    ///
+    /// # Errors
+    ///
+    /// There was no memory for it.
+    pub fn new(alloc: Global) -> Result<OutputBuffer, AllocError>
+        ensures { IfOk result (λ waiting. waiting ≡ []) }
+    {
+        Ok(OutputBuffer {
+            bytes: Vec::with_capacity(alloc, MOST_WAITING)?,
+        })
+    }
+
+    fn keep(&mut self, bytes: &[u8])
+        requires { length self.now + length bytes.now ≤ 65536 }
+        ensures { self.new ≡ self.old ++ bytes.now }
+    {
+        let Ok(()) = self.bytes.extend_from_slice(bytes) else {
+            unreachable!()
+        };
+    }
+
+    /// Puts bytes behind what waits, and writes first what has no room. It asks for no memory.
+    ///
+    /// # Errors
+    ///
+    /// A write that fails or takes nothing is `Write`. What was written then is a front of what waited and the bytes.
+    pub fn push<W: Write>(&mut self, output: &mut W, bytes: &[u8]) -> Result<(), RunFault>
+        ensures passed { OnOk result (Passes self.old (W.contents output.old) bytes.now self.new (W.contents output.new)) }
+        ensures front { OnErr result (AppendsFront (W.contents output.old) (W.contents output.new) (self.old ++ bytes.now)) }
+        ensures fault { IfErr result (λ e. e ≡ RunFault.Write) }
+    {
+        if bytes.len() <= MOST_WAITING - self.bytes.len() {
+            self.keep(bytes);
+            return Ok(());
+        }
+        write_whole(output, &self.bytes)?;
+        self.bytes.clear();
+        if bytes.len() > MOST_WAITING {
+            return write_whole(output, bytes);
+        }
+        self.keep(bytes);
+        Ok(())
+    }
+
+    /// Sends all that waits, and flushes. Nothing waits then.
+    ///
+    /// # Errors
+    ///
+    /// A write that fails or takes nothing, or a flush that fails, is `Write`. What was written then is a front of what waited.
+    pub fn send_whole<W: Write>(&mut self, output: &mut W) -> Result<(), RunFault>
+        ensures written { OnOk result (Appends (W.contents output.old) (W.contents output.new) self.old) }
+        ensures none { OnOk result (self.new ≡ []) }
+        ensures front { OnErr result (AppendsFront (W.contents output.old) (W.contents output.new) self.old) }
+        ensures fault { IfErr result (λ e. e ≡ RunFault.Write) }
+    {
+        send(output, &self.bytes)?;
+        self.bytes.clear();
+        Ok(())
+    }
+}
