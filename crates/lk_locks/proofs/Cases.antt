@@ -14,7 +14,8 @@ use Rattle.lk_locks.specs.declared.kinds.LockKind.{LockKind}
 use Rattle.lk_locks.specs.declared.kinds.Op.{Op}
 use Rattle.lk_locks.specs.declared.kinds.Phase.{Phase}
 
-pub either_way : {A : Type 0} (P : A → Type 0) (b : Bool) (x y : A) → P x → P y → P (if b then x else y)
+pub either_way : {A : Type 0} (P : A → Type 0) (b : Bool) (x y : A) → P x → P y
+    → P (if b then x else y)
 either_way P true x y p q = p
 either_way P false x y p q = q
 
@@ -24,7 +25,9 @@ GoesOn kind t p c = owed_of kind t p ≡ step_entries kind t p c.outcome ++ owed
 
 -- a call begins where the one before it is finished
 abbrev pub Begins : LockKind → ℕ → Phase → Op → Type 0
-Begins kind t p op = (owed_of kind t p ≡ []) × (whole_call kind t op ≡ Called t op ∷ owed_of kind t (unwrap_or (after_call kind p op) p))
+Begins kind t p op =
+    (owed_of kind t p ≡ [])
+    × (whole_call kind t op ≡ Called t op ∷ owed_of kind t (unwrap_or (after_call kind p op) p))
 
 -- no move changes how many words there are
 abbrev pub KeepsLength : List ℕ → Change → Type 0

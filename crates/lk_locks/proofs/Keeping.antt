@@ -1,5 +1,5 @@
 -- Each accepted move keeps what is known of a lock and its history.
-use Rattle.std.proofs.Common.{◌≡◌, ℕ, ◌<◌, ◌≤◌, List, [], ◌∷◌, ◌++◌, length, set, true, None, refl, ap, ◌∙◌}
+use Rattle.std.proofs.Common.{◌≡◌, ℕ, ◌<◌, List, [], ◌∷◌, ◌++◌, length, set, true, None, refl, ap, ◌∙◌}
 use Rattle.std.proofs.lemmas.List.{length-set}
 use Rattle.lk_locks.specs.State.{State, phase_at}
 use Rattle.lk_locks.specs.Change.{Change}
@@ -24,28 +24,38 @@ use Rattle.lk_locks.specs.declared.kinds.Entry.{Entry}
 use Rattle.lk_locks.specs.declared.kinds.Entry.TheVariants.{Called}
 use Rattle.lk_locks.specs.declared.kinds.Outcome.{Outcome}
 
-pub entries_are_own : (kind : LockKind) (bits : ℕ) (ws : List ℕ) (t : ℕ) (p : Phase) (m : Move) → AreOf t (move_entries kind t p m (move_change kind bits ws t p m).outcome)
+pub entries_are_own : (kind : LockKind) (bits : ℕ) (ws : List ℕ) (t : ℕ) (p : Phase) (m : Move)
+    → AreOf t (move_entries kind t p m (move_change kind bits ws t p m).outcome)
 entries_are_own kind bits ws t p (Call op) = (refl, tt)
 entries_are_own kind bits ws t p (Step k) =
     let c : Change = move_change kind bits ws t p (Step k) in
-    all_front (λ e. thread_of e ≡ t) (move_entries kind t p (Step k) c.outcome) (owed_of kind t c.phase)
+    all_front (λ e. thread_of e ≡ t) (move_entries kind t p (Step k) c.outcome)
+    (owed_of kind t c.phase)
     (let g : AreOf t (owed_of kind t p) = owed_is_own kind t p in rw (step_goes_on kind bits t ws p) at g)
 
 -- the thread of a move is in its turn afterwards
-pub turn_kept : (kind : LockKind) (n bits : ℕ) (ws : List ℕ) (es : List Entry) (t : ℕ) (p : Phase) (m : Move) → IsPhaseOf kind n p → belongs kind m ≡ true → refusal_in kind p m ≡ None → IsInTurn kind es t p → let c : Change = move_change kind bits ws t p m in IsInTurn kind (es ++ move_entries kind t p m c.outcome) t c.phase
+pub turn_kept : (kind : LockKind) (n bits : ℕ) (ws : List ℕ) (es : List Entry) (t : ℕ) (p : Phase)
+    (m : Move) → IsPhaseOf kind n p → belongs kind m ≡ true → refusal_in kind p m ≡ None
+    → IsInTurn kind es t p
+    → let c : Change =
+    move_change kind bits ws t p m in IsInTurn kind (es ++ move_entries kind t p m c.outcome) t c.phase
 turn_kept kind n bits ws es t p (Call op) f b r i =
     let g = call_begins kind n t p op f b r in turn_of_call kind es t p _ op g.0 g.1 i
 turn_kept kind n bits ws es t p (Step k) f b r i =
-    turn_of_step kind es _ t p _ (entries_are_own kind bits ws t p (Step k)) (step_goes_on kind bits t ws p) i
+    turn_of_step kind es _ t p _ (entries_are_own kind bits ws t p (Step k))
+    (step_goes_on kind bits t ws p) i
 
-pub keeps : (s : State) (q : Sequential) (es : List Entry) (t : ℕ) (m : Move) → Kept s q es → Accepted s t m → Kept (next_state s t m) (after_entries q (entries_of s t m)) (es ++ entries_of s t m)
+pub keeps : (s : State) (q : Sequential) (es : List Entry) (t : ℕ) (m : Move) → Kept s q es
+    → Accepted s t m
+    → Kept (next_state s t m) (after_entries q (entries_of s t m)) (es ++ entries_of s t m)
 keeps s q es t m k a =
     let c : Change = change_of s t m in
     let new : List Entry = entries_of s t m in
     let p : Phase = phase_at s.phases t in
     let n : length (set s.phases t c.phase) ≡ length s.phases = length-set s.phases t c.phase in
     let of : AreOf t new = entries_are_own s.kind s.bits s.words t p m in
-    let g : IsAgreed s.kind (AgreeAs s.kind (next_state s t m)) q new = agreed s.kind s.bits s.words s.phases q t m k.well k.few k.kind a k.agree in
+    let g : IsAgreed s.kind (AgreeAs s.kind (next_state s t m)) q new =
+    agreed s.kind s.bits s.words s.phases q t m k.well k.few k.kind a k.agree in
     record {
       well = well_kept s t m k.well a;
       few = rw n k.few;
@@ -55,31 +65,46 @@ keeps s q es t m k a =
       turns = λ u h. each_phase (λ v r. IsInTurn s.kind (es ++ new) v r) s.phases t c.phase a.thread
           (turn_kept s.kind (length s.phases) s.bits s.words es t p m (k.well.phases_fit t a.thread) a.own a.fits (k.turns t a.thread))
           (λ v d h. turn_of_other s.kind es new t v _ d of (k.turns v h)) u h;
-      no_others = rw n (all_append (λ e. thread_of e < length s.phases) es new k.no_others (all_map _ (λ e. thread_of e < length s.phases) (λ e h. rw h a.thread) new of));
+      no_others =
+          rw n
+          (all_append (λ e. thread_of e < length s.phases) es new k.no_others (all_map _ (λ e. thread_of e < length s.phases) (λ e h. rw h a.thread) new of));
       agree = g.agrees;
       held = held_kept s.kind s.bits s.words s.phases q es t m k.well k.few k.kind a k.agree k.held;
     }
 
 -- the entries of an accepted move may come
-pub may_come : (s : State) (q : Sequential) (es : List Entry) (t : ℕ) (m : Move) → Kept s q es → Accepted s t m → AreEnabled q (entries_of s t m)
-may_come s q es t m k a = (agreed s.kind s.bits s.words s.phases q t m k.well k.few k.kind a k.agree).allowed
+pub may_come : (s : State) (q : Sequential) (es : List Entry) (t : ℕ) (m : Move) → Kept s q es
+    → Accepted s t m → AreEnabled q (entries_of s t m)
+may_come s q es t m k a =
+    (agreed s.kind s.bits s.words s.phases q t m k.well k.few k.kind a k.agree).allowed
 
 -- a history that is kept is legal
-pub legal_of : (s : State) (q : Sequential) (es : List Entry) → Kept s q es → Legal s.kind (length s.phases) es
+pub legal_of : (s : State) (q : Sequential) (es : List Entry) → Kept s q es
+    → Legal s.kind (length s.phases) es
 legal_of s q es k = record {
   allowed = k.allowed;
-  well_formed = λ t h. let i : IsInTurn s.kind es t (phase_at s.phases t) = k.turns t h in (i.0, (owed_of s.kind t (phase_at s.phases t), i.1));
+  well_formed =
+      λ t h. let i : IsInTurn s.kind es t (phase_at s.phases t) =
+      k.turns t h in (i.0, (owed_of s.kind t (phase_at s.phases t), i.1));
   no_others = k.no_others;
 }
 
 -- the entries that the code makes of a call, and of a step
-pub called_entries : (s : State) (t : ℕ) (m : Move) (op : Op) → m ≡ Call op → Called t op ∷ [] ≡ entries_of s t m
+pub called_entries : (s : State) (t : ℕ) (m : Move) (op : Op) → m ≡ Call op
+    → Called t op ∷ [] ≡ entries_of s t m
 called_entries s t m op d = rw d refl
 
-pub made_entries : (s : State) (t : ℕ) (m : Move) (k : StepKind) (kind : LockKind) (p : Phase) (o : Outcome) (added slice : List Entry) → m ≡ Step k → kind ≡ s.kind → p ≡ phase_at s.phases t → o ≡ (change_of s t m).outcome → added ≡ step_entries kind t p o → slice ≡ added → slice ≡ entries_of s t m
+pub made_entries : (s : State) (t : ℕ) (m : Move) (k : StepKind) (kind : LockKind) (p : Phase)
+    (o : Outcome) (added slice : List Entry) → m ≡ Step k → kind ≡ s.kind → p ≡ phase_at s.phases t
+    → o ≡ (change_of s t m).outcome → added ≡ step_entries kind t p o → slice ≡ added
+    → slice ≡ entries_of s t m
 made_entries s t m k kind p o added slice d i e f g h = h ∙ g ∙ rw (f, i, e, d) refl
 
-pub kept_after : (s r : State) (q u : Sequential) (es now : List Entry) (first second : List Entry) (t : ℕ) (m : Move) → Kept s q es → refusal_of s t m ≡ None → first ≡ entries_of s t m → second ≡ entries_of s t m → r ≡ next_state s t m → u ≡ after_entries q first → now ≡ es ++ second → Kept r u now
+pub kept_after : (s r : State) (q u : Sequential) (es now : List Entry) (first second : List Entry)
+    (t : ℕ) (m : Move) → Kept s q es → refusal_of s t m ≡ None → first ≡ entries_of s t m
+    → second ≡ entries_of s t m → r ≡ next_state s t m → u ≡ after_entries q first
+    → now ≡ es ++ second → Kept r u now
 kept_after s r q u es now first second t m k h a b c d e =
-    let g : Kept (next_state s t m) (after_entries q (entries_of s t m)) (es ++ entries_of s t m) = keeps s q es t m k (accepted_of s t m h) in
+    let g : Kept (next_state s t m) (after_entries q (entries_of s t m)) (es ++ entries_of s t m) =
+    keeps s q es t m k (accepted_of s t m h) in
     rw (c, d, e, a, b) g

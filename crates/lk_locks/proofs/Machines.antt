@@ -17,10 +17,15 @@ abbrev seen : LockKind → ℕ → ℕ → List ℕ → List Phase → State
 seen kind bits n ws ps = record { kind = kind; bits = bits; words = ws; phases = take n ps }
 
 -- the fields after a move are the next state
-pub seen_next : (kind : LockKind) (bits n : ℕ) (ws vs : List ℕ) (ps : List Phase) (t : ℕ) (p : Phase) (m : Move) → t < n → vs ≡ (change_of (seen kind bits n ws ps) t m).words → p ≡ (change_of (seen kind bits n ws ps) t m).phase → seen kind bits n vs (set ps t p) ≡ next_state (seen kind bits n ws ps) t m
-seen_next kind bits n ws vs ps t p m h e f = rw (e, f, take-set-lt n ps t (change_of (seen kind bits n ws ps) t m).phase h) refl
+pub seen_next : (kind : LockKind) (bits n : ℕ) (ws vs : List ℕ) (ps : List Phase) (t : ℕ)
+    (p : Phase) (m : Move) → t < n → vs ≡ (change_of (seen kind bits n ws ps) t m).words
+    → p ≡ (change_of (seen kind bits n ws ps) t m).phase
+    → seen kind bits n vs (set ps t p) ≡ next_state (seen kind bits n ws ps) t m
+seen_next kind bits n ws vs ps t p m h e f =
+    rw (e, f, take-set-lt n ps t (change_of (seen kind bits n ws ps) t m).phase h) refl
 
-pub machine_kept : (n : ℕ) (s : State) (t : ℕ) (m : Move) → IsMachine n s → Accepted s t m → IsMachine n (next_state s t m)
+pub machine_kept : (n : ℕ) (s : State) (t : ℕ) (m : Move) → IsMachine n s → Accepted s t m
+    → IsMachine n (next_state s t m)
 machine_kept n s t m k a = record {
   few = k.few;
   narrow = k.narrow;
@@ -34,44 +39,69 @@ idle_fits Mcs n = tt
 idle_fits RwSimple n = refl
 idle_fits RwFifo n = refl
 
-clear_links : (kind : LockKind) (n : ℕ) (ws : List ℕ) → ((i : ℕ) → slice_index ws i ≡ 0) → AreLinks kind n ws
+clear_links : (kind : LockKind) (n : ℕ) (ws : List ℕ) → ((i : ℕ) → slice_index ws i ≡ 0)
+    → AreLinks kind n ws
 clear_links Mcs n ws h = (omega (arith, h 0), λ i k. omega (arith, h (1 + 2 * i)))
 clear_links kind n ws h = tt
 
 -- a new machine
-pub machine_new : (kind : LockKind) (bits n : ℕ) (ws : List ℕ) → n ≤ 64 → n < 2 ^ bits → word_count kind n ≤ length ws → ((i : ℕ) → i < length ws → slice_index ws i ≡ 0) → IsMachine n (start kind bits ws n)
+pub machine_new : (kind : LockKind) (bits n : ℕ) (ws : List ℕ) → n ≤ 64 → n < 2 ^ bits
+    → word_count kind n ≤ length ws → ((i : ℕ) → i < length ws → slice_index ws i ≡ 0)
+    → IsMachine n (start kind bits ws n)
 machine_new kind bits n ws h b w z = record {
   few = h;
   narrow = b;
   count = length-replicate n Idle;
   well = record {
     enough = rw (length-replicate n Idle) w;
-    phases_fit = λ t k. rw (get_or-replicate n t Idle Idle (let e : length (replicate n Idle) ≡ n = length-replicate n Idle in omega arith)) (idle_fits kind (length (replicate n Idle)));
-    links_fit = clear_links kind _ ws (λ i. elim (cases_lt i (length ws)) [ inl k ↦ z i k | inr k ↦ get_or_past ws i 0 k ]);
+    phases_fit =
+        λ t k. rw (get_or-replicate n t Idle Idle (let e : length (replicate n Idle) ≡ n = length-replicate n Idle in omega arith)) (idle_fits kind (length (replicate n Idle)));
+    links_fit =
+        clear_links kind _ ws
+        (λ i. elim (cases_lt i (length ws)) [ inl k ↦ z i k | inr k ↦ get_or_past ws i 0 k ]);
   };
 }
 
 abbrev Applied : LockKind → ℕ → ℕ → List ℕ → List Phase → ℕ → Phase → State → Move → Type 0
-Applied kind bits n vs ps t r now m = IsMachine n (seen kind bits n vs (set ps t r)) × (seen kind bits n vs (set ps t r) ≡ after_move now t m)
+Applied kind bits n vs ps t r now m =
+    IsMachine n (seen kind bits n vs (set ps t r))
+    × (seen kind bits n vs (set ps t r) ≡ after_move now t m)
 
-applied_here : (kind : LockKind) (bits n : ℕ) (ws vs : List ℕ) (ps : List Phase) (t : ℕ) (p r : Phase) (m : Move) → refusal_of (seen kind bits n ws ps) t m ≡ None → p ≡ phase_at (take n ps) t → vs ≡ (move_change kind bits ws t p m).words → r ≡ (move_change kind bits ws t p m).phase → IsMachine n (seen kind bits n ws ps) → Applied kind bits n vs ps t r (seen kind bits n ws ps) m
+applied_here : (kind : LockKind) (bits n : ℕ) (ws vs : List ℕ) (ps : List Phase) (t : ℕ)
+    (p r : Phase) (m : Move) → refusal_of (seen kind bits n ws ps) t m ≡ None
+    → p ≡ phase_at (take n ps) t → vs ≡ (move_change kind bits ws t p m).words
+    → r ≡ (move_change kind bits ws t p m).phase → IsMachine n (seen kind bits n ws ps)
+    → Applied kind bits n vs ps t r (seen kind bits n ws ps) m
 applied_here kind bits n ws vs ps t p r m h e f g k =
     let s : State = seen kind bits n ws ps in
     let a : Accepted s t m = accepted_of s t m h in
-    let below : t < n = let b : t < length (take n ps) = a.thread in let l : length (take n ps) ≡ n = k.count in omega arith in
-    let same : seen kind bits n vs (set ps t r) ≡ next_state s t m = seen_next kind bits n ws vs ps t r m below (rw e at f) (rw e at g) in
+    let below : t < n = let b : t < length (take n ps) = a.thread in
+    let l : length (take n ps) ≡ n = k.count in omega arith in
+    let same : seen kind bits n vs (set ps t r) ≡ next_state s t m =
+    seen_next kind bits n ws vs ps t r m below (rw e at f) (rw e at g) in
     (rw same (machine_kept n s t m k a), same ∙ sym (rw h refl))
 
-pub applied : (kind : LockKind) (bits n : ℕ) (ws vs : List ℕ) (ps : List Phase) (t : ℕ) (p r : Phase) (m : Move) (now : State) → seen kind bits n ws ps ≡ now → refusal_of now t m ≡ None → p ≡ phase_at now.phases t → vs ≡ (move_change kind bits ws t p m).words → r ≡ (move_change kind bits ws t p m).phase → IsMachine n (seen kind bits n ws ps) → Applied kind bits n vs ps t r now m
+pub applied : (kind : LockKind) (bits n : ℕ) (ws vs : List ℕ) (ps : List Phase) (t : ℕ)
+    (p r : Phase) (m : Move) (now : State) → seen kind bits n ws ps ≡ now
+    → refusal_of now t m ≡ None → p ≡ phase_at now.phases t
+    → vs ≡ (move_change kind bits ws t p m).words → r ≡ (move_change kind bits ws t p m).phase
+    → IsMachine n (seen kind bits n ws ps) → Applied kind bits n vs ps t r now m
 applied kind bits n ws vs ps t p r m now v h e f g k =
-    subst (λ (x : State). refusal_of x t m ≡ None → p ≡ phase_at x.phases t → Applied kind bits n vs ps t r x m) v (λ h e. applied_here kind bits n ws vs ps t p r m h e f g k) h e
+    subst
+    (λ (x : State). refusal_of x t m ≡ None → p ≡ phase_at x.phases t → Applied kind bits n vs ps t r x m)
+    v (λ h e. applied_here kind bits n ws vs ps t p r m h e f g k) h e
 
-pub seen_start : (kind : LockKind) (bits n : ℕ) (ws : List ℕ) → n ≤ 64 → seen kind bits n ws (replicate 64 Idle) ≡ start kind bits ws n
+pub seen_start : (kind : LockKind) (bits n : ℕ) (ws : List ℕ) → n ≤ 64
+    → seen kind bits n ws (replicate 64 Idle) ≡ start kind bits ws n
 seen_start kind bits n ws h = rw (take-replicate n 64 Idle h) refl
 
-pub new_machine : (kind : LockKind) (bits n : ℕ) (ws : List ℕ) → n ≤ 64 → n < 2 ^ bits → word_count kind n ≤ length ws → ((i : ℕ) → i < length ws → slice_index ws i ≡ 0) → IsMachine n (seen kind bits n ws (replicate 64 Idle))
-new_machine kind bits n ws h b w z = rw (seen_start kind bits n ws h) (machine_new kind bits n ws h b w z)
+pub new_machine : (kind : LockKind) (bits n : ℕ) (ws : List ℕ) → n ≤ 64 → n < 2 ^ bits
+    → word_count kind n ≤ length ws → ((i : ℕ) → i < length ws → slice_index ws i ≡ 0)
+    → IsMachine n (seen kind bits n ws (replicate 64 Idle))
+new_machine kind bits n ws h b w z =
+    rw (seen_start kind bits n ws h) (machine_new kind bits n ws h b w z)
 
 -- an accepted move leads to the next state
-pub accepted_next : (s now : State) (t : ℕ) (m : Move) → refusal_of now t m ≡ None → s ≡ after_move now t m → s ≡ next_state now t m
+pub accepted_next : (s now : State) (t : ℕ) (m : Move) → refusal_of now t m ≡ None
+    → s ≡ after_move now t m → s ≡ next_state now t m
 accepted_next s now t m h e = rw h at e

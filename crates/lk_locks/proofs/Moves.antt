@@ -30,13 +30,15 @@ use Rattle.lk_locks.proofs.invariants.rw_fifo
 use Rattle.lk_locks.proofs.invariants.rw_simple
 use Rattle.lk_locks.proofs.invariants.ticket
 
-pub step_goes_on : (kind : LockKind) (bits t : ℕ) (ws : List ℕ) (p : Phase) → GoesOn kind t p (step_of kind bits ws t p)
+pub step_goes_on : (kind : LockKind) (bits t : ℕ) (ws : List ℕ) (p : Phase)
+    → GoesOn kind t p (step_of kind bits ws t p)
 step_goes_on Ticket bits t ws p = ticket.goes_on bits t ws p
 step_goes_on Mcs bits t ws p = mcs.goes_on bits t ws p
 step_goes_on RwSimple bits t ws p = rw_simple.goes_on bits t ws p
 step_goes_on RwFifo bits t ws p = rw_fifo.goes_on bits t ws p
 
-pub call_begins : (kind : LockKind) (n t : ℕ) (p : Phase) (op : Op) → IsPhaseOf kind n p → has_op kind op ≡ true → refusal_in kind p (Call op) ≡ None → Begins kind t p op
+pub call_begins : (kind : LockKind) (n t : ℕ) (p : Phase) (op : Op) → IsPhaseOf kind n p
+    → has_op kind op ≡ true → refusal_in kind p (Call op) ≡ None → Begins kind t p op
 call_begins Ticket n t p op f h r = ticket.begins t p op f h r
 call_begins Mcs n t p op f h r = mcs.begins n t p op f h r
 call_begins RwSimple n t p op f h r = rw_simple.begins t p op f h r
@@ -48,7 +50,8 @@ owed_is_own Mcs t p = mcs.owed_is_own t p
 owed_is_own RwSimple t p = rw_simple.owed_is_own t p
 owed_is_own RwFifo t p = rw_fifo.owed_is_own t p
 
-pub same_length : (kind : LockKind) (bits : ℕ) (ws : List ℕ) (t : ℕ) (p : Phase) (m : Move) → length (move_change kind bits ws t p m).words ≡ length ws
+pub same_length : (kind : LockKind) (bits : ℕ) (ws : List ℕ) (t : ℕ) (p : Phase) (m : Move)
+    → length (move_change kind bits ws t p m).words ≡ length ws
 same_length kind bits ws t p (Call op) = refl
 same_length Ticket bits ws t p (Step k) = ticket.keeps_length bits t ws p
 same_length Mcs bits ws t p (Step k) = mcs.keeps_length bits t ws p
@@ -62,14 +65,17 @@ call_fits Mcs n p op f = mcs.call_fits n p op f
 call_fits RwSimple n p op f = rw_simple.call_fits p op f
 call_fits RwFifo n p op f = rw_fifo.call_fits p op f
 
-pub new_phase_fits : (kind : LockKind) (n bits : ℕ) (ws : List ℕ) (t : ℕ) (p : Phase) (m : Move) → t < n → IsPhaseOf kind n p → AreLinks kind n ws → IsPhaseOf kind n (move_change kind bits ws t p m).phase
+pub new_phase_fits : (kind : LockKind) (n bits : ℕ) (ws : List ℕ) (t : ℕ) (p : Phase) (m : Move)
+    → t < n → IsPhaseOf kind n p → AreLinks kind n ws
+    → IsPhaseOf kind n (move_change kind bits ws t p m).phase
 new_phase_fits kind n bits ws t p (Call op) h f l = call_fits kind n p op f
 new_phase_fits Ticket n bits ws t p (Step k) h f l = ticket.step_fits n bits t ws p f
 new_phase_fits Mcs n bits ws t p (Step k) h f l = mcs.step_fits n bits t ws p h f l
 new_phase_fits RwSimple n bits ws t p (Step k) h f l = rw_simple.step_fits n bits t ws p f
 new_phase_fits RwFifo n bits ws t p (Step k) h f l = rw_fifo.step_fits n bits t ws p f
 
-pub new_links_fit : (kind : LockKind) (n bits : ℕ) (ws : List ℕ) (t : ℕ) (p : Phase) (m : Move) → t < n → AreLinks kind n ws → AreLinks kind n (move_change kind bits ws t p m).words
+pub new_links_fit : (kind : LockKind) (n bits : ℕ) (ws : List ℕ) (t : ℕ) (p : Phase) (m : Move)
+    → t < n → AreLinks kind n ws → AreLinks kind n (move_change kind bits ws t p m).words
 new_links_fit kind n bits ws t p (Call op) h l = l
 new_links_fit Ticket n bits ws t p (Step k) h l = tt
 new_links_fit Mcs n bits ws t p (Step k) h l = mcs.links_fit n bits t ws p h l
@@ -82,7 +88,8 @@ pub record Accepted (s : State) (t : ℕ) (m : Move) : Type 0 where
   pub own : belongs s.kind m ≡ true
   pub fits : refusal_in s.kind (phase_at s.phases t) m ≡ None
 
-pub well_kept : (s : State) (t : ℕ) (m : Move) → WellFormed s → Accepted s t m → WellFormed (next_state s t m)
+pub well_kept : (s : State) (t : ℕ) (m : Move) → WellFormed s → Accepted s t m
+    → WellFormed (next_state s t m)
 well_kept s t m w a =
     let c : Change = change_of s t m in
     let n : length (set s.phases t c.phase) ≡ length s.phases = length-set s.phases t c.phase in
@@ -91,33 +98,58 @@ well_kept s t m w a =
       phases_fit = rw n (λ u k. each_phase (λ u p. IsPhaseOf s.kind (length s.phases) p) s.phases t c.phase a.thread
           (new_phase_fits s.kind (length s.phases) s.bits s.words t (phase_at s.phases t) m a.thread (w.phases_fit t a.thread) w.links_fit)
           (λ v _ h. w.phases_fit v h) u (omega (arith, n)));
-      links_fit = rw n (new_links_fit s.kind (length s.phases) s.bits s.words t (phase_at s.phases t) m a.thread w.links_fit);
+      links_fit =
+          rw n
+          (new_links_fit s.kind (length s.phases) s.bits s.words t (phase_at s.phases t) m a.thread w.links_fit);
     }
 
-gate : (a b : Bool) (r : Option Refusal) → (if a then (if b then r else Some WrongLock) else Some NoSuchThread) ≡ None → (a ≡ true) × (b ≡ true) × (r ≡ None)
+gate : (a b : Bool) (r : Option Refusal)
+    → (if a then (if b then r else Some WrongLock) else Some NoSuchThread) ≡ None
+    → (a ≡ true) × (b ≡ true) × (r ≡ None)
 gate true true r h = (refl, refl, h)
 gate true false r h = cc
 gate false b r h = cc
 
 pub accepted_of : (s : State) (t : ℕ) (m : Move) → refusal_of s t m ≡ None → Accepted s t m
 accepted_of s t m h =
-    let g = gate (nat_lt t (length s.phases)) (belongs s.kind m) (refusal_in s.kind (phase_at s.phases t) m) h in
+    let g =
+    gate (nat_lt t (length s.phases)) (belongs s.kind m) (refusal_in s.kind (phase_at s.phases t) m) h in
     record { thread = ltb-true t (length s.phases) g.0; own = g.1; fits = g.2 }
 
-pub agreed : (kind : LockKind) (bits : ℕ) (ws : List ℕ) (ps : List Phase) (q : Sequential) (t : ℕ) (m : Move) → let s : State = record { kind = kind; bits = bits; words = ws; phases = ps } in WellFormed s → length ps ≤ 64 → q.kind ≡ kind → Accepted s t m → AgreeAs kind s q → IsAgreed kind (AgreeAs kind (next_state s t m)) q (entries_of s t m)
-agreed Ticket bits ws ps q t m w n k a g = ticket.keeps bits ws ps q t (phase_at ps t) m k a.thread n w.enough refl (w.phases_fit t a.thread) a.own a.fits g
-agreed Mcs bits ws ps q t m w n k a g = mcs.keeps bits ws ps q t (phase_at ps t) m k a.thread n w.enough refl (w.phases_fit t a.thread) a.own a.fits g
-agreed RwSimple bits ws ps q t m w n k a g = rw_simple.keeps bits ws ps q t (phase_at ps t) m k a.thread n w.enough refl (w.phases_fit t a.thread) a.own a.fits g
-agreed RwFifo bits ws ps q t m w n k a g = rw_fifo.keeps bits ws ps q t (phase_at ps t) m k a.thread n w.enough refl (w.phases_fit t a.thread) a.own a.fits g
+pub agreed : (kind : LockKind) (bits : ℕ) (ws : List ℕ) (ps : List Phase) (q : Sequential) (t : ℕ)
+    (m : Move)
+    → let s : State = record { kind = kind; bits = bits; words = ws; phases = ps } in WellFormed s
+    → length ps ≤ 64 → q.kind ≡ kind → Accepted s t m → AgreeAs kind s q
+    → IsAgreed kind (AgreeAs kind (next_state s t m)) q (entries_of s t m)
+agreed Ticket bits ws ps q t m w n k a g =
+    ticket.keeps bits ws ps q t (phase_at ps t) m k a.thread n w.enough refl
+    (w.phases_fit t a.thread) a.own a.fits g
+agreed Mcs bits ws ps q t m w n k a g =
+    mcs.keeps bits ws ps q t (phase_at ps t) m k a.thread n w.enough refl (w.phases_fit t a.thread)
+    a.own a.fits g
+agreed RwSimple bits ws ps q t m w n k a g =
+    rw_simple.keeps bits ws ps q t (phase_at ps t) m k a.thread n w.enough refl
+    (w.phases_fit t a.thread) a.own a.fits g
+agreed RwFifo bits ws ps q t m w n k a g =
+    rw_fifo.keeps bits ws ps q t (phase_at ps t) m k a.thread n w.enough refl
+    (w.phases_fit t a.thread) a.own a.fits g
 
-pub held_kept : (kind : LockKind) (bits : ℕ) (ws : List ℕ) (ps : List Phase) (q : Sequential) (es : List Entry) (t : ℕ) (m : Move) → let s : State = record { kind = kind; bits = bits; words = ws; phases = ps } in WellFormed s → length ps ≤ 64 → q.kind ≡ kind → Accepted s t m → AgreeAs kind s q → IsHeldInside kind ps q.queue (holder_after None es) → IsHeldInside kind (next_state s t m).phases (after_entries q (entries_of s t m)).queue (holder_after None (es ++ entries_of s t m))
+pub held_kept : (kind : LockKind) (bits : ℕ) (ws : List ℕ) (ps : List Phase) (q : Sequential)
+    (es : List Entry) (t : ℕ) (m : Move)
+    → let s : State = record { kind = kind; bits = bits; words = ws; phases = ps } in WellFormed s
+    → length ps ≤ 64 → q.kind ≡ kind → Accepted s t m → AgreeAs kind s q
+    → IsHeldInside kind ps q.queue (holder_after None es)
+    → IsHeldInside kind (next_state s t m).phases (after_entries q (entries_of s t m)).queue
+    (holder_after None (es ++ entries_of s t m))
 held_kept Ticket bits ws ps q es t m w n k a g i =
     let s : State = record { kind = Ticket; bits = bits; words = ws; phases = ps } in
     holder_append None es (entries_of s t m) ∙ ap (λ x. holder_after x (entries_of s t m)) i
-    ∙ ticket.holds bits ws ps q t (phase_at ps t) m k a.thread n refl (w.phases_fit t a.thread) a.own a.fits g
+    ∙ ticket.holds bits ws ps q t (phase_at ps t) m k a.thread n refl (w.phases_fit t a.thread)
+    a.own a.fits g
 held_kept Mcs bits ws ps q es t m w n k a g i =
     let s : State = record { kind = Mcs; bits = bits; words = ws; phases = ps } in
     holder_append None es (entries_of s t m) ∙ ap (λ x. holder_after x (entries_of s t m)) i
-    ∙ mcs.holds bits ws ps q t (phase_at ps t) m k a.thread n refl (w.phases_fit t a.thread) a.own a.fits g
+    ∙ mcs.holds bits ws ps q t (phase_at ps t) m k a.thread n refl (w.phases_fit t a.thread) a.own
+    a.fits g
 held_kept RwSimple bits ws ps q es t m w n k a g i = tt
 held_kept RwFifo bits ws ps q es t m w n k a g i = tt

@@ -20,7 +20,9 @@ use Rattle.lk_locks.specs.declared.kinds.Phase.TheVariants.{Idle}
 all_idle : (n t : ℕ) → phase_at (replicate n Idle) t ≡ Idle
 all_idle n t = elim (cases_lt t n) [
   | inl h ↦ get_or-replicate n t Idle Idle h
-  | inr h ↦ get_or_past (replicate n Idle) t Idle (let e : length (replicate n Idle) ≡ n = length-replicate n Idle in omega arith)
+  | inr h ↦
+      get_or_past (replicate n Idle) t Idle
+      (let e : length (replicate n Idle) ≡ n = length-replicate n Idle in omega arith)
 ]
 
 no_holders : (kind : LockKind) (n : ℕ) → AreHolders (replicate n Idle) (nobody kind)
@@ -32,7 +34,8 @@ no_holders kind n = record {
   alone = tt;
 }
 
-agree_start : (kind : LockKind) (bits : ℕ) (ws : List ℕ) (n : ℕ) → n < 2 ^ bits → ((i : ℕ) → slice_index ws i ≡ 0) → AgreeAs kind (start kind bits ws n) (nobody kind)
+agree_start : (kind : LockKind) (bits : ℕ) (ws : List ℕ) (n : ℕ) → n < 2 ^ bits
+    → ((i : ℕ) → slice_index ws i ≡ 0) → AgreeAs kind (start kind bits ws n) (nobody kind)
 agree_start Ticket bits ws n h z = record {
   narrow = rw (length-replicate n Idle) h;
   serving = rw (z 1) (pow_pos bits);
@@ -49,7 +52,8 @@ agree_start Mcs bits ws n h z = record {
   members = λ t m. absurd (false≢true m);
   others = λ t m. rw (all_idle n t) tt;
 }
-agree_start RwSimple bits ws n h z = record { narrow = rw (length-replicate n Idle) h; count = z 0; flag_is = z 1; holders = no_holders RwSimple n }
+agree_start RwSimple bits ws n h z =
+    record { narrow = rw (length-replicate n Idle) h; count = z 0; flag_is = z 1; holders = no_holders RwSimple n }
 agree_start RwFifo bits ws n h z = record {
   narrow = rw (length-replicate n Idle) h;
   left = rw (z 1) (pow_pos bits);
@@ -70,10 +74,13 @@ idle_rest Mcs t = refl
 idle_rest RwSimple t = refl
 idle_rest RwFifo t = refl
 
-pub kept_start : (kind : LockKind) (bits : ℕ) (ws : List ℕ) (n : ℕ) → n ≤ 64 → n < 2 ^ bits → word_count kind n ≤ length ws → ((i : ℕ) → i < length ws → slice_index ws i ≡ 0) → Kept (start kind bits ws n) (nobody kind) []
+pub kept_start : (kind : LockKind) (bits : ℕ) (ws : List ℕ) (n : ℕ) → n ≤ 64 → n < 2 ^ bits
+    → word_count kind n ≤ length ws → ((i : ℕ) → i < length ws → slice_index ws i ≡ 0)
+    → Kept (start kind bits ws n) (nobody kind) []
 kept_start kind bits ws n h b w z =
     let m : IsMachine n (start kind bits ws n) = machine_new kind bits n ws h b w z in
-    let zero : (i : ℕ) → slice_index ws i ≡ 0 = λ i. elim (cases_lt i (length ws)) [ inl k ↦ z i k | inr k ↦ get_or_past ws i 0 k ] in
+    let zero : (i : ℕ) → slice_index ws i ≡ 0 =
+    λ i. elim (cases_lt i (length ws)) [ inl k ↦ z i k | inr k ↦ get_or_past ws i 0 k ] in
     record {
       well = m.well;
       few = rw (length-replicate n Idle) h;

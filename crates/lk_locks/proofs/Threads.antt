@@ -19,13 +19,15 @@ pub not_eqb : (t u : ℕ) → t ≢ u → eqb u t ≡ false
 not_eqb t u h = elim (eqb_tells u t) [ inl e ↦ absurd (h (sym e.1)) | inr e ↦ e.0 ]
 
 pub has_tells : (q : List ℕ) (u t : ℕ) → has (u ∷ q) t ≡ true → (t ≡ u) ⊎ (has q t ≡ true)
-has_tells q u t h = elim (eqb_tells t u) [ inl e ↦ inl e.1 | inr e ↦ inr (let g : has (u ∷ q) t ≡ true = h in rw e.0 at g) ]
+has_tells q u t h =
+    elim (eqb_tells t u) [ inl e ↦ inl e.1 | inr e ↦ inr (let g : has (u ∷ q) t ≡ true = h in rw e.0 at g) ]
 
 pub once_more : (q : List ℕ) (t : ℕ) → EachOnce q → has q t ≡ false → EachOnce (q ++ t ∷ [])
 once_more [] t o h = (refl, tt)
 once_more (u ∷ q) t o h = elim (eqb_tells t u) [
   | inl e ↦ let g : has (u ∷ q) t ≡ false = h in absurd (false≢true (sym (rw e.0 at g)))
-  | inr e ↦ (list_any-append (eqb u) q (t ∷ []) ∙ rw (o.0, not_eqb t u e.1) refl, once_more q t o.1 (let g : has (u ∷ q) t ≡ false = h in rw e.0 at g))
+  | inr e ↦
+      (list_any-append (eqb u) q (t ∷ []) ∙ rw (o.0, not_eqb t u e.1) refl, once_more q t o.1 (let g : has (u ∷ q) t ≡ false = h in rw e.0 at g))
 ]
 
 -- the tests of a member, once more at the end
@@ -60,11 +62,14 @@ or_right false h = h
 pub at_same : (ps : List Phase) (t : ℕ) (p : Phase) → t < length ps → phase_at (set ps t p) t ≡ p
 at_same ps t p h = get_or-set_same ps t p Idle h
 
-pub at_other : (ps : List Phase) (t u : ℕ) (p : Phase) → u ≢ t → phase_at (set ps t p) u ≡ phase_at ps u
+pub at_other : (ps : List Phase) (t u : ℕ) (p : Phase) → u ≢ t
+    → phase_at (set ps t p) u ≡ phase_at ps u
 at_other ps t u p h = get_or-set_other ps t u p Idle h
 
 -- what holds of the new phase and held of the others holds of all
-pub each_phase : (P : ℕ → Phase → Type 0) (ps : List Phase) (t : ℕ) (p : Phase) → t < length ps → P t p → ((u : ℕ) → u ≢ t → u < length ps → P u (phase_at ps u)) → (u : ℕ) → u < length (set ps t p) → P u (phase_at (set ps t p) u)
+pub each_phase : (P : ℕ → Phase → Type 0) (ps : List Phase) (t : ℕ) (p : Phase) → t < length ps
+    → P t p → ((u : ℕ) → u ≢ t → u < length ps → P u (phase_at ps u)) → (u : ℕ)
+    → u < length (set ps t p) → P u (phase_at (set ps t p) u)
 each_phase P ps t p h new old u k =
     elim (eqb_tells u t) [
       | inl e ↦ rw e.1 (rw (at_same ps t p h) new)

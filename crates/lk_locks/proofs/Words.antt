@@ -20,7 +20,9 @@ pub plus_one-lt : (bits x : ℕ) → plus_one bits x < 2 ^ bits
 plus_one-lt bits x = mod-lt (x + 1) (pow_pos bits)
 
 -- what is left of a sum of 64 bits
-pub left_of_sum : (bits x greatest : ℕ) → bits ≤ 64 → greatest ≡ 2 ^ bits - 1 → bit_and (x % 2 ^ 64) greatest ≡ x % 2 ^ bits
+pub left_of_sum : (bits x greatest : ℕ) → bits ≤ 64 → greatest ≡ 2 ^ bits - 1
+    → bit_and (x % 2 ^ 64) greatest ≡ x % 2 ^ bits
 left_of_sum bits x greatest h g =
     ap (bit_and (x % 2 ^ 64)) g ∙ and_mask (x % 2 ^ 64) bits
-    ∙ (let e : 64 - bits + bits ≡ 64 = omega arith in ap (λ k. x % 2 ^ k % 2 ^ bits) (sym e) ∙ mod-mod-pow x (64 - bits) bits)
+    ∙
+    (let e : 64 - bits + bits ≡ 64 = omega arith in ap (λ k. x % 2 ^ k % 2 ^ bits) (sym e) ∙ mod-mod-pow x (64 - bits) bits)

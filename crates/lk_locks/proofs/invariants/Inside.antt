@@ -13,7 +13,9 @@ use Rattle.lk_locks.specs.declared.kinds.LockKind.{LockKind}
 use Rattle.lk_locks.specs.declared.kinds.Op.TheVariants.{Acquire, Release}
 use Rattle.lk_locks.specs.declared.kinds.Phase.{Phase}
 
-pub inside_frame : (kind : LockKind) (ps : List Phase) (q : List ℕ) (t : ℕ) (p : Phase) → t < length ps → is_inside kind p ≡ is_inside kind (phase_at ps t) → inside_of kind (set ps t p) q ≡ inside_of kind ps q
+pub inside_frame : (kind : LockKind) (ps : List Phase) (q : List ℕ) (t : ℕ) (p : Phase)
+    → t < length ps → is_inside kind p ≡ is_inside kind (phase_at ps t)
+    → inside_of kind (set ps t p) q ≡ inside_of kind ps q
 inside_frame kind ps [] t p h e = refl
 inside_frame kind ps (u ∷ q) t p h e = elim (eqb_tells u t) [
   | inl d ↦ rw (d.1, at_same ps t p h, e) refl
@@ -21,19 +23,22 @@ inside_frame kind ps (u ∷ q) t p h e = elim (eqb_tells u t) [
 ]
 
 -- one more that is not inside
-pub inside_more : (kind : LockKind) (ps : List Phase) (q : List ℕ) (t : ℕ) → is_inside kind (phase_at ps t) ≡ false → inside_of kind ps (q ++ t ∷ []) ≡ inside_of kind ps q
+pub inside_more : (kind : LockKind) (ps : List Phase) (q : List ℕ) (t : ℕ)
+    → is_inside kind (phase_at ps t) ≡ false → inside_of kind ps (q ++ t ∷ []) ≡ inside_of kind ps q
 inside_more kind ps [] t e = rw e refl
 inside_more kind ps (u ∷ q) t e = refl
 
 -- the head goes inside
-pub inside_head : (kind : LockKind) (ps : List Phase) (q : List ℕ) (t : ℕ) → is_head q t ≡ true → is_inside kind (phase_at ps t) ≡ true → inside_of kind ps q ≡ Some t
+pub inside_head : (kind : LockKind) (ps : List Phase) (q : List ℕ) (t : ℕ) → is_head q t ≡ true
+    → is_inside kind (phase_at ps t) ≡ true → inside_of kind ps q ≡ Some t
 inside_head kind ps [] t h e = cc
 inside_head kind ps (u ∷ q) t h e = let d : t ≡ u = eqb-true t u h in rw (← d, e) refl
 
 pub same : (v : ℕ) → eqb v v ≡ true
 same v = elim (eqb_tells v v) [ inl e ↦ e.0 | inr e ↦ absurd (e.1 refl) ]
 
-pub holder_append : (h : Option ℕ) (xs ys : List Entry) → holder_after h (xs ++ ys) ≡ holder_after (holder_after h xs) ys
+pub holder_append : (h : Option ℕ) (xs ys : List Entry)
+    → holder_after h (xs ++ ys) ≡ holder_after (holder_after h xs) ys
 holder_append h [] ys = refl
 holder_append h (Returned t Acquire ∷ xs) ys = holder_append (Some t) xs ys
 holder_append h (Acted t Release ∷ xs) ys = holder_append None xs ys

@@ -30,15 +30,21 @@ use Rattle.lk_locks.specs.declared.kinds.Act.TheVariants as act
 
 -- each step adds the next entries of the pending call
 pub goes_on : (bits t : ℕ) (ws : List ℕ) (p : Phase) → GoesOn Mcs t p (step bits t ws p)
-goes_on bits t ws SwapTail = either_way (GoesOn Mcs t SwapTail) (slice_index ws 0 == 0) _ _ refl refl
-goes_on bits t ws AwaitGrant = either_way (GoesOn Mcs t AwaitGrant) (slice_index ws (locked t) == 0) _ _ refl refl
-goes_on bits t ws ReadNext = either_way (GoesOn Mcs t ReadNext) (slice_index ws (next t) == 0) _ _ refl refl
-goes_on bits t ws CasTail = either_way (GoesOn Mcs t CasTail) (slice_index ws 0 == t + 1) _ _ refl refl
-goes_on bits t ws AwaitLink = either_way (GoesOn Mcs t AwaitLink) (slice_index ws (next t) == 0) _ _ refl refl
+goes_on bits t ws SwapTail =
+    either_way (GoesOn Mcs t SwapTail) (slice_index ws 0 == 0) _ _ refl refl
+goes_on bits t ws AwaitGrant =
+    either_way (GoesOn Mcs t AwaitGrant) (slice_index ws (locked t) == 0) _ _ refl refl
+goes_on bits t ws ReadNext =
+    either_way (GoesOn Mcs t ReadNext) (slice_index ws (next t) == 0) _ _ refl refl
+goes_on bits t ws CasTail =
+    either_way (GoesOn Mcs t CasTail) (slice_index ws 0 == t + 1) _ _ refl refl
+goes_on bits t ws AwaitLink =
+    either_way (GoesOn Mcs t AwaitLink) (slice_index ws (next t) == 0) _ _ refl refl
 goes_on bits t ws p = refl
 
 -- a call begins where the one before it is finished
-pub begins : (n t : ℕ) (p : Phase) (op : Op) → IsPhase n p → has_op Mcs op ≡ true → refusal_in Mcs p (Call op) ≡ None
+pub begins : (n t : ℕ) (p : Phase) (op : Op) → IsPhase n p → has_op Mcs op ≡ true
+    → refusal_in Mcs p (Call op) ≡ None
     → Begins Mcs t p op
 begins n t Idle Acquire f h r = (refl, refl)
 begins n t McsInside Release f h r = (refl, refl)
@@ -51,26 +57,36 @@ owed_is_own t p = search rules
 -- no step changes how many words there are
 pub keeps_length : (bits t : ℕ) (ws : List ℕ) (p : Phase) → KeepsLength ws (step bits t ws p)
 keeps_length bits t ws ClearNext = length-set _ _ _
-keeps_length bits t ws SwapTail = either_way (KeepsLength ws) (slice_index ws 0 == 0) _ _ (length-set _ _ _) (length-set _ _ _)
+keeps_length bits t ws SwapTail =
+    either_way (KeepsLength ws) (slice_index ws 0 == 0) _ _ (length-set _ _ _) (length-set _ _ _)
 keeps_length bits t ws (SetLocked j) = length-set _ _ _
 keeps_length bits t ws (LinkTo j) = length-set _ _ _
-keeps_length bits t ws AwaitGrant = either_way (KeepsLength ws) (slice_index ws (locked t) == 0) _ _ refl refl
-keeps_length bits t ws ReadNext = either_way (KeepsLength ws) (slice_index ws (next t) == 0) _ _ refl refl
-keeps_length bits t ws CasTail = either_way (KeepsLength ws) (slice_index ws 0 == t + 1) _ _ (length-set _ _ _) refl
-keeps_length bits t ws AwaitLink = either_way (KeepsLength ws) (slice_index ws (next t) == 0) _ _ refl refl
+keeps_length bits t ws AwaitGrant =
+    either_way (KeepsLength ws) (slice_index ws (locked t) == 0) _ _ refl refl
+keeps_length bits t ws ReadNext =
+    either_way (KeepsLength ws) (slice_index ws (next t) == 0) _ _ refl refl
+keeps_length bits t ws CasTail =
+    either_way (KeepsLength ws) (slice_index ws 0 == t + 1) _ _ (length-set _ _ _) refl
+keeps_length bits t ws AwaitLink =
+    either_way (KeepsLength ws) (slice_index ws (next t) == 0) _ _ refl refl
 keeps_length bits t ws (Grant j) = length-set _ _ _
 keeps_length bits t ws p = refl
 
 -- the new phase is one of the lock's
-pub step_fits : (n bits t : ℕ) (ws : List ℕ) (p : Phase) → t < n → IsPhase n p → AreLinks n ws → Fits Mcs n (step bits t ws p)
+pub step_fits : (n bits t : ℕ) (ws : List ℕ) (p : Phase) → t < n → IsPhase n p → AreLinks n ws
+    → Fits Mcs n (step bits t ws p)
 step_fits n bits t ws ClearNext h f l = tt
-step_fits n bits t ws SwapTail h f l = either_way (Fits Mcs n) (slice_index ws 0 == 0) _ _ tt (omega (arith, l.0))
+step_fits n bits t ws SwapTail h f l =
+    either_way (Fits Mcs n) (slice_index ws 0 == 0) _ _ tt (omega (arith, l.0))
 step_fits n bits t ws (SetLocked j) h f l = f
 step_fits n bits t ws (LinkTo j) h f l = tt
-step_fits n bits t ws AwaitGrant h f l = either_way (Fits Mcs n) (slice_index ws (locked t) == 0) _ _ tt tt
-step_fits n bits t ws ReadNext h f l = either_way (Fits Mcs n) (slice_index ws (next t) == 0) _ _ tt (omega (arith, l.1 t h))
+step_fits n bits t ws AwaitGrant h f l =
+    either_way (Fits Mcs n) (slice_index ws (locked t) == 0) _ _ tt tt
+step_fits n bits t ws ReadNext h f l =
+    either_way (Fits Mcs n) (slice_index ws (next t) == 0) _ _ tt (omega (arith, l.1 t h))
 step_fits n bits t ws CasTail h f l = either_way (Fits Mcs n) (slice_index ws 0 == t + 1) _ _ tt tt
-step_fits n bits t ws AwaitLink h f l = either_way (Fits Mcs n) (slice_index ws (next t) == 0) _ _ tt (omega (arith, l.1 t h))
+step_fits n bits t ws AwaitLink h f l =
+    either_way (Fits Mcs n) (slice_index ws (next t) == 0) _ _ tt (omega (arith, l.1 t h))
 step_fits n bits t ws (Grant j) h f l = tt
 step_fits n bits t ws p h f l = f
 
@@ -80,7 +96,8 @@ call_fits n Idle Acquire f = tt
 call_fits n McsInside Release f = tt
 call_fits n p op f = f
 
-word_fits : (n : ℕ) (ws : List ℕ) (i v j : ℕ) → v ≤ n → slice_index ws j ≤ n → slice_index (set ws i v) j ≤ n
+word_fits : (n : ℕ) (ws : List ℕ) (i v j : ℕ) → v ≤ n → slice_index ws j ≤ n
+    → slice_index (set ws i v) j ≤ n
 word_fits n ws i v j h l = elim (eqb_tells j i) [
   | inr d ↦ rw (get_or-set_other ws i j v 0 d.1) l
   | inl d ↦ elim (cases_lt i (length ws)) [
@@ -91,25 +108,36 @@ word_fits n ws i v j h l = elim (eqb_tells j i) [
 
 -- a write of a word that names a thread or none, wherever it is
 set_links : (n : ℕ) (ws : List ℕ) (i v : ℕ) → v ≤ n → AreLinks n ws → AreLinks n (set ws i v)
-set_links n ws i v h l = (word_fits n ws i v 0 h l.0, λ j k. word_fits n ws i v (next j) h (l.1 j k))
+set_links n ws i v h l =
+    (word_fits n ws i v 0 h l.0, λ j k. word_fits n ws i v (next j) h (l.1 j k))
 
 -- the tail and each link still name one of the threads, or none
-pub links_fit : (n bits t : ℕ) (ws : List ℕ) (p : Phase) → t < n → AreLinks n ws → AreLinks n (step bits t ws p).words
+pub links_fit : (n bits t : ℕ) (ws : List ℕ) (p : Phase) → t < n → AreLinks n ws
+    → AreLinks n (step bits t ws p).words
 links_fit n bits t ws ClearNext h l = set_links n ws _ 0 (omega arith) l
-links_fit n bits t ws SwapTail h l = either_way (λ (c : Change). AreLinks n c.words) (slice_index ws 0 == 0) _ _ (set_links n ws _ (t + 1) (omega arith) l) (set_links n ws _ (t + 1) (omega arith) l)
+links_fit n bits t ws SwapTail h l =
+    either_way (λ (c : Change). AreLinks n c.words) (slice_index ws 0 == 0) _ _
+    (set_links n ws _ (t + 1) (omega arith) l) (set_links n ws _ (t + 1) (omega arith) l)
 links_fit n bits t ws (SetLocked j) h l = set_links n ws _ 1 (omega arith) l
 links_fit n bits t ws (LinkTo j) h l = set_links n ws _ (t + 1) (omega arith) l
-links_fit n bits t ws AwaitGrant h l = either_way (λ (c : Change). AreLinks n c.words) (slice_index ws (locked t) == 0) _ _ l l
-links_fit n bits t ws ReadNext h l = either_way (λ (c : Change). AreLinks n c.words) (slice_index ws (next t) == 0) _ _ l l
-links_fit n bits t ws CasTail h l = either_way (λ (c : Change). AreLinks n c.words) (slice_index ws 0 == t + 1) _ _ (set_links n ws _ 0 (omega arith) l) l
-links_fit n bits t ws AwaitLink h l = either_way (λ (c : Change). AreLinks n c.words) (slice_index ws (next t) == 0) _ _ l l
+links_fit n bits t ws AwaitGrant h l =
+    either_way (λ (c : Change). AreLinks n c.words) (slice_index ws (locked t) == 0) _ _ l l
+links_fit n bits t ws ReadNext h l =
+    either_way (λ (c : Change). AreLinks n c.words) (slice_index ws (next t) == 0) _ _ l l
+links_fit n bits t ws CasTail h l =
+    either_way (λ (c : Change). AreLinks n c.words) (slice_index ws 0 == t + 1) _ _
+    (set_links n ws _ 0 (omega arith) l) l
+links_fit n bits t ws AwaitLink h l =
+    either_way (λ (c : Change). AreLinks n c.words) (slice_index ws (next t) == 0) _ _ l l
 links_fit n bits t ws (Grant j) h l = set_links n ws _ 0 (omega arith) l
 links_fit n bits t ws p h l = l
 
-pub allows_acquire : (q : Sequential) (t : ℕ) → q.kind ≡ Mcs → t < 64 → has q.queue t ≡ false → is_allowed q (act.Acquire t) ≡ true
+pub allows_acquire : (q : Sequential) (t : ℕ) → q.kind ≡ Mcs → t < 64 → has q.queue t ≡ false
+    → is_allowed q (act.Acquire t) ≡ true
 allows_acquire q t k h n = rw (lt-ltb t 64 h, k, n) refl
 
-pub allows_release : (q : Sequential) (t : ℕ) → q.kind ≡ Mcs → t < 64 → is_head q.queue t ≡ true → is_allowed q (act.Release t) ≡ true
+pub allows_release : (q : Sequential) (t : ℕ) → q.kind ≡ Mcs → t < 64 → is_head q.queue t ≡ true
+    → is_allowed q (act.Release t) ≡ true
 allows_release q t k h n = rw (lt-ltb t 64 h, k, n) refl
 
 pub head_is : (q : List ℕ) (t : ℕ) (r : List ℕ) → q ≡ t ∷ r → is_head q t ≡ true
@@ -119,32 +147,44 @@ rest_is : (q : List ℕ) (t : ℕ) (r : List ℕ) → q ≡ t ∷ r → drop 1 q
 rest_is q t r e = ap (drop 1) e
 
 -- the head goes on goes_inside
-goes_inside : (ws : List ℕ) (ps : List Phase) (q : List ℕ) (t : ℕ) (p : Phase) (i : IsHeadOf ws ps q t) → t < length ps → IsFirst ws t i.rest p → IsQueue ws ps q → IsQueue ws (set ps t p) q
+goes_inside : (ws : List ℕ) (ps : List Phase) (q : List ℕ) (t : ℕ) (p : Phase)
+    (i : IsHeadOf ws ps q t) → t < length ps → IsFirst ws t i.rest p → IsQueue ws ps q
+    → IsQueue ws (set ps t p) q
 goes_inside ws ps q t p i h f a = rw i.is (mcs_head ws ps i.rest t p h f (rw i.is at a))
 
 -- a linked head may be in AwaitLink only if it has one behind it
-not_alone : (ws : List ℕ) (ps : List Phase) (q : List ℕ) (t : ℕ) (r : List ℕ) → q ≡ t ∷ r → IsQueue ws ps q → slice_index ws 0 ≢ t + 1 → is_empty r ≡ false
+not_alone : (ws : List ℕ) (ps : List Phase) (q : List ℕ) (t : ℕ) (r : List ℕ) → q ≡ t ∷ r
+    → IsQueue ws ps q → slice_index ws 0 ≢ t + 1 → is_empty r ≡ false
 not_alone ws ps q t [] e k n = absurd (n (k.tail_is ∙ ap tail_of e))
 not_alone ws ps q t (x ∷ r) e k n = refl
 
-alone : (ws : List ℕ) (ps : List Phase) (q : List ℕ) (t : ℕ) (r : List ℕ) → q ≡ t ∷ r → IsQueue ws ps q → slice_index ws 0 ≡ t + 1 → r ≡ []
+alone : (ws : List ℕ) (ps : List Phase) (q : List ℕ) (t : ℕ) (r : List ℕ) → q ≡ t ∷ r
+    → IsQueue ws ps q → slice_index ws 0 ≡ t + 1 → r ≡ []
 alone ws ps q t [] e k n = refl
 alone ws ps q t (x ∷ r) e k n =
-    let l : last_of x r ≡ t = (let g : slice_index ws 0 ≡ last_of x r + 1 = k.tail_is ∙ ap tail_of e in omega arith) in
+    let l : last_of x r ≡ t =
+    (let g : slice_index ws 0 ≡ last_of x r + 1 = k.tail_is ∙ ap tail_of e in omega arith) in
     let o : has (x ∷ r) t ≡ false = (let g : EachOnce (t ∷ x ∷ r) = rw e at k.once in g.0) in
     absurd (false≢true (sym o ∙ ap (has (x ∷ r)) (sym l) ∙ last_member x r))
 
 -- a swap
-swapped : (ws : List ℕ) (ps : List Phase) (q : List ℕ) (t : ℕ) → t < length ps → 0 < length ws → has q t ≡ false → next_of ws t ≡ 0 → slice_index ws 0 ≢ 0 → IsQueue ws ps q → IsQueue (set ws 0 (t + 1)) (set ps t (SetLocked (slice_index ws 0 - 1))) (q ++ t ∷ [])
+swapped : (ws : List ℕ) (ps : List Phase) (q : List ℕ) (t : ℕ) → t < length ps → 0 < length ws
+    → has q t ≡ false → next_of ws t ≡ 0 → slice_index ws 0 ≢ 0 → IsQueue ws ps q
+    → IsQueue (set ws 0 (t + 1)) (set ps t (SetLocked (slice_index ws 0 - 1))) (q ++ t ∷ [])
 swapped ws ps [] t h w o n z k = absurd (z k.tail_is)
-swapped ws ps (x ∷ q) t h w o n z k = mcs_more ws ps x t (slice_index ws 0 - 1) q h w o n (let g : slice_index ws 0 ≡ last_of x q + 1 = k.tail_is in omega arith) k
+swapped ws ps (x ∷ q) t h w o n z k =
+    mcs_more ws ps x t (slice_index ws 0 - 1) q h w o n
+    (let g : slice_index ws 0 ≡ last_of x q + 1 = k.tail_is in omega arith) k
 
-pub empty_of : (ws : List ℕ) (ps : List Phase) (q : List ℕ) → slice_index ws 0 ≡ 0 → IsQueue ws ps q → q ≡ []
+pub empty_of : (ws : List ℕ) (ps : List Phase) (q : List ℕ) → slice_index ws 0 ≡ 0 → IsQueue ws ps q
+    → q ≡ []
 empty_of ws ps [] z k = refl
-empty_of ws ps (x ∷ q) z k = let g : slice_index ws 0 ≡ last_of x q + 1 = k.tail_is in absurd (omega arith)
+empty_of ws ps (x ∷ q) z k =
+    let g : slice_index ws 0 ≡ last_of x q + 1 = k.tail_is in absurd (omega arith)
 
 -- a first one whose next word is written by the one behind it
-relinked : (ws vs : List ℕ) (h : ℕ) (r : List ℕ) (p : Phase) → next_of ws h ≡ 0 → locked_of vs h ≡ locked_of ws h → IsFirst ws h r p → IsFirst vs h r p
+relinked : (ws vs : List ℕ) (h : ℕ) (r : List ℕ) (p : Phase) → next_of ws h ≡ 0
+    → locked_of vs h ≡ locked_of ws h → IsFirst ws h r p → IsFirst vs h r p
 relinked ws vs h r AwaitGrant n l f = l ∙ f
 relinked ws vs h r (Grant j) n l f = absurd (omega (arith, n, f.1))
 relinked ws vs h r McsInside n l f = tt
@@ -154,26 +194,41 @@ relinked ws vs h r AwaitLink n l f = f
 relinked ws vs h r p n l f = absurd f
 
 -- the first may set out to release, or go on
-pub first_of_head : (ws : List ℕ) (ps : List Phase) (q : List ℕ) (t : ℕ) (p : Phase) → phase_at ps t ≡ p → (IsOutside ws t p → ⊥) → ((v : ℕ) → IsBehind ws v t p → ⊥) → IsQueue ws ps q → IsHeadOf ws ps q t
-first_of_head ws ps q t p e o b k = head_of ws ps q t k (λ x. o (rw e at x)) (λ v x. b v (rw e at x))
+pub first_of_head : (ws : List ℕ) (ps : List Phase) (q : List ℕ) (t : ℕ) (p : Phase)
+    → phase_at ps t ≡ p → (IsOutside ws t p → ⊥) → ((v : ℕ) → IsBehind ws v t p → ⊥)
+    → IsQueue ws ps q → IsHeadOf ws ps q t
+first_of_head ws ps q t p e o b k =
+    head_of ws ps q t k (λ x. o (rw e at x)) (λ v x. b v (rw e at x))
 
 -- each move keeps the queue, and its entries may come
-pub keeps : (bits : ℕ) (ws : List ℕ) (ps : List Phase) (q : Sequential) (t : ℕ) (p : Phase) (m : Move) → q.kind ≡ Mcs → t < length ps → length ps ≤ 64 → 1 + 2 * length ps ≤ length ws → phase_at ps t ≡ p → IsPhase (length ps) p → belongs Mcs m ≡ true → refusal_in Mcs p m ≡ None → IsQueue ws ps q.queue → let c : Change = move_change Mcs bits ws t p m in IsAgreed Mcs (λ r. IsQueue c.words (set ps t c.phase) r.queue) q (move_entries Mcs t p m c.outcome)
+pub keeps : (bits : ℕ) (ws : List ℕ) (ps : List Phase) (q : Sequential) (t : ℕ) (p : Phase)
+    (m : Move) → q.kind ≡ Mcs → t < length ps → length ps ≤ 64 → 1 + 2 * length ps ≤ length ws
+    → phase_at ps t ≡ p → IsPhase (length ps) p → belongs Mcs m ≡ true → refusal_in Mcs p m ≡ None
+    → IsQueue ws ps q.queue
+    → let c : Change =
+    move_change Mcs bits ws t p m in IsAgreed Mcs (λ r. IsQueue c.words (set ps t c.phase) r.queue) q (move_entries Mcs t p m c.outcome)
 keeps bits ws ps q t Idle (Call Acquire) k h n w e f b r a =
-    let o : has q.queue t ≡ false = not_member ws ps q.queue t a (λ r x. rw e at x) (λ v x. rw e at x) in
+    let o : has q.queue t ≡ false =
+    not_member ws ps q.queue t a (λ r x. rw e at x) (λ v x. rw e at x) in
     record { allowed = (tt, tt); kind_is = k; agrees = mcs_out ws ws ps q.queue t ClearNext h o refl (λ v d. refl) (λ v. refl) tt a }
 keeps bits ws ps q t McsInside (Call Release) k h n w e f b r a =
-    let i : IsHeadOf ws ps q.queue t = first_of_head ws ps q.queue t McsInside e (λ x. x) (λ v x. x) a in
+    let i : IsHeadOf ws ps q.queue t =
+    first_of_head ws ps q.queue t McsInside e (λ x. x) (λ v x. x) a in
     record { allowed = (tt, tt); kind_is = k; agrees = goes_inside ws ps q.queue t ReadNext i h tt a }
 keeps bits ws ps q t ClearNext (Step s) k h n w e f b r a =
-    let o : has q.queue t ≡ false = not_member ws ps q.queue t a (λ r x. rw e at x) (λ v x. rw e at x) in
+    let o : has q.queue t ≡ false =
+    not_member ws ps q.queue t a (λ r x. rw e at x) (λ v x. rw e at x) in
     record {
       allowed = tt;
       kind_is = k;
-      agrees = mcs_out ws (set ws (next t) 0) ps q.queue t SwapTail h o (tail_after ws (next t) 0 (omega arith)) (λ v d. next_after_next ws t v 0 d) (λ v. locked_after_next ws t v 0) (get_or-set_same ws (next t) 0 0 (omega arith)) a;
+      agrees =
+          mcs_out ws (set ws (next t) 0) ps q.queue t SwapTail h o
+          (tail_after ws (next t) 0 (omega arith)) (λ v d. next_after_next ws t v 0 d)
+          (λ v. locked_after_next ws t v 0) (get_or-set_same ws (next t) 0 0 (omega arith)) a;
     }
 keeps bits ws ps q t SwapTail (Step s) k h n w e f b r a =
-    let o : has q.queue t ≡ false = not_member ws ps q.queue t a (λ r x. rw e at x) (λ v x. rw e at x) in
+    let o : has q.queue t ≡ false =
+    not_member ws ps q.queue t a (λ r x. rw e at x) (λ v x. rw e at x) in
     let y : is_allowed q (act.Acquire t) ≡ true = allows_acquire q t k (omega arith) o in
     let z : next_of ws t ≡ 0 = rw e at (a.others t o) in
     elim (eqb_tells (slice_index ws 0) 0) [
@@ -196,10 +251,13 @@ keeps bits ws ps q t (SetLocked j) (Step s) k h n w e f b r a =
       | inr i ↦ record {
         allowed = tt;
         kind_is = k;
-        agrees = mcs_later ws (set ws (locked t) 1) ps q.queue t j (LinkTo j) h i.0 (tail_after ws (locked t) 1 (omega arith))
+        agrees =
+            mcs_later ws (set ws (locked t) 1) ps q.queue t j (LinkTo j) h i.0
+            (tail_after ws (locked t) 1 (omega arith))
             (λ v x. let g : IsBehind ws v t (SetLocked j) = rw e at x in (sym g.0, (g.0, next_after_locked ws t v 1 ∙ g.1, get_or-set_same ws (locked t) 1 0 (omega arith))))
             (λ v d. next_after_locked ws t v 1) (λ v d. locked_after_locked ws t v 1 d)
-            (λ x r d g. first_frame ws (set ws (locked t) 1) x r (phase_at ps x) (next_after_locked ws t x 1) (locked_after_locked ws t x 1 d) g) a;
+            (λ x r d g. first_frame ws (set ws (locked t) 1) x r (phase_at ps x) (next_after_locked ws t x 1) (locked_after_locked ws t x 1 d) g)
+            a;
       }
     ]
 keeps bits ws ps q t (LinkTo j) (Step s) k h n w e f b r a =
@@ -211,31 +269,46 @@ keeps bits ws ps q t (LinkTo j) (Step s) k h n w e f b r a =
           record {
             allowed = tt;
             kind_is = k;
-            agrees = mcs_later ws (set ws (next j) (t + 1)) ps q.queue t j AwaitGrant h i.0 (tail_after ws (next j) (t + 1) (omega arith))
+            agrees =
+                mcs_later ws (set ws (next j) (t + 1)) ps q.queue t j AwaitGrant h i.0
+                (tail_after ws (next j) (t + 1) (omega arith))
                 (λ v x. let g : IsBehind ws v t (LinkTo j) = rw e at x in (sym g.0, (rw (← g.0) (get_or-set_same ws (next j) (t + 1) 0 (omega arith)), locked_after_next ws j t (t + 1) ∙ g.2)))
                 (λ v d. next_after_next ws j v (t + 1) d) (λ v d. locked_after_next ws j v (t + 1))
                 (λ x r d g. elim (eqb_tells x j) [
-                  | inl u ↦ relinked ws (set ws (next j) (t + 1)) x r (phase_at ps x) (ap (next_of ws) u.1 ∙ zero) (locked_after_next ws j x (t + 1)) g
-                  | inr u ↦ first_frame ws (set ws (next j) (t + 1)) x r (phase_at ps x) (next_after_next ws j x (t + 1) u.1) (locked_after_next ws j x (t + 1)) g
+                  | inl u ↦
+                      relinked ws (set ws (next j) (t + 1)) x r (phase_at ps x)
+                      (ap (next_of ws) u.1 ∙ zero) (locked_after_next ws j x (t + 1)) g
+                  | inr u ↦
+                      first_frame ws (set ws (next j) (t + 1)) x r (phase_at ps x)
+                      (next_after_next ws j x (t + 1) u.1) (locked_after_next ws j x (t + 1)) g
                 ]) a;
           }
     ]
 keeps bits ws ps q t AwaitGrant (Step s) k h n w e f b r a = elim (eqb_tells (locked_of ws t) 0) [
   | inl d ↦ rw d.0 (elim (place ws ps q.queue t a.line (member_of ws ps q.queue t a (λ x. rw e at x))) [
-    | inl i ↦ record { allowed = (head_is q.queue t i.rest i.is, tt); kind_is = k; agrees = goes_inside ws ps q.queue t McsInside i h tt a }
-    | inr i ↦ let g : IsBehind ws i.1.0 t AwaitGrant = rw e at i.1.1 in absurd (omega (arith, g.1, d.1))
+    | inl i ↦
+        record { allowed = (head_is q.queue t i.rest i.is, tt); kind_is = k; agrees = goes_inside ws ps q.queue t McsInside i h tt a }
+    | inr i ↦
+        let g : IsBehind ws i.1.0 t AwaitGrant = rw e at i.1.1 in absurd (omega (arith, g.1, d.1))
   ])
   | inr d ↦ rw d.0 (record { allowed = tt; kind_is = k; agrees = rw (sym e) (rw set-get_or a) })
 ]
 keeps bits ws ps q t ReadNext (Step s) k h n w e f b r a =
-    let i : IsHeadOf ws ps q.queue t = first_of_head ws ps q.queue t ReadNext e (λ x. x) (λ v x. x) a in
+    let i : IsHeadOf ws ps q.queue t =
+    first_of_head ws ps q.queue t ReadNext e (λ x. x) (λ v x. x) a in
     elim (eqb_tells (next_of ws t) 0) [
-      | inl d ↦ rw d.0 (record { allowed = tt; kind_is = k; agrees = goes_inside ws ps q.queue t CasTail i h tt a })
-      | inr d ↦ rw d.0 (record { allowed = tt; kind_is = k; agrees = goes_inside ws ps q.queue t (Grant (next_of ws t - 1)) i h (second ws ps t i.rest i.later d.1, omega (arith, d.1)) a })
+      | inl d ↦
+          rw d.0
+          (record { allowed = tt; kind_is = k; agrees = goes_inside ws ps q.queue t CasTail i h tt a })
+      | inr d ↦
+          rw d.0
+          (record { allowed = tt; kind_is = k; agrees = goes_inside ws ps q.queue t (Grant (next_of ws t - 1)) i h (second ws ps t i.rest i.later d.1, omega (arith, d.1)) a })
     ]
 keeps bits ws ps q t CasTail (Step s) k h n w e f b r a =
-    let i : IsHeadOf ws ps q.queue t = first_of_head ws ps q.queue t CasTail e (λ x. x) (λ v x. x) a in
-    let y : is_allowed q (act.Release t) ≡ true = allows_release q t k (omega arith) (head_is q.queue t i.rest i.is) in
+    let i : IsHeadOf ws ps q.queue t =
+    first_of_head ws ps q.queue t CasTail e (λ x. x) (λ v x. x) a in
+    let y : is_allowed q (act.Release t) ≡ true =
+    allows_release q t k (omega arith) (head_is q.queue t i.rest i.is) in
     elim (eqb_tells (slice_index ws 0) (t + 1)) [
       | inl d ↦
           let g : i.rest ≡ [] = alone ws ps q.queue t i.rest i.is a d.1 in
@@ -245,17 +318,24 @@ keeps bits ws ps q t CasTail (Step s) k h n w e f b r a =
             kind_is = rw y k;
             agrees = rw (y, x) (mcs_last ws ps t h (omega arith) (rw x at a));
           })
-      | inr d ↦ rw d.0 (record { allowed = tt; kind_is = k; agrees = goes_inside ws ps q.queue t AwaitLink i h (not_alone ws ps q.queue t i.rest i.is a d.1) a })
+      | inr d ↦
+          rw d.0
+          (record { allowed = tt; kind_is = k; agrees = goes_inside ws ps q.queue t AwaitLink i h (not_alone ws ps q.queue t i.rest i.is a d.1) a })
     ]
 keeps bits ws ps q t AwaitLink (Step s) k h n w e f b r a =
-    let i : IsHeadOf ws ps q.queue t = first_of_head ws ps q.queue t AwaitLink e (λ x. x) (λ v x. x) a in
+    let i : IsHeadOf ws ps q.queue t =
+    first_of_head ws ps q.queue t AwaitLink e (λ x. x) (λ v x. x) a in
     elim (eqb_tells (next_of ws t) 0) [
       | inl d ↦ rw d.0 (record { allowed = tt; kind_is = k; agrees = rw (sym e) (rw set-get_or a) })
-      | inr d ↦ rw d.0 (record { allowed = tt; kind_is = k; agrees = goes_inside ws ps q.queue t (Grant (next_of ws t - 1)) i h (second ws ps t i.rest i.later d.1, omega (arith, d.1)) a })
+      | inr d ↦
+          rw d.0
+          (record { allowed = tt; kind_is = k; agrees = goes_inside ws ps q.queue t (Grant (next_of ws t - 1)) i h (second ws ps t i.rest i.later d.1, omega (arith, d.1)) a })
     ]
 keeps bits ws ps q t (Grant j) (Step s) k h n w e f b r a =
-    let i : IsHeadOf ws ps q.queue t = first_of_head ws ps q.queue t (Grant j) e (λ x. x) (λ v x. x) a in
-    let y : is_allowed q (act.Release t) ≡ true = allows_release q t k (omega arith) (head_is q.queue t i.rest i.is) in
+    let i : IsHeadOf ws ps q.queue t =
+    first_of_head ws ps q.queue t (Grant j) e (λ x. x) (λ v x. x) a in
+    let y : is_allowed q (act.Release t) ≡ true =
+    allows_release q t k (omega arith) (head_is q.queue t i.rest i.is) in
     record {
       allowed = (y, (tt, tt));
       kind_is = rw y k;
@@ -271,7 +351,8 @@ behind_outside ws u t AwaitGrant b = refl
 behind_outside ws u t p b = absurd b
 
 -- the head leaves, and who is behind it is not inside yet
-leaves : (ws : List ℕ) (ps : List Phase) (q r : List ℕ) (t : ℕ) → q ≡ t ∷ r → EachOnce q → IsLater ws ps t r → None ≡ inside_of Mcs (set ps t Idle) (drop 1 q)
+leaves : (ws : List ℕ) (ps : List Phase) (q r : List ℕ) (t : ℕ) → q ≡ t ∷ r → EachOnce q
+    → IsLater ws ps t r → None ≡ inside_of Mcs (set ps t Idle) (drop 1 q)
 leaves ws ps q [] t e o l = rw e refl
 leaves ws ps q (x ∷ r) t e o l =
     let c : EachOnce (t ∷ x ∷ r) = rw e at o in
@@ -279,47 +360,73 @@ leaves ws ps q (x ∷ r) t e o l =
     rw (e, at_other ps t x Idle d, behind_outside ws t x (phase_at ps x) l.0) refl
 
 -- the holder by the history is the head that is inside
-pub holds : (bits : ℕ) (ws : List ℕ) (ps : List Phase) (q : Sequential) (t : ℕ) (p : Phase) (m : Move) → q.kind ≡ Mcs → t < length ps → length ps ≤ 64 → phase_at ps t ≡ p → IsPhase (length ps) p → belongs Mcs m ≡ true → refusal_in Mcs p m ≡ None → IsQueue ws ps q.queue → let c : Change = move_change Mcs bits ws t p m in let es : List Entry = move_entries Mcs t p m c.outcome in holder_after (inside_of Mcs ps q.queue) es ≡ inside_of Mcs (set ps t c.phase) (after_entries q es).queue
-holds bits ws ps q t Idle (Call Acquire) k h n e f b r a = sym (inside_frame Mcs ps q.queue t ClearNext h (sym (ap is_inside e)))
-holds bits ws ps q t McsInside (Call Release) k h n e f b r a = sym (inside_frame Mcs ps q.queue t ReadNext h (sym (ap is_inside e)))
-holds bits ws ps q t ClearNext (Step s) k h n e f b r a = sym (inside_frame Mcs ps q.queue t SwapTail h (sym (ap is_inside e)))
+pub holds : (bits : ℕ) (ws : List ℕ) (ps : List Phase) (q : Sequential) (t : ℕ) (p : Phase)
+    (m : Move) → q.kind ≡ Mcs → t < length ps → length ps ≤ 64 → phase_at ps t ≡ p
+    → IsPhase (length ps) p → belongs Mcs m ≡ true → refusal_in Mcs p m ≡ None
+    → IsQueue ws ps q.queue
+    → let c : Change =
+    move_change Mcs bits ws t p m in let es : List Entry =
+    move_entries Mcs t p m c.outcome in holder_after (inside_of Mcs ps q.queue) es
+    ≡ inside_of Mcs (set ps t c.phase) (after_entries q es).queue
+holds bits ws ps q t Idle (Call Acquire) k h n e f b r a =
+    sym (inside_frame Mcs ps q.queue t ClearNext h (sym (ap is_inside e)))
+holds bits ws ps q t McsInside (Call Release) k h n e f b r a =
+    sym (inside_frame Mcs ps q.queue t ReadNext h (sym (ap is_inside e)))
+holds bits ws ps q t ClearNext (Step s) k h n e f b r a =
+    sym (inside_frame Mcs ps q.queue t SwapTail h (sym (ap is_inside e)))
 holds bits ws ps q t SwapTail (Step s) k h n e f b r a =
-    let o : has q.queue t ≡ false = not_member ws ps q.queue t a (λ r x. rw e at x) (λ v x. rw e at x) in
+    let o : has q.queue t ≡ false =
+    not_member ws ps q.queue t a (λ r x. rw e at x) (λ v x. rw e at x) in
     let y : is_allowed q (act.Acquire t) ≡ true = allows_acquire q t k (omega arith) o in
     elim (eqb_tells (slice_index ws 0) 0) [
       | inl d ↦
           let g : q.queue ≡ [] = empty_of ws ps q.queue d.1 a in
-          rw (d.0, y, g) (sym (inside_head Mcs (set ps t McsInside) (t ∷ []) t (same t) (ap is_inside (at_same ps t McsInside h))))
+          rw (d.0, y, g)
+          (sym (inside_head Mcs (set ps t McsInside) (t ∷ []) t (same t) (ap is_inside (at_same ps t McsInside h))))
       | inr d ↦
           let p : Phase = SetLocked (slice_index ws 0 - 1) in
-          rw (d.0, y) (sym (inside_more Mcs (set ps t p) q.queue t (ap is_inside (at_same ps t p h)) ∙ inside_frame Mcs ps q.queue t p h (sym (ap is_inside e))))
+          rw (d.0, y)
+          (sym (inside_more Mcs (set ps t p) q.queue t (ap is_inside (at_same ps t p h)) ∙ inside_frame Mcs ps q.queue t p h (sym (ap is_inside e))))
     ]
-holds bits ws ps q t (SetLocked j) (Step s) k h n e f b r a = sym (inside_frame Mcs ps q.queue t (LinkTo j) h (sym (ap is_inside e)))
-holds bits ws ps q t (LinkTo j) (Step s) k h n e f b r a = sym (inside_frame Mcs ps q.queue t AwaitGrant h (sym (ap is_inside e)))
+holds bits ws ps q t (SetLocked j) (Step s) k h n e f b r a =
+    sym (inside_frame Mcs ps q.queue t (LinkTo j) h (sym (ap is_inside e)))
+holds bits ws ps q t (LinkTo j) (Step s) k h n e f b r a =
+    sym (inside_frame Mcs ps q.queue t AwaitGrant h (sym (ap is_inside e)))
 holds bits ws ps q t AwaitGrant (Step s) k h n e f b r a = elim (eqb_tells (locked_of ws t) 0) [
   | inl d ↦ rw d.0 (elim (place ws ps q.queue t a.line (member_of ws ps q.queue t a (λ x. rw e at x))) [
-    | inl i ↦ sym (inside_head Mcs (set ps t McsInside) q.queue t (head_is q.queue t i.rest i.is) (ap is_inside (at_same ps t McsInside h)))
-    | inr i ↦ let g : IsBehind ws i.1.0 t AwaitGrant = rw e at i.1.1 in absurd (omega (arith, g.1, d.1))
+    | inl i ↦
+        sym
+        (inside_head Mcs (set ps t McsInside) q.queue t (head_is q.queue t i.rest i.is) (ap is_inside (at_same ps t McsInside h)))
+    | inr i ↦
+        let g : IsBehind ws i.1.0 t AwaitGrant = rw e at i.1.1 in absurd (omega (arith, g.1, d.1))
   ])
   | inr d ↦ rw d.0 (sym (inside_frame Mcs ps q.queue t AwaitGrant h (sym (ap is_inside e))))
 ]
 holds bits ws ps q t ReadNext (Step s) k h n e f b r a = elim (eqb_tells (next_of ws t) 0) [
   | inl d ↦ rw d.0 (sym (inside_frame Mcs ps q.queue t CasTail h (sym (ap is_inside e))))
-  | inr d ↦ rw d.0 (sym (inside_frame Mcs ps q.queue t (Grant (next_of ws t - 1)) h (sym (ap is_inside e))))
+  | inr d ↦
+      rw d.0
+      (sym (inside_frame Mcs ps q.queue t (Grant (next_of ws t - 1)) h (sym (ap is_inside e))))
 ]
 holds bits ws ps q t CasTail (Step s) k h n e f b r a =
-    let i : IsHeadOf ws ps q.queue t = first_of_head ws ps q.queue t CasTail e (λ x. x) (λ v x. x) a in
-    let y : is_allowed q (act.Release t) ≡ true = allows_release q t k (omega arith) (head_is q.queue t i.rest i.is) in
+    let i : IsHeadOf ws ps q.queue t =
+    first_of_head ws ps q.queue t CasTail e (λ x. x) (λ v x. x) a in
+    let y : is_allowed q (act.Release t) ≡ true =
+    allows_release q t k (omega arith) (head_is q.queue t i.rest i.is) in
     elim (eqb_tells (slice_index ws 0) (t + 1)) [
       | inl d ↦ rw (d.0, y) (leaves ws ps q.queue i.rest t i.is a.once i.later)
       | inr d ↦ rw d.0 (sym (inside_frame Mcs ps q.queue t AwaitLink h (sym (ap is_inside e))))
     ]
 holds bits ws ps q t AwaitLink (Step s) k h n e f b r a = elim (eqb_tells (next_of ws t) 0) [
   | inl d ↦ rw d.0 (sym (inside_frame Mcs ps q.queue t AwaitLink h (sym (ap is_inside e))))
-  | inr d ↦ rw d.0 (sym (inside_frame Mcs ps q.queue t (Grant (next_of ws t - 1)) h (sym (ap is_inside e))))
+  | inr d ↦
+      rw d.0
+      (sym (inside_frame Mcs ps q.queue t (Grant (next_of ws t - 1)) h (sym (ap is_inside e))))
 ]
 holds bits ws ps q t (Grant j) (Step s) k h n e f b r a =
-    let i : IsHeadOf ws ps q.queue t = first_of_head ws ps q.queue t (Grant j) e (λ x. x) (λ v x. x) a in
-    let y : is_allowed q (act.Release t) ≡ true = allows_release q t k (omega arith) (head_is q.queue t i.rest i.is) in
+    let i : IsHeadOf ws ps q.queue t =
+    first_of_head ws ps q.queue t (Grant j) e (λ x. x) (λ v x. x) a in
+    let y : is_allowed q (act.Release t) ≡ true =
+    allows_release q t k (omega arith) (head_is q.queue t i.rest i.is) in
     rw y (leaves ws ps q.queue i.rest t i.is a.once i.later)
 holds bits ws ps q t p m k h n e f b r a = cc

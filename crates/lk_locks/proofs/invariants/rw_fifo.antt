@@ -8,7 +8,7 @@ use Rattle.lk_locks.specs.Change.{Change, plus_one}
 use Rattle.lk_locks.specs.Entries.{move_entries}
 use Rattle.lk_locks.specs.Sequential.{Sequential, acted, has, is_allowed, is_this, left_by}
 use Rattle.lk_locks.specs.State.{phase_at}
-use Rattle.lk_locks.specs.Steps.{after_call, belongs, has_op, move_change, refusal_in}
+use Rattle.lk_locks.specs.Steps.{belongs, has_op, move_change, refusal_in}
 use Rattle.lk_locks.specs.invariants.WellFormed.{IsPhaseOf}
 use Rattle.lk_locks.specs.invariants.read_write.{AreHolders, is_announced, is_reading, is_writing}
 use Rattle.lk_locks.specs.invariants.rw_fifo.{AgreesWith, is_phase, owed}
@@ -17,7 +17,6 @@ use Rattle.lk_locks.proofs.Cases.{AreOf, Begins, Fits, GoesOn, IsAgreed, KeepsLe
 use Rattle.lk_locks.proofs.invariants.HolderLists.{announced_is, empty_of_length, flag_none, flag_some, holders_announce, holders_downgrade, holders_frame, holders_join, holders_leave, holders_unwrite, holders_write, length_joined, length_left, no_writer, no_writer_beside, none_announced, not_same, readers_few}
 use Rattle.lk_locks.proofs.Requests.{eqb-same}
 use Rattle.lk_locks.proofs.Words.{no_round, plus_one-lt, plus_one_plus}
-use Rattle.lk_locks.specs.declared.kinds.Act.TheVariants.{Announce}
 use Rattle.lk_locks.specs.declared.kinds.LockKind.TheVariants.{RwFifo}
 use Rattle.lk_locks.specs.declared.kinds.Move.{Move}
 use Rattle.lk_locks.specs.declared.kinds.Move.TheVariants.{Call, Step}
@@ -30,16 +29,19 @@ use Rattle.lk_locks.specs.declared.kinds.Act.TheVariants as act
 
 -- each section adds the next entries of the pending call
 pub goes_on : (bits t : ℕ) (ws : List ℕ) (p : Phase) → GoesOn RwFifo t p (step bits ws p)
-goes_on bits t ws TryRead = either_way (GoesOn RwFifo t TryRead) (slice_index ws 2 == 0) _ _ refl refl
+goes_on bits t ws TryRead =
+    either_way (GoesOn RwFifo t TryRead) (slice_index ws 2 == 0) _ _ refl refl
 goes_on bits t ws TryWrite =
     either_way (GoesOn RwFifo t TryWrite) (slice_index ws 2 == 0) _ _
     (either_way (GoesOn RwFifo t TryWrite) (slice_index ws 0 == slice_index ws 1) _ _ refl refl)
     refl
-goes_on bits t ws AwaitReaders = either_way (GoesOn RwFifo t AwaitReaders) (slice_index ws 0 == slice_index ws 1) _ _ refl refl
+goes_on bits t ws AwaitReaders =
+    either_way (GoesOn RwFifo t AwaitReaders) (slice_index ws 0 == slice_index ws 1) _ _ refl refl
 goes_on bits t ws p = refl
 
 -- a call begins where the one before it is finished
-pub begins : (t : ℕ) (p : Phase) (op : Op) → IsTrue (is_phase p) → has_op RwFifo op ≡ true → refusal_in RwFifo p (Call op) ≡ None
+pub begins : (t : ℕ) (p : Phase) (op : Op) → IsTrue (is_phase p) → has_op RwFifo op ≡ true
+    → refusal_in RwFifo p (Call op) ≡ None
     → Begins RwFifo t p op
 begins t Idle ReadLock f h r = (refl, refl)
 begins t Idle WriteLock f h r = (refl, refl)
@@ -54,20 +56,29 @@ owed_is_own t p = search rules
 
 -- no section changes how many words there are
 pub keeps_length : (bits t : ℕ) (ws : List ℕ) (p : Phase) → KeepsLength ws (step bits ws p)
-keeps_length bits t ws TryRead = either_way (KeepsLength ws) (slice_index ws 2 == 0) _ _ (length-set _ _ _) refl
+keeps_length bits t ws TryRead =
+    either_way (KeepsLength ws) (slice_index ws 2 == 0) _ _ (length-set _ _ _) refl
 keeps_length bits t ws LeaveRead = length-set _ _ _
-keeps_length bits t ws TryWrite = either_way (KeepsLength ws) (slice_index ws 2 == 0) _ _ (either_way (KeepsLength ws) (slice_index ws 0 == slice_index ws 1) _ _ (length-set _ _ _) (length-set _ _ _)) refl
-keeps_length bits t ws AwaitReaders = either_way (KeepsLength ws) (slice_index ws 0 == slice_index ws 1) _ _ refl refl
+keeps_length bits t ws TryWrite =
+    either_way (KeepsLength ws) (slice_index ws 2 == 0) _ _
+    (either_way (KeepsLength ws) (slice_index ws 0 == slice_index ws 1) _ _ (length-set _ _ _) (length-set _ _ _))
+    refl
+keeps_length bits t ws AwaitReaders =
+    either_way (KeepsLength ws) (slice_index ws 0 == slice_index ws 1) _ _ refl refl
 keeps_length bits t ws LeaveWrite = length-set _ _ _
 keeps_length bits t ws TryDowngrade = length-set _ _ _ ∙ length-set _ _ _
 keeps_length bits t ws p = refl
 
 -- the new phase is one of the lock's
-pub step_fits : (n bits t : ℕ) (ws : List ℕ) (p : Phase) → IsPhaseOf RwFifo n p → Fits RwFifo n (step bits ws p)
+pub step_fits : (n bits t : ℕ) (ws : List ℕ) (p : Phase) → IsPhaseOf RwFifo n p
+    → Fits RwFifo n (step bits ws p)
 step_fits n bits t ws TryRead f = either_way (Fits RwFifo n) (slice_index ws 2 == 0) _ _ refl refl
 step_fits n bits t ws LeaveRead f = refl
-step_fits n bits t ws TryWrite f = either_way (Fits RwFifo n) (slice_index ws 2 == 0) _ _ (either_way (Fits RwFifo n) (slice_index ws 0 == slice_index ws 1) _ _ refl refl) refl
-step_fits n bits t ws AwaitReaders f = either_way (Fits RwFifo n) (slice_index ws 0 == slice_index ws 1) _ _ refl refl
+step_fits n bits t ws TryWrite f =
+    either_way (Fits RwFifo n) (slice_index ws 2 == 0) _ _
+    (either_way (Fits RwFifo n) (slice_index ws 0 == slice_index ws 1) _ _ refl refl) refl
+step_fits n bits t ws AwaitReaders f =
+    either_way (Fits RwFifo n) (slice_index ws 0 == slice_index ws 1) _ _ refl refl
 step_fits n bits t ws LeaveWrite f = refl
 step_fits n bits t ws p f = f
 
@@ -81,50 +92,76 @@ call_fits Writing Downgrade f = refl
 call_fits p op f = f
 
 -- the counts are equal exactly where there is no reader
-pub none_read : (bits : ℕ) (ws : List ℕ) (ps : List Phase) (q : Sequential) → AgreesWith bits ws ps q → slice_index ws 0 ≡ slice_index ws 1 → q.readers ≡ []
+pub none_read : (bits : ℕ) (ws : List ℕ) (ps : List Phase) (q : Sequential)
+    → AgreesWith bits ws ps q → slice_index ws 0 ≡ slice_index ws 1 → q.readers ≡ []
 none_read bits ws ps q a e = empty_of_length q.readers (elim (eqb_tells (length q.readers) 0) [
   | inl z ↦ z.1
   | inr z ↦ absurd (no_round (2 ^ bits) (slice_index ws 1) (length q.readers) a.left (omega (arith, z.1))
       (let u : length q.readers ≤ length ps = readers_few ps q a.holders in let v : length ps < 2 ^ bits = a.narrow in omega arith) (sym a.came ∙ e))
 ])
 
-still : (bits : ℕ) (ws : List ℕ) (ps : List Phase) (q : Sequential) (t : ℕ) (p r : Phase) → t < length ps → phase_at ps t ≡ p → is_reading r ≡ is_reading p → is_writing r ≡ is_writing p → is_announced r ≡ is_announced p → AgreesWith bits ws ps q → AgreesWith bits ws (set ps t r) q
+still : (bits : ℕ) (ws : List ℕ) (ps : List Phase) (q : Sequential) (t : ℕ) (p r : Phase)
+    → t < length ps → phase_at ps t ≡ p → is_reading r ≡ is_reading p → is_writing r ≡ is_writing p
+    → is_announced r ≡ is_announced p → AgreesWith bits ws ps q → AgreesWith bits ws (set ps t r) q
 still bits ws ps q t p r h e x y z a = record {
   narrow = rw (length-set ps t r) a.narrow;
   left = a.left;
   came = a.came;
   flag_is = a.flag_is;
-  holders = holders_frame ps q t r h (x ∙ ap is_reading (sym e)) (y ∙ ap is_writing (sym e)) (z ∙ ap is_announced (sym e)) a.holders;
+  holders =
+      holders_frame ps q t r h (x ∙ ap is_reading (sym e)) (y ∙ ap is_writing (sym e))
+      (z ∙ ap is_announced (sym e)) a.holders;
 }
 
 same_thread : (t : ℕ) → eqb t t ≡ true
 same_thread t = eqb-same t
 
 -- the announcement before the act leaves nothing behind
-written : (ps : List Phase) (q : Sequential) (t : ℕ) → AreHolders (set ps t Writing) (acted q (act.WriteLock t)) → AreHolders (set ps t Writing) (acted (acted q (act.Announce t)) (act.WriteLock t))
+written : (ps : List Phase) (q : Sequential) (t : ℕ)
+    → AreHolders (set ps t Writing) (acted q (act.WriteLock t))
+    → AreHolders (set ps t Writing) (acted (acted q (act.Announce t)) (act.WriteLock t))
 written ps q t a = a
 
 -- each move keeps the words and the holders, and its entries may come
-pub keeps : (bits : ℕ) (ws : List ℕ) (ps : List Phase) (q : Sequential) (t : ℕ) (p : Phase) (m : Move) → q.kind ≡ RwFifo → t < length ps → length ps ≤ 64 → 3 ≤ length ws → phase_at ps t ≡ p → IsPhaseOf RwFifo (length ps) p → belongs RwFifo m ≡ true → refusal_in RwFifo p m ≡ None → AgreesWith bits ws ps q → let c : Change = move_change RwFifo bits ws t p m in IsAgreed RwFifo (λ r. AgreesWith bits c.words (set ps t c.phase) r) q (move_entries RwFifo t p m c.outcome)
-keeps bits ws ps q t Idle (Call ReadLock) k h n w e f b r a = record { allowed = (tt, tt); kind_is = k; agrees = still bits ws ps q t Idle TryRead h e refl refl refl a }
-keeps bits ws ps q t Idle (Call WriteLock) k h n w e f b r a = record { allowed = (tt, tt); kind_is = k; agrees = still bits ws ps q t Idle TryWrite h e refl refl refl a }
-keeps bits ws ps q t Reading (Call ReadUnlock) k h n w e f b r a = record { allowed = (tt, tt); kind_is = k; agrees = still bits ws ps q t Reading LeaveRead h e refl refl refl a }
-keeps bits ws ps q t Writing (Call WriteUnlock) k h n w e f b r a = record { allowed = (tt, tt); kind_is = k; agrees = still bits ws ps q t Writing LeaveWrite h e refl refl refl a }
-keeps bits ws ps q t Writing (Call Downgrade) k h n w e f b r a = record { allowed = (tt, tt); kind_is = k; agrees = still bits ws ps q t Writing TryDowngrade h e refl refl refl a }
+pub keeps : (bits : ℕ) (ws : List ℕ) (ps : List Phase) (q : Sequential) (t : ℕ) (p : Phase)
+    (m : Move) → q.kind ≡ RwFifo → t < length ps → length ps ≤ 64 → 3 ≤ length ws
+    → phase_at ps t ≡ p → IsPhaseOf RwFifo (length ps) p → belongs RwFifo m ≡ true
+    → refusal_in RwFifo p m ≡ None → AgreesWith bits ws ps q
+    → let c : Change =
+    move_change RwFifo bits ws t p m in IsAgreed RwFifo (λ r. AgreesWith bits c.words (set ps t c.phase) r) q (move_entries RwFifo t p m c.outcome)
+keeps bits ws ps q t Idle (Call ReadLock) k h n w e f b r a =
+    record { allowed = (tt, tt); kind_is = k; agrees = still bits ws ps q t Idle TryRead h e refl refl refl a }
+keeps bits ws ps q t Idle (Call WriteLock) k h n w e f b r a =
+    record { allowed = (tt, tt); kind_is = k; agrees = still bits ws ps q t Idle TryWrite h e refl refl refl a }
+keeps bits ws ps q t Reading (Call ReadUnlock) k h n w e f b r a =
+    record { allowed = (tt, tt); kind_is = k; agrees = still bits ws ps q t Reading LeaveRead h e refl refl refl a }
+keeps bits ws ps q t Writing (Call WriteUnlock) k h n w e f b r a =
+    record { allowed = (tt, tt); kind_is = k; agrees = still bits ws ps q t Writing LeaveWrite h e refl refl refl a }
+keeps bits ws ps q t Writing (Call Downgrade) k h n w e f b r a =
+    record { allowed = (tt, tt); kind_is = k; agrees = still bits ws ps q t Writing TryDowngrade h e refl refl refl a }
 keeps bits ws ps q t TryRead (Step s) k h n w e f b r a = elim (eqb_tells (slice_index ws 2) 0) [
   | inl d ↦
-      let o : (q.writer ≡ None) × (q.announced ≡ None) = flag_none q.writer q.announced (sym a.flag_is ∙ d.1) in
+      let o : (q.writer ≡ None) × (q.announced ≡ None) =
+      flag_none q.writer q.announced (sym a.flag_is ∙ d.1) in
       let x : has q.readers t ≡ false = a.holders.reading t ∙ ap is_reading e in
-      let y : is_allowed q (act.ReadLock t) ≡ true = rw (lt-ltb t 64 (omega arith), k, o.0, o.1, x) refl in
+      let y : is_allowed q (act.ReadLock t) ≡ true =
+      rw (lt-ltb t 64 (omega arith), k, o.0, o.1, x) refl in
       let vs : List ℕ = set ws 0 (plus_one bits (slice_index ws 0)) in
-      let one : slice_index vs 1 ≡ slice_index ws 1 = get_or-set_other ws 0 1 _ 0 (λ (c : 1 ≡ 0). omega (arith, c)) in
-      let two : slice_index vs 2 ≡ slice_index ws 2 = get_or-set_other ws 0 2 _ 0 (λ (c : 2 ≡ 0). omega (arith, c)) in
+      let one : slice_index vs 1 ≡ slice_index ws 1 =
+      get_or-set_other ws 0 1 _ 0 (λ (c : 1 ≡ 0). omega (arith, c)) in
+      let two : slice_index vs 2 ≡ slice_index ws 2 =
+      get_or-set_other ws 0 2 _ 0 (λ (c : 2 ≡ 0). omega (arith, c)) in
       let g : AgreesWith bits vs (set ps t Reading) (acted q (act.ReadLock t)) = record {
         narrow = rw (length-set ps t Reading) a.narrow;
         left = rw one a.left;
-        came = get_or-set_same ws 0 _ 0 (omega arith) ∙ ap (plus_one bits) a.came ∙ mod-add-mod (slice_index ws 1 + length q.readers) (2 ^ bits) 1 ∙ ap (λ y. y % 2 ^ bits) (omega (arith, one, length_joined q.readers t));
+        came =
+            get_or-set_same ws 0 _ 0 (omega arith) ∙ ap (plus_one bits) a.came
+            ∙ mod-add-mod (slice_index ws 1 + length q.readers) (2 ^ bits) 1
+            ∙ ap (λ y. y % 2 ^ bits) (omega (arith, one, length_joined q.readers t));
         flag_is = two ∙ a.flag_is;
-        holders = holders_join ps q t h (ap is_reading e) (ap is_writing e) (ap is_announced e) o.0 a.holders;
+        holders =
+            holders_join ps q t h (ap is_reading e) (ap is_writing e) (ap is_announced e) o.0
+            a.holders;
       } in
       rw d.0 (record { allowed = (y, (tt, tt)); kind_is = rw y k; agrees = rw y g })
   | inr d ↦ rw d.0 (record { allowed = tt; kind_is = k; agrees = rw (sym e) (rw set-get_or a) })
@@ -134,26 +171,38 @@ keeps bits ws ps q t LeaveRead (Step s) k h n w e f b r a =
     let y : is_allowed q (act.ReadUnlock t) ≡ true = rw (lt-ltb t 64 (omega arith), k, x) refl in
     let l : length (left_by q.readers t) + 1 ≡ length q.readers = length_left q.readers t x in
     let vs : List ℕ = set ws 1 (plus_one bits (slice_index ws 1)) in
-    let zero : slice_index vs 0 ≡ slice_index ws 0 = get_or-set_other ws 1 0 _ 0 (λ (c : 0 ≡ 1). omega (arith, c)) in
-    let one : slice_index vs 1 ≡ plus_one bits (slice_index ws 1) = get_or-set_same ws 1 _ 0 (omega arith) in
-    let two : slice_index vs 2 ≡ slice_index ws 2 = get_or-set_other ws 1 2 _ 0 (λ (c : 2 ≡ 1). omega (arith, c)) in
+    let zero : slice_index vs 0 ≡ slice_index ws 0 =
+    get_or-set_other ws 1 0 _ 0 (λ (c : 0 ≡ 1). omega (arith, c)) in
+    let one : slice_index vs 1 ≡ plus_one bits (slice_index ws 1) =
+    get_or-set_same ws 1 _ 0 (omega arith) in
+    let two : slice_index vs 2 ≡ slice_index ws 2 =
+    get_or-set_other ws 1 2 _ 0 (λ (c : 2 ≡ 1). omega (arith, c)) in
     let g : AgreesWith bits vs (set ps t Idle) (acted q (act.ReadUnlock t)) = record {
       narrow = rw (length-set ps t Idle) a.narrow;
       left = rw one (plus_one-lt bits (slice_index ws 1));
-      came = zero ∙ a.came ∙ ap (λ y. (slice_index ws 1 + y) % 2 ^ bits) (sym l) ∙ sym (plus_one_plus bits (slice_index ws 1) (length (left_by q.readers t))) ∙ ap (λ y. (y + length (left_by q.readers t)) % 2 ^ bits) (sym one);
+      came =
+          zero ∙ a.came ∙ ap (λ y. (slice_index ws 1 + y) % 2 ^ bits) (sym l)
+          ∙ sym (plus_one_plus bits (slice_index ws 1) (length (left_by q.readers t)))
+          ∙ ap (λ y. (y + length (left_by q.readers t)) % 2 ^ bits) (sym one);
       flag_is = two ∙ a.flag_is;
-      holders = holders_leave ps q t h (ap is_writing e) (ap is_announced e) (no_writer q.writer q.readers q.announced t a.holders.alone x) a.holders;
+      holders =
+          holders_leave ps q t h (ap is_writing e) (ap is_announced e)
+          (no_writer q.writer q.readers q.announced t a.holders.alone x) a.holders;
     } in
     record { allowed = (y, (tt, tt)); kind_is = rw y k; agrees = rw y g }
 keeps bits ws ps q t TryWrite (Step s) k h n w e f b r a = elim (eqb_tells (slice_index ws 2) 0) [
   | inr d ↦ rw d.0 (record { allowed = tt; kind_is = k; agrees = rw (sym e) (rw set-get_or a) })
   | inl d ↦
-      let o : (q.writer ≡ None) × (q.announced ≡ None) = flag_none q.writer q.announced (sym a.flag_is ∙ d.1) in
+      let o : (q.writer ≡ None) × (q.announced ≡ None) =
+      flag_none q.writer q.announced (sym a.flag_is ∙ d.1) in
       let x : has q.readers t ≡ false = a.holders.reading t ∙ ap is_reading e in
-      let y : is_allowed q (act.Announce t) ≡ true = rw (lt-ltb t 64 (omega arith), k, o.0, o.1, x) refl in
+      let y : is_allowed q (act.Announce t) ≡ true =
+      rw (lt-ltb t 64 (omega arith), k, o.0, o.1, x) refl in
       let vs : List ℕ = set ws 2 1 in
-      let zero : slice_index vs 0 ≡ slice_index ws 0 = get_or-set_other ws 2 0 1 0 (λ (c : 0 ≡ 2). omega (arith, c)) in
-      let one : slice_index vs 1 ≡ slice_index ws 1 = get_or-set_other ws 2 1 1 0 (λ (c : 1 ≡ 2). omega (arith, c)) in
+      let zero : slice_index vs 0 ≡ slice_index ws 0 =
+      get_or-set_other ws 2 0 1 0 (λ (c : 0 ≡ 2). omega (arith, c)) in
+      let one : slice_index vs 1 ≡ slice_index ws 1 =
+      get_or-set_other ws 2 1 1 0 (λ (c : 1 ≡ 2). omega (arith, c)) in
       elim (eqb_tells (slice_index ws 0) (slice_index ws 1)) [
         | inr c ↦
             let g : AgreesWith bits vs (set ps t AwaitReaders) (acted q (act.Announce t)) = record {
@@ -161,21 +210,25 @@ keeps bits ws ps q t TryWrite (Step s) k h n w e f b r a = elim (eqb_tells (slic
               left = rw one a.left;
               came = zero ∙ a.came ∙ ap (λ y. (y + length q.readers) % 2 ^ bits) (sym one);
               flag_is = get_or-set_same ws 2 1 0 (omega arith) ∙ sym (flag_some q.writer t);
-              holders = holders_announce ps q t h (ap is_reading e) (ap is_writing e) o.0 o.1 a.holders;
+              holders =
+                  holders_announce ps q t h (ap is_reading e) (ap is_writing e) o.0 o.1 a.holders;
             } in
             rw (d.0, c.0) (record { allowed = (y, tt); kind_is = rw y k; agrees = rw y g })
         | inl c ↦
             let z : q.readers ≡ [] = none_read bits ws ps q a c.1 in
             let u : Sequential = acted q (act.Announce t) in
-            let v : is_allowed u (act.WriteLock t) ≡ true = rw (lt-ltb t 64 (omega arith), k, z, same_thread t) refl in
+            let v : is_allowed u (act.WriteLock t) ≡ true =
+            rw (lt-ltb t 64 (omega arith), k, z, same_thread t) refl in
             let g : AgreesWith bits vs (set ps t Writing) (acted u (act.WriteLock t)) = record {
               narrow = rw (length-set ps t Writing) a.narrow;
               left = rw one a.left;
               came = zero ∙ a.came ∙ ap (λ y. (y + length q.readers) % 2 ^ bits) (sym one);
               flag_is = get_or-set_same ws 2 1 0 (omega arith);
-              holders = written ps q t (holders_write ps q t h z o.0 (λ u v. rw o.1 refl) a.holders);
+              holders =
+                  written ps q t (holders_write ps q t h z o.0 (λ u v. rw o.1 refl) a.holders);
             } in
-            rw (d.0, c.0) (record { allowed = (y, (rw y v, (tt, tt))); kind_is = rw (y, v) k; agrees = rw (y, v) g })
+            rw (d.0, c.0)
+            (record { allowed = (y, (rw y v, (tt, tt))); kind_is = rw (y, v) k; agrees = rw (y, v) g })
       ]
 ]
 keeps bits ws ps q t AwaitReaders (Step s) k h n w e f b r a = elim (eqb_tells (slice_index ws 0) (slice_index ws 1)) [
@@ -183,14 +236,21 @@ keeps bits ws ps q t AwaitReaders (Step s) k h n w e f b r a = elim (eqb_tells (
   | inl c ↦
       let i : is_this q.announced t ≡ true = a.holders.awaiting t ∙ ap is_announced e in
       let x : q.readers ≡ [] = none_read bits ws ps q a c.1 in
-      let o : q.writer ≡ None = no_writer_beside q.writer q.readers q.announced t a.holders.alone i in
-      let y : is_allowed q (act.WriteLock t) ≡ true = rw (lt-ltb t 64 (omega arith), k, i, x) refl in
+      let o : q.writer ≡ None =
+      no_writer_beside q.writer q.readers q.announced t a.holders.alone i in
+      let y : is_allowed q (act.WriteLock t) ≡ true =
+      rw (lt-ltb t 64 (omega arith), k, i, x) refl in
       let g : AgreesWith bits ws (set ps t Writing) (acted q (act.WriteLock t)) = record {
         narrow = rw (length-set ps t Writing) a.narrow;
         left = a.left;
         came = a.came;
-        flag_is = a.flag_is ∙ (let u : q.announced ≡ Some t = announced_is q.announced t i in rw u (flag_some q.writer t));
-        holders = holders_write ps q t h x o (λ u v. rw (announced_is q.announced t i) (not_same u t v)) a.holders;
+        flag_is =
+            a.flag_is
+            ∙
+            (let u : q.announced ≡ Some t = announced_is q.announced t i in rw u (flag_some q.writer t));
+        holders =
+            holders_write ps q t h x o (λ u v. rw (announced_is q.announced t i) (not_same u t v))
+            a.holders;
       } in
       rw c.0 (record { allowed = (y, (tt, tt)); kind_is = rw y k; agrees = rw y g })
 ]
@@ -198,13 +258,18 @@ keeps bits ws ps q t LeaveWrite (Step s) k h n w e f b r a =
     let x : is_this q.writer t ≡ true = a.holders.writing t ∙ ap is_writing e in
     let y : is_allowed q (act.WriteUnlock t) ≡ true = rw (lt-ltb t 64 (omega arith), k, x) refl in
     let vs : List ℕ = set ws 2 0 in
-    let zero : slice_index vs 0 ≡ slice_index ws 0 = get_or-set_other ws 2 0 0 0 (λ (c : 0 ≡ 2). omega (arith, c)) in
-    let one : slice_index vs 1 ≡ slice_index ws 1 = get_or-set_other ws 2 1 0 0 (λ (c : 1 ≡ 2). omega (arith, c)) in
+    let zero : slice_index vs 0 ≡ slice_index ws 0 =
+    get_or-set_other ws 2 0 0 0 (λ (c : 0 ≡ 2). omega (arith, c)) in
+    let one : slice_index vs 1 ≡ slice_index ws 1 =
+    get_or-set_other ws 2 1 0 0 (λ (c : 1 ≡ 2). omega (arith, c)) in
     let g : AgreesWith bits vs (set ps t Idle) (acted q (act.WriteUnlock t)) = record {
       narrow = rw (length-set ps t Idle) a.narrow;
       left = rw one a.left;
       came = zero ∙ a.came ∙ ap (λ y. (y + length q.readers) % 2 ^ bits) (sym one);
-      flag_is = get_or-set_same ws 2 0 0 (omega arith) ∙ (let o : q.announced ≡ None = none_announced q.writer q.readers q.announced t a.holders.alone x in rw o refl);
+      flag_is =
+          get_or-set_same ws 2 0 0 (omega arith)
+          ∙
+          (let o : q.announced ≡ None = none_announced q.writer q.readers q.announced t a.holders.alone x in rw o refl);
       holders = holders_unwrite ps q t h (ap is_reading e) (ap is_announced e) x a.holders;
     } in
     record { allowed = (y, (tt, tt)); kind_is = rw y k; agrees = rw y g }
@@ -212,16 +277,24 @@ keeps bits ws ps q t TryDowngrade (Step s) k h n w e f b r a =
     let x : is_this q.writer t ≡ true = a.holders.writing t ∙ ap is_writing e in
     let y : is_allowed q (act.Downgrade t) ≡ true = rw (lt-ltb t 64 (omega arith), k, x) refl in
     let z : has q.readers t ≡ false = a.holders.reading t ∙ ap is_reading e in
-    let o : q.announced ≡ None = none_announced q.writer q.readers q.announced t a.holders.alone x in
+    let o : q.announced ≡ None =
+    none_announced q.writer q.readers q.announced t a.holders.alone x in
     let us : List ℕ = set ws 0 (plus_one bits (slice_index ws 0)) in
     let vs : List ℕ = set us 2 0 in
     let long : length us ≡ length ws = length-set ws 0 (plus_one bits (slice_index ws 0)) in
-    let zero : slice_index vs 0 ≡ plus_one bits (slice_index ws 0) = get_or-set_other us 2 0 0 0 (λ (c : 0 ≡ 2). omega (arith, c)) ∙ get_or-set_same ws 0 _ 0 (omega arith) in
-    let one : slice_index vs 1 ≡ slice_index ws 1 = get_or-set_other us 2 1 0 0 (λ (c : 1 ≡ 2). omega (arith, c)) ∙ get_or-set_other ws 0 1 _ 0 (λ (c : 1 ≡ 0). omega (arith, c)) in
+    let zero : slice_index vs 0 ≡ plus_one bits (slice_index ws 0) =
+    get_or-set_other us 2 0 0 0 (λ (c : 0 ≡ 2). omega (arith, c))
+    ∙ get_or-set_same ws 0 _ 0 (omega arith) in
+    let one : slice_index vs 1 ≡ slice_index ws 1 =
+    get_or-set_other us 2 1 0 0 (λ (c : 1 ≡ 2). omega (arith, c))
+    ∙ get_or-set_other ws 0 1 _ 0 (λ (c : 1 ≡ 0). omega (arith, c)) in
     let g : AgreesWith bits vs (set ps t Reading) (acted q (act.Downgrade t)) = record {
       narrow = rw (length-set ps t Reading) a.narrow;
       left = rw one a.left;
-      came = zero ∙ ap (plus_one bits) a.came ∙ mod-add-mod (slice_index ws 1 + length q.readers) (2 ^ bits) 1 ∙ ap (λ y. y % 2 ^ bits) (omega (arith, one, length_joined q.readers t));
+      came =
+          zero ∙ ap (plus_one bits) a.came
+          ∙ mod-add-mod (slice_index ws 1 + length q.readers) (2 ^ bits) 1
+          ∙ ap (λ y. y % 2 ^ bits) (omega (arith, one, length_joined q.readers t));
       flag_is = get_or-set_same us 2 0 0 (omega arith) ∙ rw o refl;
       holders = holders_downgrade ps q t h (ap is_reading e) (ap is_announced e) x a.holders;
     } in

@@ -8,11 +8,11 @@ use Rattle.lk_locks.specs.Change.{Change, less_one, plus_one}
 use Rattle.lk_locks.specs.Entries.{move_entries}
 use Rattle.lk_locks.specs.Sequential.{Sequential, acted, has, is_allowed, is_this, left_by}
 use Rattle.lk_locks.specs.State.{phase_at}
-use Rattle.lk_locks.specs.Steps.{after_call, belongs, has_op, move_change, refusal_in}
+use Rattle.lk_locks.specs.Steps.{belongs, has_op, move_change, refusal_in}
 use Rattle.lk_locks.specs.invariants.WellFormed.{IsPhaseOf}
 use Rattle.lk_locks.specs.invariants.read_write.{is_announced, is_reading, is_writing}
 use Rattle.lk_locks.specs.invariants.rw_simple.{AgreesWith, is_phase, owed}
-use Rattle.lk_locks.specs.rw_simple.{readers, step}
+use Rattle.lk_locks.specs.rw_simple.{step}
 use Rattle.lk_locks.proofs.Cases.{AreOf, Begins, Fits, GoesOn, IsAgreed, KeepsLength, either_way}
 use Rattle.lk_locks.proofs.invariants.HolderLists.{empty_of_length, flag_none, holders_downgrade, holders_frame, holders_join, holders_leave, holders_unwrite, holders_write, length_joined, length_left, no_writer, none_announced, readers_few, readers_fit}
 use Rattle.lk_locks.specs.declared.kinds.LockKind.TheVariants.{RwSimple}
@@ -27,12 +27,16 @@ use Rattle.lk_locks.specs.declared.kinds.Act.TheVariants as act
 
 -- each section adds the next entries of the pending call
 pub goes_on : (bits t : ℕ) (ws : List ℕ) (p : Phase) → GoesOn RwSimple t p (step bits ws p)
-goes_on bits t ws TryRead = either_way (GoesOn RwSimple t TryRead) (slice_index ws 1 == 0) _ _ refl refl
-goes_on bits t ws TryWrite = either_way (GoesOn RwSimple t TryWrite) (slice_index ws 0 == 0 && slice_index ws 1 == 0) _ _ refl refl
+goes_on bits t ws TryRead =
+    either_way (GoesOn RwSimple t TryRead) (slice_index ws 1 == 0) _ _ refl refl
+goes_on bits t ws TryWrite =
+    either_way (GoesOn RwSimple t TryWrite) (slice_index ws 0 == 0 && slice_index ws 1 == 0) _ _
+    refl refl
 goes_on bits t ws p = refl
 
 -- a call begins where the one before it is finished
-pub begins : (t : ℕ) (p : Phase) (op : Op) → IsTrue (is_phase p) → has_op RwSimple op ≡ true → refusal_in RwSimple p (Call op) ≡ None
+pub begins : (t : ℕ) (p : Phase) (op : Op) → IsTrue (is_phase p) → has_op RwSimple op ≡ true
+    → refusal_in RwSimple p (Call op) ≡ None
     → Begins RwSimple t p op
 begins t Idle ReadLock f h r = (refl, refl)
 begins t Idle WriteLock f h r = (refl, refl)
@@ -47,18 +51,23 @@ owed_is_own t p = search rules
 
 -- no section changes how many words there are
 pub keeps_length : (bits t : ℕ) (ws : List ℕ) (p : Phase) → KeepsLength ws (step bits ws p)
-keeps_length bits t ws TryRead = either_way (KeepsLength ws) (slice_index ws 1 == 0) _ _ (length-set _ _ _) refl
+keeps_length bits t ws TryRead =
+    either_way (KeepsLength ws) (slice_index ws 1 == 0) _ _ (length-set _ _ _) refl
 keeps_length bits t ws LeaveRead = length-set _ _ _
-keeps_length bits t ws TryWrite = either_way (KeepsLength ws) (slice_index ws 0 == 0 && slice_index ws 1 == 0) _ _ (length-set _ _ _) refl
+keeps_length bits t ws TryWrite =
+    either_way (KeepsLength ws) (slice_index ws 0 == 0 && slice_index ws 1 == 0) _ _
+    (length-set _ _ _) refl
 keeps_length bits t ws LeaveWrite = length-set _ _ _
 keeps_length bits t ws TryDowngrade = length-set _ _ _ ∙ length-set _ _ _
 keeps_length bits t ws p = refl
 
 -- the new phase is one of the lock's
-pub step_fits : (n bits t : ℕ) (ws : List ℕ) (p : Phase) → IsPhaseOf RwSimple n p → Fits RwSimple n (step bits ws p)
+pub step_fits : (n bits t : ℕ) (ws : List ℕ) (p : Phase) → IsPhaseOf RwSimple n p
+    → Fits RwSimple n (step bits ws p)
 step_fits n bits t ws TryRead f = either_way (Fits RwSimple n) (slice_index ws 1 == 0) _ _ refl refl
 step_fits n bits t ws LeaveRead f = refl
-step_fits n bits t ws TryWrite f = either_way (Fits RwSimple n) (slice_index ws 0 == 0 && slice_index ws 1 == 0) _ _ refl refl
+step_fits n bits t ws TryWrite f =
+    either_way (Fits RwSimple n) (slice_index ws 0 == 0 && slice_index ws 1 == 0) _ _ refl refl
 step_fits n bits t ws LeaveWrite f = refl
 step_fits n bits t ws p f = f
 
@@ -72,36 +81,60 @@ call_fits Writing Downgrade f = refl
 call_fits p op f = f
 
 less : (bits x : ℕ) → x + 1 < 2 ^ bits → less_one bits (x + 1) ≡ x
-less bits x h = ap (λ y. y % 2 ^ bits) (let g : x + 1 + (2 ^ bits - 1) ≡ x + 2 ^ bits = omega arith in g) ∙ add-mod_right x (2 ^ bits) ∙ mod-eq_of_lt (let g : x < 2 ^ bits = omega arith in g)
+less bits x h =
+    ap (λ y. y % 2 ^ bits) (let g : x + 1 + (2 ^ bits - 1) ≡ x + 2 ^ bits = omega arith in g)
+    ∙ add-mod_right x (2 ^ bits) ∙ mod-eq_of_lt (let g : x < 2 ^ bits = omega arith in g)
 
 -- a thread that changes no word and holds the same
-still : (bits : ℕ) (ws : List ℕ) (ps : List Phase) (q : Sequential) (t : ℕ) (p r : Phase) → t < length ps → phase_at ps t ≡ p → is_reading r ≡ is_reading p → is_writing r ≡ is_writing p → is_announced r ≡ is_announced p → AgreesWith bits ws ps q → AgreesWith bits ws (set ps t r) q
+still : (bits : ℕ) (ws : List ℕ) (ps : List Phase) (q : Sequential) (t : ℕ) (p r : Phase)
+    → t < length ps → phase_at ps t ≡ p → is_reading r ≡ is_reading p → is_writing r ≡ is_writing p
+    → is_announced r ≡ is_announced p → AgreesWith bits ws ps q → AgreesWith bits ws (set ps t r) q
 still bits ws ps q t p r h e x y z a = record {
   narrow = rw (length-set ps t r) a.narrow;
   count = a.count;
   flag_is = a.flag_is;
-  holders = holders_frame ps q t r h (x ∙ ap is_reading (sym e)) (y ∙ ap is_writing (sym e)) (z ∙ ap is_announced (sym e)) a.holders;
+  holders =
+      holders_frame ps q t r h (x ∙ ap is_reading (sym e)) (y ∙ ap is_writing (sym e))
+      (z ∙ ap is_announced (sym e)) a.holders;
 }
 
 -- each move keeps the words and the holders, and its entries may come
-pub keeps : (bits : ℕ) (ws : List ℕ) (ps : List Phase) (q : Sequential) (t : ℕ) (p : Phase) (m : Move) → q.kind ≡ RwSimple → t < length ps → length ps ≤ 64 → 2 ≤ length ws → phase_at ps t ≡ p → IsPhaseOf RwSimple (length ps) p → belongs RwSimple m ≡ true → refusal_in RwSimple p m ≡ None → AgreesWith bits ws ps q → let c : Change = move_change RwSimple bits ws t p m in IsAgreed RwSimple (λ r. AgreesWith bits c.words (set ps t c.phase) r) q (move_entries RwSimple t p m c.outcome)
-keeps bits ws ps q t Idle (Call ReadLock) k h n w e f b r a = record { allowed = (tt, tt); kind_is = k; agrees = still bits ws ps q t Idle TryRead h e refl refl refl a }
-keeps bits ws ps q t Idle (Call WriteLock) k h n w e f b r a = record { allowed = (tt, tt); kind_is = k; agrees = still bits ws ps q t Idle TryWrite h e refl refl refl a }
-keeps bits ws ps q t Reading (Call ReadUnlock) k h n w e f b r a = record { allowed = (tt, tt); kind_is = k; agrees = still bits ws ps q t Reading LeaveRead h e refl refl refl a }
-keeps bits ws ps q t Writing (Call WriteUnlock) k h n w e f b r a = record { allowed = (tt, tt); kind_is = k; agrees = still bits ws ps q t Writing LeaveWrite h e refl refl refl a }
-keeps bits ws ps q t Writing (Call Downgrade) k h n w e f b r a = record { allowed = (tt, tt); kind_is = k; agrees = still bits ws ps q t Writing TryDowngrade h e refl refl refl a }
+pub keeps : (bits : ℕ) (ws : List ℕ) (ps : List Phase) (q : Sequential) (t : ℕ) (p : Phase)
+    (m : Move) → q.kind ≡ RwSimple → t < length ps → length ps ≤ 64 → 2 ≤ length ws
+    → phase_at ps t ≡ p → IsPhaseOf RwSimple (length ps) p → belongs RwSimple m ≡ true
+    → refusal_in RwSimple p m ≡ None → AgreesWith bits ws ps q
+    → let c : Change =
+    move_change RwSimple bits ws t p m in IsAgreed RwSimple (λ r. AgreesWith bits c.words (set ps t c.phase) r) q (move_entries RwSimple t p m c.outcome)
+keeps bits ws ps q t Idle (Call ReadLock) k h n w e f b r a =
+    record { allowed = (tt, tt); kind_is = k; agrees = still bits ws ps q t Idle TryRead h e refl refl refl a }
+keeps bits ws ps q t Idle (Call WriteLock) k h n w e f b r a =
+    record { allowed = (tt, tt); kind_is = k; agrees = still bits ws ps q t Idle TryWrite h e refl refl refl a }
+keeps bits ws ps q t Reading (Call ReadUnlock) k h n w e f b r a =
+    record { allowed = (tt, tt); kind_is = k; agrees = still bits ws ps q t Reading LeaveRead h e refl refl refl a }
+keeps bits ws ps q t Writing (Call WriteUnlock) k h n w e f b r a =
+    record { allowed = (tt, tt); kind_is = k; agrees = still bits ws ps q t Writing LeaveWrite h e refl refl refl a }
+keeps bits ws ps q t Writing (Call Downgrade) k h n w e f b r a =
+    record { allowed = (tt, tt); kind_is = k; agrees = still bits ws ps q t Writing TryDowngrade h e refl refl refl a }
 keeps bits ws ps q t TryRead (Step s) k h n w e f b r a = elim (eqb_tells (slice_index ws 1) 0) [
   | inl d ↦
-      let o : (q.writer ≡ None) × (q.announced ≡ None) = flag_none q.writer q.announced (sym a.flag_is ∙ d.1) in
+      let o : (q.writer ≡ None) × (q.announced ≡ None) =
+      flag_none q.writer q.announced (sym a.flag_is ∙ d.1) in
       let x : has q.readers t ≡ false = a.holders.reading t ∙ ap is_reading e in
-      let y : is_allowed q (act.ReadLock t) ≡ true = rw (lt-ltb t 64 (omega arith), k, o.0, x) refl in
+      let y : is_allowed q (act.ReadLock t) ≡ true =
+      rw (lt-ltb t 64 (omega arith), k, o.0, x) refl in
       let l : length q.readers < length ps = readers_fit ps q t a.holders h x in
-      let one : slice_index (set ws 0 (plus_one bits (slice_index ws 0))) 1 ≡ slice_index ws 1 = get_or-set_other ws 0 1 _ 0 (λ (c : 1 ≡ 0). omega (arith, c)) in
+      let one : slice_index (set ws 0 (plus_one bits (slice_index ws 0))) 1 ≡ slice_index ws 1 =
+      get_or-set_other ws 0 1 _ 0 (λ (c : 1 ≡ 0). omega (arith, c)) in
       let g : AgreesWith bits (set ws 0 (plus_one bits (slice_index ws 0))) (set ps t Reading) (acted q (act.ReadLock t)) = record {
         narrow = rw (length-set ps t Reading) a.narrow;
-        count = get_or-set_same ws 0 _ 0 (omega arith) ∙ ap (plus_one bits) a.count ∙ mod-eq_of_lt (let u : length ps < 2 ^ bits = a.narrow in omega arith) ∙ sym (length_joined q.readers t);
+        count =
+            get_or-set_same ws 0 _ 0 (omega arith) ∙ ap (plus_one bits) a.count
+            ∙ mod-eq_of_lt (let u : length ps < 2 ^ bits = a.narrow in omega arith)
+            ∙ sym (length_joined q.readers t);
         flag_is = one ∙ a.flag_is;
-        holders = holders_join ps q t h (ap is_reading e) (ap is_writing e) (ap is_announced e) o.0 a.holders;
+        holders =
+            holders_join ps q t h (ap is_reading e) (ap is_writing e) (ap is_announced e) o.0
+            a.holders;
       } in
       rw d.0 (record { allowed = (y, (tt, tt)); kind_is = rw y k; agrees = rw y g })
   | inr d ↦ rw d.0 (record { allowed = tt; kind_is = k; agrees = rw (sym e) (rw set-get_or a) })
@@ -110,23 +143,33 @@ keeps bits ws ps q t LeaveRead (Step s) k h n w e f b r a =
     let x : has q.readers t ≡ true = a.holders.reading t ∙ ap is_reading e in
     let y : is_allowed q (act.ReadUnlock t) ≡ true = rw (lt-ltb t 64 (omega arith), k, x) refl in
     let l : length (left_by q.readers t) + 1 ≡ length q.readers = length_left q.readers t x in
-    let one : slice_index (set ws 0 (less_one bits (slice_index ws 0))) 1 ≡ slice_index ws 1 = get_or-set_other ws 0 1 _ 0 (λ (c : 1 ≡ 0). omega (arith, c)) in
+    let one : slice_index (set ws 0 (less_one bits (slice_index ws 0))) 1 ≡ slice_index ws 1 =
+    get_or-set_other ws 0 1 _ 0 (λ (c : 1 ≡ 0). omega (arith, c)) in
     let g : AgreesWith bits (set ws 0 (less_one bits (slice_index ws 0))) (set ps t Idle) (acted q (act.ReadUnlock t)) = record {
       narrow = rw (length-set ps t Idle) a.narrow;
-      count = get_or-set_same ws 0 _ 0 (omega arith) ∙ ap (less_one bits) (a.count ∙ sym l) ∙ less bits (length (left_by q.readers t)) (let u : length q.readers ≤ length ps = readers_few ps q a.holders in let v : length ps < 2 ^ bits = a.narrow in omega arith);
+      count =
+          get_or-set_same ws 0 _ 0 (omega arith) ∙ ap (less_one bits) (a.count ∙ sym l)
+          ∙ less bits (length (left_by q.readers t))
+          (let u : length q.readers ≤ length ps = readers_few ps q a.holders in let v : length ps < 2 ^ bits = a.narrow in omega arith);
       flag_is = one ∙ a.flag_is;
-      holders = holders_leave ps q t h (ap is_writing e) (ap is_announced e) (no_writer q.writer q.readers q.announced t a.holders.alone x) a.holders;
+      holders =
+          holders_leave ps q t h (ap is_writing e) (ap is_announced e)
+          (no_writer q.writer q.readers q.announced t a.holders.alone x) a.holders;
     } in
     record { allowed = (y, (tt, tt)); kind_is = rw y k; agrees = rw y g }
 keeps bits ws ps q t TryWrite (Step s) k h n w e f b r a = elim (eqb_tells (slice_index ws 0) 0) [
   | inr c ↦ rw c.0 (record { allowed = tt; kind_is = k; agrees = rw (sym e) (rw set-get_or a) })
   | inl c ↦ elim (eqb_tells (slice_index ws 1) 0) [
-    | inr d ↦ rw (c.0, d.0) (record { allowed = tt; kind_is = k; agrees = rw (sym e) (rw set-get_or a) })
+    | inr d ↦
+        rw (c.0, d.0) (record { allowed = tt; kind_is = k; agrees = rw (sym e) (rw set-get_or a) })
     | inl d ↦
-        let o : (q.writer ≡ None) × (q.announced ≡ None) = flag_none q.writer q.announced (sym a.flag_is ∙ d.1) in
+        let o : (q.writer ≡ None) × (q.announced ≡ None) =
+        flag_none q.writer q.announced (sym a.flag_is ∙ d.1) in
         let x : q.readers ≡ [] = empty_of_length q.readers (sym a.count ∙ c.1) in
-        let y : is_allowed q (act.WriteLock t) ≡ true = rw (lt-ltb t 64 (omega arith), k, o.0, x) refl in
-        let zero : slice_index (set ws 1 1) 0 ≡ slice_index ws 0 = get_or-set_other ws 1 0 1 0 (λ (c : 0 ≡ 1). omega (arith, c)) in
+        let y : is_allowed q (act.WriteLock t) ≡ true =
+        rw (lt-ltb t 64 (omega arith), k, o.0, x) refl in
+        let zero : slice_index (set ws 1 1) 0 ≡ slice_index ws 0 =
+        get_or-set_other ws 1 0 1 0 (λ (c : 0 ≡ 1). omega (arith, c)) in
         let g : AgreesWith bits (set ws 1 1) (set ps t Writing) (acted q (act.WriteLock t)) = record {
           narrow = rw (length-set ps t Writing) a.narrow;
           count = zero ∙ a.count;
@@ -139,11 +182,15 @@ keeps bits ws ps q t TryWrite (Step s) k h n w e f b r a = elim (eqb_tells (slic
 keeps bits ws ps q t LeaveWrite (Step s) k h n w e f b r a =
     let x : is_this q.writer t ≡ true = a.holders.writing t ∙ ap is_writing e in
     let y : is_allowed q (act.WriteUnlock t) ≡ true = rw (lt-ltb t 64 (omega arith), k, x) refl in
-    let zero : slice_index (set ws 1 0) 0 ≡ slice_index ws 0 = get_or-set_other ws 1 0 0 0 (λ (c : 0 ≡ 1). omega (arith, c)) in
+    let zero : slice_index (set ws 1 0) 0 ≡ slice_index ws 0 =
+    get_or-set_other ws 1 0 0 0 (λ (c : 0 ≡ 1). omega (arith, c)) in
     let g : AgreesWith bits (set ws 1 0) (set ps t Idle) (acted q (act.WriteUnlock t)) = record {
       narrow = rw (length-set ps t Idle) a.narrow;
       count = zero ∙ a.count;
-      flag_is = get_or-set_same ws 1 0 0 (omega arith) ∙ (let o : q.announced ≡ None = none_announced q.writer q.readers q.announced t a.holders.alone x in rw o refl);
+      flag_is =
+          get_or-set_same ws 1 0 0 (omega arith)
+          ∙
+          (let o : q.announced ≡ None = none_announced q.writer q.readers q.announced t a.holders.alone x in rw o refl);
       holders = holders_unwrite ps q t h (ap is_reading e) (ap is_announced e) x a.holders;
     } in
     record { allowed = (y, (tt, tt)); kind_is = rw y k; agrees = rw y g }
@@ -151,15 +198,21 @@ keeps bits ws ps q t TryDowngrade (Step s) k h n w e f b r a =
     let x : is_this q.writer t ≡ true = a.holders.writing t ∙ ap is_writing e in
     let y : is_allowed q (act.Downgrade t) ≡ true = rw (lt-ltb t 64 (omega arith), k, x) refl in
     let z : has q.readers t ≡ false = a.holders.reading t ∙ ap is_reading e in
-    let o : q.announced ≡ None = none_announced q.writer q.readers q.announced t a.holders.alone x in
+    let o : q.announced ≡ None =
+    none_announced q.writer q.readers q.announced t a.holders.alone x in
     let us : List ℕ = set ws 0 (plus_one bits (slice_index ws 0)) in
     let vs : List ℕ = set us 1 0 in
     let long : length us ≡ length ws = length-set ws 0 (plus_one bits (slice_index ws 0)) in
-    let zero : slice_index vs 0 ≡ plus_one bits (slice_index ws 0) = get_or-set_other us 1 0 0 0 (λ (c : 0 ≡ 1). omega (arith, c)) ∙ get_or-set_same ws 0 _ 0 (omega arith) in
+    let zero : slice_index vs 0 ≡ plus_one bits (slice_index ws 0) =
+    get_or-set_other us 1 0 0 0 (λ (c : 0 ≡ 1). omega (arith, c))
+    ∙ get_or-set_same ws 0 _ 0 (omega arith) in
     let l : length q.readers < length ps = readers_fit ps q t a.holders h z in
     let g : AgreesWith bits vs (set ps t Reading) (acted q (act.Downgrade t)) = record {
       narrow = rw (length-set ps t Reading) a.narrow;
-      count = zero ∙ ap (plus_one bits) a.count ∙ mod-eq_of_lt (let u : length ps < 2 ^ bits = a.narrow in omega arith) ∙ sym (length_joined q.readers t);
+      count =
+          zero ∙ ap (plus_one bits) a.count
+          ∙ mod-eq_of_lt (let u : length ps < 2 ^ bits = a.narrow in omega arith)
+          ∙ sym (length_joined q.readers t);
       flag_is = get_or-set_same us 1 0 0 (omega arith) ∙ rw o refl;
       holders = holders_downgrade ps q t h (ap is_reading e) (ap is_announced e) x a.holders;
     } in

@@ -31,11 +31,14 @@ use Rattle.lk_locks.specs.declared.kinds.Act.TheVariants as act
 
 -- each step adds the next entries of the pending call
 pub goes_on : (bits t : ℕ) (ws : List ℕ) (p : Phase) → GoesOn Ticket t p (step bits t ws p)
-goes_on bits t ws (AwaitTurn x) = either_way (λ (e : Event). GoesOn Ticket t (AwaitTurn x) (reads ws e)) (slice_index ws now_serving == x) _ _ refl refl
+goes_on bits t ws (AwaitTurn x) =
+    either_way (λ (e : Event). GoesOn Ticket t (AwaitTurn x) (reads ws e))
+    (slice_index ws now_serving == x) _ _ refl refl
 goes_on bits t ws p = refl
 
 -- a call begins where the one before it is finished
-pub begins : (t : ℕ) (p : Phase) (op : Op) → IsTrue (is_phase p) → has_op Ticket op ≡ true → refusal_in Ticket p (Call op) ≡ None
+pub begins : (t : ℕ) (p : Phase) (op : Op) → IsTrue (is_phase p) → has_op Ticket op ≡ true
+    → refusal_in Ticket p (Call op) ≡ None
     → Begins Ticket t p op
 begins t Idle Acquire f h r = (refl, refl)
 begins t (TicketInside x) Release f h r = (refl, refl)
@@ -52,8 +55,11 @@ keeps_length bits t ws (PassOn v) = length-set _ _ _
 keeps_length bits t ws p = refl
 
 -- the new phase is one of the lock's
-pub step_fits : (n bits t : ℕ) (ws : List ℕ) (p : Phase) → IsPhaseOf Ticket n p → Fits Ticket n (step bits t ws p)
-step_fits n bits t ws (AwaitTurn x) f = either_way (λ (e : Event). Fits Ticket n (reads ws e)) (slice_index ws now_serving == x) _ _ refl refl
+pub step_fits : (n bits t : ℕ) (ws : List ℕ) (p : Phase) → IsPhaseOf Ticket n p
+    → Fits Ticket n (step bits t ws p)
+step_fits n bits t ws (AwaitTurn x) f =
+    either_way (λ (e : Event). Fits Ticket n (reads ws e)) (slice_index ws now_serving == x) _ _
+    refl refl
 step_fits n bits t ws TakeTicket f = refl
 step_fits n bits t ws (ReadServing x) f = refl
 step_fits n bits t ws (PassOn x) f = refl
@@ -66,10 +72,12 @@ call_fits (TicketInside t) Release f = refl
 call_fits p op f = f
 
 -- a queue lock allows a new request, and the release of the head
-pub allows_acquire : (q : Sequential) (t : ℕ) → q.kind ≡ Ticket → t < 64 → has q.queue t ≡ false → is_allowed q (act.Acquire t) ≡ true
+pub allows_acquire : (q : Sequential) (t : ℕ) → q.kind ≡ Ticket → t < 64 → has q.queue t ≡ false
+    → is_allowed q (act.Acquire t) ≡ true
 allows_acquire q t k h n = rw (lt-ltb t 64 h, k, n) refl
 
-pub allows_release : (q : Sequential) (t : ℕ) → q.kind ≡ Ticket → t < 64 → is_head q.queue t ≡ true → is_allowed q (act.Release t) ≡ true
+pub allows_release : (q : Sequential) (t : ℕ) → q.kind ≡ Ticket → t < 64 → is_head q.queue t ≡ true
+    → is_allowed q (act.Release t) ≡ true
 allows_release q t k h n = rw (lt-ltb t 64 h, k, n) refl
 
 rest_false : (q : List ℕ) (t : ℕ) → has q t ≡ false → has (drop 1 q) t ≡ false
@@ -83,17 +91,25 @@ rest_false (u ∷ q) t h = elim (bool_tells (has q t)) [
 ]
 
 -- each move keeps the queue, and its entries may come
-pub keeps : (bits : ℕ) (ws : List ℕ) (ps : List Phase) (q : Sequential) (t : ℕ) (p : Phase) (m : Move) → q.kind ≡ Ticket → t < length ps → length ps ≤ 64 → 2 ≤ length ws → phase_at ps t ≡ p → IsTrue (is_phase p) → belongs Ticket m ≡ true → refusal_in Ticket p m ≡ None → IsQueue bits ws ps q.queue → let c : Change = move_change Ticket bits ws t p m in IsAgreed Ticket (λ r. IsQueue bits c.words (set ps t c.phase) r.queue) q (move_entries Ticket t p m c.outcome)
+pub keeps : (bits : ℕ) (ws : List ℕ) (ps : List Phase) (q : Sequential) (t : ℕ) (p : Phase)
+    (m : Move) → q.kind ≡ Ticket → t < length ps → length ps ≤ 64 → 2 ≤ length ws
+    → phase_at ps t ≡ p → IsTrue (is_phase p) → belongs Ticket m ≡ true
+    → refusal_in Ticket p m ≡ None → IsQueue bits ws ps q.queue
+    → let c : Change =
+    move_change Ticket bits ws t p m in IsAgreed Ticket (λ r. IsQueue bits c.words (set ps t c.phase) r.queue) q (move_entries Ticket t p m c.outcome)
 keeps bits ws ps q t Idle (Call Acquire) k h n w e f b r a = record {
   allowed = (tt, tt);
   kind_is = k;
-  agrees = queue_frame bits ws ps q.queue t TakeTicket h (sym (ap ticket_of e)) (rest_false q.queue t (no_member bits ws ps q.queue t a (ap ticket_of e))) a;
+  agrees =
+      queue_frame bits ws ps q.queue t TakeTicket h (sym (ap ticket_of e))
+      (rest_false q.queue t (no_member bits ws ps q.queue t a (ap ticket_of e))) a;
 }
 keeps bits ws ps q t (TicketInside x) (Call Release) k h n w e f b r a = record {
   allowed = (tt, tt);
   kind_is = k;
   agrees = queue_frame bits ws ps q.queue t (ReadServing x) h (sym (ap ticket_of e))
-      (inside_is_head bits ws ps q.queue t x a (ap ticket_of e) (λ y d. let g : TicketInside x ≡ AwaitTurn y = sym e ∙ d in cc)).alone a;
+      (inside_is_head bits ws ps q.queue t x a (ap ticket_of e) (λ y d. let g : TicketInside x ≡ AwaitTurn y = sym e ∙ d in cc)).alone
+      a;
 }
 keeps bits ws ps q t TakeTicket (Step s) k h n w e f b r a =
     let o : has q.queue t ≡ false = no_member bits ws ps q.queue t a (ap ticket_of e) in
@@ -105,11 +121,13 @@ keeps bits ws ps q t TakeTicket (Step s) k h n w e f b r a =
     }
 keeps bits ws ps q t (AwaitTurn x) (Step s) k h n w e f b r a = elim (eqb_tells (slice_index ws 1) x) [
   | inl d ↦
-      let i : IsHead ws ps q.queue t (slice_index ws 1) = served_is_head bits ws ps q.queue t a (e ∙ ap (λ y. AwaitTurn y) (sym d.1)) in
+      let i : IsHead ws ps q.queue t (slice_index ws 1) =
+      served_is_head bits ws ps q.queue t a (e ∙ ap (λ y. AwaitTurn y) (sym d.1)) in
       rw d.0 (record {
         allowed = (i.head, tt);
         kind_is = k;
-        agrees = queue_frame bits ws ps q.queue t (TicketInside x) h (sym (ap ticket_of e)) i.alone a;
+        agrees =
+            queue_frame bits ws ps q.queue t (TicketInside x) h (sym (ap ticket_of e)) i.alone a;
       })
   | inr d ↦ rw d.0 (record {
     allowed = tt;
@@ -118,14 +136,18 @@ keeps bits ws ps q t (AwaitTurn x) (Step s) k h n w e f b r a = elim (eqb_tells 
   })
 ]
 keeps bits ws ps q t (ReadServing x) (Step s) k h n w e f b r a =
-    let i : IsHead ws ps q.queue t x = inside_is_head bits ws ps q.queue t x a (ap ticket_of e) (λ y d. let g : ReadServing x ≡ AwaitTurn y = sym e ∙ d in cc) in
+    let i : IsHead ws ps q.queue t x =
+    inside_is_head bits ws ps q.queue t x a (ap ticket_of e) (λ y d. let g : ReadServing x ≡ AwaitTurn y = sym e ∙ d in cc) in
     record {
       allowed = tt;
       kind_is = k;
-      agrees = queue_frame bits ws ps q.queue t (PassOn (slice_index ws 1)) h (ap (λ y. Some y) (sym i.ticket) ∙ sym (ap ticket_of e)) i.alone a;
+      agrees =
+          queue_frame bits ws ps q.queue t (PassOn (slice_index ws 1)) h
+          (ap (λ y. Some y) (sym i.ticket) ∙ sym (ap ticket_of e)) i.alone a;
     }
 keeps bits ws ps q t (PassOn x) (Step s) k h n w e f b r a =
-    let i : IsHead ws ps q.queue t x = inside_is_head bits ws ps q.queue t x a (ap ticket_of e) (λ y d. let g : PassOn x ≡ AwaitTurn y = sym e ∙ d in cc) in
+    let i : IsHead ws ps q.queue t x =
+    inside_is_head bits ws ps q.queue t x a (ap ticket_of e) (λ y d. let g : PassOn x ≡ AwaitTurn y = sym e ∙ d in cc) in
     let y : is_allowed q (act.Release t) ≡ true = allows_release q t k (omega arith) i.head in
     record {
       allowed = (y, (tt, tt));
@@ -135,34 +157,52 @@ keeps bits ws ps q t (PassOn x) (Step s) k h n w e f b r a =
 keeps bits ws ps q t p m k h n w e f b r a = cc
 
 -- the rest waits
-inside_rest : (bits : ℕ) (ps : List Phase) (x t : ℕ) (q : List ℕ) → has (drop 1 q) t ≡ false → (y : ℕ) × WaitInLine bits ps y (drop 1 q) → inside_of Ticket (set ps t Idle) (drop 1 q) ≡ None
+inside_rest : (bits : ℕ) (ps : List Phase) (x t : ℕ) (q : List ℕ) → has (drop 1 q) t ≡ false
+    → (y : ℕ) × WaitInLine bits ps y (drop 1 q) → inside_of Ticket (set ps t Idle) (drop 1 q) ≡ None
 inside_rest bits ps x t [] o w = refl
 inside_rest bits ps x t (u ∷ []) o w = refl
 inside_rest bits ps x t (u ∷ v ∷ q) o w =
-    let d : v ≢ t = (λ e. absurd (false≢true (sym o ∙ (let g : has (v ∷ q) t ≡ true = rw (sym e, same v) refl in g)))) in
+    let d : v ≢ t =
+    (λ e. absurd (false≢true (sym o ∙ (let g : has (v ∷ q) t ≡ true = rw (sym e, same v) refl in g)))) in
     rw (at_other ps t v Idle d, w.1.0) refl
 
-line_rest : (bits : ℕ) (ws : List ℕ) (ps : List Phase) (q : List ℕ) → IsQueue bits ws ps q → (y : ℕ) × WaitInLine bits ps y (drop 1 q)
+line_rest : (bits : ℕ) (ws : List ℕ) (ps : List Phase) (q : List ℕ) → IsQueue bits ws ps q
+    → (y : ℕ) × WaitInLine bits ps y (drop 1 q)
 line_rest bits ws ps [] k = (0, tt)
 line_rest bits ws ps (u ∷ q) k = (_, k.line.1)
 
 -- the holder by the history is the head that is inside
-pub holds : (bits : ℕ) (ws : List ℕ) (ps : List Phase) (q : Sequential) (t : ℕ) (p : Phase) (m : Move) → q.kind ≡ Ticket → t < length ps → length ps ≤ 64 → phase_at ps t ≡ p → IsTrue (is_phase p) → belongs Ticket m ≡ true → refusal_in Ticket p m ≡ None → IsQueue bits ws ps q.queue → let c : Change = move_change Ticket bits ws t p m in let es : List Entry = move_entries Ticket t p m c.outcome in holder_after (inside_of Ticket ps q.queue) es ≡ inside_of Ticket (set ps t c.phase) (after_entries q es).queue
-holds bits ws ps q t Idle (Call Acquire) k h n e f b r a = sym (inside_frame Ticket ps q.queue t TakeTicket h (sym (ap is_inside e)))
-holds bits ws ps q t (TicketInside x) (Call Release) k h n e f b r a = sym (inside_frame Ticket ps q.queue t (ReadServing x) h (sym (ap is_inside e)))
+pub holds : (bits : ℕ) (ws : List ℕ) (ps : List Phase) (q : Sequential) (t : ℕ) (p : Phase)
+    (m : Move) → q.kind ≡ Ticket → t < length ps → length ps ≤ 64 → phase_at ps t ≡ p
+    → IsTrue (is_phase p) → belongs Ticket m ≡ true → refusal_in Ticket p m ≡ None
+    → IsQueue bits ws ps q.queue
+    → let c : Change =
+    move_change Ticket bits ws t p m in let es : List Entry =
+    move_entries Ticket t p m c.outcome in holder_after (inside_of Ticket ps q.queue) es
+    ≡ inside_of Ticket (set ps t c.phase) (after_entries q es).queue
+holds bits ws ps q t Idle (Call Acquire) k h n e f b r a =
+    sym (inside_frame Ticket ps q.queue t TakeTicket h (sym (ap is_inside e)))
+holds bits ws ps q t (TicketInside x) (Call Release) k h n e f b r a =
+    sym (inside_frame Ticket ps q.queue t (ReadServing x) h (sym (ap is_inside e)))
 holds bits ws ps q t TakeTicket (Step s) k h n e f b r a =
-    let y : is_allowed q (act.Acquire t) ≡ true = allows_acquire q t k (omega arith) (no_member bits ws ps q.queue t a (ap ticket_of e)) in
+    let y : is_allowed q (act.Acquire t) ≡ true =
+    allows_acquire q t k (omega arith) (no_member bits ws ps q.queue t a (ap ticket_of e)) in
     let p : Phase = AwaitTurn (slice_index ws 0) in
-    rw y (sym (inside_more Ticket (set ps t p) q.queue t (ap is_inside (at_same ps t p h)) ∙ inside_frame Ticket ps q.queue t p h (sym (ap is_inside e))))
+    rw y
+    (sym (inside_more Ticket (set ps t p) q.queue t (ap is_inside (at_same ps t p h)) ∙ inside_frame Ticket ps q.queue t p h (sym (ap is_inside e))))
 holds bits ws ps q t (AwaitTurn x) (Step s) k h n e f b r a = elim (eqb_tells (slice_index ws 1) x) [
   | inl d ↦
-      let i : IsHead ws ps q.queue t (slice_index ws 1) = served_is_head bits ws ps q.queue t a (e ∙ ap (λ y. AwaitTurn y) (sym d.1)) in
-      rw d.0 (sym (inside_head Ticket (set ps t (TicketInside x)) q.queue t i.head (ap is_inside (at_same ps t (TicketInside x) h))))
+      let i : IsHead ws ps q.queue t (slice_index ws 1) =
+      served_is_head bits ws ps q.queue t a (e ∙ ap (λ y. AwaitTurn y) (sym d.1)) in
+      rw d.0
+      (sym (inside_head Ticket (set ps t (TicketInside x)) q.queue t i.head (ap is_inside (at_same ps t (TicketInside x) h))))
   | inr d ↦ rw d.0 (sym (inside_frame Ticket ps q.queue t (AwaitTurn x) h (sym (ap is_inside e))))
 ]
-holds bits ws ps q t (ReadServing x) (Step s) k h n e f b r a = sym (inside_frame Ticket ps q.queue t (PassOn (slice_index ws 1)) h (sym (ap is_inside e)))
+holds bits ws ps q t (ReadServing x) (Step s) k h n e f b r a =
+    sym (inside_frame Ticket ps q.queue t (PassOn (slice_index ws 1)) h (sym (ap is_inside e)))
 holds bits ws ps q t (PassOn x) (Step s) k h n e f b r a =
-    let i : IsHead ws ps q.queue t x = inside_is_head bits ws ps q.queue t x a (ap ticket_of e) (λ y d. let g : PassOn x ≡ AwaitTurn y = sym e ∙ d in cc) in
+    let i : IsHead ws ps q.queue t x =
+    inside_is_head bits ws ps q.queue t x a (ap ticket_of e) (λ y d. let g : PassOn x ≡ AwaitTurn y = sym e ∙ d in cc) in
     let y : is_allowed q (act.Release t) ≡ true = allows_release q t k (omega arith) i.head in
     rw y (sym (inside_rest bits ps x t q.queue i.alone (line_rest bits ws ps q.queue a)))
 holds bits ws ps q t p m k h n e f b r a = cc

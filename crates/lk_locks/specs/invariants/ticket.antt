@@ -1,6 +1,6 @@
 -- Invariants. The ticket lock's: its phases, what a pending call still owes the history, who is inside, and how its words agree with the
 -- queue of its sequential object.
-use Rattle.std.specs.Prelude.{◌≡◌, ℕ, ◌+◌, ◌%◌, ◌^◌, ◌<◌, List, [], ◌∷◌, length, slice_index, Option, None, Some, Bool, true, false, IsTrue}
+use Rattle.std.specs.Prelude.{◌≡◌, ℕ, ◌+◌, ◌%◌, ◌^◌, ◌<◌, List, [], ◌∷◌, length, slice_index, Option, None, Some, Bool, true, false}
 use Rattle.lk_locks.specs.State.{phase_at}
 use Rattle.lk_locks.specs.Change.{plus_one}
 use Rattle.lk_locks.specs.Acts.{acts}

@@ -4,7 +4,7 @@ use Rattle.lk_locks.proofs.SharedLaws.{never_two_writers, never_a_writer_beside_
 use Rattle.lk_locks.proofs.WorkedHistories.{simple_legal, fifo_legal, not_of_one, not_of_two}
 use Rattle.lk_locks.specs.declared.kinds.LockKind.TheVariants.{RwSimple}
 use Rattle.lk_locks.specs.declared.kinds.Op.TheVariants.{ReadLock, ReadUnlock, WriteLock, WriteUnlock, Downgrade}
-use Rattle.lk_locks.specs.declared.kinds.Entry.TheVariants.{Called, Announced, Acted, Returned}
+use Rattle.lk_locks.specs.declared.kinds.Entry.TheVariants.{Called, Acted, Returned}
 use Rattle.lk_locks.proofs.worked_histories.writers_of_read_write_locks.Goals as goal
 
 pub returns-clause-in_turn : goal.returns-clause-in_turn
@@ -13,8 +13,12 @@ returns-clause-in_turn c = never_two_writers RwSimple 2 writers_in_turn simple_l
 pub returns-clause-at_once : goal.returns-clause-at_once
 returns-clause-at_once c = λ h.
     elim (h 0 1 (Called 0 WriteLock ∷ []) (Returned 0 WriteLock ∷ Called 1 WriteLock ∷ []) (Returned 1 WriteLock ∷ []) refl) [
-      | inl o ↦ not_of_two (Acted 0 WriteUnlock) (Returned 0 WriteLock) (Called 1 WriteLock) (λ e. cc) (λ e. cc) o
-      | inr o ↦ not_of_two (Acted 0 Downgrade) (Returned 0 WriteLock) (Called 1 WriteLock) (λ e. cc) (λ e. cc) o
+      | inl o ↦
+          not_of_two (Acted 0 WriteUnlock) (Returned 0 WriteLock) (Called 1 WriteLock) (λ e. cc)
+          (λ e. cc) o
+      | inr o ↦
+          not_of_two (Acted 0 Downgrade) (Returned 0 WriteLock) (Called 1 WriteLock) (λ e. cc)
+          (λ e. cc) o
     ]
 
 pub returns-clause-alone : goal.returns-clause-alone
@@ -23,8 +27,12 @@ returns-clause-alone c = never_a_writer_beside_a_reader RwSimple 2 writers_in_tu
 pub returns-clause-reader : goal.returns-clause-reader
 returns-clause-reader c = λ h.
     elim (h.then_reader 0 1 (Called 0 WriteLock ∷ []) (Returned 0 WriteLock ∷ Called 1 ReadLock ∷ []) (Returned 1 ReadLock ∷ []) refl) [
-      | inl o ↦ not_of_two (Acted 0 WriteUnlock) (Returned 0 WriteLock) (Called 1 ReadLock) (λ e. cc) (λ e. cc) o
-      | inr o ↦ not_of_two (Acted 0 Downgrade) (Returned 0 WriteLock) (Called 1 ReadLock) (λ e. cc) (λ e. cc) o
+      | inl o ↦
+          not_of_two (Acted 0 WriteUnlock) (Returned 0 WriteLock) (Called 1 ReadLock) (λ e. cc)
+          (λ e. cc) o
+      | inr o ↦
+          not_of_two (Acted 0 Downgrade) (Returned 0 WriteLock) (Called 1 ReadLock) (λ e. cc)
+          (λ e. cc) o
     ]
 
 pub returns-clause-writer : goal.returns-clause-writer
