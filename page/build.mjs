@@ -1,10 +1,12 @@
 #!/usr/bin/env node
-// Builds page/lockreplay.html, one file, from page/src, docs/LOCKS.md, examples/ and the proved module:
+// Builds page/lockreplay.html, one file, from page/src, docs/LOCKS.md, examples/ and the proved
+// module:
 //
 //     node page/build.mjs MODULE.wasm            writes the page
 //     node page/build.mjs MODULE.wasm --check    fails where the page is not what this would write
 //
-// It needs Node alone and fetches nothing. The same sources and module give the same bytes anywhere.
+// It needs Node alone and fetches nothing. The same sources and module give the same bytes
+// anywhere.
 
 import { createHash } from 'node:crypto';
 import { readFileSync, readdirSync, writeFileSync } from 'node:fs';
@@ -52,7 +54,8 @@ if (!modulePath || (option && option !== '--check')) {
   process.exit(2);
 }
 // Node needs to be asked for 64-bit memory up to version 23; later ones have it.
-if (Number(process.versions.node.split('.')[0]) < 24) setFlagsFromString('--experimental-wasm-memory64');
+const [version] = process.versions.node.split('.');
+if (Number(version) < 24) setFlagsFromString('--experimental-wasm-memory64');
 const built = build(readFileSync(modulePath));
 if (!option) {
   writeFileSync(PAGE, built);

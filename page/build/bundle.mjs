@@ -1,6 +1,6 @@
-// Puts ES modules into one script: each becomes a function's result, those that it needs before it. It
-// knows the two forms that page/src uses: `import { a, b } from './x.js';` and `export` before a
-// declaration.
+// Puts ES modules into one script: each becomes a function's result, those that it needs before
+// it. It knows the two forms that page/src uses: `import { a, b } from './x.js';` and `export`
+// before a declaration.
 
 import { readFileSync } from 'node:fs';
 import { join } from 'node:path';
@@ -13,9 +13,10 @@ const variable = (file) => `m_${file.replace('.js', '')}`;
 function wrapped(file, source) {
   const names = [...source.matchAll(EXPORT)].map(([, , name]) => name);
   const body = source
-    .replace(IMPORT, (_, list, from) => `const {${list.trimEnd().replace(/,$/, '')} } = ${variable(from)};\n`)
+    .replace(IMPORT, (_, list, from) => `const {${list} } = ${variable(from)};\n`)
     .replace(EXPORT, '$1 $2');
-  if (/^(import|export) /m.test(body)) throw new Error(`${file}: an import or export of another form`);
+  const other = body.match(/^(import|export) .*/m);
+  if (other) throw new Error(`${file}: of another form: ${other[0]}`);
   return `const ${variable(file)} = (() => {\n${body}return { ${names.join(', ')} };\n})();\n`;
 }
 

@@ -9,17 +9,22 @@ import { Run } from '../src/run.js';
 import { Recorder } from '../src/stored.js';
 
 const GROUPS = [...LOCKS, 'refused', 'fault'];
-const KINDS = { ticket: 'ticket', mcs: 'mcs', simple: 'rw-simple', fifo: 'rw-fifo', refused: 'refused', fault: 'fault' };
+// The first word of a lesson's name.
+const KINDS = {
+  ticket: 'ticket', mcs: 'mcs', simple: 'rw-simple', fifo: 'rw-fifo',
+  refused: 'refused', fault: 'fault',
+};
 
 // In the order of the groups, and in each as examples/README.md names them.
 export function lessonsOf(folder) {
   const order = readFileSync(join(folder, 'README.md'), 'utf8');
   const place = ({ name }) => order.indexOf(`\`${name}\``);
-  const lessons = readdirSync(folder).filter((file) => file.endsWith('.schedule')).sort().map((file) => {
+  const files = readdirSync(folder).filter((file) => file.endsWith('.schedule')).sort();
+  const lessons = files.map((file) => {
     const text = readFileSync(join(folder, file));
     const name = file.replace('.schedule', '');
     const group = KINDS[name.split('-')[0]];
-    if (!group) throw new Error(`${file}: its name begins with none of ${Object.keys(KINDS).join(', ')}`);
+    if (!group) throw new Error(`${file}: of no group: ${Object.keys(KINDS).join(', ')}`);
     return { name, group, title: remarksOf(text).title || name, text: text.toString('base64') };
   });
   return lessons.sort((one, other) => GROUPS.indexOf(one.group) - GROUPS.indexOf(other.group)

@@ -1,12 +1,13 @@
-// The write that ended a wait, and the step that found it. A thread waits in the phases whose line of
-// code says `await`: from the move on that put it there where it is in line, else from its first look in
-// vain. The step that goes on had waited for the last change of a word that it looks at.
+// The write that ended a wait, and the step that found it. A thread waits in the phases whose
+// line of code says `await`: from the move on that put it there where it is in line, else from
+// its first look in vain. The step that goes on had waited for the last change of a word that it
+// looks at.
 
 import { IN_LINE, NO_WORD, OUTCOME } from './codes.js';
 import { placeAfter } from './run.js';
 
-// The words whose last change ended a wait in this phase. A section's are in its line of code; a step of
-// one operation looks at the word that its record names.
+// The words whose last change ended a wait in this phase. A section's are in its line of code; a
+// step of one operation looks at the word that its record names.
 function watchedWords(lines, wordNames, phase, touched) {
   const line = lines.get(phase);
   return line.words.length ? line.words.map((name) => wordNames.indexOf(name)) : [touched];
@@ -26,7 +27,8 @@ function waitingSince(records, move, since, awaited) {
   return records.standing(move) & IN_LINE ? move : 0;
 }
 
-// Arrows {from, to} in the order of `to`. `awaited` has the waiting lines of the lock's code by phase.
+// Arrows {from, to} in the order of `to`. `awaited` has the waiting lines of the lock's code by
+// phase.
 export function arrowsOf(run, awaited, wordNames) {
   const { records } = run;
   const arrows = [];

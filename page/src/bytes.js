@@ -24,8 +24,9 @@ export const fromLink = (text) => fromBase64(text.replaceAll('-', '+').replaceAl
 
 // Bytes as letters. What is no UTF-8 is shown byte by byte, and goes back to the same bytes.
 export function lettersOf(bytes) {
+  const decoder = new TextDecoder('utf-8', { fatal: true, ignoreBOM: true });
   try {
-    return { letters: new TextDecoder('utf-8', { fatal: true, ignoreBOM: true }).decode(bytes), plain: false };
+    return { letters: decoder.decode(bytes), plain: false };
   } catch {
     let letters = '';
     for (let at = 0; at < bytes.length; at += 8192) {

@@ -20,22 +20,34 @@ function threadsAt(state, phase, threads) {
 const MOST_MARKS = 5;
 
 function marks(view, threads) {
-  const shown = threads.slice(0, MOST_MARKS).map((thread) => html`<span title="${view.names.of(thread)}"
-    class="disc ${standingOf(view.run, view.move, thread)}">${view.names.mark(thread)}</span>`);
+  const shown = threads.slice(0, MOST_MARKS).map((thread) => {
+    const standing = standingOf(view.run, view.move, thread);
+    return html`<span class="disc ${standing}" title="${view.names.of(thread)}">
+      ${view.names.mark(thread)}</span>`;
+  });
   const more = threads.length - MOST_MARKS;
   return html`${shown}${more > 0 && html`<span class="more">+${more}</span>`}`;
 }
 
+function wasMade(line, made) {
+  if (!made) return false;
+  if (made.call) return line.kind === 'call' && line.call === made.call;
+  return line.phase !== undefined && line.phase === made.phase && line.kind !== 'inside';
+}
+
+// A phase of several lines has its threads at the first of them.
+function codeLine(view, line, here, threads) {
+  const phase = line.phase !== undefined && html`data-phase="${PHASES[line.phase]}"`;
+  return html`<div class="code-line ${line.kind || 'plain'} ${here && 'here'}" ${phase}
+    ${here && html`aria-current="step"`}><code>${line.code}</code>
+    <span class="discs">${marks(view, threads)}</span></div>`;
+}
+
 export function codeView(view, state, lines) {
   const made = madeLine(view.run, view.move);
-  const seen = new Set();
-  return html`${lines.map(({ code, kind, phase, call }) => {
-    const first = phase !== undefined && !seen.has(phase);
-    seen.add(phase);
-    const here = made && (made.call ? kind === 'call' && call === made.call
-      : phase !== undefined && phase === made.phase && kind !== 'inside');
-    const threads = first ? threadsAt(state, phase, view.run.threads) : [];
-    return html`<div class="code-line ${kind || 'plain'} ${here ? 'here' : ''}" ${phase !== undefined && html`data-phase="${PHASES[phase]}"`}
-      ${here && html`aria-current="step"`}><code>${code}</code><span class="discs">${marks(view, threads)}</span></div>`;
+  return html`${lines.map((line, i) => {
+    const first = line.phase !== undefined && line.phase !== lines[i - 1]?.phase;
+    const threads = first ? threadsAt(state, line.phase, view.run.threads) : [];
+    return codeLine(view, line, wasMade(line, made), threads);
   })}`;
 }

@@ -5,9 +5,9 @@ export const CALLS = ['acquire', 'release', 'rlock', 'runlock', 'wlock', 'wunloc
 export const STEPS = ['', 'read', 'write', 'swap', 'cas', 'add', 'section'];
 export const OUTCOMES = ['called', 'moved', 'waits', 'entered', 'left'];
 export const PHASES = [
-  'Idle', 'TakeTicket', 'AwaitTurn', 'TicketInside', 'ReadServing', 'PassOn', 'ClearNext', 'SwapTail',
-  'SetLocked', 'LinkTo', 'AwaitGrant', 'McsInside', 'ReadNext', 'CasTail', 'AwaitLink', 'Grant',
-  'TryRead', 'Reading', 'LeaveRead', 'TryWrite', 'AwaitReaders', 'Writing', 'LeaveWrite',
+  'Idle', 'TakeTicket', 'AwaitTurn', 'TicketInside', 'ReadServing', 'PassOn', 'ClearNext',
+  'SwapTail', 'SetLocked', 'LinkTo', 'AwaitGrant', 'McsInside', 'ReadNext', 'CasTail', 'AwaitLink',
+  'Grant', 'TryRead', 'Reading', 'LeaveRead', 'TryWrite', 'AwaitReaders', 'Writing', 'LeaveWrite',
   'TryDowngrade',
 ];
 export const FAULTS = [

@@ -7,8 +7,9 @@ import { texts } from './texts.js';
 
 function clicks(page) {
   const does = {
-    first: () => page.go(0), back: () => page.step(-1), forward: () => page.step(1), last: () => page.go(Infinity),
-    run: () => page.toggleRunning(), 'mode-lessons': () => page.chooseLesson(),
+    first: () => page.go(0), back: () => page.step(-1), forward: () => page.step(1),
+    last: () => page.go(Infinity), run: () => page.toggleRunning(),
+    'mode-lessons': () => page.chooseLesson(),
     'mode-own': () => page.toggleMode('own'), 'mode-play': () => page.toggleMode('play'),
     'mode-quiz': () => page.toggleQuiz(), link: () => page.copyLink(), print: () => window.print(),
     theme: () => page.toggleTheme(), 'show-keys': () => page.showKeys(), undo: () => page.undo(),
@@ -68,7 +69,9 @@ export function listen(page) {
     page.beginNew(event.target);
   });
   byId('slider').addEventListener('input', (event) => page.go(Number(event.target.value)));
-  for (const id of ['lanes', 'memory-picture']) byId(id).addEventListener('scroll', () => page.draw());
+  for (const id of ['lanes', 'memory-picture']) {
+    byId(id).addEventListener('scroll', () => page.draw());
+  }
   addEventListener('resize', () => page.draw());
   addEventListener('hashchange', () => page.openFragment());
   addEventListener('beforeprint', () => page.drawPaper());

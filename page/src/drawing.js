@@ -16,10 +16,15 @@ const LANES_LEAST = 120;
 
 // The sizes of the parts, read before anything is written, so that a step lays the page out once.
 export function measured() {
-  const size = (id) => ({ width: byId(id).clientWidth, height: byId(id).clientHeight });
+  const size = (id) => {
+    const { clientWidth: width, clientHeight: height, scrollTop: scrolled } = byId(id);
+    return { width, height, scrolled };
+  };
+  const height = Math.max(LANES_LEAST, innerHeight * LANES_SHARE);
   return {
-    lanes: { width: byId('lanes').clientWidth, height: Math.max(LANES_LEAST, innerHeight * LANES_SHARE) },
-    memory: { ...size('memory-picture'), scrolled: byId('memory-picture').scrollTop }, slider: size('slider-picture'),
+    lanes: { ...size('lanes'), height },
+    memory: size('memory-picture'),
+    slider: size('slider-picture'),
   };
 }
 
@@ -31,7 +36,8 @@ export function drawTime(page, view, room) {
   if (page.moved) revealLane(box, view, layout);
   page.moved = false;
   const top = Math.max(0, Math.floor(box.scrollTop / layout.laneHeight) - 1);
-  const bottom = Math.min(lanes.length - 1, Math.ceil((box.scrollTop + room.height) / layout.laneHeight));
+  const below = Math.ceil((box.scrollTop + room.height) / layout.laneHeight);
+  const bottom = Math.min(lanes.length - 1, below);
   show(byId('numbers'), numbersPicture(view, layout));
   show(box, lanesPicture(view, layout, top, bottom));
   show(byId('legend'), legend(view.run));
@@ -50,7 +56,8 @@ function revealLane(box, view, layout) {
   }
 }
 
-// The picture as large as fits; one that fits at no scale is scrolled. Many threads make it small at once.
+// The picture as large as fits; one that fits at no scale is scrolled. Many threads make it small
+// at once.
 const SCALES = [1.3, 1.2, 1.1, 1, 0.9];
 const LAST_SCALE = 0.8;
 const NARROWEST = 340;
@@ -59,8 +66,10 @@ const MANY_THREADS = 12;
 function scaledPicture(size, lock, view, state) {
   const width = Math.max(NARROWEST, size.width);
   const least = lock.leastWidth(view, state);
-  const scales = view.run.threads > MANY_THREADS ? [] : SCALES.filter((scale) => width / scale >= least);
-  const shown = { from: size.scrolled / LAST_SCALE, to: (size.scrolled + size.height) / LAST_SCALE };
+  const many = view.run.threads > MANY_THREADS;
+  const scales = many ? [] : SCALES.filter((scale) => width / scale >= least);
+  const from = size.scrolled / LAST_SCALE;
+  const shown = { from, to: from + size.height / LAST_SCALE };
   for (const scale of scales) {
     const picture = lock.draw({ ...view, width: width / scale, scale, shown }, state);
     if (picture.height <= size.height) return picture;
@@ -73,7 +82,8 @@ export function drawMemory(view, state, size) {
   const caption = lock.caption(view, state);
   const resting = lock.restingNote?.({ ...view, width: size.width }, state) ?? '';
   write(byId('memory-title'), texts.memoryTitles[lockName(view.run)]);
-  show(byId('memory-caption'), html`<span class="${caption.missing ? 'missing' : ''}">${caption.text}</span>
+  const missing = caption.missing && 'missing';
+  show(byId('memory-caption'), html`<span class="${missing}">${caption.text}</span>
     ${resting && html`<span class="soft">${resting}</span>`}`);
   show(byId('memory-picture'), scaledPicture(size, lock, view, state));
 }
@@ -86,23 +96,18 @@ export function drawCode(session, view, state) {
 export function drawNow(page, view, state) {
   const { quiz, session } = page;
   const asks = quiz.asks(session);
-  const form = byId('quiz-form');
-  const same = form && asks && Number(form.dataset.move) === view.move && form.dataset.of === page.opened;
-  if (!same) {
-    show(byId('now'), html`${quiz.on && html`<p class="score">${scoreText(quiz)}</p>`}
-      ${asks ? quizForm(view, state) : nowView(view, state)}
-      ${quiz.on && quiz.result && resultView(quiz)}
-      ${quiz.on && !asks && view.move === view.run.count && html`<p class="hint">${texts.quiz.last}</p>`}`);
-    const made = byId('quiz-form');
-    if (made) Object.assign(made.dataset, { move: view.move, of: page.opened });
-  }
+  const atEnd = quiz.on && view.move === view.run.count;
+  show(byId('now'), html`${quiz.on && html`<p class="score">${scoreText(quiz)}</p>`}
+    ${asks ? quizForm(view, state) : nowView(view, state)}
+    ${quiz.result && resultView(quiz)}${atEnd && html`<p class="hint">${texts.quiz.last}</p>`}`);
   write(byId('spoken'), asks ? texts.spoken.hidden : spokenText(view, state));
 }
 
 // Last of all: it asks where things came to stand.
 export function revealCode() {
   const box = byId('code-lines');
-  if (box.scrollHeight > box.clientHeight) box.querySelector('.here')?.scrollIntoView({ block: 'nearest' });
+  if (box.scrollHeight <= box.clientHeight) return;
+  box.querySelector('.here')?.scrollIntoView({ block: 'nearest' });
 }
 
 export function drawSlider(view, width) {
@@ -111,7 +116,11 @@ export function drawSlider(view, width) {
   input.max = view.run.count;
   input.value = view.move;
   input.setAttribute('aria-valuetext', texts.spoken.move(view.move, view.run.count));
-  write(byId('position'), `${view.move} of ${view.run.count}`);
+  write(byId('position'), texts.position(view.move, view.run.count));
+}
+
+function lockText(run) {
+  return texts.subtitle(texts.lockNames[lockName(run)], texts.threads(run.threads), run.bits);
 }
 
 export function drawHead(session) {
@@ -119,6 +128,5 @@ export function drawHead(session) {
   const title = remarks.title || lesson || texts.untitled;
   write(byId('title'), title);
   document.title = `${title} - ${texts.product}`;
-  write(byId('subtitle'), run.hasLock
-    ? texts.subtitle(texts.lockNames[lockName(run)], texts.threads(run.threads), run.bits) : texts.noLock);
+  write(byId('subtitle'), run.hasLock ? lockText(run) : texts.noLock);
 }

@@ -1,5 +1,6 @@
-// The text of the schedule, to be edited in place. The bytes of a file stay as they are until they are
-// edited; a carriage return, which a text field would swallow, is shown as a sign of its own.
+// The text of the schedule, to be edited in place. The bytes of a file stay as they are until
+// they are edited; a carriage return, which a text field would swallow, is shown as a sign of its
+// own.
 
 import { bytesOf, lettersOf } from './bytes.js';
 import { byId, html, show } from './markup.js';
@@ -11,7 +12,8 @@ const RETURN_SIGN = '\u240d';
 const WAIT = 120;
 
 export class Editor {
-  // `changed(bytes, line)` is called after an edit, `moved(line)` when the caret goes to another line.
+  // `changed(bytes, line)` is called after an edit, `moved(line)` when the caret goes to another
+  // line.
   constructor(changed, moved) {
     this.area = byId('text');
     this.gutter = byId('gutter');
@@ -21,7 +23,8 @@ export class Editor {
     this.marks = { here: 0, fault: 0 };
     this.area.addEventListener('input', () => this.edited());
     this.area.addEventListener('scroll', () => this.drawGutter());
-    for (const event of ['click', 'keyup']) this.area.addEventListener(event, () => this.caretMoved());
+    this.area.addEventListener('click', () => this.caretMoved());
+    this.area.addEventListener('keyup', () => this.caretMoved());
   }
 
   // Shows a text that did not come from this field.
@@ -87,18 +90,23 @@ export class Editor {
     const shift = first * LINE_HEIGHT - this.area.scrollTop;
     const rows = [];
     for (let line = first + 1; line <= last; line += 1) {
-      const fault = line === this.marks.fault;
-      const style = `${line === this.marks.here ? 'here' : ''} ${fault ? 'fault' : ''}`;
-      rows.push(html`<div class="${style}">${fault ? '✕ ' : line === this.marks.here ? '▸ ' : ''}${line}</div>`);
+      rows.push(this.gutterRow(line));
     }
-    show(this.gutter, html`<div class="rows" style="transform:translateY(${shift}px)">${rows}</div>`);
+    show(this.gutter, html`<div style="transform:translateY(${shift}px)">${rows}</div>`);
     this.band(shift, first);
+  }
+
+  gutterRow(line) {
+    if (line === this.marks.fault) return html`<div class="fault">✕ ${line}</div>`;
+    if (line === this.marks.here) return html`<div class="here">▸ ${line}</div>`;
+    return html`<div>${line}</div>`;
   }
 
   // A band behind the line that is wrong.
   band(shift, first) {
     const { fault } = this.marks;
     const top = (fault - 1 - first) * LINE_HEIGHT + shift;
-    show(byId('band'), fault ? html`<div class="fault" style="transform:translateY(${top}px)"></div>` : html``);
+    const style = html`style="transform:translateY(${top}px)"`;
+    show(byId('band'), html`${fault > 0 && html`<div class="fault" ${style}></div>`}`);
   }
 }

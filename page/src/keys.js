@@ -5,6 +5,7 @@ import { texts } from './texts.js';
 
 const IN_FIELDS = 'textarea, input:not([type=range]):not([type=radio]), select';
 const FAR = 10;
+const WIDER = 1.25;
 
 function actions(page) {
   return {
@@ -14,8 +15,9 @@ function actions(page) {
     ']': () => page.sameThread(1), '[': () => page.sameThread(-1),
     n: () => page.nextQuestion(), a: () => page.toggleAnswer(), o: () => page.chooseLesson(),
     e: () => page.toggleMode('own'), g: () => page.toggleMode('play'), q: () => page.toggleQuiz(),
-    u: () => page.undo(), l: () => page.copyLink(), p: () => window.print(), d: () => page.toggleTheme(),
-    '+': () => page.zoom(1.25), '=': () => page.zoom(1.25), '-': () => page.zoom(0.8), '?': () => page.showKeys(),
+    u: () => page.undo(), l: () => page.copyLink(), p: () => window.print(),
+    d: () => page.toggleTheme(), '?': () => page.showKeys(),
+    '+': () => page.zoom(WIDER), '=': () => page.zoom(WIDER), '-': () => page.zoom(1 / WIDER),
   };
 }
 
@@ -44,7 +46,9 @@ export function keysDialog() {
   const dialog = byId('keys');
   dialog.addEventListener('click', (event) => { if (event.target === dialog) dialog.close(); });
   return () => {
-    show(byId('key-list'), html`${texts.keys.list.map(([key, does]) => html`<dt><kbd>${key}</kbd></dt><dd>${does}</dd>`)}`);
+    const rows = texts.keys.list
+      .map(([key, does]) => html`<dt><kbd>${key}</kbd></dt><dd>${does}</dd>`);
+    show(byId('key-list'), html`${rows}`);
     dialog.showModal();
   };
 }

@@ -1,6 +1,6 @@
 // One lane a thread: its calls and steps, and what it was doing between them.
 
-import { ACTION, CAS, OUTCOME, OUTCOMES, wordOf } from './codes.js';
+import { ACTION, CAS, OUTCOME, wordOf } from './codes.js';
 import { arrowsBetween } from './arrows.js';
 import { columnX, laneMiddle, LOW_LANE } from './layout.js';
 import { lockOf } from './locks.js';
@@ -11,72 +11,99 @@ import { placeAfter } from './run.js';
 import { texts } from './texts.js';
 
 const THICK = { call: 3, line: 14, holds: 24, reads: 24, writes: 24 };
-const ENDS = ['reads', 'writes'];
+const NAMED_SPANS = ['reads', 'writes'];
 const ROOM_FOR_WORD = 84;
+const ROOM_FOR_UNLINKED = 170;
+const NARROW = 34;
+const NAME_ROOM = 108;
+const LETTER = 6.2;
+const LOOKS = ['read', 'swap', 'add', 'section'];
 
 const rounded = (number) => Math.round(number * 10) / 10;
+const future = (layout, move) => (move > layout.now ? 'future' : '');
+
+function fitted(text, room) {
+  const most = Math.max(3, Math.floor(room / LETTER));
+  return text.length > most ? `${text.slice(0, most - 1)}…` : text;
+}
 
 // A stretch in two parts: up to the current move, and the rest, which is drawn faint.
 function parts(layout, span) {
   const edge = layout.now + 0.4;
   const from = Math.max(span.from, layout.first - 0.6);
   const to = Math.min(span.to, layout.last + 0.4);
-  return [{ from, to: Math.min(to, edge), style: '' }, { from: Math.max(from, edge), to, style: 'future' }]
-    .filter((part) => part.to > part.from)
-    .map((part) => ({ x: columnX(layout, part.from), width: (part.to - part.from) * layout.column, style: part.style }));
+  const past = { from, to: Math.min(to, edge), style: '' };
+  const rest = { from: Math.max(from, edge), to, style: 'future' };
+  return [past, rest].filter((part) => part.to > part.from).map((part) => ({
+    x: rounded(columnX(layout, part.from)),
+    width: rounded((part.to - part.from) * layout.column),
+    style: part.style,
+  }));
 }
 
 // In the gap up to the thread's next mark, where it is wide enough.
 function spanText(view, layout, thread, span, middle) {
   const from = Math.max(span.from, layout.first - 0.5);
   const moves = view.run.movesOf.get(thread);
-  const shown = from <= layout.now ? layout.now + 0.4 : Infinity;
-  const next = Math.min(moves[placeAfter(moves, from)] ?? Infinity, span.to, layout.last + 0.6, shown);
+  const shown = from <= layout.now ? layout.now + 0.4 : layout.last + 0.4;
+  const next = Math.min(moves[placeAfter(moves, from)] ?? Infinity, span.to, shown);
   if ((next - from) * layout.column < ROOM_FOR_WORD) return null;
-  return html`<text class="span-text ${span.kind} ${from > layout.now ? 'future' : ''}" text-anchor="middle"
-    x="${rounded(columnX(layout, (from + next) / 2))}" y="${middle + 4.5}">${texts.marks[span.kind]}</text>`;
+  const x = rounded(columnX(layout, (from + next) / 2));
+  return html`<text class="span-text ${span.kind} ${future(layout, from)}" x="${x}"
+    y="${middle + 4.5}" text-anchor="middle">${texts.marks[span.kind]}</text>`;
+}
+
+function spanBar(view, layout, thread, span, middle) {
+  const thick = THICK[span.kind];
+  const fill = fillOf(span.kind);
+  const bars = parts(layout, span).map(({ x, width, style }) => html`<rect x="${x}"
+    y="${middle - thick / 2}" width="${width}" height="${thick}" rx="3"
+    class="span ${span.kind} ${style}" ${fill && html`style="fill:${fill}"`}/>`);
+  const named = NAMED_SPANS.includes(span.kind);
+  return html`${bars}${named && spanText(view, layout, thread, span, middle)}`;
 }
 
 function spanBars(view, layout, thread, middle) {
-  return spansOf(view.run, thread, layout.first, layout.last).map((span) => {
-    const thick = THICK[span.kind];
-    const fill = fillOf(span.kind);
-    return parts(layout, span).map(({ x, width, style }, i) => html`<rect class="span ${span.kind} ${style}"
-      x="${rounded(x)}" y="${middle - thick / 2}" width="${rounded(width)}" height="${thick}" rx="3"
-      ${fill && html`style="fill:${fill}"`}/>
-      ${i === 0 && ENDS.includes(span.kind) && spanText(view, layout, thread, span, middle)}`);
-  });
+  return spansOf(view.run, thread, layout.first, layout.last)
+    .map((span) => spanBar(view, layout, thread, span, middle));
+}
+
+function unlinkedLine(layout, span, y) {
+  const pieces = parts(layout, span);
+  const lines = pieces.map(({ x, width, style }) => html`<path class="unlinked ${style}"
+    d="M${x} ${y}h${width}"/>`);
+  const [{ x, width, style }] = pieces.length ? pieces : [{ width: 0 }];
+  const named = width > ROOM_FOR_UNLINKED && layout.laneHeight >= LOW_LANE;
+  return html`${lines}${named && html`<text class="unlinked-text ${style}" x="${x + 50}"
+    y="${y + 4}">${texts.marks.unlinked}</text>`}`;
 }
 
 function unlinkedLines(view, layout, thread, middle) {
   const y = middle + Math.min(35, layout.laneHeight / 2 - 3);
-  return unlinkedSpans(view.run, thread, layout.first, layout.last).map((span) => parts(layout, span)
-    .map(({ x, width, style }, i) => html`<path class="unlinked ${style}" d="M${rounded(x)} ${y}h${rounded(width)}"/>
-      ${i === 0 && width > 170 && layout.laneHeight >= LOW_LANE && html`<text class="unlinked-text ${style}"
-        x="${rounded(x + 50)}" y="${y + 4}">${texts.marks.unlinked}</text>`}`));
+  return unlinkedSpans(view.run, thread, layout.first, layout.last)
+    .map((span) => unlinkedLine(layout, span, y));
 }
 
 export const casFails = (records, move) => records.action(move) === ACTION.step
   && records.code(move) === CAS && records.outcome(move) !== OUTCOME.left;
 
+const SHAPES = {
+  [OUTCOME.waits]: (x, y) => html`<circle class="step waits" cx="${x}" cy="${y}" r="7.5"/>`,
+  [OUTCOME.moved]: (x, y) => html`<circle class="step" cx="${x}" cy="${y}" r="7.5"/>`,
+  [OUTCOME.entered]: (x, y) => html`<path class="step"
+    d="M${x - 6} ${y - 8.5}L${x + 10} ${y}L${x - 6} ${y + 8.5}z"/>`,
+  [OUTCOME.left]: (x, y) => html`<rect class="step" x="${x - 7}" y="${y - 7}"
+    width="14" height="14" rx="2"/>`,
+  [OUTCOME.called]: (x, y) => html`<rect class="call-mark" x="${x - 2.5}" y="${y - 12}"
+    width="5" height="24" rx="2"/>`,
+};
+
 // The shape says what came of the move.
 function shape(records, move, x, y) {
-  if (records.action(move) === ACTION.call) {
-    return html`<rect class="call-mark" x="${x - 2.5}" y="${y - 12}" width="5" height="24" rx="2"/>`;
-  }
-  if (casFails(records, move)) {
-    return html`<circle class="step fails" cx="${x}" cy="${y}" r="7.5"/>
-      <path class="cross" d="M${x - 3} ${y - 3}l6 6m0 -6l-6 6"/>`;
-  }
-  switch (records.outcome(move)) {
-    case OUTCOME.waits: return html`<circle class="step waits" cx="${x}" cy="${y}" r="7.5"/>`;
-    case OUTCOME.entered: return html`<path class="step" d="M${x - 6} ${y - 8.5}L${x + 10} ${y}L${x - 6} ${y + 8.5}z"/>`;
-    case OUTCOME.left: return html`<rect class="step" x="${x - 7}" y="${y - 7}" width="14" height="14" rx="2"/>`;
-    default: return html`<circle class="step" cx="${x}" cy="${y}" r="7.5"/>`;
-  }
+  if (!casFails(records, move)) return SHAPES[records.outcome(move)](x, y);
+  return html`<circle class="step fails" cx="${x}" cy="${y}" r="7.5"/>
+    <path class="cross" d="M${x - 3} ${y - 3}l6 6m0 -6l-6 6"/>`;
 }
-
-const LOOKS = ['read', 'swap', 'add', 'section'];
 
 // Below the mark: what was found, or what a section left.
 function foundText(view, move) {
@@ -87,30 +114,36 @@ function foundText(view, move) {
   return LOOKS.includes(word) ? lockOf(view.run).mark(view.run, move, view.names) : '';
 }
 
-function fitted(text, column) {
-  const most = Math.max(3, Math.floor(column / 6.2));
-  return text.length > most ? `${text.slice(0, most - 1)}…` : text;
+// Above the mark: the call or the kind of step. In low lanes only the current move's is written.
+function label(view, layout, move, at, tall) {
+  const { records } = view.run;
+  const here = move === layout.now;
+  if (!tall && !here) return null;
+  const call = records.action(move) === ACTION.call;
+  const word = wordOf(records.action(move), records.code(move));
+  return html`<text class="word-label ${call && 'call'} ${here && 'here'}" x="${at.x}"
+    y="${at.y - (tall ? 20 : 13)}" text-anchor="middle">${word}</text>`;
+}
+
+function found(view, layout, move, at) {
+  const fails = casFails(view.run.records, move);
+  return html`<text class="found ${fails && 'fails'} ${move === layout.now && 'here'}" x="${at.x}"
+    y="${at.y + 27}" text-anchor="middle">${fitted(foundText(view, move), layout.column)}</text>`;
 }
 
 function moveMark(view, layout, move, middle) {
-  const { records } = view.run;
-  const x = rounded(columnX(layout, move));
-  const call = records.action(move) === ACTION.call;
-  const tall = layout.laneHeight >= LOW_LANE && layout.column > 34;
-  const here = move === layout.now;
-  const hidden = view.hidden && move > layout.now;
-  const word = wordOf(records.action(move), records.code(move));
-  const style = `${call ? 'call' : ''} ${here ? 'here' : ''}`;
-  const label = (tall || here) && html`<text class="word-label ${style}" x="${x}" y="${middle - (tall ? 20 : 13)}"
-    text-anchor="middle">${word}</text>`;
-  if (hidden) {
-    return html`<g data-move="${move}" class="move"><text class="asked" x="${x}" y="${middle + 5}" text-anchor="middle">?</text>${label}</g>`;
+  const at = { x: rounded(columnX(layout, move)), y: middle };
+  const tall = layout.laneHeight >= LOW_LANE && layout.column > NARROW;
+  const word = label(view, layout, move, at, tall);
+  if (view.hidden && move > layout.now) {
+    return html`<g data-move="${move}" class="move"><text class="asked" x="${at.x}"
+      y="${middle + 5}" text-anchor="middle">?</text>${word}</g>`;
   }
-  const found = tall && html`<text class="found ${casFails(records, move) ? 'fails' : ''} ${here ? 'here' : ''}"
-    x="${x}" y="${middle + 27}" text-anchor="middle">${fitted(foundText(view, move), layout.column)}</text>`;
-  return html`<g data-move="${move}" class="move ${move > layout.now ? 'future' : ''}">
-    <rect class="target" x="${x - layout.column / 2}" y="${middle - 24}" width="${layout.column}" height="48"/>
-    ${shape(records, move, x, middle)}${label}${found}</g>`;
+  return html`<g data-move="${move}" class="move ${future(layout, move)}">
+    <rect class="target" x="${at.x - layout.column / 2}" y="${middle - 24}"
+      width="${layout.column}" height="48"/>
+    ${shape(view.run.records, move, at.x, middle)}${word}
+    ${tall && found(view, layout, move, at)}</g>`;
 }
 
 function laneMoves(view, layout, thread, middle) {
@@ -125,7 +158,8 @@ function lane(view, layout, index) {
   const middle = rounded(laneMiddle(layout, index));
   const shown = view.hidden ? { ...layout, last: layout.now } : layout;
   const two = view.names.has(thread) && layout.laneHeight >= LOW_LANE;
-  return html`<text class="lane-name" x="20" y="${middle + (two ? 0 : 5)}">${fitted(view.names.of(thread), 108)}</text>
+  const name = fitted(view.names.of(thread), NAME_ROOM);
+  return html`<text class="lane-name" x="20" y="${middle + (two ? 0 : 5)}">${name}</text>
     ${two && html`<text class="note" x="20" y="${middle + 18}">${texts.thread(thread)}</text>`}
     <path class="lane-line" d="M${layout.gutter - 4} ${middle}H${layout.width - 12}"/>
     ${spanBars(view, shown, thread, middle)}${unlinkedLines(view, shown, thread, middle)}
@@ -133,33 +167,44 @@ function lane(view, layout, index) {
 }
 
 // From the write to the step that it let go on: down or up right behind the write, then along.
-function arrowPath(layout, arrow) {
-  const y1 = laneMiddle(layout, layout.lanes.indexOf(layout.thread(arrow.from)));
-  const y2 = laneMiddle(layout, layout.lanes.indexOf(layout.thread(arrow.to)));
+function arrowPath(layout, arrow, threadOf) {
+  const [y1, y2] = [arrow.from, arrow.to]
+    .map((move) => rounded(laneMiddle(layout, layout.lanes.indexOf(threadOf(move)))));
   const x1 = Math.max(layout.gutter - 4, columnX(layout, arrow.from) + 8);
   const x2 = columnX(layout, arrow.to) - 10;
   const bend = Math.min(x1 + 8 + layout.column / 6, x2 - 6);
   const turn = Math.sign(y2 - y1) * 7;
-  return `M${rounded(x1)} ${rounded(y1)}H${rounded(bend - 7)}q7 0 7 ${turn}V${rounded(y2 - turn)}q0 ${turn} 7 ${turn}H${rounded(x2)}`;
+  const down = `H${rounded(bend - 7)}q7 0 7 ${turn}V${rounded(y2 - turn)}`;
+  return `M${rounded(x1)} ${y1}${down}q0 ${turn} 7 ${turn}H${rounded(x2)}`;
 }
 
 function arrows(view, layout) {
   const last = view.hidden ? layout.now : layout.last;
-  const withThread = { ...layout, thread: (move) => view.run.records.thread(move) };
+  const threadOf = (move) => view.run.records.thread(move);
   return arrowsBetween(view.arrows, view.arrowEnds, layout.first, last).map((arrow) => {
-    const path = arrowPath(withThread, arrow);
-    const style = arrow.to > layout.now ? 'future' : '';
-    return html`<path class="arrow halo ${style}" d="${path}"/><path class="arrow ${style}" d="${path}"/>`;
+    const path = arrowPath(layout, arrow, threadOf);
+    const style = future(layout, arrow.to);
+    return html`<path class="arrow halo ${style}" d="${path}"/>
+      <path class="arrow ${style}" d="${path}"/>`;
   });
 }
+
+// A band behind the current move.
+function hereColumn(layout, y, height) {
+  if (layout.now < layout.first || layout.now > layout.last) return null;
+  const x = rounded(columnX(layout, layout.now) - layout.column / 2);
+  return html`<rect class="here-column" x="${x}" y="${y}" width="${rounded(layout.column)}"
+    height="${height}" rx="7"/>`;
+}
+
+const sized = (width, height) => html`width="${width}" height="${height}"
+  viewBox="0 0 ${width} ${height}"`;
 
 // The lanes from index `top` to `bottom`; the picture is as tall as all of them.
 export function lanesPicture(view, layout, top, bottom) {
   const indexes = Array.from({ length: bottom - top + 1 }, (_, i) => top + i);
-  const here = layout.now >= layout.first && layout.now <= layout.last && layout.now > 0;
-  return html`<svg width="${layout.width}" height="${layout.height}" viewBox="0 0 ${layout.width} ${layout.height}" role="img" aria-label="${texts.time}">
-    ${here && html`<rect class="here-column" x="${rounded(columnX(layout, layout.now) - layout.column / 2)}" y="-20"
-      width="${rounded(layout.column)}" height="${layout.height + 20}"/>`}
+  return html`<svg ${sized(layout.width, layout.height)} role="img" aria-label="${texts.time}">
+    ${hereColumn(layout, -20, layout.height + 20)}
     ${indexes.map((index) => lane(view, layout, index))}${arrows(view, layout)}</svg>`;
 }
 
@@ -170,15 +215,12 @@ export function numbersPicture(view, layout) {
   for (let move = layout.first; move <= layout.last; move += 1) {
     const here = move === layout.now;
     if (!here && (move % every || Math.abs(move - layout.now) < every)) continue;
+    const x = rounded(columnX(layout, move));
     const asked = view.remarks.ask.has(move);
-    numbers.push(html`<text class="number ${here ? 'here' : ''} ${move > layout.now ? 'future' : ''}"
-      x="${rounded(columnX(layout, move))}" y="22" text-anchor="middle" data-move="${move}">${move}</text>
-      ${asked && html`<path class="ask-mark" d="M${rounded(columnX(layout, move)) - 4} 2h8l-4 6z"/>`}`);
+    numbers.push(html`<text class="number ${here && 'here'} ${future(layout, move)}" x="${x}"
+      y="22" text-anchor="middle" data-move="${move}">${move}</text>
+      ${asked && html`<path class="ask-mark" d="M${x - 4} 2h8l-4 6z"/>`}`);
   }
-  const here = layout.now >= layout.first && layout.now <= layout.last && layout.now > 0;
-  return html`<svg width="${layout.width}" height="30" viewBox="0 0 ${layout.width} 30" aria-hidden="true">
-    ${here && html`<rect class="here-column" x="${rounded(columnX(layout, layout.now) - layout.column / 2)}" y="0"
-      width="${rounded(layout.column)}" height="40" rx="7"/>`}${numbers}</svg>`;
+  return html`<svg ${sized(layout.width, 30)} aria-hidden="true">
+    ${hereColumn(layout, 0, 40)}${numbers}</svg>`;
 }
-
-export const outcomeName = (records, move) => OUTCOMES[records.outcome(move)];

@@ -1,5 +1,5 @@
-// Which moves and which threads are in view, and where they stand. Only these are drawn, so a step costs
-// the same in a schedule of 65,536 moves as in one of ten.
+// Which moves and which threads are in view, and where they stand. Only these are drawn, so a
+// step costs the same in a schedule of 65,536 moves as in one of ten.
 
 import { LOCKS } from './codes.js';
 
@@ -49,5 +49,11 @@ export function layOutLanes(run, move, lanes, room, zoom) {
 
 export const LOW_LANE = 62;
 
-export const columnX = (layout, move) => layout.gutter + (move - layout.first + 0.6) * layout.column;
-export const laneMiddle = (layout, index) => layout.laneHeight * (index + (layout.laneHeight < LOW_LANE ? 0.5 : 0.54));
+export function columnX(layout, move) {
+  return layout.gutter + (move - layout.first + 0.6) * layout.column;
+}
+
+export function laneMiddle(layout, index) {
+  const middle = layout.laneHeight < LOW_LANE ? 0.5 : 0.54;
+  return layout.laneHeight * (index + middle);
+}

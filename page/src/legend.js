@@ -5,23 +5,28 @@ import { html } from './markup.js';
 import { texts } from './texts.js';
 
 const T = texts.legend;
-const sign = (width, body, label) => html`<span><svg width="${width}" height="18" aria-hidden="true">${body}</svg>${label}</span>`;
 
-const bar = (kind, fill) => html`<rect class="span ${kind}" x=".5" y="1" width="29" height="16" rx="3" ${fill && html`style="fill:url(#${fill})"`}/>`;
+const sign = (width, drawn, label) => html`<span><svg width="${width}" height="18"
+  aria-hidden="true">${drawn}</svg>${label}</span>`;
+const bar = (kind, fill) => html`<rect class="span ${kind}" x=".5" y="1" width="29" height="16"
+  rx="3" ${fill && html`style="fill:url(#${fill})"`}/>`;
 
-const SIGNS = {
-  call: () => sign(20, html`<rect class="call-mark" x="8" y="1" width="5" height="16" rx="2"/>`, T.call),
-  vain: () => sign(20, html`<circle class="step waits" cx="10" cy="9" r="7"/>`, T.vain),
-  enters: () => sign(20, html`<path class="step" d="M4 1.5L18 9L4 16.5z"/>`, T.enters),
-  leaves: () => sign(20, html`<rect class="step" x="3" y="2" width="14" height="14" rx="2"/>`, T.leaves),
-  fails: () => sign(20, html`<circle class="step fails" cx="10" cy="9" r="7"/><path class="cross" d="M7 6l6 6m0 -6l-6 6"/>`, T.fails),
-  inCall: () => sign(30, html`<rect class="span call" y="7.5" width="30" height="3"/>`, T.inCall),
-  line: () => sign(30, bar('line', 'hatch'), T.line),
-  holds: () => sign(30, bar('holds'), T.holds),
-  reads: () => sign(30, bar('reads', 'ruled'), T.reads),
-  writes: () => sign(30, bar('writes'), T.writes),
-  unlinked: () => sign(30, html`<path class="unlinked" d="M0 9h30"/>`, T.unlinked),
-  ended: () => sign(34, html`<path class="arrow" d="M1 3h9q6 0 6 6t6 5h2"/>`, T.ended),
+const SHAPES = {
+  call: html`<rect class="call-mark" x="8" y="1" width="5" height="16" rx="2"/>`,
+  vain: html`<circle class="step waits" cx="10" cy="9" r="7"/>`,
+  enters: html`<path class="step" d="M4 1.5L18 9L4 16.5z"/>`,
+  leaves: html`<rect class="step" x="3" y="2" width="14" height="14" rx="2"/>`,
+  fails: html`<circle class="step fails" cx="10" cy="9" r="7"/>
+    <path class="cross" d="M7 6l6 6m0 -6l-6 6"/>`,
+};
+const STRETCHES = {
+  inCall: html`<rect class="span call" y="7.5" width="30" height="3"/>`,
+  line: bar('line', 'hatch'),
+  holds: bar('holds'),
+  reads: bar('reads', 'ruled'),
+  writes: bar('writes'),
+  unlinked: html`<path class="unlinked" d="M0 9h30"/>`,
+  ended: html`<path class="arrow" d="M1 3h9q6 0 6 6t6 5h2"/>`,
 };
 
 const COMMON = ['call', 'vain', 'enters', 'leaves'];
@@ -32,4 +37,8 @@ const OF_LOCK = {
   'rw-fifo': ['inCall', 'line', 'reads', 'writes', 'ended'],
 };
 
-export const legend = (run) => html`${[...COMMON, ...OF_LOCK[lockName(run)]].map((name) => SIGNS[name]())}`;
+export function legend(run) {
+  const signs = [...COMMON, ...OF_LOCK[lockName(run)]].map((name) => (SHAPES[name]
+    ? sign(20, SHAPES[name], T[name]) : sign(32, STRETCHES[name], T[name])));
+  return html`${signs}`;
+}

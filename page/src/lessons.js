@@ -5,11 +5,16 @@ import { texts } from './texts.js';
 
 export const FIRST_LESSON = 'mcs-late-link';
 
-export function lessonsView(lessons, current) {
+function lessonButton({ name, title }, current) {
+  return html`<li><button type="button" data-lesson="${name}"
+    ${name === current && html`aria-current="true"`}><b>${title}</b>
+    <span>${name}</span></button></li>`;
+}
+
+function lessonsView(lessons, current) {
   const groups = [...new Set(lessons.map(({ group }) => group))];
   return html`${groups.map((group) => html`<section><h3>${texts.lessons.groups[group]}</h3><ul>
-    ${lessons.filter((one) => one.group === group).map((one) => html`<li><button type="button" data-lesson="${one.name}"
-      ${one.name === current && html`aria-current="true"`}><b>${one.title}</b><span>${one.name}</span></button></li>`)}
+    ${lessons.filter((one) => one.group === group).map((one) => lessonButton(one, current))}
     </ul></section>`)}`;
 }
 

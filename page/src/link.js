@@ -1,5 +1,5 @@
-// A link that carries the schedule and the move in its fragment: a lesson by its name, a schedule of one's
-// own by its bytes.
+// A link that carries the schedule and the move in its fragment: a lesson by its name, a schedule
+// of one's own by its bytes.
 
 import { fromLink, toLink } from './bytes.js';
 

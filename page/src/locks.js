@@ -1,5 +1,5 @@
-// What the page knows of a lock beyond its code: the names of its words and its pictures. Each lock has
-// its own file, under its own name.
+// What the page knows of a lock beyond its code: the names of its words and its pictures. Each
+// lock has its own file, under its own name.
 
 import { LOCKS } from './codes.js';
 import { ticket } from './ticket.js';

@@ -1,5 +1,5 @@
-// The locks' code, as docs/LOCKS.md has it: the build takes its blocks from there. A line knows its kind
-// of step, its phase, and the words that a waiting section looks at.
+// The locks' code, as docs/LOCKS.md has it: the build takes its blocks from there. A line knows
+// its kind of step, its phase, and the words that a waiting section looks at.
 
 import { LOCKS, PHASE } from './codes.js';
 

@@ -1,6 +1,7 @@
-// The proved machine, a WebAssembly module with 64-bit memory. Its one function reads a schedule text,
-// plays it, and writes a record for each move and the state after the last one. This file copies the
-// text in and the bytes out, and gives the bytes their names; it knows no rule of any lock.
+// The proved machine, a WebAssembly module with 64-bit memory. Its one function reads a schedule
+// text, plays it, and writes a record for each move and the state after the last one. This file
+// copies the text in and the bytes out, and gives the bytes their names; it knows no rule of any
+// lock.
 
 import { MOST_MOVES } from './codes.js';
 
@@ -44,8 +45,8 @@ export class Machine {
     return new Uint8Array(memory.buffer);
   }
 
-  // Plays at most `most` moves of the text's first `length` bytes. The text stays in the machine's memory
-  // from play to play.
+  // Plays at most `most` moves of the text's first `length` bytes. The text stays in the
+  // machine's memory from play to play.
   play(text, most, withRecords, length = text.length) {
     const recordsAt = STATE_BYTES + ((text.length + 7) & ~7);
     const room = withRecords ? recordsAsked(text) * RECORD_BYTES : 0;
@@ -62,6 +63,8 @@ export class Machine {
     return { state, records: bytes.slice(recordsAt, recordsAt + played) };
   }
 }
+
+const threadAt = (thread) => THREADS_AT + THREAD_BYTES * thread;
 
 // The state after the moves played, or the fault of a text.
 export class State {
@@ -84,10 +87,10 @@ export class State {
   get holderKind() { return this.number(40); }
   get holders() { return [...this.bytes.subarray(64, 64 + this.number(44))]; }
   get queue() { return [...this.bytes.subarray(128, 128 + this.number(48))]; }
-  phase(thread) { return this.bytes[THREADS_AT + THREAD_BYTES * thread]; }
-  dueStep(thread) { return this.bytes[THREADS_AT + THREAD_BYTES * thread + 1]; }
-  allows(thread, call) { return (this.bytes[THREADS_AT + THREAD_BYTES * thread + 2] >> call & 1) === 1; }
-  phaseNumber(thread) { return this.view.getBigUint64(THREADS_AT + THREAD_BYTES * thread + 8, true); }
+  phase(thread) { return this.bytes[threadAt(thread)]; }
+  dueStep(thread) { return this.bytes[threadAt(thread) + 1]; }
+  allows(thread, call) { return (this.bytes[threadAt(thread) + 2] >> call & 1) === 1; }
+  phaseNumber(thread) { return this.view.getBigUint64(threadAt(thread) + 8, true); }
   word(index) { return this.view.getBigUint64(WORDS_AT + 8 * index, true); }
 }
 

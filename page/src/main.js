@@ -22,11 +22,11 @@ function machineOf(data) {
 
 // Every text of the page that stands from the beginning.
 function writeTexts() {
-  for (const node of document.querySelectorAll('[data-text]')) {
-    node.prepend(node.dataset.text.split('.').reduce((at, name) => at[name], texts));
-  }
-  for (const node of document.querySelectorAll('[data-label]')) {
-    node.setAttribute('aria-label', node.dataset.label.split('.').reduce((at, name) => at[name], texts));
+  const named = (path) => path.split('.').reduce((at, name) => at[name], texts);
+  const all = (selector) => document.querySelectorAll(selector);
+  for (const node of all('[data-text]')) node.prepend(named(node.dataset.text));
+  for (const node of all('[data-label]')) {
+    node.setAttribute('aria-label', named(node.dataset.label));
   }
 }
 

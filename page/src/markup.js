@@ -1,4 +1,5 @@
-// Markup that cannot be broken by what it shows: every value is escaped unless it is markup itself.
+// Markup that cannot be broken by what it shows: every value is escaped unless it is markup
+// itself.
 
 class Markup {
   constructor(text) { this.text = text; }

@@ -1,9 +1,9 @@
-// Memory of the MCS lock: the tail, and the threads' records in the order of the queue that the machine
-// names. A link is drawn where the word says so; one that is missing is drawn as missing.
+// Memory of the MCS lock: the tail, and the threads' records in the order of the queue that the
+// machine names. A link is drawn where the word says so; one that is missing is drawn as missing.
 
 import { PHASE, PHASES } from './codes.js';
 import { html } from './markup.js';
-import { fillOf, picture, standingOf, useOf, wordBox } from './shapes.js';
+import { picture, standingOf, useOf, wordBox } from './shapes.js';
 import { say, texts } from './texts.js';
 
 const TAIL = 0;
@@ -29,7 +29,8 @@ function wordName(word, names) {
   return `${names.short(ownerOf(word))}.${isLocked(word) ? 'locked' : 'next'}`;
 }
 
-// Who is drawn: the queue in its order, then who is in a call, then who rests, where there is room.
+// Who is drawn: the queue in its order, then who is in a call, then who rests, where there is
+// room.
 function order(view, state, most) {
   const { run, move } = view;
   const others = Array.from({ length: run.threads }, (_, thread) => thread)
@@ -66,21 +67,22 @@ function ownVariable(view, state, thread, width) {
   const name = OWN_VARIABLE[PHASES[state.phase(thread)]];
   if (!name) return null;
   const value = view.names.short(Number(state.phaseNumber(thread)));
+  const whose = texts.ownVariable(view.names.of(thread));
   return html`<g transform="translate(0,${RECORD.height + 12})">
     <rect class="own" x=".5" width="${width - 1}" height="28" rx="8"/>
     <text class="mono value" x="${width / 2}" y="19" text-anchor="middle">${name} = ${value}</text>
-    <text class="note" x="${width / 2}" y="45" text-anchor="middle">${texts.ownVariable(view.names.of(thread))}</text>
+    <text class="note" x="${width / 2}" y="45" text-anchor="middle">${whose}</text>
   </g>`;
 }
 
 function record(view, state, thread, place, width) {
   const standing = standingOf(view.run, view.move, thread);
-  const fill = fillOf(standing);
   const label = texts.standing[standing];
   return html`<g class="record ${standing}" transform="translate(${place.x},${place.y})">
     <rect class="frame" width="${width}" height="${RECORD.height}" rx="10"/>
-    <path class="head" ${fill ? html`fill="${fill}"` : ''} d="M0 10a10 10 0 0 1 10 -10h${width - 20}a10 10 0 0 1 10 10v22h-${width}z"/>
-    ${fill && html`<rect class="plate" x="6" y="4" width="${width - 12}" height="23" rx="6"/>`}
+    <path class="head" d="M0 10a10 10 0 0 1 10 -10h${width - 20}a10 10 0 0 1 10 10v22h-${width}z"/>
+    ${standing === 'line' && html`<rect class="plate" x="6" y="4" width="${width - 12}"
+      height="23" rx="6"/>`}
     <text class="name" x="14" y="21">${view.names.of(thread)}</text>
     <text class="standing" x="${width - 13}" y="21" text-anchor="end">${label}</text>
     ${recordField(view, 40, 'next', nextOf(thread), state, width)}
@@ -97,8 +99,10 @@ function link(from, to, width, linked) {
     return html`<path class="link ${linked ? '' : 'missing'}" d="${path}"/>`;
   }
   if (linked) return html`<path class="link" d="M${from.x + width - 12} ${y}H${to.x - 4}"/>`;
+  const middle = (from.x + width + to.x) / 2 - 2;
   return html`<path class="link missing" d="M${from.x + width + 3} ${y}H${to.x - 4}"/>
-    <text class="missing-text" x="${(from.x + width + to.x) / 2 - 2}" y="${y - 9}" text-anchor="middle">${texts.noLink}</text>`;
+    <text class="missing-text" x="${middle}" y="${y - 9}"
+      text-anchor="middle">${texts.noLink}</text>`;
 }
 
 const isLinked = (state, before, after) => named(state.word(nextOf(before))) === after;
@@ -106,18 +110,21 @@ const isLinked = (state, before, after) => named(state.word(nextOf(before))) ===
 function links(view, state, layout) {
   return state.queue.slice(1).map((after, i) => {
     const before = state.queue[i];
-    return inView(view, layout.places.get(before)) && link(layout.places.get(before), layout.places.get(after), layout.width,
-      isLinked(state, before, after));
+    const [from, to] = [before, after].map((thread) => layout.places.get(thread));
+    return inView(view, from) && link(from, to, layout.width, isLinked(state, before, after));
   });
 }
 
+// Straight down to a record below the box, else along and down.
+const tailPath = (x, y) => (x < 160 ? `M${x} 52V${y}` : `M156 38H${x - 10}q10 0 10 10V${y}`);
+
 function tail(view, state, layout) {
   const place = layout.places.get(named(state.word(TAIL)));
-  const x = place && place.x + layout.width / 2;
-  const path = place && (x < 160 ? `M${x} 52V${place.y - 4}` : `M156 38H${x - 10}q10 0 10 10V${place.y - 4}`);
+  const value = valueText(TAIL, state.word(TAIL), view.names);
+  const path = place && tailPath(place.x + layout.width / 2, place.y - 4);
   return html`<text class="mono word-name strong" x="24" y="43">tail</text>
-    ${wordBox(70, 24, 86, valueText(TAIL, state.word(TAIL), view.names), useOf(view.run, view.move, TAIL))}
-    ${place && html`<path class="link" d="${path}"/>`}`;
+    ${wordBox(70, 24, 86, value, useOf(view.run, view.move, TAIL))}
+    ${path && html`<path class="link" d="${path}"/>`}`;
 }
 
 function caption(view, state) {
@@ -157,7 +164,8 @@ function leastWidth(view, state) {
 function restingNote(view, state) {
   const { hidden } = layOut(view, state);
   if (hidden.length > MOST_NAMED) return texts.manyResting(texts.threads(hidden.length));
-  return hidden.length ? texts.restingThreads(hidden.map((thread) => view.names.short(thread)).join(', ')) : '';
+  const named = hidden.map((thread) => view.names.short(thread)).join(', ');
+  return named && texts.restingThreads(named);
 }
 
 // The sentence of a look for a successor that finds none is another one.
@@ -180,4 +188,6 @@ function mark(run, move, names) {
   return valueText(word, run.records.found(move), names);
 }
 
-export const mcs = { leastWidth, wordName, valueText, mark, variant, values, draw, caption, restingNote };
+export const mcs = {
+  leastWidth, wordName, valueText, mark, variant, values, draw, caption, restingNote,
+};

@@ -13,9 +13,9 @@ export class Names {
   mark(thread) {
     const name = this.given.get(thread);
     if (!name) return String(thread);
-    const letter = [...name][0].toUpperCase();
-    const alike = [...this.given.values()].filter((other) => [...other][0].toUpperCase() === letter);
-    return alike.length === 1 ? letter : String(thread);
+    const first = (one) => [...one][0].toUpperCase();
+    const alike = [...this.given.values()].filter((other) => first(other) === first(name));
+    return alike.length === 1 ? first(name) : String(thread);
   }
   short(thread) { return this.given.get(thread) ?? texts.shortThread(thread); }
   list(threads) { return threads.map((thread) => this.of(thread)).join(', '); }

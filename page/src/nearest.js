@@ -21,5 +21,6 @@ export function nearest(found, words) {
   const plain = found.toLowerCase().replaceAll('_', '-');
   const ranked = words.map((word) => ({ word, far: distance(plain, word) }))
     .sort((one, other) => one.far - other.far);
-  return ranked[0].far <= Math.max(1, Math.floor(ranked[0].word.length / 3)) ? ranked[0].word : null;
+  const [{ word, far }] = ranked;
+  return far <= Math.max(1, Math.floor(word.length / 3)) ? word : null;
 }

@@ -1,7 +1,7 @@
-// The move just made: its outcome, one sentence on what it did, what it wrote, who holds, who is in line,
-// and the report's own line.
+// The move just made: its outcome, one sentence on what it did, what it wrote, who holds, who is
+// in line, and the report's own line.
 
-import { ACTION, OUTCOMES, wordOf } from './codes.js';
+import { OUTCOMES, wordOf } from './codes.js';
 import { casFails } from './lanes.js';
 import { lockName } from './locks.js';
 import { html } from './markup.js';
@@ -13,7 +13,8 @@ import { texts } from './texts.js';
 
 function pill(view, thread) {
   const standing = standingOf(view.run, view.move, thread);
-  return html`<span class="pill ${standing}" data-thread="${thread}">${view.names.of(thread)}</span>`;
+  return html`<span class="pill ${standing}"
+    data-thread="${thread}">${view.names.of(thread)}</span>`;
 }
 
 const dash = html`<span class="soft">${texts.nobody}</span>`;
@@ -22,8 +23,12 @@ const MODES = ['', '', texts.asReader, texts.asWriter];
 function holdersList(view, state) {
   if (!state.holders.length) return dash;
   const mode = MODES[state.holderKind];
-  return html`${state.holders.map((thread) => pill(view, thread))}${mode && html`<span class="soft">${mode}</span>`}`;
+  return html`${state.holders.map((thread) => pill(view, thread))}
+    ${mode && html`<span class="soft">${mode}</span>`}`;
 }
+
+const LINK = html`<span class="gap">→</span>`;
+const GAP = html`<span class="gap missing" title="${texts.notLinked}">⇢</span>`;
 
 // Between two of an MCS line: an arrow, or the gap where no link is written yet.
 function queueList(view, state) {
@@ -31,15 +36,15 @@ function queueList(view, state) {
   const mcs = lockName(view.run) === 'mcs';
   return state.queue.map((thread, i) => {
     const open = mcs && i > 0 && unlinkedAfter(view.run, view.run.lastMoveOf(thread, view.move));
-    const gap = open ? html`<span class="gap missing" title="${texts.notLinked}">⇢</span>` : html`<span class="gap">→</span>`;
-    return html`${i > 0 && gap}${pill(view, thread)}`;
+    return html`${i > 0 && (open ? GAP : LINK)}${pill(view, thread)}`;
   });
 }
 
 function outcomePill(records, move) {
   const name = OUTCOMES[records.outcome(move)];
   const fails = casFails(records, move);
-  return html`<span class="outcome ${fails ? 'fails' : name}" data-outcome="${name}">${fails ? texts.fails : texts.outcomes[name]}</span>`;
+  return html`<span class="outcome ${fails ? 'fails' : name}"
+    data-outcome="${name}">${fails ? texts.fails : texts.outcomes[name]}</span>`;
 }
 
 function questions(view) {
@@ -47,7 +52,8 @@ function questions(view) {
   const answer = view.remarks.answer.get(view.move);
   if (!question) return null;
   return html`<div class="question"><p><b>${texts.question}</b> ${question}</p>
-    ${answer && html`<details ${view.answered && 'open'}><summary>${texts.showAnswer}<kbd>A</kbd></summary><p>${answer}</p></details>`}</div>`;
+    ${answer && html`<details ${view.answered && 'open'}>
+      <summary>${texts.showAnswer}<kbd>A</kbd></summary><p>${answer}</p></details>`}</div>`;
 }
 
 function factList(view, state, rows) {
@@ -57,11 +63,14 @@ function factList(view, state, rows) {
 }
 
 // Words between backticks are code.
-const withCode = (text) => text.split('`').map((part, i) => (i % 2 ? html`<code>${part}</code>` : part));
+const withCode = (text) => text.split('`')
+  .map((part, i) => (i % 2 ? html`<code>${part}</code>` : part));
 
 function startView(view, state) {
+  const { about } = view.remarks;
   return html`<div class="head"><b>0</b><span>${texts.before}</span></div>
-    <p class="${view.remarks.about ? 'about' : 'say'}">${withCode(view.remarks.about || texts.start)}</p><p class="hint">${texts.startHint}</p>
+    <p class="${about ? 'about' : 'say'}">${withCode(about || texts.start)}</p>
+    <p class="hint">${texts.startHint}</p>
     ${factList(view, state, '')}${questions(view)}`;
 }
 
@@ -69,13 +78,20 @@ export function nowView(view, state) {
   const { run, move, names } = view;
   if (!move) return startView(view, state);
   const { records } = run;
-  const wrote = writtenWords(view, move, useOf);
-  const rows = html`<dt>${texts.facts.wrote}</dt><dd class="mono">${wrote.length ? wrote.join(', ')
-    : html`<span class="soft">${texts.noWord}</span>`}</dd>`;
+  const word = wordOf(records.action(move), records.code(move));
+  const wrote = writtenWords(view, move, useOf).join(', ');
+  const rows = html`<dt>${texts.facts.wrote}</dt>
+    <dd class="mono">${wrote || html`<span class="soft">${texts.noWord}</span>`}</dd>`;
   return html`<div class="head"><b>${move}</b><span>${names.of(records.thread(move))},
-      <span class="mono">${wordOf(records.action(move), records.code(move))}</span></span>${outcomePill(records, move)}</div>
+      <span class="mono">${word}</span></span>${outcomePill(records, move)}</div>
     <p class="say">${sentence(view, move)}</p>${factList(view, state, rows)}${questions(view)}
     <p class="report-line" title="${texts.facts.report}"><code>${reportLine(run, move)}</code></p>`;
+}
+
+function spokenMove({ run: { records }, names }, move) {
+  const who = names.of(records.thread(move));
+  const word = wordOf(records.action(move), records.code(move));
+  return texts.spoken.did(who, word, OUTCOMES[records.outcome(move)]);
 }
 
 // The same for whoever listens.
@@ -85,12 +101,7 @@ export function spokenText(view, state) {
   const line = state.queue.length ? names.list(state.queue) : texts.nobody;
   const question = view.remarks.ask.get(move);
   const parts = [move ? texts.spoken.move(move, run.count) : texts.spoken.start(run.count)];
-  if (move) {
-    const { records } = run;
-    const call = records.action(move) === ACTION.call;
-    parts.push(`${names.of(records.thread(move))}, ${wordOf(records.action(move), records.code(move))}${call ? '' : `, ${OUTCOMES[records.outcome(move)]}`}.`);
-    parts.push(sentence(view, move));
-  }
+  if (move) parts.push(spokenMove(view, move), sentence(view, move));
   parts.push(texts.spoken.holds(holds), texts.spoken.line(line));
   if (question) parts.push(texts.spoken.ask(question));
   if (view.hidden) parts.push(texts.spoken.hidden);

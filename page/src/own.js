@@ -11,30 +11,37 @@ const T = texts.own;
 
 export function adviceOf(session) {
   const { run, names } = session;
-  if (run.fault) return faultAdvice(run, run.hasLock ? ownWords(session.lines[run.kind]) : texts.faults.moves.split(', '));
+  if (run.fault) return faultAdvice(run, run.hasLock ? ownWords(session.lines[run.kind]) : []);
   return run.refusal ? refusalAdvice(run, names) : null;
 }
 
-// What the text came to: the report's last line, and in words what is wrong and what could stand there.
+// What the text came to: the report's last line, and in words what is wrong and what could stand
+// there.
 export function verdictView(session, advice) {
   const { run } = session;
   if (!run.known) return html`<p class="verdict bad"><b>${texts.notStored}</b></p>`;
   const report = html`<p class="report-line"><code>${lastLine(run)}</code></p>`;
-  if (!advice) return html`<p class="verdict good">${run.count ? T.ends(run.count) : T.noMoves}</p>${report}`;
+  const accepted = run.count ? T.ends(run.count) : T.noMoves;
+  if (!advice) return html`<p class="verdict good">${accepted}</p>${report}`;
   return html`<div class="verdict bad">
     ${advice.line > 0 && html`<b>${T.line(advice.line)}</b>`}
     ${advice.found !== undefined && html`<code class="found-line">${advice.found || ' '}</code>`}
     ${advice.say.map((line) => html`<p>${line}</p>`)}
-    ${advice.mended && html`<button type="button" data-mend="${advice.mended}">${T.fix(advice.mended)}</button>`}
-    ${advice.returns && html`<button type="button" data-returns="true">${T.removeReturns}</button>`}
+    ${advice.mended && html`<button type="button"
+      data-mend="${advice.mended}">${T.fix(advice.mended)}</button>`}
+    ${advice.returns && html`<button type="button"
+      data-returns="true">${T.removeReturns}</button>`}
     ${run.count > 0 && html`<p class="soft">${T.stepThrough(run.count)}</p>`}</div>${report}`;
 }
 
 // Where there is no lock to show: what a schedule looks like.
-export const nothingView = (verdict) => html`${verdict}<p>${T.begins}</p><pre class="mono">${T.template}</pre><p class="hint">${T.forms}</p>`;
+export const nothingView = (verdict) => html`${verdict}<p>${T.begins}</p>
+  <pre class="mono">${T.template}</pre><p class="hint">${T.forms}</p>`;
 
 // A file's bytes: no more than show that it is too long.
-export const bytesOfFile = async (file) => new Uint8Array(await file.slice(0, MOST_BYTES + 1).arrayBuffer());
+export async function bytesOfFile(file) {
+  return new Uint8Array(await file.slice(0, MOST_BYTES + 1).arrayBuffer());
+}
 
 export function saveAs(name, bytes) {
   const link = document.createElement('a');

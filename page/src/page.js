@@ -139,7 +139,8 @@ export class Page {
 
   nextQuestion() {
     const { remarks, move, run } = this.session;
-    const next = [...remarks.ask.keys()].sort((a, b) => a - b).find((at) => at > move && at <= run.count);
+    const asked = [...remarks.ask.keys()].sort((a, b) => a - b);
+    const next = asked.find((at) => at > move && at <= run.count);
     if (next !== undefined) this.go(next);
   }
 
@@ -199,14 +200,21 @@ export class Page {
 
   choose(thread, word) {
     if (!this.canPlay() || !hasRoom(this.session)) return;
+    this.remember();
+    const { letters, plain } = this.session.textWith(`${thread} ${word}`);
+    this.change(bytesOf(letters, plain), null, this.session.move + 1);
+  }
+
+  // What undo brings back.
+  remember() {
     const { run, move, lesson } = this.session;
     this.undone.push({ text: run.text, move, lesson });
     if (this.undone.length > MOST_UNDONE) this.undone.shift();
-    const { letters, plain } = this.session.textWith(`${thread} ${word}`);
-    this.change(bytesOf(letters, plain), null, move + 1);
   }
 
-  canPlay() { return this.mode === 'play' && this.session.run.hasLock && !this.session.machine.stored; }
+  canPlay() {
+    return this.mode === 'play' && this.session.run.hasLock && !this.session.machine.stored;
+  }
 
   playThread(thread) {
     if (!this.canPlay() || thread >= this.session.run.threads) return;
@@ -219,7 +227,7 @@ export class Page {
   }
 
   beginNew(form) {
-    this.undone.push({ text: this.session.run.text, move: this.session.move, lesson: this.session.lesson });
+    this.remember();
     this.quiz.clear();
     this.change(new TextEncoder().encode(newHeader(form)), null, 0);
   }
@@ -242,7 +250,10 @@ export class Page {
 
   editorLetters() { return { letters: new TextDecoder().decode(this.session.run.text) }; }
 
-  save() { saveAs(this.session.lesson ? `${this.session.lesson}.schedule` : texts.own.fileName, this.session.run.text); }
+  save() {
+    const { lesson, run } = this.session;
+    saveAs(lesson ? `${lesson}.schedule` : texts.own.fileName, run.text);
+  }
 
   copy() { this.toClipboard(this.editorLetters().letters, texts.own.copied); }
 
@@ -292,7 +303,8 @@ export class Page {
     byId('nothing').hidden = run.hasLock;
     const sizes = measured();
     drawHead(session);
-    const view = session.view({ answered: this.answered, hidden: this.quiz.on && session.move < run.count });
+    const hidden = this.quiz.on && session.move < run.count;
+    const view = session.view({ answered: this.answered, hidden });
     if (run.hasLock) this.drawLock(view, sizes);
     drawSlider(view, sizes.slider.width);
     this.linkSoon();
@@ -313,15 +325,16 @@ export class Page {
     byId('side').hidden = mode === 'lessons';
     byId('play').hidden = mode !== 'play';
     document.body.dataset.mode = mode;
-    for (const [id, on] of [['mode-own', mode === 'own'], ['mode-play', mode === 'play'], ['mode-quiz', this.quiz.on]]) {
-      byId(id).setAttribute('aria-pressed', on);
-    }
+    byId('mode-own').setAttribute('aria-pressed', mode === 'own');
+    byId('mode-play').setAttribute('aria-pressed', mode === 'play');
+    byId('mode-quiz').setAttribute('aria-pressed', this.quiz.on);
     if (!session.run.hasLock) show(byId('choices'), playView(session, null));
     byId('undo').disabled = !this.undone.length;
     const advice = adviceOf(session);
     const verdict = verdictView(session, advice);
     show(byId('verdict'), verdict);
-    show(byId('nothing-verdict'), session.run.hasLock ? html`` : nothingView(mode === 'lessons' ? verdict : null));
+    const nothing = !session.run.hasLock && nothingView(mode === 'lessons' && verdict);
+    show(byId('nothing-verdict'), html`${nothing}`);
     if (mode === 'lessons') return;
     this.editor.fill(session.run.text);
     this.editor.mark({ here: session.run.hasLock ? session.line() : 0, fault: advice?.line ?? 0 });

@@ -6,24 +6,30 @@ import { standingOf } from './shapes.js';
 import { texts } from './texts.js';
 
 const T = texts.play;
+const LONGEST_LINE = 32;
 
 // The moves that the machine accepts next from this thread, as words of a schedule.
 export function choicesOf(state, thread) {
   const due = state.dueStep(thread);
   if (due) return [{ word: STEPS[due], action: ACTION.step }];
-  return CALLS.filter((_, call) => state.allows(thread, call)).map((word) => ({ word, action: ACTION.call }));
+  return CALLS.filter((_, call) => state.allows(thread, call))
+    .map((word) => ({ word, action: ACTION.call }));
 }
 
 function threadRow(view, state, thread) {
-  const choices = choicesOf(state, thread);
-  const call = choices[0]?.action === ACTION.call;
-  return html`<li><span class="disc ${standingOf(view.run, view.move, thread)}">${view.names.mark(thread)}</span>
-    <span class="who">${view.names.of(thread)}</span><span class="choices">${choices.map(({ word }) => html`<button type="button"
-      class="mono ${call ? 'may' : 'due'}" data-thread="${thread}" data-word="${word}"
-      aria-label="${view.names.of(thread)}: ${word}">${word}</button>`)}</span></li>`;
+  const name = view.names.of(thread);
+  const standing = standingOf(view.run, view.move, thread);
+  const buttons = choicesOf(state, thread).map(({ word, action }) => html`<button type="button"
+    class="mono ${action === ACTION.call ? 'may' : 'due'}" data-thread="${thread}"
+    data-word="${word}" aria-label="${name}: ${word}">${word}</button>`);
+  return html`<li><span class="disc ${standing}">${view.names.mark(thread)}</span>
+    <span class="who">${name}</span><span class="choices">${buttons}</span></li>`;
 }
 
-export const hasRoom = (session) => session.move < MOST_MOVES && session.run.text.length + 32 <= MOST_BYTES;
+// Whether one line more stays within what a schedule may have.
+export function hasRoom(session) {
+  return session.move < MOST_MOVES && session.run.text.length + LONGEST_LINE <= MOST_BYTES;
+}
 
 export function playView(session, state) {
   if (!session.run.hasLock) return html`<p class="hint">${T.faulty}</p>`;
@@ -41,4 +47,7 @@ export function newHeader(form) {
   return `lock ${lock} threads ${threads}${bits === '64' ? '' : ` bits ${bits}`}\n`;
 }
 
-export const lockOptions = () => html`${LOCKS.map((lock) => html`<option value="${lock}">${texts.lockNames[lock]}</option>`)}`;
+export function lockOptions() {
+  const option = (lock) => html`<option value="${lock}">${texts.lockNames[lock]}</option>`;
+  return html`${LOCKS.map(option)}`;
+}

@@ -3,11 +3,13 @@
 import { OUTCOMES, wordOf } from './codes.js';
 import { lanesPicture, numbersPicture } from './lanes.js';
 import { lanesOf } from './layout.js';
+import { legend } from './legend.js';
 import { html } from './markup.js';
 import { holdersText, queueText } from './report.js';
 import { sentence } from './sentences.js';
 import { texts } from './texts.js';
 
+const T = texts.print;
 const STRIP = { width: 1040, gutter: 122, column: 56, lane: 78 };
 // More than fit on some twenty sheets is cut to those around the current move.
 const MOST_PRINTED = 400;
@@ -20,20 +22,41 @@ export function printedMoves(run, move) {
 
 function strip(view, lanes, first, last) {
   const layout = {
-    gutter: STRIP.gutter, column: STRIP.column, first, last, laneHeight: STRIP.lane, width: STRIP.width,
-    now: Infinity, lanes, height: STRIP.lane * lanes.length,
+    gutter: STRIP.gutter, column: STRIP.column, width: STRIP.width, laneHeight: STRIP.lane,
+    height: STRIP.lane * lanes.length, now: Infinity, first, last, lanes,
   };
-  return html`<div class="strip">${numbersPicture(view, layout)}${lanesPicture(view, layout, 0, lanes.length - 1)}</div>`;
+  const drawn = lanesPicture(view, layout, 0, lanes.length - 1);
+  return html`<div class="strip">${numbersPicture(view, layout)}${drawn}</div>`;
 }
 
 function row(view, move) {
   const { run, names } = view;
   const { records } = run;
   const state = run.state(move);
-  const at = { ...view, move };
-  return html`<tr><td>${move}</td><td>${names.of(records.thread(move))}</td>
-    <td class="mono">${wordOf(records.action(move), records.code(move))}</td><td>${OUTCOMES[records.outcome(move)]}</td>
-    <td>${sentence(at, move)}</td><td class="mono">${holdersText(state)}</td><td class="mono">${queueText(state)}</td></tr>`;
+  const cells = [
+    move, names.of(records.thread(move)),
+    html`<code>${wordOf(records.action(move), records.code(move))}</code>`,
+    OUTCOMES[records.outcome(move)], sentence({ ...view, move }, move),
+    html`<code>${holdersText(state)}</code>`, html`<code>${queueText(state)}</code>`,
+  ];
+  return html`<tr>${cells.map((cell) => html`<td>${cell}</td>`)}</tr>`;
+}
+
+// The questions, for the class to answer on the sheet.
+function questions(view) {
+  const asked = [...view.remarks.ask].filter(([move]) => move <= view.run.count)
+    .sort(([one], [other]) => one - other);
+  if (!asked.length) return null;
+  return html`<h3>${T.questions}</h3>
+    <dl>${asked.map(([move, text]) => html`<dt>${move}</dt><dd>${text}</dd>`)}</dl>`;
+}
+
+function table(view, from, to) {
+  const heads = [T.move, T.thread, T.what, T.outcome, T.says, T.holds, T.line];
+  const rows = Array.from({ length: to - from + 1 }, (_, i) => row(view, from + i));
+  return html`<table><caption>${T.table}</caption>
+    <thead><tr>${heads.map((head) => html`<th>${head}</th>`)}</tr></thead>
+    <tbody>${rows}</tbody></table>`;
 }
 
 export function paper(view) {
@@ -45,9 +68,7 @@ export function paper(view) {
   for (let first = from; first <= to; first += inStrip) {
     strips.push(strip(view, lanes, first, Math.min(to, first + inStrip - 1)));
   }
-  const rows = Array.from({ length: to - from + 1 }, (_, i) => row(view, from + i));
-  const T = texts.print;
-  return html`${to - from + 1 < run.count && html`<p>${T.part(from, to, run.count)}</p>`}${strips}
-    <table><caption>${T.table}</caption><thead><tr><th>${T.move}</th><th>${T.thread}</th><th>${T.what}</th><th>${T.outcome}</th>
-    <th>${T.says}</th><th>${T.holds}</th><th>${T.line}</th></tr></thead><tbody>${rows}</tbody></table>`;
+  const part = to - from + 1 < run.count && html`<p>${T.part(from, to, run.count)}</p>`;
+  return html`${part}${strips}<div class="legend"><span>${legend(run)}</span></div>
+    ${questions(view)}${table(view, from, to)}`;
 }

@@ -1,4 +1,5 @@
-// The quiz: outcome, holders and line of the next move are asked for before they are shown, and counted.
+// The quiz: outcome, holders and line of the next move are asked for before they are shown, and
+// counted.
 
 import { OUTCOMES } from './codes.js';
 import { html } from './markup.js';
@@ -30,9 +31,12 @@ export class Quiz {
     const move = session.move + 1;
     const state = run.state(move);
     const truth = {
-      outcome: OUTCOMES[run.records.outcome(move)], holders: holdersText(state), queue: queueText(state),
+      outcome: OUTCOMES[run.records.outcome(move)],
+      holders: holdersText(state),
+      queue: queueText(state),
     };
-    const items = Object.entries(truth).map(([what, is]) => ({ what, is, given: given[what], right: given[what] === is }));
+    const items = Object.entries(truth)
+      .map(([what, is]) => ({ what, is, given: given[what], right: given[what] === is }));
     this.asked += items.length;
     this.right += items.filter(({ right }) => right).length;
     this.result = { move, items };
@@ -45,26 +49,38 @@ export const normalised = (text) => text.toLowerCase().replace(/\s+/g, '') || '-
 export const givenOf = (form) => {
   const data = new FormData(form);
   return {
-    outcome: data.get('outcome') ?? '', holders: normalised(data.get('holders')), queue: normalised(data.get('queue')),
+    outcome: data.get('outcome') ?? '',
+    holders: normalised(data.get('holders')),
+    queue: normalised(data.get('queue')),
   };
 };
 
+const radio = (name) => html`<label><input type="radio" name="outcome" value="${name}" required>
+  ${T.outcomes[name]}</label>`;
+const field = (name, label, value) => html`<label class="field"><span>${label}</span>
+  <input class="mono" name="${name}" value="${value}" spellcheck="false"></label>`;
+
+// Holders and line begin as they are: what changes is to be changed.
 export function quizForm(view, state) {
   const { run, move, names } = view;
   const [thread, word] = moveText(run, move + 1).split(' ');
   return html`<form id="quiz-form" autocomplete="off"><h3>${T.title}</h3>
     <p class="say">${T.next(move + 1, names.of(Number(thread)), word)}</p>
-    <fieldset><legend>${T.outcome}</legend>${OUTCOMES.map((name) => html`<label><input type="radio" name="outcome" value="${name}" required> ${T.outcomes[name]}</label>`)}</fieldset>
-    <label class="field"><span>${T.holders}</span><input class="mono" name="holders" value="${holdersText(state)}" spellcheck="false"></label>
-    <label class="field"><span>${T.queue}</span><input class="mono" name="queue" value="${queueText(state)}" spellcheck="false"></label>
+    <fieldset><legend>${T.outcome}</legend>${OUTCOMES.map(radio)}</fieldset>
+    ${field('holders', T.holders, holdersText(state))}${field('queue', T.queue, queueText(state))}
     <p class="hint">${T.hint}</p><button class="strong">${T.check}<kbd>Enter</kbd></button></form>`;
 }
 
 const LABELS = { outcome: T.outcome, holders: T.holders, queue: T.queue };
 
+function resultRow({ what, is, given, right }) {
+  return html`<li class="${right ? 'right' : 'wrong'}"><b>${right ? '✓' : '✕'}</b>
+    <span>${LABELS[what]}</span> <code>${is}</code>
+    ${!right && html`<span class="soft">${T.wrong(given)}</span>`}</li>`;
+}
+
 export function resultView(quiz) {
-  return html`<ul class="result">${quiz.result.items.map(({ what, is, given, right }) => html`<li class="${right ? 'right' : 'wrong'}">
-    <b>${right ? '✓' : '✕'}</b> <span>${LABELS[what]}</span> <code>${is}</code> ${right ? '' : html`<span class="soft">${T.wrong(given)}</span>`}</li>`)}</ul>`;
+  return html`<ul class="result">${quiz.result.items.map(resultRow)}</ul>`;
 }
 
 export const scoreText = (quiz) => T.score(quiz.right, quiz.asked);

@@ -15,9 +15,11 @@ export function room(view, state, x, y, width) {
     x + 24 + 32 * (i % inRow), y + 50 + 32 * Math.floor(i / inRow), view, thread));
   const standing = state.holders.length ? standingOf(view.run, view.move, state.holders[0]) : '';
   const label = standing ? `${texts.inside}: ${texts.standing[standing]}` : texts.inside;
-  return html`<rect class="room" x="${x}" y="${y}" width="${width}" height="${44 + 32 * rows}" rx="12"/>
+  const nobody = html`<text class="note" x="${x + 14}" y="${y + 54}">${texts.nobodyInside}</text>`;
+  return html`<rect class="room" x="${x}" y="${y}" width="${width}"
+      height="${44 + 32 * rows}" rx="12"/>
     <text class="room-name" x="${x + 14}" y="${y + 23}">${label}</text>
-    ${tokens.length ? tokens : html`<text class="note" x="${x + 14}" y="${y + 54}">${texts.nobodyInside}</text>`}`;
+    ${tokens.length ? tokens : nobody}`;
 }
 
 // Whose next section is due: each gets the monitor for one section.
@@ -39,11 +41,14 @@ export function monitor(view, state, x, y) {
     return html`${token(x + 13, at, view, thread)}
       <text class="wants" x="${x + 36}" y="${at + 5}">${wants}${vain}</text>`;
   });
+  const nobody = html`<text class="note" x="${x}" y="${y + 44}">${texts.nobodyWaits}</text>`;
   return html`<text class="room-name" x="${x}" y="${y + 14}">${texts.atMonitor}</text>
-    ${rows.length ? rows : html`<text class="note" x="${x}" y="${y + 44}">${texts.nobodyWaits}</text>`}`;
+    ${rows.length ? rows : nobody}`;
 }
 
-export const monitorHeight = (view, state) => 60 + MONITOR_ROW * Math.max(1, callers(view, state).length);
+export function monitorHeight(view, state) {
+  return 60 + MONITOR_ROW * Math.max(1, callers(view, state).length);
+}
 
 export function wordsText(names, state) {
   return names.map((name, word) => `${name} ${state.word(word)}`).join(', ');

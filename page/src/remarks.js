@@ -1,10 +1,11 @@
 // What a schedule's comments say to this page: `#! title ..`, `#! ask 15 ..`, `#! answer 15 ..`,
-// `#! name 0 left`. To the reader of schedules they are skipped lines like all that begin with `#`.
-// A question or an answer goes on in a further line of the same kind and number.
+// `#! name 0 left`. To the reader of schedules they are skipped lines like all that begin with
+// `#`. A question or an answer goes on in a further line of the same kind and number.
 
 import { lettersOf } from './bytes.js';
 
-const REMARK = /^#! (?:title (?<title>.+)|(?<what>ask|answer|name) (?<number>0|[1-9][0-9]{0,4}) (?<text>.+))$/;
+const TITLE = /^#! title (?<title>.+)$/;
+const REMARK = /^#! (?<what>ask|answer|name) (?<number>0|[1-9][0-9]{0,4}) (?<text>.+)$/;
 // A title may be missing: then it is the first comment's beginning.
 const FIRST_SENTENCE = /^#+ ?(.+?)(?:[:.](?: |$)|$)/;
 
@@ -22,7 +23,7 @@ export function remarksOf(text) {
   const remarks = { title: '', about: '', ask: new Map(), answer: new Map(), name: new Map() };
   const plain = [];
   for (const line of comments(text)) {
-    const found = line.match(REMARK)?.groups;
+    const found = (line.match(TITLE) ?? line.match(REMARK))?.groups;
     if (!found) {
       if (!line.startsWith('#!')) plain.push(line);
     } else if (found.title) remarks.title = found.title;

@@ -16,7 +16,8 @@ export function moveText(run, move) {
 export function reportLine(run, move) {
   const state = run.state(move);
   const outcome = OUTCOMES[run.records.outcome(move)];
-  return `${move} ${moveText(run, move)} ${outcome} hold ${holdersText(state)} queue ${queueText(state)}`;
+  const after = `hold ${holdersText(state)} queue ${queueText(state)}`;
+  return `${move} ${moveText(run, move)} ${outcome} ${after}`;
 }
 
 function faultLine(fault) {

@@ -1,12 +1,12 @@
-// Memory of the FIFO read-write lock: both counts of readers, on a wheel where words are narrow, the flag,
-// who is inside, and who is at the monitor.
+// Memory of the FIFO read-write lock: both counts of readers, on a wheel where words are narrow,
+// the flag, who is inside, and who is at the monitor.
 
 import { html } from './markup.js';
 import { monitor, monitorHeight, room, sectionMark } from './read_write.js';
 import { readersCaption } from './rw_simple.js';
 import { picture, useOf, wordBox } from './shapes.js';
 import { say, texts } from './texts.js';
-import { HANDS, hasWheel, wheelOf, wheelPlaced } from './wheel.js';
+import { handLegend, HANDS, hasWheel, wheelOf, wheelPlaced } from './wheel.js';
 
 const WORDS = ['readAcquires', 'readReleases', 'flag'];
 const ACQUIRES = 0;
@@ -18,8 +18,8 @@ function counts(view, state) {
   const hands = [{ value: state.word(RELEASES), style: HANDS.inner },
     { value: state.word(ACQUIRES), style: HANDS.outer }];
   return html`${wheelOf(wheel, hands, [])}
-    <path class="hand outer" d="M36 282h26"/><text class="note" x="72" y="286">${WORDS[ACQUIRES]}</text>
-    <path class="hand inner" d="M36 304h26"/><text class="note" x="72" y="308">${WORDS[RELEASES]}</text>`;
+    ${handLegend(36, 282, 'outer', WORDS[ACQUIRES])}
+    ${handLegend(36, 304, 'inner', WORDS[RELEASES])}`;
 }
 
 function draw(view, state) {

@@ -1,5 +1,5 @@
-// Memory of the simple read-write lock: the count of readers, the writer's flag, who is inside, and who is
-// at the monitor.
+// Memory of the simple read-write lock: the count of readers, the writer's flag, who is inside,
+// and who is at the monitor.
 
 import { html } from './markup.js';
 import { monitor, monitorHeight, room, sectionMark, wordsText } from './read_write.js';
@@ -14,7 +14,8 @@ function draw(view, state) {
   const box = (word, x) => wordBox(x, 40, 108, String(state.word(word)),
     useOf(view.run, view.move, word), WORDS[word]);
   const roomWidth = Math.min(272, view.width * 0.44);
-  const height = Math.max(250, 40 + monitorHeight(view, state), 190 + 32 * state.holders.length / 6);
+  const inside = 190 + 32 * state.holders.length / 6;
+  const height = Math.max(250, 40 + monitorHeight(view, state), inside);
   return picture(view, height, caption(view, state).text, html`${box(READERS, 24)}${box(FLAG, 152)}
     ${room(view, state, 24, 104, roomWidth)}${monitor(view, state, roomWidth + 64, 24)}`);
 }

@@ -1,4 +1,5 @@
-// One sentence on what a move did: by the lock, the phase in which it found its thread, and its outcome.
+// One sentence on what a move did: by the lock, the phase in which it found its thread, and its
+// outcome.
 
 import { ACTION, CALLS, NO_WORD, OUTCOMES, PHASES } from './codes.js';
 import { lockName, lockOf } from './locks.js';
@@ -8,14 +9,17 @@ export function sentence(view, move) {
   const { run, names } = view;
   const { records } = run;
   const who = names.of(records.thread(move));
-  if (records.action(move) === ACTION.call) return say(texts.says[CALLS[records.code(move)]], { who });
+  const code = records.code(move);
+  if (records.action(move) === ACTION.call) return say(texts.says[CALLS[code]], { who });
   const lock = lockOf(run);
   const phase = run.phaseBefore(move);
   const says = texts.says[lockName(run)];
   const key = lock.variant?.(run, move, phase) ?? OUTCOMES[records.outcome(move)];
   const found = records.found(move);
   const left = records.left(move);
-  const values = { who, whom: who, whose: `${who}’s`, found, left, ...lock.values(view, move, phase) };
+  const values = {
+    who, whom: who, whose: `${who}’s`, found, left, ...lock.values(view, move, phase),
+  };
   const text = say(says[PHASES[phase]][key], values);
   const round = lock.goesRound?.includes(PHASES[phase]) && left < found;
   return round ? `${text} ${say(says.wraps, values)}` : text;
@@ -26,8 +30,12 @@ export function writtenWords(view, move, useOf) {
   const { run, names } = view;
   const { records } = run;
   const lock = lockOf(run);
-  const wrote = (word, value) => texts.wordBecomes(lock.wordName(word, names), lock.valueText(word, value, names));
-  return [[records.touched(move), records.left(move)], [records.alsoChanged(move), records.alsoLeft(move)]]
-    .filter(([word]) => word !== NO_WORD && useOf(run, move, word) === 'changed')
+  const words = [
+    [records.touched(move), records.left(move)],
+    [records.alsoChanged(move), records.alsoLeft(move)],
+  ];
+  const wrote = (word, value) => texts.wordBecomes(
+    lock.wordName(word, names), lock.valueText(word, value, names));
+  return words.filter(([word]) => word !== NO_WORD && useOf(run, move, word) === 'changed')
     .map(([word, value]) => wrote(word, value));
 }

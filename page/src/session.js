@@ -29,7 +29,8 @@ export class Session {
 
   arrowsNow() {
     const { run } = this;
-    const words = Array.from({ length: run.end.wordCount }, (_, word) => lockOf(run).wordName(word, this.names));
+    const words = Array.from({ length: run.end.wordCount },
+      (_, word) => lockOf(run).wordName(word, this.names));
     const arrows = arrowsOf(run, awaitedLines(this.lines[run.kind]), words);
     return { arrows, arrowEnds: arrows.map(({ to }) => to) };
   }

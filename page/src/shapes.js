@@ -3,7 +3,8 @@
 import { html } from './markup.js';
 import { standingAfter } from './spans.js';
 
-// How a picture shows what a thread's standing is: by a class, and always by a word or a pattern too.
+// How a picture shows what a thread's standing is: by a class, and always by a word or a pattern
+// too.
 export const standingOf = (run, move, thread) => standingAfter(run, run.lastMoveOf(thread, move));
 
 const HATCHED = { line: 'hatch', reads: 'ruled' };
@@ -20,7 +21,8 @@ export function token(x, y, view, thread, radius = 13) {
 export function wordBox(x, y, width, value, use, label = '') {
   return html`${label && html`<text class="mono word-name" x="${x}" y="${y - 7}">${label}</text>`}
     <rect class="word ${use}" x="${x}" y="${y}" width="${width}" height="28" rx="6"/>
-    <text class="mono value" x="${x + width / 2}" y="${y + 19}" text-anchor="middle">${value}</text>`;
+    <text class="mono value" x="${x + width / 2}" y="${y + 19}"
+      text-anchor="middle">${value}</text>`;
 }
 
 // How the move used a word: 'changed', 'read' or ''.
@@ -39,7 +41,7 @@ const writes = (records, move) => WRITING.has(records.code(move));
 // A picture of the view's width, with how tall it is on the screen.
 export function picture(view, height, label, body) {
   const { width, scale } = view;
-  const drawn = html`<svg viewBox="0 0 ${width} ${height}" width="${width * scale}" height="${height * scale}"
-    role="img" aria-label="${label}">${body}</svg>`;
+  const drawn = html`<svg viewBox="0 0 ${width} ${height}" width="${width * scale}"
+    height="${height * scale}" role="img" aria-label="${label}">${body}</svg>`;
   return Object.assign(drawn, { height: height * scale });
 }

@@ -1,4 +1,5 @@
-// The slider, and over it where questions stand and where threads enter or a compare-and-swap fails.
+// The slider, and over it where questions stand and where threads enter or a compare-and-swap
+// fails.
 
 import { OUTCOME } from './codes.js';
 import { casFails } from './lanes.js';
@@ -6,25 +7,33 @@ import { html } from './markup.js';
 
 const EDGE = 12;
 
-// A tick for each place where something is, once for each dot of the screen.
+const TICKS = {
+  ask: (x) => html`<path class="tick ask" d="M${x - 4.5} 2h9l-4.5 8z"/>`,
+  fails: (x) => html`<path class="tick fails" d="M${x - 3} 31l6 7m0 -7l-6 7"/>`,
+  enters: (x) => html`<rect class="tick enters" x="${x - 2}" y="30" width="4" height="9"/>`,
+};
+
+function kindOf(records, move) {
+  if (casFails(records, move)) return 'fails';
+  return records.outcome(move) === OUTCOME.entered ? 'enters' : null;
+}
+
+const placeOf = (run, width, move) => EDGE + (width - 2 * EDGE) * move / Math.max(1, run.count);
+
+// A tick for each place where something is, once for every two dots of the screen.
 function ticks(view, width) {
   const { run, remarks } = view;
-  const at = (move) => EDGE + (width - 2 * EDGE) * move / Math.max(1, run.count);
-  const seen = new Set();
-  const drawn = [];
-  const put = (kind, move, draw) => {
-    const place = `${kind}${Math.round(at(move) / 2)}`;
-    if (!seen.has(place)) drawn.push(draw(Math.round(at(move) * 10) / 10));
-    seen.add(place);
+  const seen = new Map();
+  const put = (kind, move) => {
+    const x = Math.round(placeOf(run, width, move) / 2) * 2;
+    if (!seen.has(kind + x)) seen.set(kind + x, TICKS[kind](x));
   };
-  for (const move of remarks.ask.keys()) {
-    if (move <= run.count) put('ask', move, (x) => html`<path class="tick ask" d="M${x - 4.5} 2h9l-4.5 8z"/>`);
-  }
+  for (const move of remarks.ask.keys()) if (move <= run.count) put('ask', move);
   for (let move = 1; !view.hidden && move <= run.count; move += 1) {
-    if (casFails(run.records, move)) put('fails', move, (x) => html`<path class="tick fails" d="M${x - 3} 31l6 7m0 -7l-6 7"/>`);
-    else if (run.records.outcome(move) === OUTCOME.entered) put('in', move, (x) => html`<rect class="tick enters" x="${x - 2}" y="30" width="4" height="9"/>`);
+    const kind = kindOf(run.records, move);
+    if (kind) put(kind, move);
   }
-  return drawn;
+  return [...seen.values()];
 }
 
 let drawn = { run: null };
@@ -33,8 +42,9 @@ export function sliderPicture(view, width) {
   if (drawn.run !== view.run || drawn.width !== width || drawn.hidden !== view.hidden) {
     drawn = { run: view.run, width, hidden: view.hidden, ticks: ticks(view, width) };
   }
-  const x = EDGE + (width - 2 * EDGE) * view.move / Math.max(1, view.run.count);
+  const x = placeOf(view.run, width, view.move);
   return html`<svg width="${width}" height="42" viewBox="0 0 ${width} 42" aria-hidden="true">
-    <path class="track" d="M${EDGE} 21H${width - EDGE}"/><path class="track done" d="M${EDGE} 21H${x}"/>
+    <path class="track" d="M${EDGE} 21H${width - EDGE}"/>
+    <path class="track done" d="M${EDGE} 21H${x}"/>
     ${drawn.ticks}<circle class="knob" cx="${x}" cy="21" r="10"/></svg>`;
 }

@@ -1,5 +1,6 @@
-// What a thread was doing between its moves: in a call, in line, holding, in line and not linked. All of
-// it is read off the records that the machine wrote; a stretch of moves is found by bisection.
+// What a thread was doing between its moves: in a call, in line, holding, in line and not linked.
+// All of it is read off the records that the machine wrote; a stretch of moves is found by
+// bisection.
 
 import { AS_WRITER, HOLDS, IN_LINE, LOCKS, OUTCOME, PHASE } from './codes.js';
 import { placeAfter } from './run.js';
@@ -21,8 +22,8 @@ export function standingAfter(run, move) {
 
 export const unlinkedAfter = (run, move) => move > 0 && UNLINKED.includes(run.records.phase(move));
 
-// Stretches {kind, from, to} of one thread over moves `from` to `to`, where something is the same from
-// move to move. One that began before `from` begins there.
+// Stretches {kind, from, to} of one thread over moves `from` to `to`, where something is the same
+// from move to move. One that began before `from` begins there.
 function stretches(run, thread, from, to, kindAfter) {
   const moves = run.movesOf.get(thread) ?? [];
   let place = placeAfter(moves, from - 1);
@@ -41,5 +42,6 @@ function stretches(run, thread, from, to, kindAfter) {
 export const spansOf = (run, thread, from, to) => stretches(run, thread, from, to, standingAfter)
   .filter(({ kind }) => kind !== 'rest');
 
-export const unlinkedSpans = (run, thread, from, to) => stretches(run, thread, from, to, unlinkedAfter)
-  .filter(({ kind }) => kind);
+export function unlinkedSpans(run, thread, from, to) {
+  return stretches(run, thread, from, to, unlinkedAfter).filter(({ kind }) => kind);
+}

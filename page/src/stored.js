@@ -1,5 +1,5 @@
-// What the machine answered when the page was built, for a browser that cannot run it: the lessons'
-// texts with their records, and each state as what differs from the one before.
+// What the machine answered when the page was built, for a browser that cannot run it: the
+// lessons' texts with their records, and each state as what differs from the one before.
 
 import { ANSWER } from './codes.js';
 import { State, STATE_BYTES } from './machine.js';
@@ -31,7 +31,8 @@ export class Recorder {
   }
 }
 
-// Pairs of a number of moves and the bytes, place and value in turn, that differ from the pair before.
+// Pairs of a number of moves and the bytes, place and value in turn, that differ from the pair
+// before.
 function differences(states) {
   let before = new Uint8Array(STATE_BYTES);
   return [...states].sort(([a], [b]) => a - b).map(([most, bytes]) => {

@@ -49,6 +49,7 @@ export const texts = {
     holds: 'holds', reads: 'reads', writes: 'writes', line: 'in line', call: 'in a call',
     rest: 'at rest',
   },
+  nextTicket: 'next',
   nil: 'nil',
   noLink: 'no link',
   ownVariable: (name) => `${name}’s own variable`,
@@ -82,10 +83,13 @@ export const texts = {
 
   code: 'What each thread does next',
   now: 'This move',
+  position: (move, count) => `${move} of ${count}`,
   start: 'All words are 0, and nobody is in line.',
   startHint: 'Press → for the first move.',
   before: 'before the first move',
-  outcomes: { called: 'begins', moved: 'goes on', waits: 'waits', entered: 'enters', left: 'leaves' },
+  outcomes: {
+    called: 'begins', moved: 'goes on', waits: 'waits', entered: 'enters', left: 'leaves',
+  },
   fails: 'fails',
   facts: { wrote: 'Wrote', holds: 'Holds', line: 'In line', report: 'Report' },
   noWord: 'no word',
@@ -100,6 +104,7 @@ export const texts = {
   spoken: {
     move: (move, count) => `Move ${move} of ${count}.`,
     start: (count) => `Before the first of ${count} moves.`,
+    did: (who, word, outcome) => `${who}, ${word}, ${outcome}.`,
     holds: (names) => `Holds: ${names}.`,
     line: (names) => `In line: ${names}.`,
     ask: (question) => `Question: ${question}`,
@@ -124,13 +129,16 @@ export const texts = {
     copied: 'The schedule is copied.',
     label: 'Text of the schedule',
     fileName: 'schedule.txt',
-    ends: (count) => (count === 1 ? 'The one move is accepted.' : `All ${count} moves are accepted.`),
+    ends: (count) => (count === 1
+      ? 'The one move is accepted.' : `All ${count} moves are accepted.`),
     noMoves: 'The header is accepted. No move yet.',
     line: (number) => `Line ${number}`,
     large: (bytes) => `${bytes} bytes: too much to edit here.`,
     template: 'lock mcs threads 2\n0 acquire\n',
-    begins: 'A schedule begins with a header. Then comes one move in each line: a thread’s number, and a call or a step.',
-    forms: 'Locks: ticket, mcs, rw-simple, rw-fifo. Threads: 1 to 64. Behind them may stand the width of words, as in “bits 2”.',
+    begins: 'A schedule begins with a header. Then comes one move in each line: a thread’s '
+      + 'number, and a call or a step.',
+    forms: 'Locks: ticket, mcs, rw-simple, rw-fifo. Threads: 1 to 64. Behind them may stand the '
+      + 'width of words, as in “bits 2”.',
     stepThrough: (count) => (count === 1
       ? 'The move before it can be stepped through.'
       : `The ${count} moves before it can be stepped through.`),
@@ -196,13 +204,16 @@ export const texts = {
     ],
   },
 
-  noMachine: 'This browser has no 64-bit WebAssembly memory, so it cannot run the machine here. The lessons are shown as the machine played them; a schedule of your own needs a newer browser.',
+  noMachine: 'This browser has no 64-bit WebAssembly memory, so it cannot run the machine here. '
+    + 'The lessons are shown as the machine played them; a schedule of your own needs a newer '
+    + 'browser.',
   notStored: 'Only the lessons can be shown in this browser.',
   couldNotRead: 'The file could not be read.',
 
   print: {
-    table: 'Moves', move: 'Move', thread: 'Thread', what: 'Call or step', outcome: 'Outcome',
-    says: 'What it did', holds: 'Holds', line: 'In line',
+    questions: 'Questions', table: 'Moves', move: 'Move', thread: 'Thread',
+    what: 'Call or step', outcome: 'Outcome', says: 'What it did', holds: 'Holds',
+    line: 'In line',
     part: (from, to, count) => `Moves ${from} to ${to} of ${count}`,
   },
 
@@ -216,7 +227,10 @@ export const texts = {
     wunlock: '{who} calls wunlock, and still writes.',
     downgrade: '{who} calls downgrade, and still writes.',
     ticket: {
-      TakeTicket: { moved: '{who} draws ticket {found}, and is in line from here on. next_ticket is now {left}.' },
+      TakeTicket: {
+        moved: '{who} draws ticket {found}, and is in line from here on. next_ticket is now '
+          + '{left}.',
+      },
       AwaitTurn: {
         waits: '{who} looks in vain: now_serving is {found}, and {whose} ticket is {number}.',
         entered: '{who} finds {whose} ticket, {found}, in now_serving, and enters.',
@@ -228,7 +242,8 @@ export const texts = {
     mcs: {
       ClearNext: { moved: '{who} writes nil into {whose} own next.' },
       SwapTail: {
-        moved: '{who} swaps the tail and finds {foundName}. From here on {who} is in line, though no word of {foundWhose} record says so.',
+        moved: '{who} swaps the tail and finds {foundName}. From here on {who} is in line, '
+          + 'though no word of {foundWhose} record says so.',
         entered: '{who} swaps the tail for {whose} record. The tail was nil: {who} enters.',
       },
       SetLocked: { moved: '{who} sets {whose} own locked to 1.' },
@@ -242,14 +257,19 @@ export const texts = {
         nil: '{who} looks for a successor: {whose} next is nil.',
       },
       CasTail: {
-        moved: 'The compare-and-swap fails: the tail is {foundName}, not {whom}. Somebody is behind {whom}, and {whom} cannot see who.',
-        left: 'The tail is still {whom}: the compare-and-swap sets it to nil, and {whom} has left.',
+        moved: 'The compare-and-swap fails: the tail is {foundName}, not {whom}. Somebody is '
+          + 'behind {whom}, and {whom} cannot see who.',
+        left: 'The tail is still {whom}: the compare-and-swap sets it to nil, and {whom} has '
+          + 'left.',
       },
       AwaitLink: {
         waits: '{who} looks again: {whose} next is still nil. {who} has to wait for the link.',
         moved: 'The link is there: {who} finds {foundName}.',
       },
-      Grant: { left: '{who} clears {otherWhose} locked, and has left. {other} is next, and has not looked yet.' },
+      Grant: {
+        left: '{who} clears {otherWhose} locked, and has left. {other} is next, and has not '
+          + 'looked yet.',
+      },
     },
     'rw-simple': {
       TryRead: {
@@ -258,11 +278,15 @@ export const texts = {
       },
       LeaveRead: { left: '{who} counts itself out: readers is now {left}. {who} has left.' },
       TryWrite: {
-        waits: '{who} looks in vain: readers is {readers}, and the flag is {flag}. Both have to be 0.',
+        waits: '{who} looks in vain: readers is {readers}, and the flag is {flag}. Both have to '
+          + 'be 0.',
         entered: '{who} finds no reader and the flag clear, sets the flag, and writes.',
       },
       LeaveWrite: { left: '{who} clears the flag, and has left.' },
-      TryDowngrade: { entered: '{who} becomes a reader in one section: readers is now {left}, and the flag is clear.' },
+      TryDowngrade: {
+        entered: '{who} becomes a reader in one section: readers is now {left}, and the flag is '
+          + 'clear.',
+      },
     },
     'rw-fifo': {
       TryRead: {
@@ -272,15 +296,21 @@ export const texts = {
       LeaveRead: { left: '{who} counts itself out: readReleases is now {left}. {who} has left.' },
       TryWrite: {
         waits: '{who} looks in vain: the flag is set. {who} is not in line.',
-        moved: '{who} sets the flag, and so is announced: no reader comes in any more. The counts are {acquires} and {releases}, so {who} waits for the readers.',
+        moved: '{who} sets the flag, and so is announced: no reader comes in any more. The '
+          + 'counts are {acquires} and {releases}, so {who} waits for the readers.',
         entered: '{who} sets the flag, finds the counts equal, and writes.',
       },
       AwaitReaders: {
-        waits: '{who} looks in vain: the counts are {acquires} and {releases}, so there are readers inside.',
-        entered: '{who} finds the counts equal, {acquires} and {releases}: no reader is inside, and {who} writes.',
+        waits: '{who} looks in vain: the counts are {acquires} and {releases}, so there are '
+          + 'readers inside.',
+        entered: '{who} finds the counts equal, {acquires} and {releases}: no reader is inside, '
+          + 'and {who} writes.',
       },
       LeaveWrite: { left: '{who} clears the flag, and has left.' },
-      TryDowngrade: { entered: '{who} becomes a reader in one section: readAcquires is now {left}, and the flag is clear.' },
+      TryDowngrade: {
+        entered: '{who} becomes a reader in one section: readAcquires is now {left}, and the flag '
+          + 'is clear.',
+      },
       wraps: 'After {found} comes {left}: the count has gone round.',
     },
   },
@@ -324,14 +354,16 @@ export const texts = {
     bitsRange: 'a number from 2 to 64',
     badThreads: '“{found}” is no number of threads.',
     threadsRange: 'a number from 1 to 64',
-    tooNarrow: '{threads} threads need wider words: words of {bits} bits have {places} values, and there have to be fewer threads than that.',
+    tooNarrow: '{threads} threads need wider words: words of {bits} bits have {places} values, and '
+      + 'there have to be fewer threads than that.',
     atLeastBits: 'bits {bits} or more, or fewer threads',
     badThread: '“{found}” is no thread’s number.',
     threadRange: 'a number from 0 to 255',
     zero: 'A number has no leading zero.',
     unknownMove: 'Unknown move “{found}”.',
     moveShape: 'This is no move. A move is a thread’s number, one blank, and a word.',
-    moves: 'acquire, release, rlock, runlock, wlock, wunlock, downgrade, read, write, swap, cas, add, section',
+    moves: 'acquire, release, rlock, runlock, wlock, wunlock, downgrade, read, write, swap, cas, '
+      + 'add, section',
     ownMoves: 'The moves of this lock are {moves}.',
   },
 };

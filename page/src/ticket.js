@@ -1,10 +1,11 @@
-// Memory of the ticket lock: both counters, on a wheel where words are narrow, and who has which ticket.
+// Memory of the ticket lock: both counters, on a wheel where words are narrow, and who has which
+// ticket.
 
 import { PHASES } from './codes.js';
 import { html } from './markup.js';
 import { picture, token, useOf, wordBox } from './shapes.js';
 import { say, texts } from './texts.js';
-import { HANDS, hasWheel, wheelOf, wheelPlaced } from './wheel.js';
+import { handLegend, HANDS, hasWheel, wheelOf, wheelPlaced } from './wheel.js';
 
 const NEXT_TICKET = 0;
 const NOW_SERVING = 1;
@@ -13,6 +14,7 @@ const OWN_VARIABLE = {
   AwaitTurn: 'ticket', TicketInside: 'ticket', ReadServing: 'ticket', PassOn: 'served',
 };
 const CELL = 74;
+const CELL_ROW = 92;
 
 const wordName = (word) => WORDS[word];
 const valueText = (_, value) => String(value);
@@ -28,18 +30,22 @@ function words(view, state, x) {
   return html`${box(NEXT_TICKET, x)}${box(NOW_SERVING, x + 128)}`;
 }
 
+// A thread's own variable, which is no word of memory.
+const ownBox = (x, y, width, text) => html`<rect class="own" x="${x}" y="${y}" width="${width}"
+    height="28" rx="8"/>
+  <text class="mono value" x="${x + width / 2}" y="${y + 19}" text-anchor="middle">${text}</text>`;
+
 function ownVariables(view, state, x, top) {
   return holdersOfTickets(state).map(({ thread, number, name }, i) => {
     const y = top + 34 * i;
     return html`${token(x + 13, y + 14, view, thread)}
-      <rect class="own" x="${x + 36}" y="${y}" width="112" height="28" rx="8"/>
-      <text class="mono value" x="${x + 92}" y="${y + 19}" text-anchor="middle">${name} = ${number}</text>`;
+      ${ownBox(x + 36, y, 112, `${name} = ${number}`)}`;
   });
 }
 
 function legend(x, y) {
-  return html`<path class="hand outer" d="M${x} ${y}h26"/><text class="note" x="${x + 36}" y="${y + 4}">${WORDS[NEXT_TICKET]}</text>
-    <path class="hand inner" d="M${x} ${y + 24}h26"/><text class="note" x="${x + 36}" y="${y + 28}">${WORDS[NOW_SERVING]}</text>`;
+  return html`${handLegend(x, y, 'outer', WORDS[NEXT_TICKET])}
+    ${handLegend(x, y + 24, 'inner', WORDS[NOW_SERVING])}`;
 }
 
 function narrow(view, state) {
@@ -60,32 +66,42 @@ function narrow(view, state) {
 }
 
 // Wide words: the tickets that are out, one cell each, up to the next one.
+function cell(view, { thread, number }, x, y) {
+  const middle = x + (CELL - 8) / 2;
+  const next = thread === undefined;
+  const below = next
+    ? html`<text class="note" x="${middle}" y="${y + 52}"
+      text-anchor="middle">${texts.nextTicket}</text>`
+    : token(middle, y + 54, view, thread);
+  return html`<rect class="cell ${next && 'next'}" x="${x}" y="${y}" width="${CELL - 8}"
+      height="34" rx="6"/>
+    <text class="mono value" x="${middle}" y="${y + 22}"
+      text-anchor="middle">${number}</text>${below}`;
+}
+
 function strip(view, state, top) {
   const inRow = Math.max(1, Math.floor((view.width - 48) / CELL));
   const cells = [...holdersOfTickets(state), { number: state.word(NEXT_TICKET) }];
-  const drawn = cells.map(({ thread, number }, i) => {
-    const x = 24 + CELL * (i % inRow);
-    const y = top + 92 * Math.floor(i / inRow);
-    return html`<rect class="cell ${thread === undefined ? 'next' : ''}" x="${x}" y="${y}" width="${CELL - 8}" height="34" rx="6"/>
-      <text class="mono value" x="${x + (CELL - 8) / 2}" y="${y + 22}" text-anchor="middle">${number}</text>
-      ${thread === undefined
-    ? html`<text class="note" x="${x + (CELL - 8) / 2}" y="${y + 52}" text-anchor="middle">next</text>`
-    : token(x + (CELL - 8) / 2, y + 54, view, thread)}`;
-  });
-  return { drawn, height: 92 * Math.ceil(cells.length / inRow) };
+  const drawn = cells.map((one, i) => cell(view, one, 24 + CELL * (i % inRow),
+    top + CELL_ROW * Math.floor(i / inRow)));
+  return { drawn, height: CELL_ROW * Math.ceil(cells.length / inRow) };
+}
+
+function served(view, state) {
+  const thread = state.queue.find((one) => PHASES[state.phase(one)] === 'PassOn');
+  if (thread === undefined) return null;
+  const whose = texts.ownVariable(view.names.of(thread));
+  return html`${ownBox(296, 40, 112, `served = ${state.phaseNumber(thread)}`)}
+    <text class="note" x="352" y="84" text-anchor="middle">${whose}</text>`;
 }
 
 function wide(view, state) {
-  const box = (word, x) => wordBox(x, 40, 150, String(state.word(word)),
+  const box = (word, x) => wordBox(x, 40, 120, String(state.word(word)),
     useOf(view.run, view.move, word), WORDS[word]);
   const { drawn, height } = strip(view, state, 116);
-  const served = state.queue.find((thread) => PHASES[state.phase(thread)] === 'PassOn');
   return picture(view, 140 + height, caption(view, state).text,
-    html`${box(NOW_SERVING, 24)}${box(NEXT_TICKET, 200)}
-      <text class="note" x="24" y="104">${say(texts.ticketStrip, {})}</text>${drawn}
-      ${served !== undefined && html`<rect class="own" x="376" y="40" width="120" height="28" rx="8"/>
-        <text class="mono value" x="436" y="59" text-anchor="middle">served = ${state.phaseNumber(served)}</text>
-        <text class="note" x="436" y="84" text-anchor="middle">${texts.ownVariable(view.names.of(served))}</text>`}`);
+    html`${box(NOW_SERVING, 24)}${box(NEXT_TICKET, 160)}
+      <text class="note" x="24" y="104">${texts.ticketStrip}</text>${drawn}${served(view, state)}`);
 }
 
 const draw = (view, state) => (hasWheel(view.run.bits) ? narrow(view, state) : wide(view, state));
@@ -98,7 +114,8 @@ function caption(view, state) {
   const first = tickets[0].number;
   const last = tickets[tickets.length - 1].number;
   const text = say(texts.captions.ticketLine, { serving, next });
-  return { text: last < first ? `${text} ${say(texts.captions.ticketWraps, { first, last })}` : text };
+  const wraps = last < first && say(texts.captions.ticketWraps, { first, last });
+  return { text: wraps ? `${text} ${wraps}` : text };
 }
 
 const mark = (run, move) => String(run.records.found(move));
@@ -106,4 +123,6 @@ const values = (view, move) => ({ number: view.run.phaseNumberBefore(move) });
 
 const leastWidth = (view) => (hasWheel(view.run.bits) ? 576 : 420);
 
-export const ticket = { leastWidth, wordName, valueText, mark, values, draw, caption, goesRound: ['TakeTicket', 'PassOn'] };
+export const ticket = {
+  leastWidth, wordName, valueText, mark, values, draw, caption, goesRound: ['TakeTicket', 'PassOn'],
+};

@@ -1,4 +1,5 @@
-// Words of few bits as a wheel: 2^B places, with hands for the counters. Numbers go round clockwise.
+// Words of few bits as a wheel: 2^B places, with hands for the counters. Numbers go round
+// clockwise.
 
 import { html } from './markup.js';
 
@@ -6,40 +7,47 @@ const MOST_BITS = 5;
 
 export const hasWheel = (bits) => bits <= MOST_BITS;
 
+const rounded = (number) => Math.round(number * 10) / 10;
+
 function spoke(wheel, place, radius) {
   const angle = 2 * Math.PI * place / wheel.places - Math.PI / 2;
-  return { x: wheel.x + radius * Math.cos(angle), y: wheel.y + radius * Math.sin(angle) };
+  return {
+    x: rounded(wheel.x + radius * Math.cos(angle)), y: rounded(wheel.y + radius * Math.sin(angle)),
+  };
 }
-
-const rounded = (number) => Math.round(number * 10) / 10;
 
 function hand(wheel, value, style) {
   const from = spoke(wheel, Number(value), style.from * wheel.radius);
   const to = spoke(wheel, Number(value), style.to * wheel.radius);
-  return html`<path class="hand ${style.name}" d="M${rounded(from.x)} ${rounded(from.y)}L${rounded(to.x)} ${rounded(to.y)}"/>`;
+  return html`<path class="hand ${style.name}" d="M${from.x} ${from.y}L${to.x} ${to.y}"/>`;
 }
 
 // `hands` is a list of {value, style}; `tokens` draws what stands at a place, outside the rim.
 export function wheelOf(wheel, hands, tokens) {
   const numbers = Array.from({ length: wheel.places }, (_, place) => {
     const at = spoke(wheel, place, wheel.radius);
-    return html`<g class="place"><circle cx="${rounded(at.x)}" cy="${rounded(at.y)}" r="${wheel.dot}"/>
-      <text x="${rounded(at.x)}" y="${rounded(at.y + 4.5)}" text-anchor="middle">${place}</text></g>`;
+    return html`<g class="place"><circle cx="${at.x}" cy="${at.y}" r="${wheel.dot}"/>
+      <text x="${at.x}" y="${at.y + 4.5}" text-anchor="middle">${place}</text></g>`;
   });
   return html`<circle class="rim" cx="${wheel.x}" cy="${wheel.y}" r="${wheel.radius}"/>${numbers}
     ${hands.map(({ value, style }) => hand(wheel, value, style))}
     ${tokens.map(({ place, draw }, i) => {
     const earlier = tokens.slice(0, i).filter((one) => one.place === place).length;
     const at = spoke(wheel, place, wheel.radius + wheel.dot + 17 + 26 * earlier);
-    return draw(rounded(at.x), rounded(at.y));
+    return draw(at.x, at.y);
   })}`;
 }
 
-// One hand is thick, from the middle, with a full tip; the other thin, near the rim, with an open tip.
+// One hand is thick, from the middle, with a full tip; the other thin, near the rim, with an open
+// tip.
 export const HANDS = {
   inner: { name: 'inner', from: 0, to: 0.5 },
   outer: { name: 'outer', from: 0.54, to: 0.8 },
 };
+
+// What a hand stands for.
+export const handLegend = (x, y, name, label) => html`<path class="hand ${name}"
+    d="M${x} ${y}h26"/><text class="note" x="${x + 36}" y="${y + 4}">${label}</text>`;
 
 export function wheelPlaced(bits, x, y, radius) {
   const places = 2 ** bits;

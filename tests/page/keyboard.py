@@ -93,4 +93,15 @@ def themes_and_quiz(driver, _):
     until(driver, quiz=True)
 
 
-CHECKS = [moving, running, choosing_a_lesson, writing_and_playing, themes_and_quiz]
+def slider(driver, _):
+    open_page(driver, "#lesson=mcs-late-link&move=4")
+    run(driver, "document.getElementById('slider').focus()")
+    press(driver, Keys.ARROW_RIGHT)
+    until(driver, position="5 of 16")
+    assert run(driver, "return document.getElementById('slider').value") == "5"
+    run(driver, "const slider = document.getElementById('slider'); slider.value = 12;"
+        "slider.dispatchEvent(new Event('input', { bubbles: true }))")
+    until(driver, position="12 of 16")
+
+
+CHECKS = [slider, moving, running, choosing_a_lesson, writing_and_playing, themes_and_quiz]

@@ -124,6 +124,34 @@ def files(driver, _):
             assert run(driver, SHOWN)["count"] == count, (number, run(driver, SHOWN)["count"])
 
 
+def dropped_and_pasted(driver, _):
+    open_page(driver)
+    run(driver, """
+      const data = new DataTransfer();
+      data.items.add(new File(['lock mcs threads 1\\n0 acquire\\n'], 'mine.txt'));
+      document.body.dispatchEvent(new DragEvent('drop', { dataTransfer: data, bubbles: true, cancelable: true }));""")
+    wait(driver, lambda _: run(driver, SHOWN)["verdict"].endswith("end 1"))
+    run(driver, """
+      const data = new DataTransfer();
+      data.setData('text/plain', 'lock rw-fifo threads 1\\n0 rlock\\n0 section\\n');
+      document.body.dispatchEvent(new ClipboardEvent('paste', { clipboardData: data, bubbles: true }));""")
+    wait(driver, lambda _: run(driver, SHOWN)["verdict"].endswith("end 2"))
+
+
+def saved(driver, _):
+    """What is saved is the schedule, byte for byte."""
+    data = b"# \xff no text\r\nlock ticket threads 1\n0 acquire"
+    with tempfile.TemporaryDirectory() as folder:
+        driver.execute_cdp_cmd("Browser.setDownloadBehavior", {"behavior": "allow", "downloadPath": folder})
+        open_page(driver)
+        driver.find_element(By.ID, "mode-own").click()
+        driver.find_element(By.ID, "file").send_keys(file_of(folder, "mine.txt", data))
+        wait(driver, lambda _: run(driver, SHOWN)["verdict"].endswith("end 1"))
+        driver.find_element(By.ID, "save").click()
+        path = pathlib.Path(folder, "schedule.txt")
+        wait(driver, lambda _: path.exists() and path.read_bytes() == data)
+
+
 MARKUP = """#! title <img src=x onerror=alert(1)>&lt;b&gt;
 #! name 0 <b>bold</b>
 #! name 1 "quoted" onclick='x'
@@ -150,4 +178,4 @@ def markup_is_text(driver, _):
         assert part in page, part
 
 
-CHECKS = [said, mended, typed, files, markup_is_text]
+CHECKS = [said, mended, typed, files, dropped_and_pasted, saved, markup_is_text]

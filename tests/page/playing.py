@@ -7,7 +7,7 @@ from selenium.webdriver.support.ui import Select
 from browser import open_page, run, wait
 from reports import moves_of, replay
 
-CLICKS = 18
+CLICKS = 12
 TEXT = "return document.getElementById('text').value"
 POSITION = "return document.getElementById('position').textContent"
 
@@ -92,7 +92,7 @@ def never_refused(driver, _):
     """
     for header in ["lock ticket threads 3 bits 2\n", "lock mcs threads 5", "lock rw-simple threads 4\n",
                    "# a comment\nlock rw-fifo threads 3 bits 2\n\n"]:
-        assert run(driver, script, header, 150) == [150, 150, True, True], header
+        assert run(driver, script, header, 100) == [100, 100, True, True], header
 
 
 CHECKS = [played_by_clicks, from_a_lesson, never_refused]
