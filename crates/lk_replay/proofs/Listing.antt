@@ -33,8 +33,7 @@ pub head_listed : (queue text : List ℕ) (t gone : ℕ) → is_head queue t ≡
 head_listed [] text t gone head is wide = absurd (cc)
 head_listed (x ∷ xs) text t gone head is wide =
     let same : t ≡ x = eqb-true t x head in
-    let place : gone ≡ length (44 ∷ decimal x) = wide ∙ ap (λ (y : ℕ). length (decimal y) + 1) same ∙ omega arith in
-    (
+    let place : gone ≡ length (44 ∷ decimal x) = wide ∙ ap (λ (y : ℕ). length (decimal y) + 1) same ∙ omega arith in (
       omega (arith, place, ap length is, length-append (44 ∷ decimal x) (later_numbers xs)),
       ap (λ (k : ℕ). drop k text) place ∙ ap (drop (length (44 ∷ decimal x))) is ∙ drop-append_seam (44 ∷ decimal x) (later_numbers xs),
     )

@@ -5,5 +5,12 @@ use Rattle.lk_replay.proofs.report.followed.Followed.queue_text.Goals as goal
 
 pub returns-in-Some-clause-few : goal.returns-in-Some-clause-few
 returns-in-Some-clause-few c =
-    omega (arith, c.in-Some.ensures.cases.1, ap length c.as_slice.ensures, ap length c.self.invariant.requests_are, later_most c.self.inside.sequential.queue c.self.invariant.requests_fit,
-    c.queue.ensures.few, ap length c.queue.ensures.queue)
+    omega (
+      arith,
+      c.in-Some.ensures.cases.1,
+      ap length c.as_slice.ensures,
+      ap length c.self.invariant.requests_are,
+      later_most c.self.inside.sequential.queue c.self.invariant.requests_fit,
+      c.queue.ensures.few,
+      ap length c.queue.ensures.queue,
+    )
