@@ -14,3 +14,4 @@ pub mod Texts
 pub mod Listing
 pub mod Passed
 pub mod Printed
+pub mod Promised

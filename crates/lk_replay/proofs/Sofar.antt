@@ -9,8 +9,7 @@ use Rattle.lk_locks.specs.Entries.{entries_of, move_entries}
 use Rattle.lk_locks.specs.State.{phase_at}
 use Rattle.lk_locks.specs.ticket
 use Rattle.lk_locks.specs.mcs
-use Rattle.lk_locks.specs.rw_simple
-use Rattle.lk_locks.specs.rw_fifo
+use Rattle.lk_locks.specs.read_write
 use Rattle.lk_locks.specs.declared.kinds.LockKind.TheVariants.{Ticket, Mcs, RwSimple, RwFifo}
 use Rattle.lk_locks.specs.declared.kinds.Move.TheVariants.{Call, Step}
 use Rattle.lk_locks.specs.declared.kinds.Outcome.TheVariants.{Moved, Entered, Left}
@@ -135,30 +134,28 @@ mcs_few t CasTail Left = omega arith
 mcs_few t (Grant u) Left = omega arith
 mcs_few t p o = omega arith
 
-simple_few : (t : ℕ) (p : Phase) (o : Outcome) → length (rw_simple.entries t p o) ≤ 3
-simple_few t TryRead Entered = omega arith
-simple_few t LeaveRead Left = omega arith
-simple_few t TryWrite Entered = omega arith
-simple_few t LeaveWrite Left = omega arith
-simple_few t TryDowngrade Entered = omega arith
-simple_few t p o = omega arith
+write_few : (kind : LockKind) (t : ℕ) → length (read_write.entries kind t TryWrite Entered) ≤ 3
+write_few Ticket t = omega arith
+write_few Mcs t = omega arith
+write_few RwSimple t = omega arith
+write_few RwFifo t = omega arith
 
-fifo_few : (t : ℕ) (p : Phase) (o : Outcome) → length (rw_fifo.entries t p o) ≤ 3
-fifo_few t TryRead Entered = omega arith
-fifo_few t LeaveRead Left = omega arith
-fifo_few t TryWrite Moved = omega arith
-fifo_few t TryWrite Entered = omega arith
-fifo_few t AwaitReaders Entered = omega arith
-fifo_few t LeaveWrite Left = omega arith
-fifo_few t TryDowngrade Entered = omega arith
-fifo_few t p o = omega arith
+section_few : (kind : LockKind) (t : ℕ) (p : Phase) (o : Outcome) → length (read_write.entries kind t p o) ≤ 3
+section_few kind t TryRead Entered = omega arith
+section_few kind t LeaveRead Left = omega arith
+section_few kind t TryWrite Moved = omega arith
+section_few kind t TryWrite Entered = write_few kind t
+section_few kind t AwaitReaders Entered = omega arith
+section_few kind t LeaveWrite Left = omega arith
+section_few kind t TryDowngrade Entered = omega arith
+section_few kind t p o = omega arith
 
 move_few : (kind : LockKind) (t : ℕ) (p : Phase) (m : Move) (o : Outcome) → length (move_entries kind t p m o) ≤ 3
 move_few kind t p (Call op) o = omega arith
 move_few Ticket t p (Step step) o = ticket_few t p o
 move_few Mcs t p (Step step) o = mcs_few t p o
-move_few RwSimple t p (Step step) o = simple_few t p o
-move_few RwFifo t p (Step step) o = fifo_few t p o
+move_few RwSimple t p (Step step) o = section_few RwSimple t p o
+move_few RwFifo t p (Step step) o = section_few RwFifo t p o
 
 -- the entries that a move added are those behind the earlier ones
 pub record Adds (k : RecordedLock) (t : ℕ) (a : Move) (n : ℕ) : Type 0 where

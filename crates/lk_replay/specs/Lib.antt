@@ -8,5 +8,6 @@ pub mod Replay
 pub mod Report
 pub mod Following
 pub mod Printing
+pub mod Whole
 pub mod Ending
 pub mod Devices

@@ -12,6 +12,7 @@ mod report;
 mod schedule;
 #[cfg(test)]
 mod tests;
+mod theorems;
 mod vocabulary;
 
 pub use devices::{RunFault, read_text, send};
@@ -21,3 +22,4 @@ pub use output_buffer::OutputBuffer;
 pub use played::{Accepted, Played, replay};
 pub use report::report_of;
 pub use schedule::{Line, ReadFault, Schedule, read_schedule};
+pub use theorems::every_report_is_as_promised;

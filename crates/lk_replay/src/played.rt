@@ -4,6 +4,7 @@ ghost use Rattle.std.specs.Prelude.{◌≡◌, IfOk, replicate};
 ghost use Rattle.lk_locks.specs.Runs.{new_lock};
 ghost use Rattle.lk_locks.specs.State.{word_count};
 ghost use Rattle.lk_replay.specs.Replay.{replayed_of};
+ghost use Rattle.lk_replay.specs.Whole.{IsHistoryOf};
 
 use crate::Schedule;
 use lk_locks::{Entry, Keeper, LockKind, Move, Outcome, PlayFault, Refusal, words_needed};
@@ -53,7 +54,7 @@ impl Model for Played {
 impl Played {
     ghost use Rattle.std.specs.Prelude.{◌≡◌, ◌≤◌, length};
     ghost use Rattle.std.specs.List.{sum};
-    ghost use Rattle.lk_locks.specs.Legal.{Legal};
+    ghost use Rattle.lk_locks.specs.MainTheorem.{IsAsPromised};
 
     /// The accepted moves, in order.
     pub fn accepted(&self) -> &[Accepted]
@@ -63,10 +64,10 @@ impl Played {
         self.accepted.as_slice()
     }
 
-    /// The history that they leave. It is legal for the lock, whatever the schedule.
+    /// The history that they leave. It is legal for the lock, and so exclusive and in order, whatever the schedule.
     pub fn entries(&self) -> &[Entry]
         ensures entries { result.now ≡ self.now.entries }
-        ensures legal { Legal self.now.kind self.now.threads result.now }
+        ensures promised { IsAsPromised self.now.kind self.now.threads result.now }
     {
         self.keeper.entries()
     }
@@ -112,7 +113,8 @@ pub fn new_keeper(alloc: Global, schedule: &Schedule) -> Keeper<WordArray>
 ///
 /// There was no memory for the history or the accepted moves.
 pub fn replay(alloc: Global, schedule: &Schedule) -> Result<Played, AllocError>
-    ensures { IfOk result (λ played. played ≡ replayed_of schedule.now) }
+    ensures played { IfOk result (λ played. played ≡ replayed_of schedule.now) }
+    ensures moves { IfOk result (λ played. IsHistoryOf schedule.now played.accepted played.entries) }
 {
     let mut keeper = new_keeper(alloc, schedule);
     let moves = schedule.moves();

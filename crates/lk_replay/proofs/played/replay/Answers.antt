@@ -1,6 +1,7 @@
 -- Each move is played as `replay_from` says.
 use Rattle.std.proofs.Common.{◌∙◌, ◌++◌, ◌∷◌, [], List, ℕ, ap, arith, length, length-append}
-use Rattle.lk_replay.proofs.Sofar.{adds, shown_moved, shown_stopped, same_kind, same_threads, sum_more}
+use Rattle.lk_replay.proofs.Sofar.{adds, shown_ended, shown_moved, shown_stopped, same_kind, same_threads, sum_more}
+use Rattle.lk_replay.proofs.Promised.{history_as_played}
 use Rattle.lk_replay.proofs.played.replay.Goals as goal
 
 pub overflow_cast-entries : goal.overflow_cast-entries
@@ -8,10 +9,20 @@ overflow_cast-entries c =
     let more = adds c.loop-line.keeper c.play.new.self _ _ c.entries.result.now c.entries-before.result.now c.in-Ok.ensures.played c.entries.ensures.entries c.entries-before.ensures.entries in
     omega (arith, more.few)
 
-pub returns-in-Err-Refused : goal.returns-in-Err-Refused
-returns-in-Err-Refused c =
+pub returns-in-Err-Refused-clause-played : goal.returns-in-Err-Refused-clause-played
+returns-in-Err-Refused-clause-played c =
     shown_stopped _ _ _ _ _ c.loop-line.keeper _ _ _ _ _ _ _ c.loop-line-test.true c.in-Err-Refused.ensures.answer c.in-Err-Refused.field-0-is c.in-Err-Refused.refusal-is c.in-Err-Refused.ensures.kept
     _ c.kind.ensures c.loop-line.invariant.threads c.loop-line.invariant.shown
+
+pub returns-in-Err-Refused-clause-moves : goal.returns-in-Err-Refused-clause-moves
+returns-in-Err-Refused-clause-moves c = history_as_played c.args.schedule.now _ (returns-in-Err-Refused-clause-played c)
+
+pub returns-clause-played : goal.returns-clause-played
+returns-clause-played c =
+    shown_ended _ _ _ _ _ c.loop-line.keeper c.moves-moves.result.now c.loop-line.line-index (omega (arith, c.loop-line-test.false)) _ c.kind-2.ensures c.loop-line.invariant.threads c.loop-line.invariant.shown
+
+pub returns-clause-moves : goal.returns-clause-moves
+returns-clause-moves c = history_as_played c.args.schedule.now _ (returns-clause-played c)
 
 pub loop-line-preserved : goal.loop-line-preserved
 loop-line-preserved c =

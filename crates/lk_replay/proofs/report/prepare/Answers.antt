@@ -16,5 +16,5 @@ returns-in_ok-played-in-Ok c =
     c.last_line-last.ensures ∙ ap (λ (xs : List Accepted). last_line (length xs) c.refused.result) c.accepted-count.ensures.accepted
     ∙ ap (λ (r : Option (ℕ × Refusal)). last_line (length played.accepted) r) c.refused.ensures in
     ap (λ (xs : List ℕ). prepared_text (Some played) xs) last
-    ∙ ap (λ (r : Replayed). prepared_text (Some r) (last_line (length r.accepted) r.refused)) c.in_ok-played-in-Ok.ensures
+    ∙ ap (λ (r : Replayed). prepared_text (Some r) (last_line (length r.accepted) r.refused)) c.in_ok-played-in-Ok.ensures.played
     ∙ prepared_replay c.in-Ok.schedule.kind c.in-Ok.schedule.threads (replay_of c.in-Ok.schedule) ∙ sym (ap plan_text c.in-Ok.ensures)

@@ -1,0 +1,34 @@
+-- Definitions: the theorem from bytes to bytes. What a report says is told of a history that keeps the whole theorem. This project's own.
+use Rattle.std.specs.Prelude.{◌≡◌, ℕ, List, [], map, Option, Ok, replicate}
+use Rattle.std.specs.List.{flat_map}
+use Rattle.lk_locks.specs.MainTheorem.{IsAsPromised}
+use Rattle.lk_locks.specs.Play.{RecordedLock}
+use Rattle.lk_locks.specs.Runs.{after_moves, new_lock}
+use Rattle.lk_locks.specs.State.{word_count}
+use Rattle.lk_locks.specs.declared.kinds.Entry.{Entry}
+use Rattle.lk_locks.specs.declared.kinds.Refusal.{Refusal}
+use Rattle.lk_replay.specs.Replay.{Made}
+use Rattle.lk_replay.specs.Report.{lines_text, report_text}
+use Rattle.lk_replay.specs.Schedule.{Plan, plan_of}
+use Rattle.lk_replay.specs.declared.played.Accepted.{Accepted}
+
+-- the lock of a schedule, on which nothing was played
+abbrev pub lock_of : Plan → RecordedLock
+lock_of p = new_lock p.kind p.bits (replicate (word_count p.kind p.threads) 0) p.threads
+
+-- these are the entries that these moves leave on it
+abbrev pub IsHistoryOf : Plan → List Accepted → List Entry → Type 0
+IsHistoryOf p accepted es = es ≡ (after_moves (lock_of p) (map (λ a. (a.thread, a.action)) accepted)).entries
+
+-- A report of a schedule tells of accepted moves, each with its entries, up to the refused one. `lines_text` shows in each line who
+-- holds and who waits after the entries so far, and all entries together are the history that the moves leave, which is as promised.
+pub record IsReportOf (p : Plan) (report : List ℕ) : Type 0 where
+  pub made : List Made
+  pub refused : Option (ℕ × Refusal)
+  pub text : report ≡ lines_text p.kind 0 [] made refused
+  pub history : IsHistoryOf p (map (λ m. m.accepted) made) (flat_map (λ m. m.entries) made)
+  pub promised : IsAsPromised p.kind p.threads (flat_map (λ m. m.entries) made)
+
+-- of every text that is a schedule
+abbrev pub EveryReportIsAsPromised : Type 0
+EveryReportIsAsPromised = (bytes : List ℕ) (p : Plan) → plan_of bytes ≡ Ok p → IsReportOf p (report_text bytes)
