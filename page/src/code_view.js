@@ -22,8 +22,8 @@ const MOST_MARKS = 5;
 function marks(view, threads) {
   const shown = threads.slice(0, MOST_MARKS).map((thread) => {
     const standing = standingOf(view.run, view.move, thread);
-    return html`<span class="disc ${standing}" title="${view.names.of(thread)}">
-      ${view.names.mark(thread)}</span>`;
+    const title = html`title="${view.names.of(thread)}"`;
+    return html`<span class="disc ${standing}" ${title}>${view.names.mark(thread)}</span>`;
   });
   const more = threads.length - MOST_MARKS;
   return html`${shown}${more > 0 && html`<span class="more">+${more}</span>`}`;

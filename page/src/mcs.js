@@ -14,7 +14,7 @@ const ownerOf = (word) => (word - 1) >> 1;
 const named = (value) => Number(value) - 1;
 
 const OWN_VARIABLE = { SetLocked: 'pred', LinkTo: 'pred', Grant: 'succ' };
-const RECORD = { narrowest: 132, widest: 156, height: 108, gap: 46, top: 96, row: 184, left: 20 };
+const RECORD = { narrowest: 130, widest: 156, height: 108, gap: 52, top: 96, row: 184, left: 19 };
 // So many records beside one another are not broken into rows for a larger picture's sake.
 const BESIDE = 4;
 const MOST_NAMED = 8;

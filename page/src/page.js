@@ -307,6 +307,7 @@ export class Page {
     const view = session.view({ answered: this.answered, hidden });
     if (run.hasLock) this.drawLock(view, sizes);
     drawSlider(view, sizes.slider.width);
+    revealCode();
     this.linkSoon();
   }
 
@@ -317,7 +318,6 @@ export class Page {
     drawCode(this.session, view, state);
     drawNow(this, view, state);
     if (this.mode === 'play') show(byId('choices'), playView(this.session, state));
-    revealCode();
   }
 
   drawSide() {
