@@ -15,9 +15,11 @@ import traceback
 
 from browser import PAGE, chromium
 
-IN_CHROMIUM = ["random_texts", "lessons", "playing", "own_texts", "without_machine", "keyboard", "quizzing",
-               "large", "looks", "links", "paper"]
 IN_FIREFOX = ["firefox"]
+IN_CHROMIUM = ["lessons", "without_machine", "playing", "random_texts", "own_texts", "quizzing",
+               "keyboard", "links", "looks", "paper"]
+# Measured, so by itself.
+ALONE = ["large"]
 AT_ONCE = 3
 OWN = (PAGE.as_uri(), "about:blank", "data:", "blob:")
 
@@ -54,19 +56,26 @@ def run_module(name, program):
     return f"ok {name} ({time.monotonic() - begun:.0f} s)", True
 
 
-def main(words):
-    if not words:
-        sys.exit(__doc__)
-    program = os.path.abspath(words[0])
-    names = words[1:] or IN_FIREFOX + IN_CHROMIUM
-    with concurrent.futures.ProcessPoolExecutor(AT_ONCE) as pool:
+def run_all(names, program, at_once):
+    """Runs the modules, prints what came of each, and says whether all is well."""
+    well = True
+    with concurrent.futures.ProcessPoolExecutor(at_once) as pool:
         results = [pool.submit(run_module, name, program) for name in names]
-        well = True
         for done in concurrent.futures.as_completed(results):
             text, fine = done.result()
             print(text, flush=True)
             well = well and fine
-    return 0 if well else 1
+    return well
+
+
+def main(words):
+    if not words:
+        sys.exit(__doc__)
+    program = os.path.abspath(words[0])
+    names = words[1:] or IN_FIREFOX + IN_CHROMIUM + ALONE
+    together = run_all([name for name in names if name not in ALONE], program, AT_ONCE)
+    alone = run_all([name for name in names if name in ALONE], program, 1)
+    return 0 if together and alone else 1
 
 
 if __name__ == "__main__":
