@@ -1,6 +1,7 @@
 //! Readers and writers that fail.
 
-use crate::{Ending, RunFault, read_text, report_of, run, send, status_of};
+use crate::{Ending, OutputBuffer, RunFault, read_text, report_of, run, send, status_of};
+use std::alloc::{AllocError, Global};
 use std::io;
 use std::io::{ErrorKind, Read, Write};
 use std::test::Fail;
@@ -164,5 +165,101 @@ fn writers_of_one_byte(rt: HostRuntime) -> Result<(), Fail> {
         assert!(rt; ran == wanted && output.taken.as_slice() == report.as_slice());
         assert!(rt; send(&mut output, b"").is_ok() == flushes);
     }
+    Ok(())
+}
+
+/// Takes whole writes of the bytes that it expects, and then fails.
+#[derive(Drop)]
+struct FailsLater<'a> {
+    rest: &'a [u8],
+    writes: usize,
+}
+
+impl<'a> Write for FailsLater<'a> {
+    fn write(&mut self, buf: &[u8]) -> io::Result<usize> {
+        if self.writes == 0 {
+            return Err(io::Error::from(ErrorKind::Other));
+        }
+        self.writes -= 1;
+        match self.rest.strip_prefix(buf) {
+            Some(rest) => {
+                self.rest = rest;
+                Ok(buf.len())
+            }
+            None => Ok(0),
+        }
+    }
+
+    fn flush(&mut self) -> io::Result<()> {
+        Ok(())
+    }
+}
+
+// 64 threads in one queue, 65,534 moves: a report of 14 MB.
+fn contention(alloc: Global) -> Result<Vec<u8>, AllocError> {
+    let mut text = Vec::from_slice(alloc, b"lock ticket threads 64\n")?;
+    for thread in 0..64u8 {
+        text.extend_from_slice(format!(in alloc; "{thread} acquire\n{thread} add\n")?.as_bytes())?;
+    }
+    for round in 0..10_901u32 {
+        let thread = round % 64;
+        for word in ["read", "release", "read", "write", "acquire", "add"] {
+            text.extend_from_slice(format!(in alloc; "{thread} {word}\n")?.as_bytes())?;
+        }
+    }
+    Ok(text)
+}
+
+// What was written where a write fails is a front of the report, of as many writes as went before.
+#[test]
+fn each_write_of_a_long_report_fails(rt: HostRuntime) -> Result<(), Fail> {
+    let alloc = rt.alloc();
+    let text = contention(alloc)?;
+    let report = report_of(alloc, &text)?;
+    assert!(rt; report.len() > 13_000_000);
+    let mut whole = false;
+    for writes in 0..1_000usize {
+        let mut input = text.as_slice();
+        let mut output = FailsLater {
+            rest: &report,
+            writes,
+        };
+        let ran = run(alloc, &mut input, &mut output);
+        let written = report.len().saturating_sub(output.rest.len());
+        assert!(rt; written <= writes.saturating_mul(65_536));
+        if ran == Ok(Ending::Accepted) {
+            assert!(rt; output.rest.is_empty() && writes > 200);
+            whole = true;
+            break;
+        }
+        assert!(rt; ran == Err(RunFault::Write) && output.writes == 0);
+        assert!(rt; written >= writes.saturating_mul(65_000));
+    }
+    assert!(rt; whole);
+    Ok(())
+}
+
+#[test]
+fn buffers_pass_texts_in_order(rt: HostRuntime) -> Result<(), Fail> {
+    let alloc = rt.alloc();
+    let mut output = Vec::new(alloc);
+    let mut due = Vec::new(alloc);
+    let mut buffer = OutputBuffer::new(alloc)?;
+    for (byte, len) in [
+        (b'a', 0),
+        (b'b', 65_536),
+        (b'c', 1),
+        (b'd', 65_536),
+        (b'e', 65_537),
+        (b'f', 3),
+    ] {
+        let text = Vec::from_elem(alloc, byte, len)?;
+        buffer.push(&mut output, &text)?;
+        due.extend_from_slice(&text)?;
+        assert!(rt; due.as_slice().starts_with(&output));
+    }
+    assert!(rt; output.len() == 196_610);
+    buffer.send_whole(&mut output)?;
+    assert!(rt; output.as_slice() == due.as_slice());
     Ok(())
 }
