@@ -255,7 +255,7 @@ export class Page {
     saveAs(lesson ? `${lesson}.schedule` : texts.own.fileName, run.text);
   }
 
-  copy() { this.toClipboard(this.editorLetters().letters, texts.own.copied); }
+  copy() { this.toClipboard(this.editorLetters().letters, texts.own.copied, texts.own.notCopied); }
 
   copyLink() {
     const fragment = fragmentOf(this.session);
@@ -264,7 +264,7 @@ export class Page {
     return this.toClipboard(location.href, texts.linkCopied, texts.linkInBar);
   }
 
-  async toClipboard(text, done, otherwise = done) {
+  async toClipboard(text, done, otherwise) {
     try {
       await navigator.clipboard.writeText(text);
       this.tell(done);

@@ -127,6 +127,7 @@ export const texts = {
     hint: 'Type or paste a schedule, open a file, or drop one anywhere on the page.',
     open: 'Open', save: 'Save', copy: 'Copy', clear: 'New',
     copied: 'The schedule is copied.',
+    notCopied: 'The browser did not allow it. Select the text and copy it.',
     label: 'Text of the schedule',
     fileName: 'schedule.txt',
     ends: (count) => (count === 1

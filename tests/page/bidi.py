@@ -16,7 +16,9 @@ class Firefox:
     """One browsing context, and what was asked of the net while it was open."""
 
     def __init__(self, address):
-        self.socket = websocket.create_connection(f"{address}/session", timeout=PATIENCE, suppress_origin=True)
+        self.socket = websocket.create_connection(
+            f"{address}/session", timeout=PATIENCE, suppress_origin=True
+        )
         self.number = 0
         self.requests = []
         self.ask("session.new", {"capabilities": {}})
@@ -35,31 +37,60 @@ class Firefox:
                 return answer["result"]
 
     def open(self, url):
-        self.ask("browsingContext.navigate", {"context": self.context, "url": "about:blank", "wait": "complete"})
-        self.ask("browsingContext.navigate", {"context": self.context, "url": url, "wait": "complete"})
+        self.ask(
+            "browsingContext.navigate",
+            {"context": self.context, "url": "about:blank", "wait": "complete"},
+        )
+        self.ask(
+            "browsingContext.navigate", {"context": self.context, "url": url, "wait": "complete"}
+        )
 
     def run(self, script, value=None):
         """What the script gives, as JSON; `value` is its first argument."""
-        function = f"(text) => {{ const value = JSON.parse(text); return JSON.stringify((() => {{ {script} }})() ?? null); }}"
-        answer = self.ask("script.callFunction", {
-            "functionDeclaration": function, "awaitPromise": False, "target": {"context": self.context},
-            "arguments": [{"type": "string", "value": json.dumps(value)}]})
+        function = (
+            "(text) => { const value = JSON.parse(text);"
+            f"return JSON.stringify((() => {{ {script} }})() ?? null); }}"
+        )
+        answer = self.ask(
+            "script.callFunction",
+            {
+                "functionDeclaration": function,
+                "awaitPromise": False,
+                "target": {"context": self.context},
+                "arguments": [{"type": "string", "value": json.dumps(value)}],
+            },
+        )
         assert answer["type"] == "success", answer
         return json.loads(answer["result"]["value"])
 
     def press(self, key):
         """A key, as the browser would have it from a keyboard."""
         actions = [{"type": "keyDown", "value": key}, {"type": "keyUp", "value": key}]
-        self.ask("input.performActions", {
-            "context": self.context, "actions": [{"type": "key", "id": "keyboard", "actions": actions}]})
+        self.ask(
+            "input.performActions",
+            {
+                "context": self.context,
+                "actions": [{"type": "key", "id": "keyboard", "actions": actions}],
+            },
+        )
 
 
 @contextlib.contextmanager
 def firefox():
     with tempfile.TemporaryDirectory(ignore_cleanup_errors=True) as profile:
         process = subprocess.Popen(
-            ["firefox-esr", "--headless", "--no-remote", "--profile", profile, "--remote-debugging-port", "0"],
-            stdout=subprocess.DEVNULL, stderr=subprocess.PIPE)
+            [
+                "firefox-esr",
+                "--headless",
+                "--no-remote",
+                "--profile",
+                profile,
+                "--remote-debugging-port",
+                "0",
+            ],
+            stdout=subprocess.DEVNULL,
+            stderr=subprocess.PIPE,
+        )
         try:
             browser = Firefox(address_of(process))
             yield browser

@@ -15,21 +15,33 @@ PATIENCE = 60
 
 @contextlib.contextmanager
 def chromium(width=1440, height=900, dark=False, arguments=()):
-    """A browser of its own profile, closed at the end. It may not talk to anybody but the driver."""
+    """A browser of its own profile, closed at the end."""
     options = Options()
     options.binary_location = "/usr/bin/chromium"
     with tempfile.TemporaryDirectory() as folder:
-        for argument in ["--headless=new", "--no-sandbox", "--disable-gpu", "--disable-dev-shm-usage",
-                         "--no-first-run", "--disable-background-networking", "--disable-sync",
-                         "--disable-component-update", "--hide-scrollbars", f"--user-data-dir={folder}",
-                         f"--window-size={width},{height}", *arguments]:
+        for argument in [
+            "--headless=new",
+            "--no-sandbox",
+            "--disable-gpu",
+            "--disable-dev-shm-usage",
+            "--no-first-run",
+            "--disable-background-networking",
+            "--disable-sync",
+            "--disable-component-update",
+            "--hide-scrollbars",
+            f"--user-data-dir={folder}",
+            f"--window-size={width},{height}",
+            *arguments,
+        ]:
             options.add_argument(argument)
         options.set_capability("goog:loggingPrefs", {"performance": "ALL", "browser": "ALL"})
         driver = webdriver.Chrome(options=options, service=Service("/usr/bin/chromedriver"))
         try:
             driver.set_script_timeout(PATIENCE * 3)
-            driver.execute_cdp_cmd("Emulation.setDeviceMetricsOverride", {
-                "width": width, "height": height, "deviceScaleFactor": 1, "mobile": False})
+            driver.execute_cdp_cmd(
+                "Emulation.setDeviceMetricsOverride",
+                {"width": width, "height": height, "deviceScaleFactor": 1, "mobile": False},
+            )
             scheme = {"name": "prefers-color-scheme", "value": "dark" if dark else "light"}
             driver.execute_cdp_cmd("Emulation.setEmulatedMedia", {"features": [scheme]})
             # What the browser asked for before the first page is its own affair.

@@ -18,8 +18,10 @@ return value.map((text) => report(fromBase64(text)));
 def lessons(browser):
     for name, report in names():
         browser.open(f"{PAGE.as_uri()}#lesson={name}&move=0")
-        shown = browser.run("return [document.getElementById('banner').hidden, "
-                            "document.querySelector('#verdict .report-line').textContent]")
+        shown = browser.run(
+            "return [document.getElementById('banner').hidden, "
+            "document.querySelector('#verdict .report-line').textContent]"
+        )
         assert shown == [True, report.splitlines()[-1]], (name, shown)
         for move, line in enumerate(moves_of(report), 1):
             browser.press(ARROW_RIGHT)
@@ -39,5 +41,9 @@ def check_all(program):
         browser.requests.clear()
         lessons(browser)
         random_texts(browser, program)
-        strangers = [url for url in browser.requests if not url.startswith((PAGE.as_uri(), "about:", "data:"))]
+        strangers = [
+            url
+            for url in browser.requests
+            if not url.startswith((PAGE.as_uri(), "about:", "data:"))
+        ]
         assert not strangers, strangers

@@ -6,10 +6,12 @@ from browser import open_page, run, wait
 
 SHOWN = """
 return {
-  position: document.getElementById('position').textContent, title: document.getElementById('title').textContent,
+  position: document.getElementById('position').textContent,
+  title: document.getElementById('title').textContent,
   mode: document.body.dataset.mode, theme: document.documentElement.dataset.theme ?? '',
   lessons: document.getElementById('lessons').open, keys: document.getElementById('keys').open,
-  running: document.getElementById('run').getAttribute('aria-pressed'), quiz: Boolean(document.getElementById('quiz-form')),
+  running: document.getElementById('run').getAttribute('aria-pressed'),
+  quiz: Boolean(document.getElementById('quiz-form')),
   text: document.getElementById('text').value, focused: document.activeElement.id,
 };
 """
@@ -21,14 +23,28 @@ def press(driver, *keys):
 
 def until(driver, **wanted):
     """Waits until all of this is shown."""
-    wait(driver, lambda _: all(run(driver, SHOWN)[name] == value for name, value in wanted.items()))
+    wait(
+        driver, lambda _: all(run(driver, SHOWN)[name] == value for name, value in wanted.items())
+    )
 
 
 def moving(driver, _):
     open_page(driver, "#lesson=mcs-late-link&move=0")
-    steps = [(Keys.ARROW_RIGHT, 1), (Keys.ARROW_RIGHT, 2), (Keys.ARROW_LEFT, 1), (Keys.END, 16),
-             (Keys.HOME, 0), (Keys.PAGE_DOWN, 10), (Keys.PAGE_UP, 0), ("n", 7), ("n", 8), ("]", 12),
-             ("[", 8), ("+", 8), ("-", 8)]
+    steps = [
+        (Keys.ARROW_RIGHT, 1),
+        (Keys.ARROW_RIGHT, 2),
+        (Keys.ARROW_LEFT, 1),
+        (Keys.END, 16),
+        (Keys.HOME, 0),
+        (Keys.PAGE_DOWN, 10),
+        (Keys.PAGE_UP, 0),
+        ("n", 7),
+        ("n", 8),
+        ("]", 12),
+        ("[", 8),
+        ("+", 8),
+        ("-", 8),
+    ]
     for key, move in steps:
         press(driver, key)
         until(driver, position=f"{move} of 16")
@@ -68,12 +84,18 @@ def writing_and_playing(driver, _):
         press(driver, Keys.TAB)
     until(driver, focused="text")
     ActionChains(driver).key_down(Keys.CONTROL).send_keys("a").key_up(Keys.CONTROL).perform()
-    press(driver, "lock ticket threads 2", Keys.ENTER, "0 acquire", Keys.ENTER, "0 add", Keys.ENTER)
+    press(
+        driver, "lock ticket threads 2", Keys.ENTER, "0 acquire", Keys.ENTER, "0 add", Keys.ENTER
+    )
     until(driver, position="2 of 2")
     press(driver, Keys.ESCAPE, "g")
     until(driver, mode="play")
     press(driver, "0", "1", "1")
-    until(driver, position="5 of 5", text="lock ticket threads 2\n0 acquire\n0 add\n0 read\n1 acquire\n1 add\n")
+    until(
+        driver,
+        position="5 of 5",
+        text="lock ticket threads 2\n0 acquire\n0 add\n0 read\n1 acquire\n1 add\n",
+    )
     press(driver, "u")
     until(driver, position="4 of 4")
 
@@ -99,8 +121,11 @@ def slider(driver, _):
     press(driver, Keys.ARROW_RIGHT)
     until(driver, position="5 of 16")
     assert run(driver, "return document.getElementById('slider').value") == "5"
-    run(driver, "const slider = document.getElementById('slider'); slider.value = 12;"
-        "slider.dispatchEvent(new Event('input', { bubbles: true }))")
+    run(
+        driver,
+        "const slider = document.getElementById('slider'); slider.value = 12;"
+        "slider.dispatchEvent(new Event('input', { bubbles: true }))",
+    )
     until(driver, position="12 of 16")
 
 

@@ -1,9 +1,9 @@
 """64 threads and 65,536 moves: loaded within 1 s, stepped within 50 ms.
 
-Loading goes from the bytes of the file to the page laid out, a step from the key's call to the page laid
-out; a step's time is the mean of twelve. What is bounded is the time that the page's thread worked, as the
-browser counts it, the least of three rounds, so that other work on the machine counts little. Where nothing
-else runs it is the time that passes, which is printed beside it.
+Loading goes from the bytes of the file to the page laid out, a step from the key's call to the
+page laid out; a step's time is the mean of twelve. What is bounded is the time that the page's
+thread worked, as the browser counts it, the least of three rounds, so that other work on the
+machine counts little. Where nothing else runs it is the time that passes, printed beside it.
 """
 import base64
 import random
@@ -53,7 +53,11 @@ def timed(driver, act, times):
 
 
 def measure(driver, text):
-    run(driver, "window.text = window.lockreplay.fromBase64(arguments[0])", base64.b64encode(text).decode())
+    run(
+        driver,
+        "window.text = window.lockreplay.fromBase64(arguments[0])",
+        base64.b64encode(text).decode(),
+    )
     load = min(timed(driver, "page.open(window.text.slice(), null, 0);", 1) for _ in range(ROUNDS))
     steps = [min(stretch(driver, start) for _ in range(ROUNDS)) for start in STRETCHES]
     steps.append(min(timed(driver, f"{JUMP};", STEPS) for _ in range(ROUNDS)))
@@ -71,8 +75,11 @@ def loads_and_steps(driver, _):
     for lock in ["ticket", "mcs", "rw-simple", "rw-fifo"]:
         load, steps = measure(driver, text_of(lock, 64, 65536))
         work, passed = [max(one) for one in zip(*steps)]
-        print(f"  {lock}: load {load[0]:.0f} ms of work, {load[1]:.0f} ms passed; "
-              f"step {work:.0f} ms of work, {passed:.0f} ms passed", flush=True)
+        print(
+            f"  {lock}: load {load[0]:.0f} ms of work, {load[1]:.0f} ms passed; "
+            f"step {work:.0f} ms of work, {passed:.0f} ms passed",
+            flush=True,
+        )
         assert run(driver, "return window.lockreplay.page.session.run.count") == 65536
         assert load[0] <= LOAD_MS and work <= STEP_MS, (load, steps)
         assert run(driver, "return document.querySelectorAll('#lanes *').length") < 3000

@@ -1,5 +1,5 @@
-"""Each lesson is stepped through by key to its end. At each move the outcome, the holders and the line
-that the page shows are those of the lesson's report."""
+"""Each lesson is stepped through by key to its end. At each move the outcome, the holders and the
+line that the page shows are those of the lesson's report."""
 from selenium.webdriver.common.by import By
 from selenium.webdriver.common.keys import Keys
 
@@ -7,7 +7,8 @@ from browser import TOP, open_page, run, wait
 from reports import moves_of, numbers_of
 
 SHOWN = """
-const list = (name) => [...document.querySelectorAll(`#now [${name}] [data-thread]`)].map((one) => Number(one.dataset.thread));
+const all = (selector) => [...document.querySelectorAll(selector)];
+const list = (name) => all(`#now [${name}] [data-thread]`).map((one) => Number(one.dataset.thread));
 return {
   position: document.getElementById('position').textContent,
   outcome: document.querySelector('#now [data-outcome]')?.dataset.outcome,
@@ -39,16 +40,25 @@ def compare(shown, move, line, report):
     assert thread >= 0
 
 
+def shown_at(driver, position):
+    """What is shown, once the page stands there."""
+
+    def there(_):
+        shown = run(driver, SHOWN)
+        return shown if shown["position"] == position else None
+
+    return wait(driver, there)
+
+
 def step_through(driver, report):
     moves = moves_of(report)
     body = driver.find_element(By.TAG_NAME, "body")
     for move, line in enumerate(moves, 1):
         body.send_keys(Keys.ARROW_RIGHT)
-        position = f"{move} of {len(moves)}"
-        wait(driver, lambda _, at=position: run(driver, SHOWN)["position"] == at)
-        compare(run(driver, SHOWN), move, line, report.splitlines()[move - 1])
+        shown = shown_at(driver, f"{move} of {len(moves)}")
+        compare(shown, move, line, report.splitlines()[move - 1])
     body.send_keys(Keys.ARROW_RIGHT)
-    assert run(driver, SHOWN)["position"] == f"{len(moves)} of {len(moves)}"
+    shown_at(driver, f"{len(moves)} of {len(moves)}")
 
 
 def each_lesson(driver, _):
@@ -68,11 +78,14 @@ def questions_are_asked(driver, _):
     open_page(driver, "#lesson=mcs-late-link&move=8")
     body = driver.find_element(By.TAG_NAME, "body")
     body.send_keys("n")
-    wait(driver, lambda _: run(driver, SHOWN)["position"] == "9 of 16")
+    shown_at(driver, "9 of 16")
     details = driver.find_element(By.CSS_SELECTOR, "#now .question details")
     assert details.get_attribute("open") is None
     body.send_keys("a")
-    wait(driver, lambda _: driver.find_element(By.CSS_SELECTOR, "#now details").get_attribute("open"))
+    wait(
+        driver,
+        lambda _: driver.find_element(By.CSS_SELECTOR, "#now details").get_attribute("open"),
+    )
     body.send_keys(Keys.ARROW_RIGHT)
     wait(driver, lambda _: not driver.find_elements(By.CSS_SELECTOR, "#now .question"))
 

@@ -20,16 +20,24 @@ TEXTS = [
 
 def fragment_of(driver, move):
     driver.find_element(By.ID, "link").click()
-    return wait(driver, lambda _: (lambda hash_: hash_ if hash_.endswith(f"&move={move}") else None)(
-        run(driver, "return location.hash")))
+    return wait(
+        driver,
+        lambda _: (lambda hash_: hash_ if hash_.endswith(f"&move={move}") else None)(
+            run(driver, "return location.hash")
+        ),
+    )
 
 
 def own_schedules(driver, _):
     for text in TEXTS:
         coded = base64.b64encode(text).decode()
         open_page(driver)
-        run(driver, "const { page, fromBase64 } = window.lockreplay;"
-            "page.openOwn(fromBase64(arguments[0])); page.go(1)", coded)
+        run(
+            driver,
+            "const { page, fromBase64 } = window.lockreplay;"
+            "page.openOwn(fromBase64(arguments[0])); page.go(1)",
+            coded,
+        )
         before = run(driver, SHOWN)
         assert before[0] == 1 and before[2] == coded, (text, before)
         open_page(driver, fragment_of(driver, 1))

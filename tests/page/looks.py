@@ -4,16 +4,19 @@ from browser import open_page, run
 COLOURS = """
 const of = (selector, what) => getComputedStyle(document.querySelector(selector))[what];
 return {
-  body: of('body', 'backgroundColor'), card: of('#now', 'backgroundColor'), say: of('#now .say', 'color'),
-  muted: of('.facts dt', 'color'), report: of('.report-line', 'color'), code: of('.code-line.plain', 'color'),
+  body: of('body', 'backgroundColor'), card: of('#now', 'backgroundColor'),
+  say: of('#now .say', 'color'), muted: of('.facts dt', 'color'),
+  report: of('.report-line', 'color'), code: of('.code-line.plain', 'color'),
   note: of('#subtitle', 'color'), key: of('kbd', 'color'),
 };
 """
 
 
 def luminance(colour):
-    parts = [int(part) / 255 for part in colour[colour.index("(") + 1:-1].split(",")[:3]]
-    red, green, blue = [part / 12.92 if part <= 0.03928 else ((part + 0.055) / 1.055) ** 2.4 for part in parts]
+    parts = [int(part) / 255 for part in colour[colour.index("(") + 1 : -1].split(",")[:3]]
+    red, green, blue = [
+        part / 12.92 if part <= 0.03928 else ((part + 0.055) / 1.055) ** 2.4 for part in parts
+    ]
     return 0.2126 * red + 0.7152 * green + 0.0722 * blue
 
 
@@ -23,8 +26,15 @@ def contrast(one, other):
 
 
 def set_media(driver, **features):
-    driver.execute_cdp_cmd("Emulation.setEmulatedMedia", {
-        "features": [{"name": name.replace("_", "-"), "value": value} for name, value in features.items()]})
+    driver.execute_cdp_cmd(
+        "Emulation.setEmulatedMedia",
+        {
+            "features": [
+                {"name": name.replace("_", "-"), "value": value}
+                for name, value in features.items()
+            ]
+        },
+    )
 
 
 def themes(driver, _):
@@ -54,30 +64,54 @@ def motion(driver, _):
 def without_colour(driver, _):
     """What a colour says, a pattern, a shape or a word says as well."""
     open_page(driver, "#lesson=fifo-reader-waits-behind-writer&move=6")
-    fills = run(driver, """
+    fills = run(
+        driver,
+        """
       const fill = (kind) => getComputedStyle(document.querySelector(`#lanes .span.${kind}`)).fill;
-      return [fill('line'), fill('reads'), fill('call')];""")
+      return [fill('line'), fill('reads'), fill('call')];""",
+    )
     assert "hatch" in fills[0] and "ruled" in fills[1] and "url" not in fills[2], fills
-    words = run(driver, "return [...document.querySelectorAll('#now .pill, #now .outcome')].every((one) => one.textContent)")
+    words = run(
+        driver,
+        "const all = [...document.querySelectorAll('#now .pill, #now .outcome')];"
+        "return all.every((one) => one.textContent)",
+    )
     assert words
 
 
 def labels(driver, _):
     """Every control has a name, every picture a text, and each move is spoken."""
     open_page(driver, "#lesson=mcs-late-link&move=9")
-    nameless = run(driver, """
+    nameless = run(
+        driver,
+        """
       return [...document.querySelectorAll('button, input, textarea, select, summary')]
-        .filter((one) => !(one.getAttribute('aria-label') || one.textContent.trim() || one.labels?.[0]?.textContent || one.hidden))
-        .map((one) => one.outerHTML);""")
+        .filter((one) => !(one.getAttribute('aria-label') || one.textContent.trim()
+          || one.labels?.[0]?.textContent || one.hidden))
+        .map((one) => one.outerHTML);""",
+    )
     assert not nameless, nameless
-    pictures = run(driver, """
+    pictures = run(
+        driver,
+        """
       return [...document.querySelectorAll('svg')].filter((one) => !one.closest('[aria-hidden]')
-        && !one.getAttribute('aria-label')).length;""")
+        && !one.getAttribute('aria-label')).length;""",
+    )
     assert pictures == 0
     spoken = run(driver, "return document.getElementById('spoken').textContent")
-    for part in ["Move 9 of 16", "Ann", "compare-and-swap fails", "Holds: Ann", "In line: Ann, Bob", "Question:"]:
+    for part in [
+        "Move 9 of 16",
+        "Ann",
+        "compare-and-swap fails",
+        "Holds: Ann",
+        "In line: Ann, Bob",
+        "Question:",
+    ]:
         assert part in spoken, spoken
-    assert run(driver, "return document.getElementById('spoken').getAttribute('aria-live')") == "polite"
+    assert (
+        run(driver, "return document.getElementById('spoken').getAttribute('aria-live')")
+        == "polite"
+    )
 
 
 CHECKS = [themes, motion, without_colour, labels]

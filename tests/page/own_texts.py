@@ -1,4 +1,5 @@
-"""Schedules of one's own: faults and refusals in words, files, what a text field would swallow, markup."""
+"""Schedules of one's own: faults and refusals in words, files, what a text field would swallow,
+markup."""
 import pathlib
 import tempfile
 
@@ -20,23 +21,48 @@ page.openOwn(new TextEncoder().encode(arguments[0]));
 """
 HEADER = "lock ticket threads 2\n"
 
-# A text, the line that is marked, what is said of it, and how many moves before it can be stepped through.
+# A text, the line that is marked, what is said of it, and how many moves stand before it.
 FAULTS = [
-    ("lock MCS threads 2\n0 acquire\n", 1, ["Unknown lock MCS", "Did you mean “mcs”?", "BadHeader"], 0),
+    (
+        "lock MCS threads 2\n0 acquire\n",
+        1,
+        ["Unknown lock MCS", "Did you mean “mcs”?", "BadHeader"],
+        0,
+    ),
     ("lock clh threads 2\n", 1, ["Unknown lock clh", "ticket, mcs, rw-simple, rw-fifo"], 0),
     ("lock rw_fifo threads 2\n", 1, ["Did you mean “rw-fifo”?"], 0),
     ("lock ticket thread 2\n", 1, ["Behind the lock’s name stands “threads”"], 0),
-    ("lock ticket threads 65\n", 1, ["“65” is no number of threads", "from 1 to 64", "BadThreads"], 0),
+    (
+        "lock ticket threads 65\n",
+        1,
+        ["“65” is no number of threads", "from 1 to 64", "BadThreads"],
+        0,
+    ),
     ("lock ticket threads 02\n", 1, ["no leading zero", "BadThreads"], 0),
     ("lock ticket threads 2 bits 1\n", 1, ["“1” is no number of bits", "from 2 to 64"], 0),
     ("lock ticket threads 2 bit 8\n", 1, ["may stand “bits”"], 0),
-    ("lock ticket threads 4 bits 2\n", 1, ["have 4 values", "bits 3 or more", "WordsTooNarrow"], 0),
-    ("lock ticket threads 2\r\n0 acquire\r\n", 1, ["carriage return (CR)", "Remove every carriage return"], 0),
+    (
+        "lock ticket threads 4 bits 2\n",
+        1,
+        ["have 4 values", "bits 3 or more", "WordsTooNarrow"],
+        0,
+    ),
+    (
+        "lock ticket threads 2\r\n0 acquire\r\n",
+        1,
+        ["carriage return (CR)", "Remove every carriage return"],
+        0,
+    ),
     ("lock ticket threads 2 \n", 1, ["blank at the line’s end"], 0),
     ("", 1, ["There is no header", "lock NAME threads N", "NoHeader"], 0),
     ("# a\n\n", 3, ["There is no header"], 0),
     ("0 acquire\n", 1, ["This is no header"], 0),
-    (HEADER + "0 acquire\n0 addd\n", 3, ["Unknown move “addd”", "Did you mean “add”?", "BadLine"], 1),
+    (
+        HEADER + "0 acquire\n0 addd\n",
+        3,
+        ["Unknown move “addd”", "Did you mean “add”?", "BadLine"],
+        1,
+    ),
     (HEADER + "0 acquire\n0 Add\n", 3, ["Did you mean “add”?"], 1),
     (HEADER + "0 acquire\n0 add\r\n", 3, ["carriage return (CR)"], 1),
     (HEADER + "0 acquire\n0 add \n", 3, ["blank at the line’s end"], 1),
@@ -46,16 +72,31 @@ FAULTS = [
     (HEADER + "0 acquire\n00 add\n", 3, ["no leading zero"], 1),
     (HEADER + "256 acquire\n", 2, ["“256” is no thread’s number", "from 0 to 255"], 0),
     (HEADER + "acquire\n", 2, ["This is no move"], 0),
-    (HEADER + "0 acquire\n0 go\n", 3, ["Unknown move “go”", "acquire, add, read, release, write"], 1),
+    (
+        HEADER + "0 acquire\n0 go\n",
+        3,
+        ["Unknown move “go”", "acquire, add, read, release, write"],
+        1,
+    ),
 ]
 REFUSALS = [
     (HEADER + "2 acquire\n", 2, ["There is no thread 2", "2 threads", "NoSuchThread"], 0),
     (HEADER + "0 rlock\n", 2, ["“rlock” is none of the moves of this lock", "call “acquire”"], 0),
     (HEADER + "0 acquire\n0 acquire\n", 3, ["in the middle of a call", "make the step “add”"], 1),
     (HEADER + "0 release\n", 2, ["gives back what it does not hold", "call “acquire”"], 0),
-    (HEADER + "0 acquire\n0 add\n0 read\n0 acquire\n", 5, ["holds the lock already", "call “release”"], 3),
+    (
+        HEADER + "0 acquire\n0 add\n0 read\n0 acquire\n",
+        5,
+        ["holds the lock already", "call “release”"],
+        3,
+    ),
     (HEADER + "0 add\n", 2, ["in no call", "call “acquire”"], 0),
-    (HEADER + "0 acquire\n0 read\n", 3, ["another one", "make the step “add”", "WrongStep next add"], 1),
+    (
+        HEADER + "0 acquire\n0 read\n",
+        3,
+        ["another one", "make the step “add”", "WrongStep next add"],
+        1,
+    ),
 ]
 
 
@@ -111,10 +152,12 @@ def files(driver, _):
     most = 1048576
     with tempfile.TemporaryDirectory() as folder:
         cases = [
-            (head, "end 2", 2), (head.replace(b"\n", b"\r\n"), "carriage return", 0),
+            (head, "end 2", 2),
+            (head.replace(b"\n", b"\r\n"), "carriage return", 0),
             (head + b"#" * (most - len(head)), "end 2", 2),
             (head + b"#" * (most + 1 - len(head)), "fault TooLong", 2),
-            (b"# \xff\xfe\0\n" + head, "end 2", 2), (b"\xef\xbb\xbf" + head, "byte order mark", 0),
+            (b"# \xff\xfe\0\n" + head, "end 2", 2),
+            (b"\xef\xbb\xbf" + head, "byte order mark", 0),
             (b"\0" * most, "BadHeader", 0),
         ]
         for number, (data, part, count) in enumerate(cases):
@@ -126,15 +169,23 @@ def files(driver, _):
 
 def dropped_and_pasted(driver, _):
     open_page(driver)
-    run(driver, """
+    run(
+        driver,
+        """
       const data = new DataTransfer();
       data.items.add(new File(['lock mcs threads 1\\n0 acquire\\n'], 'mine.txt'));
-      document.body.dispatchEvent(new DragEvent('drop', { dataTransfer: data, bubbles: true, cancelable: true }));""")
+      document.body.dispatchEvent(new DragEvent('drop', {
+        dataTransfer: data, bubbles: true, cancelable: true }));""",
+    )
     wait(driver, lambda _: run(driver, SHOWN)["verdict"].endswith("end 1"))
-    run(driver, """
+    run(
+        driver,
+        """
       const data = new DataTransfer();
       data.setData('text/plain', 'lock rw-fifo threads 1\\n0 rlock\\n0 section\\n');
-      document.body.dispatchEvent(new ClipboardEvent('paste', { clipboardData: data, bubbles: true }));""")
+      document.body.dispatchEvent(new ClipboardEvent('paste', {
+        clipboardData: data, bubbles: true }));""",
+    )
     wait(driver, lambda _: run(driver, SHOWN)["verdict"].endswith("end 2"))
 
 
@@ -142,7 +193,9 @@ def saved(driver, _):
     """What is saved is the schedule, byte for byte."""
     data = b"# \xff no text\r\nlock ticket threads 1\n0 acquire"
     with tempfile.TemporaryDirectory() as folder:
-        driver.execute_cdp_cmd("Browser.setDownloadBehavior", {"behavior": "allow", "downloadPath": folder})
+        driver.execute_cdp_cmd(
+            "Browser.setDownloadBehavior", {"behavior": "allow", "downloadPath": folder}
+        )
         open_page(driver)
         driver.find_element(By.ID, "mode-own").click()
         driver.find_element(By.ID, "file").send_keys(file_of(folder, "mine.txt", data))
@@ -168,13 +221,30 @@ def markup_is_text(driver, _):
     open_page(driver)
     run(driver, OPEN, MARKUP)
     for move in [0, 1]:
-        run(driver, "window.lockreplay.page.go(arguments[0]); window.lockreplay.page.drawPaper()", move)
-        found = run(driver, """
-          return [document.querySelectorAll('img, h1 b, main b b, i, main h1, #paper b, main script, main style').length,
-            window.broken ?? null, document.getElementById('title').textContent];""")
+        run(
+            driver,
+            "window.lockreplay.page.go(arguments[0]); window.lockreplay.page.drawPaper()",
+            move,
+        )
+        found = run(
+            driver,
+            """
+          const strangers = 'img, h1 b, main b b, i, main h1, #paper b, main script, main style';
+          return [document.querySelectorAll(strangers).length,
+            window.broken ?? null, document.getElementById('title').textContent];""",
+        )
         assert found == [0, None, "<img src=x onerror=alert(1)>&lt;b&gt;"], found
-    page = run(driver, "return document.querySelector('main').textContent + document.getElementById('verdict').textContent")
-    for part in ["<b>bold</b>", "<script>window.broken=1</script> & so on", "</p><h1>no</h1>", "<i>read</i>"]:
+    page = run(
+        driver,
+        "return document.querySelector('main').textContent"
+        "+ document.getElementById('verdict').textContent",
+    )
+    for part in [
+        "<b>bold</b>",
+        "<script>window.broken=1</script> & so on",
+        "</p><h1>no</h1>",
+        "<i>read</i>",
+    ]:
         assert part in page, part
 
 

@@ -5,12 +5,15 @@ from browser import TOP, open_page, run
 from reports import moves_of
 
 ROWS = """
-return [...document.querySelectorAll('#paper tbody tr')].map((row) => [...row.cells].map((cell) => cell.textContent));
+const rows = [...document.querySelectorAll('#paper tbody tr')];
+return rows.map((row) => [...row.cells].map((cell) => cell.textContent));
 """
 
 
 def printed(driver):
-    answer = driver.execute_cdp_cmd("Page.printToPDF", {"preferCSSPageSize": True, "printBackground": True})
+    answer = driver.execute_cdp_cmd(
+        "Page.printToPDF", {"preferCSSPageSize": True, "printBackground": True}
+    )
     return base64.b64decode(answer["data"])
 
 
@@ -30,12 +33,18 @@ def a_lesson(driver, _):
 
 def only_paper_is_printed(driver, _):
     open_page(driver, "#lesson=ticket-hand-over&move=5")
-    run(driver, "document.documentElement.dataset.theme = 'dark'; window.lockreplay.page.drawPaper()")
+    run(
+        driver,
+        "document.documentElement.dataset.theme = 'dark'; window.lockreplay.page.drawPaper()",
+    )
     driver.execute_cdp_cmd("Emulation.setEmulatedMedia", {"media": "print"})
-    shown = run(driver, """
+    shown = run(
+        driver,
+        """
       const shows = (id) => getComputedStyle(document.getElementById(id)).display !== 'none';
       return [shows('paper'), shows('work'), getComputedStyle(document.body).backgroundColor,
-        getComputedStyle(document.querySelector('#paper td')).color];""")
+        getComputedStyle(document.querySelector('#paper td')).color];""",
+    )
     driver.execute_cdp_cmd("Emulation.setEmulatedMedia", {"media": ""})
     assert shown == [True, False, "rgb(255, 255, 255)", "rgb(0, 0, 0)"], shown
 
@@ -44,8 +53,11 @@ def a_long_schedule(driver, _):
     """Of a long schedule the moves around the current one."""
     text = "lock ticket threads 2\\n0 acquire\\n0 add\\n1 acquire\\n1 add\\n" + "1 read\\n" * 1500
     open_page(driver)
-    run(driver, f"const {{ page }} = window.lockreplay; page.openOwn(new TextEncoder().encode('{text}'));"
-        "page.go(1000); page.drawPaper()")
+    run(
+        driver,
+        f"const {{ page }} = window.lockreplay; page.openOwn(new TextEncoder().encode('{text}'));"
+        "page.go(1000); page.drawPaper()",
+    )
     rows = run(driver, ROWS)
     assert len(rows) == 400 and rows[0][0] == "800" and rows[-1][0] == "1199", (len(rows), rows[0])
 

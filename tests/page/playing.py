@@ -39,7 +39,12 @@ def played_by_clicks(driver, program):
     chance = random.Random(7)
     open_page(driver)
     driver.find_element(By.ID, "mode-play").click()
-    for lock, threads, bits in [("ticket", 3, 2), ("mcs", 3, 64), ("rw-simple", 2, 2), ("rw-fifo", 4, 3)]:
+    for lock, threads, bits in [
+        ("ticket", 3, 2),
+        ("mcs", 3, 64),
+        ("rw-simple", 2, 2),
+        ("rw-fifo", 4, 3),
+    ]:
         begin(driver, lock, threads, bits)
         header = run(driver, TEXT)
         lines = []
@@ -90,8 +95,12 @@ def never_refused(driver, _):
       const { run, move } = page.session;
       return [move, run.count, run.fault === null, run.refusal === null];
     """
-    for header in ["lock ticket threads 3 bits 2\n", "lock mcs threads 5", "lock rw-simple threads 4\n",
-                   "# a comment\nlock rw-fifo threads 3 bits 2\n\n"]:
+    for header in [
+        "lock ticket threads 3 bits 2\n",
+        "lock mcs threads 5",
+        "lock rw-simple threads 4\n",
+        "# a comment\nlock rw-fifo threads 3 bits 2\n\n",
+    ]:
         assert run(driver, script, header, 100) == [100, 100, True, True], header
 
 

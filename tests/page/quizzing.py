@@ -10,8 +10,10 @@ SHOWN = """
 const text = (selector) => document.querySelector(selector)?.textContent ?? '';
 return {
   form: Boolean(document.getElementById('quiz-form')), score: text('#now .score'),
-  asked: [...document.querySelectorAll('#lanes .asked')].length, future: document.querySelectorAll('#lanes .future').length,
-  outcome: document.querySelector('#now [data-outcome]')?.dataset.outcome ?? '', position: text('#position'),
+  asked: document.querySelectorAll('#lanes .asked').length,
+  future: document.querySelectorAll('#lanes .future').length,
+  outcome: document.querySelector('#now [data-outcome]')?.dataset.outcome ?? '',
+  position: text('#position'),
   right: document.querySelectorAll('#now .result .right').length,
 };
 """
@@ -39,7 +41,9 @@ def asked_and_counted(driver, _):
         wrong = number % 3 == 0
         answer(driver, outcome, "w2" if wrong else hold, queue)
         right += 2 if wrong else 3
-        wait(driver, lambda _, at=f"{number} of {len(moves)}": run(driver, SHOWN)["position"] == at)
+        wait(
+            driver, lambda _, at=f"{number} of {len(moves)}": run(driver, SHOWN)["position"] == at
+        )
         shown = run(driver, SHOWN)
         assert shown["outcome"] == outcome and shown["right"] == (2 if wrong else 3), shown
         assert shown["score"] == f"{right} of {3 * number} right", shown

@@ -32,14 +32,18 @@ def page_reports(driver, texts):
 def covered(texts, reports):
     """The locks and widths of the schedules that were played."""
     played = [text for text, report in zip(texts, reports) if not report.startswith("fault")]
-    headers = [line.split() for text in played for line in text.decode("latin-1").split("\n")
-               if line.startswith("lock ")]
+    headers = [
+        line.split()
+        for text in played
+        for line in text.decode("latin-1").split("\n")
+        if line.startswith("lock ")
+    ]
     return {words[1] for words in headers}, {words[5] for words in headers if len(words) > 5}
 
 
 def compare(driver, texts, reports):
     for first in range(0, len(texts), IN_BATCH):
-        mine = page_reports(driver, texts[first:first + IN_BATCH])
+        mine = page_reports(driver, texts[first : first + IN_BATCH])
         for text, shown, report in zip(texts[first:], mine, reports[first:]):
             assert shown == report, (text, shown[-200:], report[-200:])
 

@@ -25,8 +25,9 @@ def reports_of(program, texts):
 
 def replay(program, text):
     """The program's report of one text, and its status."""
-    answer = subprocess.run([program, "replay"], input=text, stdout=subprocess.PIPE, check=False,
-                            timeout=60)
+    answer = subprocess.run(
+        [program, "replay"], input=text, stdout=subprocess.PIPE, check=False, timeout=60
+    )
     return answer.stdout.decode("ascii"), answer.returncode
 
 

@@ -1,9 +1,9 @@
 #!/usr/bin/python3
 """Tests of page/lockreplay.html in real browsers: tests/page/run.py PROGRAM [MODULE...]
 
-Each module has its browser, three at a time. After each, the browser's log must have no error, and no
-request may have left the page. Needs Debian's chromium, chromium-driver, python3-selenium, firefox-esr
-and python3-websocket.
+Each module has its browser, three at a time. After each, the browser's log must have no error,
+and no request may have left the page. Needs Debian's chromium, chromium-driver, python3-selenium,
+firefox-esr and python3-websocket.
 """
 import concurrent.futures
 import importlib
@@ -16,8 +16,18 @@ import traceback
 from browser import PAGE, chromium
 
 IN_FIREFOX = ["firefox"]
-IN_CHROMIUM = ["lessons", "without_machine", "playing", "random_texts", "own_texts", "quizzing",
-               "keyboard", "links", "looks", "paper"]
+IN_CHROMIUM = [
+    "lessons",
+    "without_machine",
+    "playing",
+    "random_texts",
+    "own_texts",
+    "quizzing",
+    "keyboard",
+    "links",
+    "looks",
+    "paper",
+]
 # Measured, so by itself.
 ALONE = ["large"]
 AT_ONCE = 3
@@ -31,7 +41,9 @@ def stays_silent(driver):
         if message["method"] == "Network.requestWillBeSent":
             url = message["params"]["request"]["url"]
             assert url.startswith(OWN), f"a request left the page: {url}"
-    errors = [entry["message"] for entry in driver.get_log("browser") if entry["level"] == "SEVERE"]
+    errors = [
+        entry["message"] for entry in driver.get_log("browser") if entry["level"] == "SEVERE"
+    ]
     assert not errors, errors
 
 

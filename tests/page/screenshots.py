@@ -1,5 +1,5 @@
 #!/usr/bin/python3
-"""Takes the pictures of the documents: tests/page/screenshots.py writes docs/pictures/*.png, each below 200 KB."""
+"""Takes the pictures of the documents: writes docs/pictures/*.png, each below 200 KB."""
 import subprocess
 import sys
 
@@ -28,9 +28,21 @@ SHOTS = [
 
 
 def shrink(path):
-    """Fewer colours, where the tool for it is there; the picture is flat, so nothing is seen of it."""
-    subprocess.run(["pngquant", "--force", "--strip", "--speed", "1", "--output", str(path), "128", str(path)],
-                   check=False)
+    """Fewer colours, where the tool for it is there: flat pictures lose nothing by it."""
+    subprocess.run(
+        [
+            "pngquant",
+            "--force",
+            "--strip",
+            "--speed",
+            "1",
+            "--output",
+            str(path),
+            "128",
+            str(path),
+        ],
+        check=False,
+    )
 
 
 def take(name, fragment, dark, before):

@@ -1,4 +1,4 @@
-"""A browser without 64-bit WebAssembly memory: it is told so, and the lessons are shown as stored."""
+"""A browser without 64-bit WebAssembly memory: it is told so, and is shown the lessons."""
 from selenium.webdriver.common.by import By
 
 from browser import open_page, run
@@ -6,8 +6,9 @@ from lessons import SHOWN, compare, names
 from reports import moves_of
 
 NO_MACHINE = """
-const Module = WebAssembly.Module;
-WebAssembly.Module = class { constructor() { throw new WebAssembly.CompileError('no memory of 64 bits'); } };
+WebAssembly.Module = class {
+  constructor() { throw new WebAssembly.CompileError('no memory of 64 bits'); }
+};
 """
 
 
@@ -21,7 +22,9 @@ def lessons_are_shown(driver, _):
         for move, line in enumerate(moves_of(report), 1):
             run(driver, "window.lockreplay.page.go(arguments[0])", move)
             compare(run(driver, SHOWN), move, line, report.splitlines()[move - 1])
-    run(driver, "window.lockreplay.page.openOwn(new TextEncoder().encode('lock mcs threads 1\\n'))")
+    run(
+        driver, "window.lockreplay.page.openOwn(new TextEncoder().encode('lock mcs threads 1\\n'))"
+    )
     told = run(driver, "return document.getElementById('verdict').textContent")
     assert "Only the lessons can be shown" in told, told
     driver.execute_cdp_cmd("Page.removeScriptToEvaluateOnNewDocument", added)
