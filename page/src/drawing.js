@@ -60,6 +60,7 @@ function revealLane(box, view, layout) {
 // at once.
 const SCALES = [1.3, 1.2, 1.1, 1, 0.9];
 const LAST_SCALE = 0.8;
+const SMALLEST = 0.6;
 const NARROWEST = 340;
 const MANY_THREADS = 12;
 
@@ -67,14 +68,15 @@ function scaledPicture(size, lock, view, state) {
   const width = Math.max(NARROWEST, size.width);
   const least = lock.leastWidth(view, state);
   const many = view.run.threads > MANY_THREADS;
+  const last = Math.max(SMALLEST, Math.min(LAST_SCALE, width / least));
   const scales = many ? [] : SCALES.filter((scale) => width / scale >= least);
-  const from = size.scrolled / LAST_SCALE;
-  const shown = { from, to: from + size.height / LAST_SCALE };
+  const from = size.scrolled / last;
+  const shown = { from, to: from + size.height / last };
   for (const scale of scales) {
     const picture = lock.draw({ ...view, width: width / scale, scale, shown }, state);
     if (picture.height <= size.height) return picture;
   }
-  return lock.draw({ ...view, width: width / LAST_SCALE, scale: LAST_SCALE, shown }, state);
+  return lock.draw({ ...view, width: width / last, scale: last, shown }, state);
 }
 
 export function drawMemory(view, state, size) {
