@@ -43,6 +43,7 @@ tried:
 	tests/rows.py $(PROGRAM)
 	tests/process.py $(PROGRAM)
 	tests/short_memory.py $(PROGRAM)
+	tests/memory.py $(PROGRAM)
 	fuzz/fuzz.py $(PROGRAM) --seconds $(FUZZ_SECONDS)
 
 gate:
