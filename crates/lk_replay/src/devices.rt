@@ -29,7 +29,8 @@ const READ_LIMIT: usize = MOST_BYTES + 1;
 // Bytes asked of a reader at once. A small file costs the clearing of so many.
 const CHUNK: usize = 4_096;
 
-/// Reads to the end of the input, or up to 1,048,577 bytes and leaves the rest unread.
+/// Reads to the end of the input, or up to 1,048,577 bytes and leaves the rest unread. The text has no more memory than its bytes:
+/// a batch holds many.
 ///
 /// # Errors
 ///
@@ -46,7 +47,10 @@ pub fn read_text<R: Read>(alloc: Global, input: &mut R) -> Result<Vec<u8>, RunFa
     while text.len() < READ_LIMIT {
         let want = CHUNK.min(READ_LIMIT - text.len());
         match input.read(&mut chunk[..want]) {
-            Ok(0) => return Ok(text),
+            Ok(0) => {
+                text.shrink_to_fit();
+                return Ok(text);
+            }
             Ok(n) => {
                 if text.extend_from_slice(&chunk[..n]).is_err() {
                     return Err(RunFault::OutOfMemory);
@@ -55,6 +59,7 @@ pub fn read_text<R: Read>(alloc: Global, input: &mut R) -> Result<Vec<u8>, RunFa
             Err(_) => return Err(RunFault::Read),
         }
     }
+    text.shrink_to_fit();
     Ok(text)
 }
 

@@ -5,4 +5,3 @@ pub mod Commands
 pub mod Faults
 pub mod Jobs
 pub mod Replays
-pub mod Sending

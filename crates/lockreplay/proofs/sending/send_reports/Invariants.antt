@@ -1,7 +1,7 @@
 -- What went, or waits, and the rest are the whole text.
 use Rattle.std.proofs.Common.{◌≡◌, ◌+◌, ◌++◌, ℕ, List, [], map, drop}
 use Rattle.lk_workers.specs.Batch.{numbered_from, batch_text_of}
-use Rattle.lockreplay.specs.Sending.{Passes}
+use Rattle.lk_replay.specs.Devices.{Passes}
 use Rattle.lockreplay.proofs.sending.send_reports.Given as goal
 
 abbrev pub invariant-loop-place : goal.invariant-loop-place
