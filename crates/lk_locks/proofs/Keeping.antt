@@ -13,7 +13,7 @@ use Rattle.lk_locks.specs.invariants.Kept.{Kept, AgreeAs}
 use Rattle.lk_locks.proofs.Cases.{AreOf, IsAgreed}
 use Rattle.lk_locks.proofs.Threads.{each_phase}
 use Rattle.lk_locks.proofs.Moves.{Accepted, accepted_of, well_kept, agreed, held_kept, step_goes_on, call_begins, owed_is_own}
-use Rattle.lk_locks.proofs.Histories.{after_append, allowed_append, all_append, all_front, all_map, turn_of_step, turn_of_call, turn_of_other}
+use Rattle.lk_locks.proofs.Histories.{after_append, allowed_append, all_append, all_prefix, all_map, turn_of_step, turn_of_call, turn_of_other}
 use Rattle.lk_locks.specs.declared.kinds.LockKind.{LockKind}
 use Rattle.lk_locks.specs.declared.kinds.Phase.{Phase}
 use Rattle.lk_locks.specs.declared.kinds.Move.{Move}
@@ -29,7 +29,7 @@ pub entries_are_own : (kind : LockKind) (bits : ℕ) (ws : List ℕ) (t : ℕ) (
 entries_are_own kind bits ws t p (Call op) = (refl, tt)
 entries_are_own kind bits ws t p (Step k) =
     let c : Change = move_change kind bits ws t p (Step k) in
-    all_front (λ e. thread_of e ≡ t) (move_entries kind t p (Step k) c.outcome)
+    all_prefix (λ e. thread_of e ≡ t) (move_entries kind t p (Step k) c.outcome)
     (owed_of kind t c.phase)
     (let g : AreOf t (owed_of kind t p) = owed_is_own kind t p in rw (step_goes_on kind bits t ws p) at g)
 

@@ -10,16 +10,16 @@ use Rattle.lk_replay.proofs.Cuts.{has_piece}
 use Rattle.lk_replay.specs.Lines.{lines_of, without_empty_end, is_line_feed}
 use Rattle.lk_replay.specs.Ending.{last_of}
 
-onto_front : (x : ℕ) (parts others : List (List ℕ)) → 0 < length parts → onto_first x (parts ++ others) ≡ onto_first x parts ++ others
-onto_front x [] others some = absurd (omega arith)
-onto_front x (part ∷ parts) others some = refl
+onto_prefix : (x : ℕ) (parts others : List (List ℕ)) → 0 < length parts → onto_first x (parts ++ others) ≡ onto_first x parts ++ others
+onto_prefix x [] others some = absurd (omega arith)
+onto_prefix x (part ∷ parts) others some = refl
 
 -- a text is cut before and behind a byte at which it is cut
 pub split_append : (p : ℕ → Bool) (xs : List ℕ) (y : ℕ) (ys : List ℕ) → p y ≡ true → slice_split p (xs ++ y ∷ ys) ≡ slice_split p xs ++ slice_split p ys
 split_append p [] y ys here = slice_split-cons_yes p y ys here
 split_append p (x ∷ xs) y ys here = elim (cases_Bool (p x)) [
   | inl cuts ↦ slice_split-cons_yes p x (xs ++ y ∷ ys) cuts ∙ ap (λ parts. [] ∷ parts) (split_append p xs y ys here) ∙ ap (λ parts. parts ++ slice_split p ys) (sym (slice_split-cons_yes p x xs cuts))
-  | inr keeps ↦ slice_split-cons_no p x (xs ++ y ∷ ys) keeps ∙ ap (onto_first x) (split_append p xs y ys here) ∙ onto_front x (slice_split p xs) (slice_split p ys) (has_piece p xs)
+  | inr keeps ↦ slice_split-cons_no p x (xs ++ y ∷ ys) keeps ∙ ap (onto_first x) (split_append p xs y ys here) ∙ onto_prefix x (slice_split p xs) (slice_split p ys) (has_piece p xs)
       ∙ ap (λ parts. parts ++ slice_split p ys) (sym (slice_split-cons_no p x xs keeps))
 ]
 
@@ -41,32 +41,32 @@ pub cut_whole : (text : List ℕ) → Nowhere (Passes (is_byte 10) text) 0 (leng
 cut_whole text none = slice_split_none is_line_feed text
     (λ k d h. ap is_line_feed (get_or_default text k d 0 h) ∙ false_from_ne_true _ (none k (omega arith) h))
 
-closed_pieces : (front : List (List ℕ)) (line : List ℕ) → last_of (without_empty_end ((front ++ line ∷ []) ++ [] ∷ [])) ≡ line
+closed_pieces : (prefix : List (List ℕ)) (line : List ℕ) → last_of (without_empty_end ((prefix ++ line ∷ []) ++ [] ∷ [])) ≡ line
 closed_pieces [] line = refl
 closed_pieces (a ∷ []) line = refl
 closed_pieces (a ∷ b ∷ []) line = refl
-closed_pieces (a ∷ b ∷ c ∷ front) line = closed_pieces (b ∷ c ∷ front) line
+closed_pieces (a ∷ b ∷ c ∷ prefix) line = closed_pieces (b ∷ c ∷ prefix) line
 
-open_pieces : (front : List (List ℕ)) (b : ℕ) (bs : List ℕ) → last_of (without_empty_end (front ++ (b ∷ bs) ∷ [])) ≡ b ∷ bs
+open_pieces : (prefix : List (List ℕ)) (b : ℕ) (bs : List ℕ) → last_of (without_empty_end (prefix ++ (b ∷ bs) ∷ [])) ≡ b ∷ bs
 open_pieces [] b bs = refl
 open_pieces (a ∷ []) b bs = refl
 open_pieces (a ∷ c ∷ []) b bs = refl
-open_pieces (a ∷ c ∷ d ∷ front) b bs = open_pieces (c ∷ d ∷ front) b bs
+open_pieces (a ∷ c ∷ d ∷ prefix) b bs = open_pieces (c ∷ d ∷ prefix) b bs
 
 -- the last line of a text with a line feed at its end
-pub closed_line : (text before line : List ℕ) (front : List (List ℕ)) → text ≡ before ++ 10 ∷ [] → slice_split is_line_feed before ≡ front ++ line ∷ [] → line ≡ last_of (lines_of text)
+pub closed_line : (text before line : List ℕ) (prefix : List (List ℕ)) → text ≡ before ++ 10 ∷ [] → slice_split is_line_feed before ≡ prefix ++ line ∷ [] → line ≡ last_of (lines_of text)
 unfolding lines_of
-closed_line text before line front ends cut =
+closed_line text before line prefix ends cut =
     sym (ap (λ t. last_of (without_empty_end (slice_split is_line_feed t))) ends ∙ ap (λ parts. last_of (without_empty_end parts)) (split_append is_line_feed before 10 [] refl)
-    ∙ ap (λ parts. last_of (without_empty_end (parts ++ [] ∷ []))) cut ∙ closed_pieces front line)
+    ∙ ap (λ parts. last_of (without_empty_end (parts ++ [] ∷ []))) cut ∙ closed_pieces prefix line)
 
 -- the last line of a text with none
-pub open_line : (text line : List ℕ) (front : List (List ℕ)) → (length line ≡ 0 → length text ≡ 0) → length line ≤ length text → slice_split is_line_feed text ≡ front ++ line ∷ [] → line ≡ last_of (lines_of text)
+pub open_line : (text line : List ℕ) (prefix : List (List ℕ)) → (length line ≡ 0 → length text ≡ 0) → length line ≤ length text → slice_split is_line_feed text ≡ prefix ++ line ∷ [] → line ≡ last_of (lines_of text)
 unfolding lines_of
-open_line [] [] front some short cut = refl
-open_line [] (b ∷ bs) front some short cut = absurd (omega arith)
-open_line (x ∷ xs) [] front some short cut = absurd (omega (arith, some refl))
-open_line (x ∷ xs) (b ∷ bs) front some short cut = sym (ap (λ parts. last_of (without_empty_end parts)) cut ∙ open_pieces front b bs)
+open_line [] [] prefix some short cut = refl
+open_line [] (b ∷ bs) prefix some short cut = absurd (omega arith)
+open_line (x ∷ xs) [] prefix some short cut = absurd (omega (arith, some refl))
+open_line (x ∷ xs) (b ∷ bs) prefix some short cut = sym (ap (λ parts. last_of (without_empty_end parts)) cut ∙ open_pieces prefix b bs)
 
 -- the byte behind all others
 pub last_byte : (text before : List ℕ) (b : ℕ) → text ≡ before ++ b ∷ [] → length before + 1 ≡ length text → get_or text (length text - 1) 0 ≡ b

@@ -106,9 +106,9 @@ reader_listed xs text now t at is place number =
     let up : List ℕ = later_numbers (up_to xs t) in
     let rest : List ℕ = later_numbers (above xs t) in
     let whole : text ≡ up ++ rest = later_parts xs text t is in
-    let front : take at text ≡ up = ap (λ (k : ℕ). take k text) place ∙ ap (take (length up)) whole ∙ take-append_seam up rest in
+    let prefix : take at text ≡ up = ap (λ (k : ℕ). take k text) place ∙ ap (take (length up)) whole ∙ take-append_seam up rest in
     let back : drop at text ≡ rest = ap (λ (k : ℕ). drop k text) place ∙ ap (drop (length up)) whole ∙ drop-append_seam up rest in
-    rw (front, back, number) (append_assoc up (44 ∷ decimal t) rest ∙ sym (ap later_numbers (joined_parts xs t) ∙ later_append (up_to xs t) (t ∷ above xs t)))
+    rw (prefix, back, number) (append_assoc up (44 ∷ decimal t) rest ∙ sym (ap later_numbers (joined_parts xs t) ∙ later_append (up_to xs t) (t ∷ above xs t)))
 
 -- a reader goes
 pub record IsTakenOut (xs text : List ℕ) (t up gone : ℕ) : Type 0 where

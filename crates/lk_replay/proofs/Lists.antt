@@ -31,21 +31,21 @@ width_more xs place d width step within so_far more =
 pub width_within : (xs : List ℕ) (place : ℕ) → length (later_numbers (take place xs)) ≤ length (later_numbers xs)
 width_within xs place = omega (arith, ap length (text_halves xs place), length-append (later_numbers (take place xs)) (later_numbers (drop place xs)))
 
-take_front : (xs ys : List ℕ) → take (length xs) (xs ++ ys) ≡ xs
-take_front xs ys = take-append_seam xs ys
+take_prefix : (xs ys : List ℕ) → take (length xs) (xs ++ ys) ≡ xs
+take_prefix xs ys = take-append_seam xs ys
 
 -- the text without the number at a place
 pub text_gone : (xs text : List ℕ) (place d at width : ℕ) → place < length xs → text ≡ later_numbers xs → at ≡ length (later_numbers (take place xs)) → width ≡ length (decimal (get_or xs place d)) + 1
     → (at + width ≤ length text) × (take at text ++ drop (at + width) text ≡ later_numbers (take place xs ++ drop (place + 1) xs))
 text_gone xs text place d at width within is starts wide =
-    let front : List ℕ = later_numbers (take place xs) in
+    let prefix : List ℕ = later_numbers (take place xs) in
     let number : List ℕ = 44 ∷ decimal (get_or xs place d) in
     let rest : List ℕ = later_numbers (drop (place + 1) xs) in
-    let whole : text ≡ front ++ (number ++ rest) = is ∙ text_around xs place d within in
+    let whole : text ≡ prefix ++ (number ++ rest) = is ∙ text_around xs place d within in
     let size : width ≡ length number = omega arith in (
-      omega (arith, ap length whole, length-append front (number ++ rest), length-append number rest),
-      rw (whole, starts, size) (ap (λ (ys : List ℕ). ys ++ drop (length front + length number) (front ++ (number ++ rest))) (take_front front (number ++ rest))
-          ∙ ap (λ (ys : List ℕ). front ++ ys) (drop-append-add front (number ++ rest) (length number) ∙ drop-append_seam number rest)
+      omega (arith, ap length whole, length-append prefix (number ++ rest), length-append number rest),
+      rw (whole, starts, size) (ap (λ (ys : List ℕ). ys ++ drop (length prefix + length number) (prefix ++ (number ++ rest))) (take_prefix prefix (number ++ rest))
+          ∙ ap (λ (ys : List ℕ). prefix ++ ys) (drop-append-add prefix (number ++ rest) (length number) ∙ drop-append_seam number rest)
           ∙ sym (later_append (take place xs) (drop (place + 1) xs))),
     )
 
@@ -53,26 +53,26 @@ text_gone xs text place d at width within is starts wide =
 pub text_new : (xs text : List ℕ) (place at t : ℕ) → text ≡ later_numbers xs → at ≡ length (later_numbers (take place xs))
     → (take at text ++ 44 ∷ decimal t) ++ drop at text ≡ later_numbers (take place xs ++ t ∷ drop place xs)
 text_new xs text place at t is starts =
-    let front : List ℕ = later_numbers (take place xs) in
+    let prefix : List ℕ = later_numbers (take place xs) in
     let rest : List ℕ = later_numbers (drop place xs) in
-    let whole : text ≡ front ++ rest = is ∙ text_halves xs place in
-    rw (whole, starts) (ap (λ (ys : List ℕ). (ys ++ 44 ∷ decimal t) ++ drop (length front) (front ++ rest)) (take_front front rest)
-    ∙ ap (λ (ys : List ℕ). (front ++ 44 ∷ decimal t) ++ ys) (drop-append_seam front rest)
-    ∙ append_assoc front (44 ∷ decimal t) rest ∙ sym (later_append (take place xs) (t ∷ drop place xs)))
+    let whole : text ≡ prefix ++ rest = is ∙ text_halves xs place in
+    rw (whole, starts) (ap (λ (ys : List ℕ). (ys ++ 44 ∷ decimal t) ++ drop (length prefix) (prefix ++ rest)) (take_prefix prefix rest)
+    ∙ ap (λ (ys : List ℕ). (prefix ++ 44 ∷ decimal t) ++ ys) (drop-append_seam prefix rest)
+    ∙ append_assoc prefix (44 ∷ decimal t) rest ∙ sym (later_append (take place xs) (t ∷ drop place xs)))
 
 -- lists that differ by one
 pub one_gone : (xs ys : List ℕ) (place : ℕ) → take place xs ≡ take place ys → drop (place + 1) xs ≡ drop place ys → take place xs ++ drop (place + 1) xs ≡ ys
-one_gone xs ys place front rest = rw (front, rest) (take-append-drop place ys)
+one_gone xs ys place prefix rest = rw (prefix, rest) (take-append-drop place ys)
 
 pub one_new : (xs ys : List ℕ) (place : ℕ) → place < length ys → take place xs ≡ take place ys → drop place xs ≡ drop (place + 1) ys → take place xs ++ get_or ys place 0 ∷ drop place xs ≡ ys
-one_new xs ys place within front rest = rw (front, rest) (sym (around ys place 0 within))
+one_new xs ys place within prefix rest = rw (prefix, rest) (sym (around ys place 0 within))
 
 -- one more of both
-pub front_more : (xs ys : List ℕ) (place : ℕ) → place < length xs → place < length ys → take place xs ≡ take place ys → get_or xs place 0 ≡ get_or ys place 0 → take (place + 1) xs ≡ take (place + 1) ys
-front_more xs ys place a b front same =
+pub prefix_more : (xs ys : List ℕ) (place : ℕ) → place < length xs → place < length ys → take place xs ≡ take place ys → get_or xs place 0 ≡ get_or ys place 0 → take (place + 1) xs ≡ take (place + 1) ys
+prefix_more xs ys place a b prefix same =
     let x : take (place + 1) xs ≡ take place xs ++ get_or xs place 0 ∷ [] = rw add-one (take-suc xs place 0 a) in
     let y : take (place + 1) ys ≡ take place ys ++ get_or ys place 0 ∷ [] = rw add-one (take-suc ys place 0 b) in
-    x ∙ rw (front, same) (sym y)
+    x ∙ rw (prefix, same) (sym y)
 
 -- what a call that did not fail left
 pub on_ok : {E : Type 0} (r : Result (Unit {0}) E) (x y : List ℕ) → is_err r ≡ false → OnOk r (x ≡ y) → x ≡ y

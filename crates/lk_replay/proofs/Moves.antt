@@ -10,16 +10,16 @@ use Rattle.lk_replay.specs.Lines.{is_skipped, lines_of}
 
 -- what is read from the rest, behind these lines
 abbrev pub with_lines : List Line → Result (List Line) Fault → Result (List Line) Fault
-with_lines front (Ok lines) = Ok (front ++ lines)
-with_lines front (Err fault) = Err fault
+with_lines prefix (Ok lines) = Ok (prefix ++ lines)
+with_lines prefix (Err fault) = Err fault
 
 pub with_lines-nil : (read : Result (List Line) Fault) → with_lines [] read ≡ read
 with_lines-nil (Ok lines) = refl
 with_lines-nil (Err fault) = refl
 
-with_lines-more : (front : List Line) (line : Line) (read : Result (List Line) Fault) → with_lines front (with_line line read) ≡ with_lines (front ++ line ∷ []) read
-with_lines-more front line (Ok lines) = ap Ok (sym (append_assoc front (line ∷ []) lines))
-with_lines-more front line (Err fault) = refl
+with_lines-more : (prefix : List Line) (line : Line) (read : Result (List Line) Fault) → with_lines prefix (with_line line read) ≡ with_lines (prefix ++ line ∷ []) read
+with_lines-more prefix line (Ok lines) = ap Ok (sym (append_assoc prefix (line ∷ []) lines))
+with_lines-more prefix line (Err fault) = refl
 
 pub line_skipped : (number taken : ℕ) (lines : List (List ℕ)) (line : List ℕ) (others : List (List ℕ)) → lines ≡ line ∷ others → is_skipped line ≡ true
     → moves_from number taken lines ≡ moves_from (number + 1) taken others
@@ -38,17 +38,17 @@ pub line_over : (number taken : ℕ) (lines : List (List ℕ)) (line : List ℕ)
 line_over number taken lines line others move first read some full =
     line_read number taken lines line others first read ∙ ap (λ m. moves_after m number (taken == 65536) (moves_from (number + 1) (taken + 1) others)) some ∙ cond-true _ _ _ full
 
-pub line_taken : (front : List Line) (number taken : ℕ) (lines : List (List ℕ)) (line : List ℕ) (others : List (List ℕ)) (move : ℕ × Move) → lines ≡ line ∷ others → is_skipped line ≡ false → move_of line ≡ Some move
-    → (taken == 65536) ≡ false → with_lines front (moves_from number taken lines) ≡ with_lines (front ++ record { number = number; thread = move.0; action = move.1 } ∷ []) (moves_from (number + 1) (taken + 1) others)
-line_taken front number taken lines line others move first read some room =
-    ap (with_lines front) (line_read number taken lines line others first read ∙ ap (λ m. moves_after m number (taken == 65536) (moves_from (number + 1) (taken + 1) others)) some ∙ cond-false _ _ _ room)
-    ∙ with_lines-more front _ _
+pub line_taken : (prefix : List Line) (number taken : ℕ) (lines : List (List ℕ)) (line : List ℕ) (others : List (List ℕ)) (move : ℕ × Move) → lines ≡ line ∷ others → is_skipped line ≡ false → move_of line ≡ Some move
+    → (taken == 65536) ≡ false → with_lines prefix (moves_from number taken lines) ≡ with_lines (prefix ++ record { number = number; thread = move.0; action = move.1 } ∷ []) (moves_from (number + 1) (taken + 1) others)
+line_taken prefix number taken lines line others move first read some room =
+    ap (with_lines prefix) (line_read number taken lines line others first read ∙ ap (λ m. moves_after m number (taken == 65536) (moves_from (number + 1) (taken + 1) others)) some ∙ cond-false _ _ _ room)
+    ∙ with_lines-more prefix _ _
 
 -- no text is left
-pub text_done : (front : List Line) (number taken : ℕ) (rest : List ℕ) → (length rest == 0) ≡ true → with_lines front (moves_from number taken (lines_of rest)) ≡ Ok front
+pub text_done : (prefix : List Line) (number taken : ℕ) (rest : List ℕ) → (length rest == 0) ≡ true → with_lines prefix (moves_from number taken (lines_of rest)) ≡ Ok prefix
 unfolding lines_of
-text_done front number taken [] empty = ap Ok (append-nil front)
-text_done front number taken (b ∷ bs) empty = absurd (omega (arith, eqb-true _ _ empty))
+text_done prefix number taken [] empty = ap Ok (append-nil prefix)
+text_done prefix number taken (b ∷ bs) empty = absurd (omega (arith, eqb-true _ _ empty))
 
 pick : (b : Bool) (x y : Result (List Line) Fault) → WantsMemory x → WantsMemory y → WantsMemory (cond b x y)
 pick true x y p q = p

@@ -6,7 +6,7 @@ use Rattle.std.proofs.lemmas.List.{length-append, take-append-le}
 use Rattle.std.proofs.lemmas.Result.{on_err_weaker, on_ok_weaker}
 use Rattle.std.specs.Io.KnownBytes.{Appends}
 use Rattle.lk_replay.specs.declared.devices.RunFault.{RunFault}
-use Rattle.lk_replay.specs.Devices.{AppendsFront, Passes}
+use Rattle.lk_replay.specs.Devices.{AppendsPrefix, Passes}
 
 -- all of the bytes wait
 pub passes_kept : (waited bytes : List ℕ) (c : Option (List ℕ)) → Passes waited c bytes (waited ++ bytes) c
@@ -29,23 +29,23 @@ passes_on waited a between b waits old mid new (sent, appended, first) (more, ap
   append_assoc sent more waits ∙ ap (λ l. sent ++ l) next ∙ sym (append_assoc sent between b) ∙ ap (λ l. l ++ b) first ∙ append_assoc waited a b,
 )
 
--- what waited and a front of a text, where the text is the beginning of a longer one
-pub front_of_more : (waited a b : List ℕ) (old new : Option (List ℕ)) → AppendsFront old new (waited ++ a) → AppendsFront old new (waited ++ (a ++ b))
-front_of_more waited a b old new (n, within, appended) =
+-- what waited and a prefix of a text, where the text is the beginning of a longer one
+pub prefix_of_more : (waited a b : List ℕ) (old new : Option (List ℕ)) → AppendsPrefix old new (waited ++ a) → AppendsPrefix old new (waited ++ (a ++ b))
+prefix_of_more waited a b old new (n, within, appended) =
     let whole : (waited ++ a) ++ b ≡ waited ++ (a ++ b) = append_assoc waited a b in
-    let front : take n (waited ++ (a ++ b)) ≡ take n (waited ++ a) = ap (take n) (sym whole) ∙ take-append-le n (waited ++ a) b within in
-    (n, omega (arith, within, length-append (waited ++ a) b, ap length whole), subst (Appends old new) (sym front) appended)
+    let prefix : take n (waited ++ (a ++ b)) ≡ take n (waited ++ a) = ap (take n) (sym whole) ∙ take-append-le n (waited ++ a) b within in
+    (n, omega (arith, within, length-append (waited ++ a) b, ap length whole), subst (Appends old new) (sym prefix) appended)
 
--- one text went on its way, and then a front of the rest went out
-pub front_after : (waited a between b : List ℕ) (old mid new : Option (List ℕ))
-    → Passes waited old a between mid → AppendsFront mid new (between ++ b) → AppendsFront old new (waited ++ (a ++ b))
-front_after waited a between b old mid new (sent, appended, first) (n, within, appends) =
+-- one text went on its way, and then a prefix of the rest went out
+pub prefix_after : (waited a between b : List ℕ) (old mid new : Option (List ℕ))
+    → Passes waited old a between mid → AppendsPrefix mid new (between ++ b) → AppendsPrefix old new (waited ++ (a ++ b))
+prefix_after waited a between b old mid new (sent, appended, first) (n, within, appends) =
     let whole : sent ++ (between ++ b) ≡ waited ++ (a ++ b) = sym (append_assoc sent between b) ∙ ap (λ l. l ++ b) first ∙ append_assoc waited a b in
-    let front : take (length sent + n) (waited ++ (a ++ b)) ≡ sent ++ take n (between ++ b) =
+    let prefix : take (length sent + n) (waited ++ (a ++ b)) ≡ sent ++ take n (between ++ b) =
     ap (take (length sent + n)) (sym whole) ∙ take-append-add sent (between ++ b) n in (
       length sent + n,
       omega (arith, within, length-append sent (between ++ b), ap length whole),
-      subst (Appends old new) (sym front) (Appends-trans old mid new sent _ appended appends),
+      subst (Appends old new) (sym prefix) (Appends-trans old mid new sent _ appended appends),
     )
 
 -- ---- the same of what a call answers
@@ -62,23 +62,23 @@ pub passes_then : (r : Result (Unit {0}) RunFault) (waited a between b waits : L
     → Passes waited old a between mid → OnOk r (Passes between mid b waits new) → OnOk r (Passes waited old (a ++ b) waits new)
 passes_then r waited a between b waits old mid new first = on_ok_weaker r (passes_on waited a between b waits old mid new first)
 
-pub front_then : (r : Result (Unit {0}) RunFault) (waited a between b : List ℕ) (old mid new : Option (List ℕ))
-    → Passes waited old a between mid → OnErr r (AppendsFront mid new (between ++ b)) → OnErr r (AppendsFront old new (waited ++ (a ++ b)))
-front_then r waited a between b old mid new first = on_err_weaker r (front_after waited a between b old mid new first)
+pub prefix_then : (r : Result (Unit {0}) RunFault) (waited a between b : List ℕ) (old mid new : Option (List ℕ))
+    → Passes waited old a between mid → OnErr r (AppendsPrefix mid new (between ++ b)) → OnErr r (AppendsPrefix old new (waited ++ (a ++ b)))
+prefix_then r waited a between b old mid new first = on_err_weaker r (prefix_after waited a between b old mid new first)
 
 -- ---- of a whole batch
 
--- a part of it went on its way, and then a front of what follows went out
-pub front_of_whole : (whole done waits text rest : List ℕ) (old mid new : Option (List ℕ)) → Passes [] old done waits mid
-    → AppendsFront mid new (waits ++ text) → done ++ (text ++ rest) ≡ whole → AppendsFront old new whole
-front_of_whole whole done waits text rest old mid new passed front parts =
-    subst (AppendsFront old new) (append_assoc done text rest ∙ parts) (front_of_more [] (done ++ text) rest old new (front_after [] done waits text old mid new passed front))
+-- a part of it went on its way, and then a prefix of what follows went out
+pub prefix_of_whole : (whole done waits text rest : List ℕ) (old mid new : Option (List ℕ)) → Passes [] old done waits mid
+    → AppendsPrefix mid new (waits ++ text) → done ++ (text ++ rest) ≡ whole → AppendsPrefix old new whole
+prefix_of_whole whole done waits text rest old mid new passed prefix parts =
+    subst (AppendsPrefix old new) (append_assoc done text rest ∙ parts) (prefix_of_more [] (done ++ text) rest old new (prefix_after [] done waits text old mid new passed prefix))
 
 -- all of it went on its way, and then what waited went out
 pub whole_passed : (whole waits : List ℕ) (old mid new : Option (List ℕ)) → Passes [] old whole waits mid → Appends mid new waits → Appends old new whole
 whole_passed whole waits old mid new (sent, appended, parts) appends = subst (Appends old new) parts (Appends-trans old mid new sent waits appended appends)
 
--- all of it went on its way, and then a front of what waited went out
-pub front_of_rest : (whole waits : List ℕ) (old mid new : Option (List ℕ)) → Passes [] old whole waits mid → AppendsFront mid new waits → AppendsFront old new whole
-front_of_rest whole waits old mid new passed front =
-    front_of_whole whole whole waits [] [] old mid new passed (subst (AppendsFront mid new) (sym (append-nil waits)) front) (append-nil whole)
+-- all of it went on its way, and then a prefix of what waited went out
+pub prefix_of_rest : (whole waits : List ℕ) (old mid new : Option (List ℕ)) → Passes [] old whole waits mid → AppendsPrefix mid new waits → AppendsPrefix old new whole
+prefix_of_rest whole waits old mid new passed prefix =
+    prefix_of_whole whole whole waits [] [] old mid new passed (subst (AppendsPrefix mid new) (sym (append-nil waits)) prefix) (append-nil whole)

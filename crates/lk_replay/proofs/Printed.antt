@@ -70,9 +70,9 @@ pub no_lines : (f : Following) (moves : List Accepted) (added : List ℕ) (entri
 no_lines f [] added entries i none = refl
 no_lines f (m ∷ ms) added entries i none = absurd (omega arith)
 
-allowed_front : (q : Sequential) (xs ys : List Entry) → AreEnabled q (xs ++ ys) → AreEnabled q xs
-allowed_front q [] ys a = tt
-allowed_front q (x ∷ xs) ys (b, a) = (b, allowed_front (after_entry q x) xs ys a)
+allowed_prefix : (q : Sequential) (xs ys : List Entry) → AreEnabled q (xs ++ ys) → AreEnabled q xs
+allowed_prefix q [] ys a = tt
+allowed_prefix q (x ∷ xs) ys (b, a) = (b, allowed_prefix (after_entry q x) xs ys a)
 
 -- the next entries may come, and then the rest
 pub record IsSplit (q : Sequential) (entries : List Entry) (j n : ℕ) : Type 0 where
@@ -83,7 +83,7 @@ pub next_enabled : (q : Sequential) (entries : List Entry) (j n : ℕ) → AreEn
 next_enabled q entries j n a =
     let parts : AreEnabled q (take n (drop j entries) ++ drop n (drop j entries)) = subst (AreEnabled q) (sym (take-append-drop n (drop j entries))) a in
     record {
-      next = allowed_front q (take n (drop j entries)) (drop n (drop j entries)) parts;
+      next = allowed_prefix q (take n (drop j entries)) (drop n (drop j entries)) parts;
       rest = subst (AreEnabled (after_entries q (take n (drop j entries)))) (drop-drop n j entries) (allowed_rest q (take n (drop j entries)) (drop n (drop j entries)) parts);
     }
 
@@ -126,33 +126,33 @@ behind_lines f count [] text some = refl
 behind_lines f count (m ∷ ms) text some =
     let g : Following = followed_by f m.entries in
     let shown : List ℕ = (holding_text (holding_in g.kind g.sequential g.holder) ++ codes " queue ") ++ queue_text (waiting_in g.kind g.sequential) in
-    let front : List ℕ = move_text (count + 1) m.accepted in
+    let prefix : List ℕ = move_text (count + 1) m.accepted in
     let rest : List ℕ = lines_from g (count + 1) ms in
-    ap (λ (ys : List ℕ). ending_of ((ys ++ rest) ++ text)) (sym (append_assoc front shown (codes "\n")))
-    ∙ ap ending_of (append_assoc ((front ++ shown) ++ codes "\n") rest text)
-    ∙ behind_line (front ++ shown) (rest ++ text) (omega (arith, length-append rest text))
+    ap (λ (ys : List ℕ). ending_of ((ys ++ rest) ++ text)) (sym (append_assoc prefix shown (codes "\n")))
+    ∙ ap ending_of (append_assoc ((prefix ++ shown) ++ codes "\n") rest text)
+    ∙ behind_line (prefix ++ shown) (rest ++ text) (omega (arith, length-append rest text))
     ∙ behind_lines g (count + 1) ms text some
 
 -- ---- lines that are written
 
-pub line_gone : (out front end lines last whole : List ℕ) → out ++ (((front ++ end) ++ lines) ++ last) ≡ whole → ((out ++ front) ++ end) ++ (lines ++ last) ≡ whole
-line_gone out front end lines last whole is =
-    append_assoc (out ++ front) end (lines ++ last) ∙ append_assoc out front (end ++ (lines ++ last))
-    ∙ ap (λ (ys : List ℕ). out ++ ys) (sym (append_assoc (front ++ end) lines last ∙ append_assoc front end (lines ++ last))) ∙ is
+pub line_gone : (out prefix end lines last whole : List ℕ) → out ++ (((prefix ++ end) ++ lines) ++ last) ≡ whole → ((out ++ prefix) ++ end) ++ (lines ++ last) ≡ whole
+line_gone out prefix end lines last whole is =
+    append_assoc (out ++ prefix) end (lines ++ last) ∙ append_assoc out prefix (end ++ (lines ++ last))
+    ∙ ap (λ (ys : List ℕ). out ++ ys) (sym (append_assoc (prefix ++ end) lines last ∙ append_assoc prefix end (lines ++ last))) ∙ is
 
 -- ---- one step of the printer
 
 -- the line that was printed, and the lines that are left
-pub line_printed : (old front : List ℕ) (f g : Following) (moves : List Accepted) (added : List ℕ) (entries : List Entry) (i j n count : ℕ) (d : Accepted) → i < length moves → i < length added
-    → n ≡ get_or added i 0 → g ≡ followed_by f (take (j + n - j) (drop j entries)) → count ≡ i + 1 → front ≡ move_text count (get_or moves i d)
+pub line_printed : (old prefix : List ℕ) (f g : Following) (moves : List Accepted) (added : List ℕ) (entries : List Entry) (i j n count : ℕ) (d : Accepted) → i < length moves → i < length added
+    → n ≡ get_or added i 0 → g ≡ followed_by f (take (j + n - j) (drop j entries)) → count ≡ i + 1 → prefix ≡ move_text count (get_or moves i d)
     → old ≡ lines_from f i (made_from (drop i moves) (drop i added) (drop j entries))
-    → old ≡ (front ++ followed_text g) ++ lines_from g (i + 1) (made_from (drop (i + 1) moves) (drop (i + 1) added) (drop (j + n) entries))
-line_printed old front f g moves added entries i j n count d a b size is counted written old_is =
+    → old ≡ (prefix ++ followed_text g) ++ lines_from g (i + 1) (made_from (drop (i + 1) moves) (drop (i + 1) added) (drop (j + n) entries))
+line_printed old prefix f g moves added entries i j n count d a b size is counted written old_is =
     let a_move : Accepted = get_or moves i d in
     let rest : Following → ℕ → List ℕ = λ (h : Following) (k : ℕ). lines_from h (i + 1) (made_from (drop (i + 1) moves) (drop (i + 1) added) (drop (j + k) entries)) in
     let next : Following = followed_by f (take (get_or added i 0) (drop j entries)) in
     let same : g ≡ next = is ∙ ap (λ (k : ℕ). followed_by f (take k (drop j entries))) (omega (arith, size)) in
-    let text : front ≡ move_text (i + 1) a_move = written ∙ ap (λ (k : ℕ). move_text k a_move) counted in
+    let text : prefix ≡ move_text (i + 1) a_move = written ∙ ap (λ (k : ℕ). move_text k a_move) counted in
     old_is ∙ one_line f moves added entries i j d a b
     ∙ sym (ap (λ (xs : List ℕ). (xs ++ followed_text g) ++ rest g n) text ∙ ap (λ (h : Following). (move_text (i + 1) a_move ++ followed_text h) ++ rest h n) same
     ∙ ap (λ (k : ℕ). (move_text (i + 1) a_move ++ followed_text next) ++ rest next k) size)
@@ -174,9 +174,9 @@ pub may_be_next : (q : Sequential) (entries : List Entry) (j n : ℕ) → AreEna
 may_be_next q entries j n a = subst (λ (k : ℕ). AreEnabled q (take k (drop j entries))) (omega arith) (next_enabled q entries j n a).next
 
 -- the next line's parts, one after another
-pub next_parts : (whole done lines rest front end a b last same : List ℕ) → lines ≡ (a ++ b) ++ rest → same ≡ last → front ≡ a → end ≡ b → done ++ (lines ++ last) ≡ whole
-    → done ++ (front ++ (end ++ (rest ++ same))) ≡ whole
-next_parts whole done lines rest front end a b last same is kept first second parts =
+pub next_parts : (whole done lines rest prefix end a b last same : List ℕ) → lines ≡ (a ++ b) ++ rest → same ≡ last → prefix ≡ a → end ≡ b → done ++ (lines ++ last) ≡ whole
+    → done ++ (prefix ++ (end ++ (rest ++ same))) ≡ whole
+next_parts whole done lines rest prefix end a b last same is kept first second parts =
     rw (kept, first, second) (sym (ap (λ (ys : List ℕ). done ++ ys) (ap (λ (ys : List ℕ). ys ++ last) is ∙ append_assoc (a ++ b) rest last ∙ append_assoc a b (rest ++ last))) ∙ parts)
 
 -- no line is left but the last

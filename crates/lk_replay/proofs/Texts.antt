@@ -9,9 +9,9 @@ use borrow.Rule.Slice.PartMut.{put_mid, post_of, Post-is}
 pub block_pushed : (xs now block : List ℕ) (at len : ℕ) → now ≡ block → length block ≡ 16 → len ≤ 16 → at ≤ length xs
     → take (at + len) (put_mid at (at + 16 - at) xs now) ≡ take at xs ++ take len block
 block_pushed xs now block at len is size fits within =
-    let front : length (take at xs) ≡ at = length-take-le at xs within in
+    let prefix : length (take at xs) ≡ at = length-take-le at xs within in
     let post : List ℕ = post_of at (at + 16 - at) xs in
-    ap (λ (k : ℕ). take (k + len) (take at xs ++ (now ++ post))) (sym front) ∙ take-append-add (take at xs) (now ++ post) len
+    ap (λ (k : ℕ). take (k + len) (take at xs ++ (now ++ post))) (sym prefix) ∙ take-append-add (take at xs) (now ++ post) len
     ∙ ap (λ (ys : List ℕ). take at xs ++ ys) (take-append-le len now post (omega (arith, ap length is)) ∙ ap (take len) is)
 
 -- bytes taken out
@@ -38,15 +38,15 @@ inserted xs moved now text at wide len within most size is after =
     let before_size : length before ≡ k = length-take-le k xs (omega arith) in
     let moved_size : length moved ≡ length xs = ap length after ∙ length-paste xs k (drop at xs) n (omega arith) (omega (arith, length-drop at xs)) in
     let whole : take (k + n) moved ≡ before ++ rest = ap (take (k + n)) after ∙ take-paste xs k (drop at xs) n (omega arith) (omega (arith, length-drop at xs)) in
-    let front : take at moved ≡ take at xs = sym (take-take at (k + n) moved (omega arith)) ∙ ap (take at) whole ∙ take-append-le at before rest (omega arith) ∙ take-take at k xs (omega arith) in
+    let prefix : take at moved ≡ take at xs = sym (take-take at (k + n) moved (omega arith)) ∙ ap (take at) whole ∙ take-append-le at before rest (omega arith) ∙ take-take at k xs (omega arith) in
     let behind : take n (drop k moved) ≡ rest = sym (drop-take k n moved) ∙ ap (drop k) whole ∙ drop_at before rest k before_size in
     let post : post_of at (k - at) moved ≡ drop k moved = Post-is at k moved (omega arith) in
-    let front_size : length (take at xs) ≡ at = length-take-le at xs (omega arith) in
+    let prefix_size : length (take at xs) ≡ at = length-take-le at xs (omega arith) in
     let place : len + wide ≡ length (take at xs ++ text) + n = omega (arith, length-append (take at xs) text) in
     let kept : take at (take len xs) ≡ take at xs = take-take at len xs within in
     let total : len ≡ at + n = omega arith in
     let same : rest ≡ drop at (take len xs) = sym (drop-take at n xs) ∙ ap (λ (m : ℕ). drop at (take m xs)) (sym total) in
-    ap (take (len + wide)) (ap (λ (ys : List ℕ). ys ++ (now ++ post_of at (k - at) moved)) front ∙ ap (λ (ys : List ℕ). take at xs ++ (ys ++ post_of at (k - at) moved)) is
+    ap (take (len + wide)) (ap (λ (ys : List ℕ). ys ++ (now ++ post_of at (k - at) moved)) prefix ∙ ap (λ (ys : List ℕ). take at xs ++ (ys ++ post_of at (k - at) moved)) is
     ∙ ap (λ (ys : List ℕ). take at xs ++ (text ++ ys)) post ∙ sym (append_assoc (take at xs) text (drop k moved)))
     ∙ ap (λ (m : ℕ). take m ((take at xs ++ text) ++ drop k moved)) place ∙ take-append-add (take at xs ++ text) (drop k moved) n
     ∙ ap (λ (ys : List ℕ). (take at xs ++ text) ++ ys) (behind ∙ same) ∙ ap (λ (ys : List ℕ). (ys ++ text) ++ drop at (take len xs)) (sym kept)

@@ -4,9 +4,9 @@ use Rattle.std.specs.Prelude.{◌≡◌, ℕ, ◌≤◌, List, ◌++◌, length,
 use Rattle.std.specs.Io.KnownBytes.{Appends}
 use Rattle.lk_replay.specs.declared.devices.RunFault.{RunFault}
 
--- known bytes grew by a front of these bytes
-abbrev pub AppendsFront : Option (List ℕ) → Option (List ℕ) → List ℕ → Type 0
-AppendsFront old new bytes = (n : ℕ) × (n ≤ length bytes) × Appends old new (take n bytes)
+-- known bytes grew by a prefix of these bytes
+abbrev pub AppendsPrefix : Option (List ℕ) → Option (List ℕ) → List ℕ → Type 0
+AppendsPrefix old new bytes = (n : ℕ) × (n ≤ length bytes) × Appends old new (take n bytes)
 
 -- bytes went behind what waited: what the output got, and then what waits now, is what waited and then the bytes
 abbrev pub Passes : List ℕ → Option (List ℕ) → List ℕ → List ℕ → Option (List ℕ) → Type 0

@@ -31,15 +31,15 @@ prepared_text (Some r) last = played_lines r ++ last
 
 -- the two parts of the line that was printed last, the lines that are left, how many, and the last line
 pub record Printing : Type 0 where
-  pub front : List ℕ
+  pub prefix : List ℕ
   pub end : List ℕ
   pub lines : List ℕ
   pub left : ℕ
   pub last : List ℕ
 
 abbrev pub printing : List ℕ → Following → ℕ → List Accepted → List ℕ → List Entry → List ℕ → Printing
-printing front line count moves added entries last = record {
-  front = front;
+printing prefix line count moves added entries last = record {
+  prefix = prefix;
   end = followed_text line;
   lines = lines_from line count (made_from moves added entries);
   left = length moves;

@@ -2,7 +2,7 @@
 
 ghost use Rattle.std.specs.Prelude.{◌≡◌, ◌≢◌, ◌<◌, ◌≤◌, length, IfOk, IfErr, OnOk, OnErr};
 ghost use Rattle.std.specs.Io.KnownBytes.{Appends, Consumes, IsAtEnd};
-ghost use Rattle.lk_replay.specs.Devices.{AppendsFront};
+ghost use Rattle.lk_replay.specs.Devices.{AppendsPrefix};
 
 use crate::schedule::MOST_BYTES;
 use std::alloc::Global;
@@ -67,10 +67,10 @@ pub fn read_text<R: Read>(alloc: Global, input: &mut R) -> Result<Vec<u8>, RunFa
 ///
 /// # Errors
 ///
-/// A write that fails or takes nothing is `Write`. What was written then is a front of the bytes.
+/// A write that fails or takes nothing is `Write`. What was written then is a prefix of the bytes.
 pub(crate) fn write_whole<W: Write>(output: &mut W, bytes: &[u8]) -> Result<(), RunFault>
     ensures written { OnOk result (Appends (W.contents output.old) (W.contents output.new) bytes.now) }
-    ensures front { OnErr result (AppendsFront (W.contents output.old) (W.contents output.new) bytes.now) }
+    ensures prefix { OnErr result (AppendsPrefix (W.contents output.old) (W.contents output.new) bytes.now) }
     ensures fault { IfErr result (λ e. e ≡ RunFault.Write) }
 {
     let mut sent: usize = 0;
@@ -88,10 +88,10 @@ pub(crate) fn write_whole<W: Write>(output: &mut W, bytes: &[u8]) -> Result<(), 
 ///
 /// # Errors
 ///
-/// A write that fails or takes nothing, or a flush that fails, is `Write`. What was written then is a front of the bytes.
+/// A write that fails or takes nothing, or a flush that fails, is `Write`. What was written then is a prefix of the bytes.
 pub fn send<W: Write>(output: &mut W, bytes: &[u8]) -> Result<(), RunFault>
     ensures written { OnOk result (Appends (W.contents output.old) (W.contents output.new) bytes.now) }
-    ensures front { OnErr result (AppendsFront (W.contents output.old) (W.contents output.new) bytes.now) }
+    ensures prefix { OnErr result (AppendsPrefix (W.contents output.old) (W.contents output.new) bytes.now) }
     ensures fault { IfErr result (λ e. e ≡ RunFault.Write) }
 {
     write_whole(output, bytes)?;

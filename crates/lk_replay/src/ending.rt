@@ -20,7 +20,7 @@ pub enum Ending {
 
 // What stands behind the last line feed of a text.
 fn last_piece(text: &[u8]) -> &[u8]
-    ensures pieces { (front : List (List ℕ)) × (slice_split is_line_feed text.now ≡ front ++ result.now ∷ []) }
+    ensures pieces { (prefix : List (List ℕ)) × (slice_split is_line_feed text.now ≡ prefix ++ result.now ∷ []) }
     ensures open { length result.now ≡ 0 → 0 < length text.now → slice_index text.now (length text.now - 1) ≡ 10 }
     ensures short { length result.now ≤ length text.now }
 {
@@ -34,11 +34,11 @@ fn last_piece(text: &[u8]) -> &[u8]
 fn last_line(text: &[u8]) -> &[u8]
     ensures { result.now ≡ last_of (lines_of text.now) }
 {
-    let Some((last, front)) = text.split_last() else {
+    let Some((last, prefix)) = text.split_last() else {
         return text;
     };
     if *last == b'\n' {
-        last_piece(front)
+        last_piece(prefix)
     } else {
         last_piece(text)
     }

@@ -2,7 +2,7 @@
 
 ghost use Rattle.std.specs.Prelude.{◌≡◌, ◌++◌, [], OnErr, OnOk, IfErr, IfOk, IfSome, Ok, Err, Result};
 ghost use Rattle.std.specs.Io.KnownBytes.{Appends, Keeps};
-ghost use Rattle.lk_replay.specs.Devices.{AppendsFront, IfErrOf};
+ghost use Rattle.lk_replay.specs.Devices.{AppendsPrefix, IfErrOf};
 ghost use Rattle.lk_replay.specs.Ending.{ending_of, status_of};
 ghost use Rattle.lk_replay.specs.Report.{report_text};
 
@@ -21,13 +21,13 @@ fn print<W: Write>(
 ) -> Result<(), RunFault>
     requires { buffer.old ≡ [] }
     ensures written { OnOk result (Appends (W.contents output.old) (W.contents output.new) (printer.old.lines ++ printer.old.last)) }
-    ensures front { OnErr result (AppendsFront (W.contents output.old) (W.contents output.new) (printer.old.lines ++ printer.old.last)) }
+    ensures prefix { OnErr result (AppendsPrefix (W.contents output.old) (W.contents output.new) (printer.old.lines ++ printer.old.last)) }
     ensures last { printer.new.last ≡ printer.old.last }
     ensures fault { IfErr result (λ e. e ≡ RunFault.Write) }
 {
     while printer.left() > 0 {
         printer.next();
-        buffer.push(output, printer.front())?;
+        buffer.push(output, printer.prefix())?;
         buffer.push(output, printer.end())?;
     }
     buffer.push(output, printer.last())?;
@@ -43,7 +43,7 @@ fn print<W: Write>(
 ///
 /// `Read` where the input failed, `OutOfMemory` where a request for memory was refused; nothing was written then, since the last
 /// request is made before the first byte goes out. `Write` where the output failed or took nothing: what was written is a
-/// front of the report.
+/// prefix of the report.
 pub fn run<R: Read, W: Write>(
     alloc: Global,
     input: &mut R,
@@ -52,8 +52,8 @@ pub fn run<R: Read, W: Write>(
     ensures written { OnOk result (IfSome (R.remaining input.old)
         (λ text. Appends (W.contents output.old) (W.contents output.new) (report_text text))) }
     ensures ending { IfOk result (λ ending. IfSome (R.remaining input.old) (λ text. ending ≡ ending_of (report_text text))) }
-    ensures front { IfErrOf result RunFault.Write (IfSome (R.remaining input.old)
-        (λ text. AppendsFront (W.contents output.old) (W.contents output.new) (report_text text))) }
+    ensures prefix { IfErrOf result RunFault.Write (IfSome (R.remaining input.old)
+        (λ text. AppendsPrefix (W.contents output.old) (W.contents output.new) (report_text text))) }
     ensures unread { IfErrOf result RunFault.Read (Keeps (W.contents output.old) (W.contents output.new)) }
     ensures no_memory { IfErrOf result RunFault.OutOfMemory (Keeps (W.contents output.old) (W.contents output.new)) }
 {

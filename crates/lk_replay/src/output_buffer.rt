@@ -4,7 +4,7 @@
 
 ghost use Rattle.std.specs.Prelude.{◌≡◌, ◌+◌, ◌++◌, ◌≤◌, [], length, IfErr, IfOk, OnErr, OnOk};
 ghost use Rattle.std.specs.Io.KnownBytes.{Appends};
-ghost use Rattle.lk_replay.specs.Devices.{AppendsFront, Passes};
+ghost use Rattle.lk_replay.specs.Devices.{AppendsPrefix, Passes};
 
 use crate::devices::{RunFault, send, write_whole};
 use std::alloc::{AllocError, Global};
@@ -57,10 +57,10 @@ impl OutputBuffer {
     ///
     /// # Errors
     ///
-    /// A write that fails or takes nothing is `Write`. What was written then is a front of what waited and the bytes.
+    /// A write that fails or takes nothing is `Write`. What was written then is a prefix of what waited and the bytes.
     pub fn push<W: Write>(&mut self, output: &mut W, bytes: &[u8]) -> Result<(), RunFault>
         ensures passed { OnOk result (Passes self.old (W.contents output.old) bytes.now self.new (W.contents output.new)) }
-        ensures front { OnErr result (AppendsFront (W.contents output.old) (W.contents output.new) (self.old ++ bytes.now)) }
+        ensures prefix { OnErr result (AppendsPrefix (W.contents output.old) (W.contents output.new) (self.old ++ bytes.now)) }
         ensures fault { IfErr result (λ e. e ≡ RunFault.Write) }
     {
         if bytes.len() <= MOST_WAITING - self.bytes.len() {
@@ -80,11 +80,11 @@ impl OutputBuffer {
     ///
     /// # Errors
     ///
-    /// A write that fails or takes nothing, or a flush that fails, is `Write`. What was written then is a front of what waited.
+    /// A write that fails or takes nothing, or a flush that fails, is `Write`. What was written then is a prefix of what waited.
     pub fn send_whole<W: Write>(&mut self, output: &mut W) -> Result<(), RunFault>
         ensures written { OnOk result (Appends (W.contents output.old) (W.contents output.new) self.old) }
         ensures none { OnOk result (self.new ≡ []) }
-        ensures front { OnErr result (AppendsFront (W.contents output.old) (W.contents output.new) self.old) }
+        ensures prefix { OnErr result (AppendsPrefix (W.contents output.old) (W.contents output.new) self.old) }
         ensures fault { IfErr result (λ e. e ≡ RunFault.Write) }
     {
         send(output, &self.bytes)?;

@@ -102,7 +102,7 @@ fn print_into(out: &mut Vec<u8>, printer: &mut Printer<'_>) -> Result<(), AllocE
 {
     while printer.left() > 0 {
         printer.next();
-        out.extend_from_slice(printer.front())?;
+        out.extend_from_slice(printer.prefix())?;
         out.extend_from_slice(printer.end())?;
     }
     out.extend_from_slice(printer.last())

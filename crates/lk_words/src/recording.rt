@@ -67,7 +67,7 @@ impl<W: Words> RecordingWords<W> {
     }
 }
 
-#[tactic(auto, using(crate::proofs::Front::left_of_sum))]
+#[tactic(auto, using(crate::proofs::Prefix::left_of_sum))]
 impl<W: Words> Words for RecordingWords<W> {
     ghost list = { λ w. W.list w.inner };
 

@@ -4,7 +4,7 @@ use Rattle.std.proofs.lemmas.Simd.{map-map}
 use Rattle.std.specs.Io.KnownBytes.{Keeps}
 use Rattle.lk_replay.specs.declared.devices.RunFault.{RunFault}
 use Rattle.lk_replay.specs.declared.devices.RunFault.TheVariants.{Read, Write, OutOfMemory}
-use Rattle.lk_replay.specs.Devices.{AppendsFront, IfErrOf}
+use Rattle.lk_replay.specs.Devices.{AppendsPrefix, IfErrOf}
 use Rattle.lk_replay.specs.Report.{report_text}
 use Rattle.lk_workers.specs.Batch.{batch_text_of}
 use Rattle.lockreplay.specs.Batches.{IsCutBatch}
@@ -23,9 +23,9 @@ same_reports texts given reports lent as_texts as_reports replayed =
 -- what a batch leaves whose sending ends with this fault
 pub cut_batch : (fault : RunFault) (texts : List (List ℕ)) (reports : List (List ℕ)) (count : ℕ) (old new : Option (List ℕ))
     → length texts ≡ count → reports ≡ map report_text texts
-    → IfErrOf {T = Unit {0}} (Err fault) Write (AppendsFront old new (batch_text_of reports)) → IfErrOf {T = Unit {0}} (Err fault) OutOfMemory (Keeps old new) → fault ≢ Read
+    → IfErrOf {T = Unit {0}} (Err fault) Write (AppendsPrefix old new (batch_text_of reports)) → IfErrOf {T = Unit {0}} (Err fault) OutOfMemory (Keeps old new) → fault ≢ Read
     → IsCutBatch count old new (fault_from fault)
-cut_batch Read texts reports count old new size are front no_memory unread = absurd (unread refl)
-cut_batch Write texts reports count old new size are front no_memory unread =
-    (texts, size, subst (λ (rs : List (List ℕ)). AppendsFront old new (batch_text_of rs)) are (front refl))
-cut_batch OutOfMemory texts reports count old new size are front no_memory unread = no_memory refl
+cut_batch Read texts reports count old new size are prefix no_memory unread = absurd (unread refl)
+cut_batch Write texts reports count old new size are prefix no_memory unread =
+    (texts, size, subst (λ (rs : List (List ℕ)). AppendsPrefix old new (batch_text_of rs)) are (prefix refl))
+cut_batch OutOfMemory texts reports count old new size are prefix no_memory unread = no_memory refl

@@ -1,7 +1,7 @@
 -- Definitions: what the program leaves on its two outputs, and its status. This project's own.
 use Rattle.std.specs.Prelude.{◌≡◌, ℕ, true, List, string_bytes, Option, Result, Ok, Err, MatchResult}
 use Rattle.std.specs.Io.KnownBytes.{Appends, Keeps}
-use Rattle.lk_replay.specs.Devices.{AppendsFront}
+use Rattle.lk_replay.specs.Devices.{AppendsPrefix}
 use Rattle.lockreplay.specs.declared.answers.Ended.{Ended}
 use Rattle.lockreplay.specs.declared.command_line.Job.{Job}
 use Rattle.lockreplay.specs.declared.command_line.ParseFault.{ParseFault}
@@ -16,7 +16,7 @@ abbrev pub Does : Result Job ParseFault → Option (List ℕ) → Option (List �
 Does (Ok job) input old new r = EndsJob job input old new r
 Does (Err (parse.Help text)) input old new r = MatchResult r
     (λ status. (status ≡ 0) × Appends old new (string_bytes text))
-    (λ fault. (fault ≡ Output) × AppendsFront old new (string_bytes text))
+    (λ fault. (fault ≡ Output) × AppendsPrefix old new (string_bytes text))
 Does (Err (parse.Usage text)) input old new r = (r ≡ Ok 2) × Keeps old new
 Does (Err parse.TooManyFiles) input old new r = (r ≡ Err TooManyFiles) × Keeps old new
 Does (Err parse.OutOfMemory) input old new r = (r ≡ Err Memory) × Keeps old new

@@ -5,7 +5,7 @@ use Rattle.std.specs.Io.KnownBytes.{Appends, Keeps}
 use Rattle.lk_replay.specs.declared.ending.Ending.{Ending}
 use Rattle.lk_replay.specs.declared.ending.Ending.TheVariants.{Accepted, Refused, Faulty}
 use Rattle.lk_replay.specs.Ending.{ending_of}
-use Rattle.lk_replay.specs.Devices.{AppendsFront}
+use Rattle.lk_replay.specs.Devices.{AppendsPrefix}
 use Rattle.lk_replay.specs.Report.{report_text}
 use Rattle.lk_workers.specs.Batch.{batch_text_of}
 use Rattle.lockreplay.specs.declared.faults.ProgramFault.{ProgramFault}
@@ -25,11 +25,11 @@ abbrev pub IsBatchOf : ℕ → Option (List ℕ) → Option (List ℕ) → ℕ �
 IsBatchOf count old new status = (texts : List (List ℕ)) × (length texts ≡ count)
     × Appends old new (batch_text_of (map report_text texts)) × (status ≡ status_of_reports (map report_text texts))
 
--- where a fault ends a batch of so many files, a front of its text went out if the output failed,
+-- where a fault ends a batch of so many files, a prefix of its text went out if the output failed,
 -- and else nothing
 abbrev pub IsCutBatch : ℕ → Option (List ℕ) → Option (List ℕ) → ProgramFault → Type 0
 IsCutBatch count old new Output = (texts : List (List ℕ)) × (length texts ≡ count)
-    × AppendsFront old new (batch_text_of (map report_text texts))
+    × AppendsPrefix old new (batch_text_of (map report_text texts))
 IsCutBatch count old new (File k) = (1 ≤ k) × (k ≤ count) × Keeps old new
 IsCutBatch count old new Memory = Keeps old new
 IsCutBatch count old new Input = ⊥

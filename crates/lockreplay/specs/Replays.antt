@@ -1,7 +1,7 @@
 -- Definitions: what the replay of one input leaves on its output. This project's own.
 use Rattle.std.specs.Prelude.{◌≡◌, ℕ, List, Option, Result, Ok, IfSome, MatchResult}
 use Rattle.std.specs.Io.KnownBytes.{Appends, Keeps}
-use Rattle.lk_replay.specs.Devices.{AppendsFront}
+use Rattle.lk_replay.specs.Devices.{AppendsPrefix}
 use Rattle.lk_replay.specs.Ending.{ending_of, status_of}
 use Rattle.lk_replay.specs.Report.{report_text}
 use Rattle.lockreplay.specs.declared.faults.ProgramFault.{ProgramFault}
@@ -12,10 +12,10 @@ abbrev pub IsReplayOf : Option (List ℕ) → Option (List ℕ) → Option (List
 IsReplayOf input old new status = IfSome input (λ text. Appends old new (report_text text)
     × (status ≡ status_of (Ok (ending_of (report_text text)))))
 
--- where a fault ends the replay, a front of the report went out if the output failed, and else
+-- where a fault ends the replay, a prefix of the report went out if the output failed, and else
 -- nothing
 abbrev pub IsCutReplay : Option (List ℕ) → Option (List ℕ) → Option (List ℕ) → ProgramFault → Type 0
-IsCutReplay input old new Output = IfSome input (λ text. AppendsFront old new (report_text text))
+IsCutReplay input old new Output = IfSome input (λ text. AppendsPrefix old new (report_text text))
 IsCutReplay input old new Input = Keeps old new
 IsCutReplay input old new Memory = Keeps old new
 IsCutReplay input old new (File k) = ⊥

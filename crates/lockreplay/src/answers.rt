@@ -2,7 +2,7 @@
 
 ghost use Rattle.std.specs.Prelude.{◌≡◌, IfErr, IfOk, true};
 ghost use Rattle.std.specs.Io.KnownBytes.{Appends};
-ghost use Rattle.lk_replay.specs.Devices.{AppendsFront};
+ghost use Rattle.lk_replay.specs.Devices.{AppendsPrefix};
 ghost use Rattle.lockreplay.specs.Answers.{EndsProgram, TellsOf};
 ghost use Rattle.lockreplay.specs.Faults.{fault_line, fault_status};
 ghost use Rattle.lockreplay.specs.Jobs.{FitsJob};
@@ -34,7 +34,7 @@ pub struct Ended {
 /// Writes the help, and gives the status of a job that was done.
 fn help<W: Write>(output: &mut W, text: &str) -> Result<u8, ProgramFault>
     ensures done { IfOk result (λ status. (status ≡ 0) × Appends (W.contents output.old) (W.contents output.new) text.now) }
-    ensures cut { IfErr result (λ e. (e ≡ ProgramFault.Output) × AppendsFront (W.contents output.old) (W.contents output.new) text.now) }
+    ensures cut { IfErr result (λ e. (e ≡ ProgramFault.Output) × AppendsPrefix (W.contents output.old) (W.contents output.new) text.now) }
 {
     let Ok(()) = send(output, text.as_bytes()) else {
         return Err(ProgramFault::Output);

@@ -6,7 +6,7 @@
 
 ghost use Rattle.std.specs.Prelude.{◌≡◌, ◌≢◌, ◌++◌, map, IfErr, IfOk, OnErr, OnOk};
 ghost use Rattle.std.specs.Io.KnownBytes.{Appends, Keeps};
-ghost use Rattle.lk_replay.specs.Devices.{AppendsFront, IfErrOf, Passes};
+ghost use Rattle.lk_replay.specs.Devices.{AppendsPrefix, IfErrOf, Passes};
 ghost use Rattle.lk_workers.specs.Batch.{batch_text_of, file_line};
 
 #[cfg(test)]
@@ -24,7 +24,7 @@ fn push_file_line<W: Write>(
     number: usize,
 ) -> Result<(), RunFault>
     ensures passed { OnOk result (Passes waiting.old (W.contents output.old) (file_line number) waiting.new (W.contents output.new)) }
-    ensures front { OnErr result (AppendsFront (W.contents output.old) (W.contents output.new) (waiting.old ++ file_line number)) }
+    ensures prefix { OnErr result (AppendsPrefix (W.contents output.old) (W.contents output.new) (waiting.old ++ file_line number)) }
     ensures fault { IfErr result (λ e. e ≡ RunFault.Write) }
 {
     let mut buffer = Buffer::new();
@@ -38,15 +38,15 @@ fn push_file_line<W: Write>(
 /// # Errors
 ///
 /// `OutOfMemory` where a request for memory was refused; it is made before the first byte goes out. `Write` where the output
-/// failed or took nothing: what was written is a front of it all.
+/// failed or took nothing: what was written is a prefix of it all.
 pub fn send_reports<W: Write>(
     alloc: Global,
     output: &mut W,
     reports: &[Vec<u8>],
 ) -> Result<(), RunFault>
     ensures written { OnOk result (Appends (W.contents output.old) (W.contents output.new) (batch_text_of (map (λ r. r.items) reports.now))) }
-    ensures front { IfErrOf result RunFault.Write
-        (AppendsFront (W.contents output.old) (W.contents output.new) (batch_text_of (map (λ r. r.items) reports.now))) }
+    ensures prefix { IfErrOf result RunFault.Write
+        (AppendsPrefix (W.contents output.old) (W.contents output.new) (batch_text_of (map (λ r. r.items) reports.now))) }
     ensures no_memory { IfErrOf result RunFault.OutOfMemory (Keeps (W.contents output.old) (W.contents output.new)) }
     ensures fault { IfErr result (λ e. e ≢ RunFault.Read) }
 {

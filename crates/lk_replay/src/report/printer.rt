@@ -11,7 +11,7 @@ use crate::report::words::{move_block, outcome_block};
 use lk_locks::{Entry, LockKind};
 use std::marker::Model;
 
-/// What was played, and how far it is printed. A line has a front, which tells of the move, and an end, who holds and who waits.
+/// What was played, and how far it is printed. A line has a prefix, which tells of the move, and an end, who holds and who waits.
 #[derive(Drop)]
 pub struct Printer<'a> {
     moves: &'a [Accepted],
@@ -20,7 +20,7 @@ pub struct Printer<'a> {
     printed: usize,
     followed: usize,
     count: Numeral,
-    front: Text,
+    prefix: Text,
     line: KeptLine,
     last: &'a [u8],
 }
@@ -31,25 +31,25 @@ impl<'a> Model for Printer<'a> {
 
     ghost Value = { Printing };
 
-    ghost view = { λ a. printing a.front a.line a.printed (drop a.printed a.moves.now) (drop a.printed a.added.now) (drop a.followed a.entries.now) a.last.now };
+    ghost view = { λ a. printing a.prefix a.line a.printed (drop a.printed a.moves.now) (drop a.printed a.added.now) (drop a.followed a.entries.now) a.last.now };
 
     ghost invariant = { λ a. IsPrinting a.line a.count a.printed a.followed a.moves.now a.added.now a.entries.now };
 }
 
 // Writes `K T WORD OUTCOME hold ` of an accepted move.
 #[tactic(auto, unfolding(crate::specs::Report::move_text))]
-fn write_front(front: &mut Text, count: &Numeral, accepted: &Accepted)
-    ensures { front.new ≡ move_text count.now accepted.now }
+fn write_prefix(prefix: &mut Text, count: &Numeral, accepted: &Accepted)
+    ensures { prefix.new ≡ move_text count.now accepted.now }
 {
-    front.clear();
+    prefix.clear();
     let (block, len) = count.block();
-    front.push_block(block, len);
+    prefix.push_block(block, len);
     let (block, len) = thread_block(b' ', accepted.thread);
-    front.push_block(&block, len + 1);
+    prefix.push_block(&block, len + 1);
     let (block, len) = move_block(accepted.action);
-    front.push_block(block, len);
+    prefix.push_block(block, len);
     let (block, len) = outcome_block(accepted.outcome);
-    front.push_block(block, len);
+    prefix.push_block(block, len);
 }
 
 impl<'a> Printer<'a> {
@@ -68,7 +68,7 @@ impl<'a> Printer<'a> {
             printed: 0,
             followed: 0,
             count: Numeral::of(0),
-            front: Text::new(),
+            prefix: Text::new(),
             line: KeptLine::new(played.kind()),
             last,
         }
@@ -86,7 +86,7 @@ impl<'a> Printer<'a> {
             printed: 0,
             followed: 0,
             count: Numeral::of(0),
-            front: Text::new(),
+            prefix: Text::new(),
             line: KeptLine::new(LockKind::Ticket),
             last,
         }
@@ -103,7 +103,7 @@ impl<'a> Printer<'a> {
     /// Prints the next line.
     pub fn next(&mut self)
         requires { 0 < self.old.left }
-        ensures lines { self.old.lines ≡ (self.new.front ++ self.new.end) ++ self.new.lines }
+        ensures lines { self.old.lines ≡ (self.new.prefix ++ self.new.end) ++ self.new.lines }
         ensures left { self.new.left + 1 ≡ self.old.left }
         ensures last { self.new.last ≡ self.old.last }
     {
@@ -113,14 +113,14 @@ impl<'a> Printer<'a> {
         self.followed = end;
         self.printed += 1;
         self.count.count_on();
-        write_front(&mut self.front, &self.count, &accepted);
+        write_prefix(&mut self.prefix, &self.count, &accepted);
     }
 
-    /// The front of the line that was printed last.
-    pub fn front(&self) -> &[u8]
-        ensures { result.now ≡ self.now.front }
+    /// The prefix of the line that was printed last.
+    pub fn prefix(&self) -> &[u8]
+        ensures { result.now ≡ self.now.prefix }
     {
-        self.front.as_slice()
+        self.prefix.as_slice()
     }
 
     /// The end of the line that was printed last.

@@ -210,7 +210,7 @@ fn contention(alloc: Global) -> Result<Vec<u8>, AllocError> {
     Ok(text)
 }
 
-// What was written where a write fails is a front of the report, of as many writes as went before.
+// What was written where a write fails is a prefix of the report, of as many writes as went before.
 #[test]
 fn each_write_of_a_long_report_fails(rt: HostRuntime) -> Result<(), Fail> {
     let alloc = rt.alloc();

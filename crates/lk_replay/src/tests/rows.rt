@@ -41,12 +41,12 @@ pub fn ending_due(due: &str) -> Ending {
     }
 }
 
-/// A front, then a piece so many times, then a rest.
+/// A prefix, then a piece so many times, then a rest.
 pub fn repeated(
     alloc: Global,
-    (front, piece, times, rest): (&str, &str, usize, &str),
+    (prefix, piece, times, rest): (&str, &str, usize, &str),
 ) -> Result<Vec<u8>, AllocError> {
-    let mut text = Vec::from_slice(alloc, front.as_bytes())?;
+    let mut text = Vec::from_slice(alloc, prefix.as_bytes())?;
     for _ in 0..times {
         text.extend_from_slice(piece.as_bytes())?;
     }
@@ -87,8 +87,8 @@ fn worked_rows(rt: HostRuntime) -> Result<(), Fail> {
 
 #[test]
 fn rows_at_the_limits(rt: HostRuntime) -> Result<(), Fail> {
-    for (front, piece, times, rest, due) in limits::ROWS {
-        let text = repeated(rt.alloc(), (front, piece, times, rest))?;
+    for (prefix, piece, times, rest, due) in limits::ROWS {
+        let text = repeated(rt.alloc(), (prefix, piece, times, rest))?;
         replays_as_due(&rt, rt.alloc(), &text, due)?;
     }
     Ok(())
@@ -100,8 +100,8 @@ fn rows_in_words_of_2_bits(rt: HostRuntime) -> Result<(), Fail> {
     let alloc = rt.alloc();
     for rows in WORKED {
         for &(text, due) in rows {
-            if let Some((front, rest)) = text.split_once(" threads 3\n") {
-                let narrow = format!(in alloc; "{front} threads 3 bits 2\n{rest}")?;
+            if let Some((prefix, rest)) = text.split_once(" threads 3\n") {
+                let narrow = format!(in alloc; "{prefix} threads 3 bits 2\n{rest}")?;
                 replays_as_due(&rt, alloc, narrow.as_bytes(), due)?;
             }
         }

@@ -6,7 +6,7 @@ use Rattle.lk_replay.proofs.ending.last_line.Goals as goal
 pub returns-then-last-eq10 : goal.returns-then-last-eq10
 returns-then-last-eq10 c =
     let pieces = c.last_piece.ensures.pieces in
-    closed_line _ c.in-Some.front.now _ pieces.0 (c.in-Some.ensures.cases.0 ∙ ap (λ b. c.in-Some.front.now ++ b ∷ []) c.if-last-eq10.true) pieces.1
+    closed_line _ c.in-Some.prefix.now _ pieces.0 (c.in-Some.ensures.cases.0 ∙ ap (λ b. c.in-Some.prefix.now ++ b ∷ []) c.if-last-eq10.true) pieces.1
 
 pub returns-else-last-eq10 : goal.returns-else-last-eq10
 returns-else-last-eq10 c =

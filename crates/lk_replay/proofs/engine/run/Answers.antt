@@ -1,18 +1,18 @@
 -- What is printed is the report of what was read.
 use Rattle.std.proofs.Common.{◌≡◌, ◌++◌, ℕ, List, subst, ap, ◌∙◌}
 use Rattle.std.specs.Io.KnownBytes.{Appends}
-use Rattle.lk_replay.specs.Devices.{AppendsFront}
+use Rattle.lk_replay.specs.Devices.{AppendsPrefix}
 use Rattle.lk_replay.specs.Ending.{ending_of}
 use Rattle.lk_replay.specs.Report.{report_text}
 use Rattle.lk_replay.proofs.Reports.{reported}
 use Rattle.lk_replay.proofs.engine.run.Goals as goal
 
-pub returns-in_err-print-clause-front : goal.returns-in_err-print-clause-front
-returns-in_err-print-clause-front g c = λ _.
-    let P : List ℕ → Type 0 = λ r. AppendsFront (g.W.Write.contents c.args.output.now) (g.W.Write.contents c.print.new.output) r in
+pub returns-in_err-print-clause-prefix : goal.returns-in_err-print-clause-prefix
+returns-in_err-print-clause-prefix g c = λ _.
+    let P : List ℕ → Type 0 = λ r. AppendsPrefix (g.W.Write.contents c.args.output.now) (g.W.Write.contents c.print.new.output) r in
     let text = c.in_ok-text.ensures in
     reported _ _ c.in_ok-text.text.items P text.taken text.bounded text.whole
-    (subst P (c.printer-printer.ensures.text ∙ c.in-Ok.ensures ∙ ap report_text c.deref.ensures.value) c.in_err-print.ensures.front)
+    (subst P (c.printer-printer.ensures.text ∙ c.in-Ok.ensures ∙ ap report_text c.deref.ensures.value) c.in_err-print.ensures.prefix)
 
 pub returns-clause-written : goal.returns-clause-written
 returns-clause-written g c =

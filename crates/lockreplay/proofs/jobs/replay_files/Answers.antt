@@ -26,4 +26,4 @@ returns g c =
     let sent = same_reports texts _ _ _ c.deref.ensures.value c.deref-2.ensures.value c.in-Ok.ensures in
     let count = length-map texts (λ t. t.items) ∙ c.in_ok-texts.ensures.each in
     let ends = c.in-Err.ensures in
-    rw (c.from.ensures) (cut_batch c.in-Err.fault (bytes_of texts) _ _ _ _ count sent ends.front ends.no_memory ends.fault)
+    rw (c.from.ensures) (cut_batch c.in-Err.fault (bytes_of texts) _ _ _ _ count sent ends.prefix ends.no_memory ends.fault)

@@ -17,4 +17,4 @@ pub returns-clause-lines : goal.returns-clause-lines
 returns-clause-lines c =
     let within : c.self.inside.printed < length c.self.inside.moves.now = omega (arith, c.requires, ap (λ (p : Printing). p.left) c.self.view_is, length-drop c.self.inside.printed c.self.inside.moves.now) in
     line_printed _ _ c.self.inside.line c.follow.new.self c.self.inside.moves.now c.self.inside.added.now c.self.inside.entries.now c.self.inside.printed c.self.inside.followed c.from.result _ _
-    within (omega (arith, within, c.self.invariant.each)) c.from.ensures c.follow.ensures (c.count_on.ensures ∙ ap (λ (k : ℕ). k + 1) c.self.invariant.counted) c.write_front.ensures (sym (ap (λ (p : Printing). p.lines) c.self.view_is))
+    within (omega (arith, within, c.self.invariant.each)) c.from.ensures c.follow.ensures (c.count_on.ensures ∙ ap (λ (k : ℕ). k + 1) c.self.invariant.counted) c.write_prefix.ensures (sym (ap (λ (p : Printing). p.lines) c.self.view_is))
