@@ -3,7 +3,7 @@
 
     tests/memory.py PROGRAM
 
-A batch of 1,000 schedules of 64 threads and 65,536 moves, of which the first is refused: 460 MB of
+A batch of 1,000 schedules of 64 threads and 65,536 moves, of which the first is refused: 721 MB of
 texts, and reports of one line each. Room for the longest report that such a text can have would be
 14 MB for each. The last line counts the cases; the status is 1 where one failed.
 """
@@ -16,7 +16,7 @@ from pathlib import Path
 
 FILES = 1_000
 LIMIT = 1 << 30  # bytes of address space
-SCHEDULE = b"lock ticket threads 64\n" + b"0 read\n" * 65_536
+SCHEDULE = b"lock ticket threads 64\n0 read\n" + b"63 acquire\n" * 65_535
 REPORT = b"".join(b"file %d\nrefused line 2 NoCall\n" % k for k in range(1, FILES + 1))
 PATIENCE = 100  # seconds
 
