@@ -4,8 +4,8 @@ use Rattle.std.specs.List.{AllByRecursion}
 use Rattle.std.proofs.Math.Seq.{drop-append_seam, take-append_seam}
 use Rattle.std.proofs.lemmas.Bool.{cases_Bool, eqb-true, le-ltb, lt-ltb}
 use Rattle.std.proofs.lemmas.Fmt.{length-decimal-le}
-use Rattle.lk_locks.specs.Sequential.{Sequential, IsAscending, acted, has, is_head, joined, kind_allows, left_by}
-use Rattle.lk_locks.specs.declared.kinds.Act.TheVariants.{Acquire, Release, ReadLock, ReadUnlock, Downgrade}
+use Rattle.lk_locks.specs.Sequential.{Sequential, IsAscending, has, is_head, joined, kind_allows, left_by}
+use Rattle.lk_locks.specs.declared.kinds.Act.TheVariants.{Release, ReadUnlock}
 use Rattle.lk_locks.specs.declared.kinds.LockKind.{LockKind}
 use Rattle.lk_locks.specs.declared.kinds.LockKind.TheVariants.{Ticket, Mcs, RwSimple, RwFifo}
 use Rattle.lk_replay.proofs.Lists.{later_append}

@@ -1,5 +1,5 @@
 -- The lines that are printed from what was played are those of the report.
-use Rattle.std.proofs.Common.{◌≡◌, ℕ, ◌+◌, ◌<◌, ◌≤◌, List, [], ◌∷◌, ◌++◌, ◌-◌, length, map, take, drop, get_or, codes, Option, None, Some, refl, sym, ap, ◌∙◌, subst, arith, append_assoc, append-nil, length-append, take-append-drop}
+use Rattle.std.proofs.Common.{◌≡◌, ℕ, ◌+◌, ◌<◌, List, [], ◌∷◌, ◌++◌, ◌-◌, length, map, take, drop, get_or, codes, Option, Some, refl, sym, ap, ◌∙◌, subst, arith, append_assoc, append-nil, length-append, take-append-drop}
 use Rattle.std.specs.List.{flat_map, join_with_byte, slice_split, sum}
 use Rattle.std.proofs.Math.Seq.{drop-append_seam, take-append_seam}
 use Rattle.std.proofs.lemmas.List.{drop-drop, drop_more, length-map}
@@ -16,10 +16,9 @@ use Rattle.lk_replay.proofs.LastLines.{split_append}
 use Rattle.lk_replay.specs.Ending.{ending_of, ending_of_line, last_of}
 use Rattle.lk_replay.specs.Following.{Following, followed_by, followed_text, following, holding_in, waiting_in}
 use Rattle.lk_replay.specs.Lines.{is_line_feed, lines_of, without_empty_end}
-use Rattle.lk_replay.specs.Printing.{IsPrinting, lines_from, made_from, played_lines, prepared_text}
-use Rattle.lk_replay.specs.Replay.{Made, Replay, replay_of, replayed, replayed_of}
-use Rattle.lk_replay.specs.Report.{holding_text, last_line, line_text, lines_text, move_text, queue_text, replay_text, state_text}
-use Rattle.lk_replay.specs.Schedule.{Plan}
+use Rattle.lk_replay.specs.Printing.{IsPrinting, lines_from, made_from, prepared_text}
+use Rattle.lk_replay.specs.Replay.{Made, Replay, replayed}
+use Rattle.lk_replay.specs.Report.{holding_text, last_line, lines_text, move_text, queue_text, replay_text, state_text}
 use Rattle.lk_replay.specs.declared.played.Accepted.{Accepted}
 
 -- the moves with their entries, taken apart and put together again

@@ -1,5 +1,5 @@
 -- Invariants: what a report follows of a history, entry by entry.
-use Rattle.std.specs.Prelude.{◌≡◌, ℕ, ◌+◌, ◌<◌, List, [], ◌∷◌, ◌++◌, Option, None, nat_lt, if◌then◌else◌, take, drop, length}
+use Rattle.std.specs.Prelude.{◌≡◌, ℕ, ◌<◌, List, [], ◌∷◌, Option, None, nat_lt, if◌then◌else◌}
 use Rattle.std.specs.List.{AllByRecursion}
 use Rattle.lk_locks.specs.Holding.{Holding, held_by_one, shared_by, one_or_none, holder_after}
 use Rattle.lk_locks.specs.Legal.{after_entries}

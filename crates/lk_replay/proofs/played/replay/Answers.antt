@@ -1,5 +1,5 @@
 -- Each move is played as `replay_from` says.
-use Rattle.std.proofs.Common.{◌∙◌, ◌++◌, ◌∷◌, [], List, ℕ, ap, arith, length, length-append}
+use Rattle.std.proofs.Common.{◌∙◌, ◌++◌, ◌∷◌, [], ℕ, ap, arith, length, length-append}
 use Rattle.lk_replay.proofs.Sofar.{adds, shown_ended, shown_moved, shown_stopped, same_kind, same_threads, sum_more}
 use Rattle.lk_replay.proofs.Promised.{history_as_played}
 use Rattle.lk_replay.proofs.played.replay.Goals as goal

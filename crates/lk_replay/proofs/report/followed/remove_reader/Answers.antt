@@ -1,6 +1,6 @@
 -- The number is the last of those up to it.
 use Rattle.std.proofs.Common.{◌∙◌, ◌+◌, ℕ, ap}
-use Rattle.lk_replay.proofs.Listing.{IsTakenOut, reader_gone}
+use Rattle.lk_replay.proofs.Listing.{reader_gone}
 use Rattle.lk_replay.proofs.report.followed.remove_reader.Goals as goal
 
 pub overflow_sub-at : goal.overflow_sub-at

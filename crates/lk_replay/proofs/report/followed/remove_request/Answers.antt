@@ -1,5 +1,5 @@
 -- The number is the first.
-use Rattle.std.proofs.Common.{◌∙◌, ◌+◌, ◌≡◌, ℕ, arith, ap}
+use Rattle.std.proofs.Common.{◌∙◌, ◌+◌, arith}
 use Rattle.lk_replay.proofs.Listing.{head_listed}
 use Rattle.lk_replay.proofs.report.followed.remove_request.Goals as goal
 

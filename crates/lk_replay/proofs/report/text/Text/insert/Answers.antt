@@ -1,5 +1,5 @@
 -- The bytes stand between the two parts.
-use Rattle.std.proofs.Common.{◌≡◌, ◌≤◌, ◌++◌, ◌∙◌, ◌+◌, length, length-take-le, List, ℕ, ap, arith, take, drop}
+use Rattle.std.proofs.Common.{◌≡◌, ◌≤◌, ◌++◌, ◌∙◌, length, length-take-le, List, ℕ, ap, arith, take, drop}
 use Rattle.lk_replay.proofs.Texts.{inserted}
 use Rattle.lk_replay.proofs.report.text.Text.insert.Goals as goal
 
