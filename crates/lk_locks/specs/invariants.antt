@@ -10,3 +10,4 @@ pub mod Owed
 pub mod Inside
 pub mod SequentialKept
 pub mod Kept
+pub mod Tracking

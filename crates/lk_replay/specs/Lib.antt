@@ -11,3 +11,4 @@ pub mod Printing
 pub mod Whole
 pub mod Ending
 pub mod Devices
+pub mod Reading

@@ -1,9 +1,10 @@
 //! The header of a schedule text: `lock NAME threads N`, and `bits B` where words have fewer than 64 bits.
 
-ghost use Rattle.std.specs.Prelude.{◌≡◌, ◌<◌, ◌≤◌, ◌^◌, MatchOption, IfSome, IfOk, None, Some};
+ghost use Rattle.std.specs.Prelude.{◌≡◌, ◌<◌, ◌≤◌, ◌^◌, MatchOption, IfSome, IfOk, IfErr, None, Some};
 ghost use Rattle.lk_replay.specs.Lines.{words_of};
 ghost use Rattle.lk_replay.specs.Header.{size_of_words, shape_of_words, with_size, header_of};
 ghost use Rattle.lk_replay.specs.Reads.{Gives};
+ghost use Rattle.lk_replay.specs.Reading.{IsOfText};
 
 use crate::ReadFault;
 use crate::lines::cut_word;
@@ -63,6 +64,7 @@ pub fn header_of(line: &[u8], number: u32) -> Result<Header, ReadFault>
     ensures least { IfOk result (λ header. 2 ≤ header.bits) }
     ensures most { IfOk result (λ header. header.bits ≤ 64) }
     ensures read { Gives (λ header. record { kind = header.kind; threads = header.threads; bits = header.bits }) result (header_of number line.now) }
+    ensures no_memory { IfErr result IsOfText }
 {
     let Some((kind, words)) = named_lock(line) else {
         return Err(ReadFault::BadHeader(number));

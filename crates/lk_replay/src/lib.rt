@@ -21,5 +21,5 @@ pub use engine::{run, status_of};
 pub use output_buffer::OutputBuffer;
 pub use played::{Accepted, Played, replay};
 pub use report::report_of;
-pub use schedule::{Line, ReadFault, Schedule, read_schedule};
+pub use schedule::{Line, ReadFault, Schedule, ScheduleReader, read_schedule};
 pub use theorems::every_report_is_as_promised;

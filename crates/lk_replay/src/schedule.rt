@@ -5,10 +5,13 @@ ghost use Rattle.lk_replay.specs.Lines.{lines_of};
 ghost use Rattle.lk_replay.specs.Reads.{Gives};
 ghost use Rattle.lk_replay.specs.Schedule.{move_of, moves_from, plan_of};
 
+mod reader;
+
 use crate::header::header_of;
 use crate::lines::{cut_line, cut_word, is_skipped};
 use crate::vocabulary::{move_named, number_of};
 use lk_locks::{LockKind, Move};
+pub use reader::ScheduleReader;
 use std::alloc::Global;
 use std::marker::Model;
 use thiserror::Error;

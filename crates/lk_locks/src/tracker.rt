@@ -1,0 +1,142 @@
+//! A lock with its sequential object and no history, for who may take no memory: who holds and who is in line is known after each
+//! move. This project's own.
+
+ghost use Rattle.std.specs.Prelude.{◌≡◌};
+ghost use Rattle.lk_locks.specs.Holding.{holder_after};
+
+use crate::entries::{Added, add_entries};
+use crate::holders::{alone, copy_of};
+use crate::{Entry, Holders, LockKind, Machine, Move, Op, Outcome, Refusal, SeqLock};
+use arrayvec::ArrayVec;
+use lk_words::Words;
+use std::marker::Model;
+
+/// Machine and sequential lock together and, of a queue lock, the thread whose acquire returned last, up to its release.
+#[derive(Drop)]
+pub struct Tracker<W: Words> {
+    machine: Machine<W>,
+    sequential: SeqLock,
+    holder: Option<u8>,
+}
+
+impl<W: Words> Model for Tracker<W> {
+    ghost use Rattle.lk_locks.specs.Tracked.{Tracked};
+
+    ghost Value = { Tracked };
+
+    ghost use Rattle.lk_locks.specs.invariants.Tracking.{IsTracked};
+
+    ghost view = { λ a. record { state = a.machine; sequential = a.sequential; holder = a.holder } };
+
+    ghost invariant = { λ a. IsTracked a.machine a.sequential };
+}
+
+impl<W: Words> Tracker<W> {
+    ghost use Rattle.std.specs.Prelude.{◌≡◌, ℕ, ◌<◌, ◌≤◌, ◌^◌, length, slice_index, []};
+    ghost use Rattle.lk_locks.specs.State.{start, word_count};
+    ghost use Rattle.lk_locks.specs.Steps.{answer_to};
+    ghost use Rattle.lk_locks.specs.Holding.{holding, IsListed};
+    ghost use Rattle.lk_locks.specs.Tracked.{tracked, after_tracked, holding_in, waiting_in};
+
+    /// A new lock with 1 to 64 threads, fewer than 2^B for words of B bits, which are all 0.
+    pub fn new(kind: LockKind, threads: u8, words: W) -> Tracker<W>
+        requires some { 0 < threads }
+        requires few { threads ≤ 64 }
+        requires narrow { threads < 2 ^ W.width words }
+        requires room { word_count kind threads ≤ length (W.list words) }
+        requires clear { (i : ℕ) → i < length (W.list words) → slice_index (W.list words) i ≡ 0 }
+        ensures { result ≡ tracked (start kind (W.width words) (W.list words) threads) [] }
+    {
+        Tracker {
+            machine: Machine::new(kind, threads, words),
+            sequential: SeqLock::new(kind),
+            holder: None,
+        }
+    }
+
+    /// Makes the move, or answers the first refusal that applies and changes nothing, as `Machine::apply` does.
+    pub fn apply(&mut self, t: u8, m: Move) -> Result<Outcome, Refusal>
+        ensures answer { result ≡ answer_to self.old.state t m }
+        ensures after { self.new ≡ after_tracked self.old t m }
+    {
+        if let Some(refusal) = self.machine.refusal(t, m) {
+            return Err(refusal);
+        }
+        let kind = self.machine.kind();
+        let phase = self.machine.phase(t);
+        let outcome = self.machine.make(t, m);
+        match m {
+            // a call is no act, so the sequential object and the holder stay
+            Move::Call(_) => {}
+            Move::Step(_) => {
+                let mut added = Added::none();
+                add_entries(&mut added, kind, t, phase, outcome);
+                self.sequential.follow(added.as_slice());
+                self.holder = holder_after(self.holder, added.as_slice());
+            }
+        }
+        Ok(outcome)
+    }
+
+    /// The lock alone, to look at: its words, its phases, and what would be refused.
+    pub fn machine(&self) -> &Machine<W>
+        ensures { result.now ≡ self.now.state }
+    {
+        &self.machine
+    }
+
+    /// The lock's kind.
+    pub fn kind(&self) -> LockKind
+        ensures { result ≡ self.now.state.kind }
+    {
+        self.machine.kind()
+    }
+
+    /// Who holds now. A pending release of a queue lock still holds.
+    pub fn holders(&self) -> Holders
+        ensures holding { holding result ≡ holding_in self.now }
+        ensures listed { IsListed (holding result) }
+    {
+        match self.machine.kind() {
+            LockKind::Ticket | LockKind::Mcs => match self.holder {
+                Some(t) => Holders::Holder(t),
+                None => Holders::Nobody,
+            },
+            LockKind::RwSimple | LockKind::RwFifo => match self.sequential.writer() {
+                Some(t) => Holders::Writer(t),
+                None if self.sequential.readers().is_empty() => Holders::Nobody,
+                None => Holders::Readers(copy_of(self.sequential.readers())),
+            },
+        }
+    }
+
+    /// Who is in line: the requests of a queue lock, oldest first, the holder's too; the announced writer of a FIFO lock; nobody of a
+    /// simple lock.
+    pub fn queue(&self) -> ArrayVec<u8, 64>
+        ensures { result.items ≡ waiting_in self.now }
+    {
+        match self.machine.kind() {
+            LockKind::Ticket | LockKind::Mcs => copy_of(self.sequential.queue()),
+            LockKind::RwSimple => ArrayVec::new(),
+            LockKind::RwFifo => match self.sequential.announced() {
+                Some(t) => alone(t),
+                None => ArrayVec::new(),
+            },
+        }
+    }
+}
+
+// Who holds a queue lock after these entries.
+fn holder_after(holder: Option<u8>, entries: &[Entry]) -> Option<u8>
+    ensures { result ≡ holder_after holder entries.now }
+{
+    let mut now = holder;
+    for entry in entries {
+        match entry {
+            Entry::Returned(t, Op::Acquire) => now = Some(*t),
+            Entry::Acted(_, Op::Release) => now = None,
+            _ => {}
+        }
+    }
+    now
+}
