@@ -1,0 +1,72 @@
+"""The fenced blocks of a document, and the marks above them; documents.py says what they mean."""
+import re
+from dataclasses import dataclass, field
+
+MARK = re.compile(r"<!-- (not run|file|with): (.+?) -->")
+FENCE = re.compile(r"\s*(```+)(\S*)\s*")
+
+
+class BadDocument(Exception):
+    """What is wrong with a document, and in which line."""
+
+
+@dataclass
+class Block:
+    """A fenced block: its language, the number of its first line, its marks, its lines."""
+    language: str
+    first: int
+    marks: dict[str, str]
+    lines: list[str] = field(default_factory=list)
+
+    def commands(self):
+        """Each command with the lines that are due for it; `\\` at an end continues a command."""
+        found = []
+        for line in self.lines:
+            if found and found[-1][0].endswith("\\") and not found[-1][1]:
+                found[-1] = (f"{found[-1][0]}\n{line}", [])
+            elif line.startswith("$ "):
+                found.append((line[2:], []))
+            elif found:
+                found[-1][1].append(line)
+            else:
+                raise BadDocument(f"line {self.first}: output stands above the first command")
+        return found
+
+
+def marks_above(lines, fence):
+    """The marks in the lines right above a fence, which is counted from 0."""
+    marks = {}
+    while fence > 0 and (mark := MARK.fullmatch(lines[fence - 1].strip())):
+        marks[mark.group(1)] = mark.group(2)
+        fence -= 1
+    return marks
+
+
+def blocks_of(lines):
+    """The blocks in their order."""
+    block, fence = None, ""
+    for number, line in enumerate(lines):
+        opens = FENCE.fullmatch(line)
+        if block is None and opens:
+            fence = opens.group(1)
+            block = Block(opens.group(2), number + 2, marks_above(lines, number))
+        elif block is not None and line.strip() == fence:
+            yield block
+            block = None
+        elif block is not None:
+            block.lines.append(line)
+    if block is not None:
+        raise BadDocument(f"line {block.first - 1}: this fence is not closed")
+
+
+def without_blocks(lines):
+    """The lines with their numbers from 1, fenced blocks left out."""
+    fence = ""
+    for number, line in enumerate(lines, 1):
+        opens = FENCE.fullmatch(line)
+        if fence:
+            fence = "" if line.strip() == fence else fence
+        elif opens:
+            fence = opens.group(1)
+        else:
+            yield number, line

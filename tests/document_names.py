@@ -1,0 +1,152 @@
+"""Whether what a document names is there: links, files, targets of `make`, names of the sources.
+
+A name in backticks that looks like a file has to be one; a word in capitals stands for any part of
+it. `A::b` has to be public. A word with an underscore, or with a capital inside, has to be defined
+in some source. Any other word has to stand somewhere in a source or in an example.
+"""
+import fnmatch
+import os
+import re
+
+from document_blocks import without_blocks
+
+SKIPPED = {".git", "out", "node_modules", "__pycache__"}
+TEXTS = (".rt", ".antt", ".py", ".js", ".mjs", ".c", ".h", ".sh", ".html", ".css", ".schedule",
+         ".report", ".txt", ".edit", "Makefile")
+FILE = re.compile(r"[\w./*-]+\.(md|py|rt|antt|sh|c|h|js|mjs|html|schedule|report|txt|edit|patch|"
+                  r"png|log|trace)")
+# What defines a name, in Rattle, in its definitions, and in the other languages.
+DEFINED = [re.compile(pattern, re.MULTILINE) for pattern in (
+    r"^\s*(?:export )?(?:pub(?:\(\w+\))? )?(?:unsafe )?"
+    r"(?:fn|struct|enum|trait|type|mod|const|static|class|function|let) (?:mut )?(\w+)",
+    r"^(?:pub |pub\(\w+\) )?(?:abbrev|unfoldable|record|data|mod)(?: pub)? ([\w'-]+)",
+    r"^\s*(?:def|class) (\w+)",
+    r"^(\w+) *:?=",
+    r"#\s*(?:define|ifdef|ifndef) (\w+)",
+    r"^\s+(?:pub )?(\w+)\s*:[^:]",
+    r"^\s+([A-Z]\w*)(?:\(|,| \{|$)",
+    r"^[\w ]+?\**(\w+)\(",
+)]
+PUBLIC = re.compile(r"^\s*pub (?:fn|struct|enum|trait|type|mod|const) (\w+)", re.MULTILINE)
+# A trait's functions and an enum's variants are public where the trait or the enum is.
+INSIDE = re.compile(r"^pub (?:trait|enum) .*?^\}", re.MULTILINE | re.DOTALL)
+INNER = re.compile(r"^    (?:fn (\w+)|([A-Z]\w*)[(,{ ])", re.MULTILINE)
+# What documents name that is no part of the repository: the kit, the C library, other programs.
+OUTSIDE = set("""
+    ArrayVec AllocError BufWriter Vec String Mutex Global Display SIGPIPE WebAssembly include_str
+    include_bytes thiserror arrayvec atomic_table memchr itoa clap fetch_and_store qnode
+    fetch_and_increment memory_order_seq_cst compare_exchange_weak try_acquire sched_yield pthread
+    futex parallel ssh rsync hosts Host Exitval RT_JOBS SimpleReadWriteLock FifoReadWriteLock
+    mkdir libck
+""".split())
+# Files that the commands of a document write, and parts that are not built yet.
+WRITTEN = (
+    "logs/*", "ordered/*", "try.c", "./try", "jobs.log", "run.trace", "run.schedule", "*.example",
+    "*lockreplay.html", "crates/lk_page*", "crates/lk_trace*", "crates/locktrace*", "*/out/*",
+    "record/locktrace.h", "/dev/*", "{}*", "examples/fault-too-*", "*.c",
+)
+
+
+def files_of(top):
+    """Each file and folder of the repository, by its path from the top."""
+    for folder, folders, files in os.walk(top):
+        folders[:] = [name for name in folders if name not in SKIPPED]
+        base = os.path.relpath(folder, top)
+        for name in folders + files:
+            yield os.path.normpath(os.path.join(base, name))
+
+
+def slug(title):
+    """The anchor of a heading."""
+    kept = re.sub(r"[^\w\- ]", "", re.sub(r"[`*]", "", title.lower()))
+    return kept.strip().replace(" ", "-")
+
+
+class Names:
+    """What is there: files, targets, and the names of the sources."""
+
+    def __init__(self, top):
+        self.top = top
+        self.looked_at = 0
+        self.files = list(files_of(top))
+        self.defined, self.public, self.words = set(), set(), set()
+        for path in self.files:
+            self.words.update(re.findall(r"[\w-]+", path))
+            self.defined.add(os.path.splitext(os.path.basename(path))[0])
+            if path.endswith(TEXTS) and os.path.isfile(top / path):
+                self.add_text(path, (top / path).read_text(errors="replace"))
+        make = (top / "Makefile").read_text()
+        self.targets = set(re.findall(r"^([\w-]+)(?: [\w-]+)*:", make, re.MULTILINE))
+        self.variables = set(re.findall(r"^(?:ifdef |)(\w+)(?: *:?=|$)", make, re.MULTILINE))
+
+    def add_text(self, path, text):
+        self.words.update(re.findall(r"\w+", text))
+        self.words.update(re.findall(r"[\w-]+", text))
+        for pattern in DEFINED:
+            self.defined.update(pattern.findall(text))
+        if path.endswith(".rt"):
+            self.public.update(PUBLIC.findall(text))
+            for block in INSIDE.findall(text):
+                self.public.update(name for found in INNER.findall(block) for name in found if name)
+
+    def is_file(self, name, document):
+        """Whether some file has the name, from the top, from the document, or as its end."""
+        pattern = re.sub(r"\b[A-Z]{2,}\b|\b[A-Z]\b", "*", name.rstrip("/"))
+        pattern = re.sub(r"^(\.\./)+", "", pattern)
+        here = os.path.relpath(document.parent, self.top)
+        near = (pattern, os.path.normpath(f"{here}/{pattern}"), f"*/{pattern}")
+        ways = near if FILE.fullmatch(pattern) else near + tuple(f"{way}.*" for way in near)
+        return any(fnmatch.fnmatchcase(path, way) for path in self.files for way in ways) \
+            or any(fnmatch.fnmatchcase(name, way) for way in WRITTEN)
+
+    def is_command(self, words):
+        """Whether a command of `make` has its target, and sets variables that there are."""
+        chosen = [word for word in words[1:] if "=" not in word]
+        named = [word.split("=")[0] for word in words[1:] if "=" in word]
+        return set(chosen) <= self.targets and set(named) <= self.variables
+
+    def is_path(self, name):
+        """Whether `A::b` or `A::{b, c}` is public."""
+        return all(part in self.public or part in OUTSIDE or f"crates/{part}" in self.files
+                   for part in re.findall(r"\w+", name))
+
+    def is_there(self, name, document):
+        """Whether what stands in backticks is there, as far as it is a name."""
+        words = name.split()
+        if words[:1] == ["make"]:
+            return self.is_command(words)
+        if "/" in words[0] and re.match(r"[\w./*-]+$", words[0]) or FILE.fullmatch(words[0]):
+            return self.is_file(words[0], document)
+        if re.fullmatch(r"\w+(::\w+)*::(\w+|\{[\w, ]+\})", name):
+            return self.is_path(name)
+        if not re.fullmatch(r"[A-Za-z][\w-]*(\(\))?", name):
+            return True
+        name = name.removesuffix("()")
+        if "_" in name or re.search(r"[A-Z].*[a-z][A-Z]", name):
+            return name in self.defined | OUTSIDE or name.isupper() and name in self.words
+        return name in self.words or name in OUTSIDE
+
+    def link_fault(self, target, document):
+        """What is wrong with a relative link, if anything."""
+        path, _, anchor = target.partition("#")
+        file = (document.parent / path).resolve() if path else document
+        if not file.exists():
+            return f"there is no {target}"
+        if anchor and file.suffix == ".md":
+            titles = re.findall(r"^#+ (.+)$", file.read_text(), re.MULTILINE)
+            if anchor not in map(slug, titles):
+                return f"{file.name} has no heading {anchor}"
+        return None
+
+    def missing_in(self, document, lines):
+        """Each line's number, and what it names that is not there."""
+        text = "\n".join(line for _, line in without_blocks(lines))
+        numbers = [number for number, _ in without_blocks(lines)]
+        for match in re.finditer(r"(?<!`)`([^`\n]+)`(?!`)|\]\(([^)\s]+)\)", text):
+            number = numbers[text.count("\n", 0, match.start())]
+            name, target = match.groups()
+            self.looked_at += 1
+            if name and not self.is_there(name, document):
+                yield number, f"there is no `{name}`"
+            if target and "://" not in target and (fault := self.link_fault(target, document)):
+                yield number, fault
