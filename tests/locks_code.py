@@ -1,0 +1,64 @@
+#!/usr/bin/env python3
+"""Compares the code of docs/LOCKS.md with the definitions of the locks.
+
+Each line names a phase and the kind of step that is due in it. The definitions `step_due` and
+`after_call` of crates/lk_locks/specs say the same of every phase. Both must name the same phases
+with the same kinds, and the same calls. Prints `N passed, M failed`, and ends with 1 where one
+failed.
+"""
+import pathlib
+import re
+import sys
+
+TOP = pathlib.Path(__file__).resolve().parent.parent
+SPECS = TOP / "crates" / "lk_locks" / "specs"
+# A lock's block in the document, the files that define it, and the phases that it has not.
+LOCKS = {
+    "ticket": ("ticket", set()),
+    "mcs": ("mcs", set()),
+    "rw-simple": ("read_write", {"AwaitReaders"}),
+    "rw-fifo": ("read_write", set()),
+}
+CALLS = {"Acquire": "acquire", "Release": "release", "ReadLock": "rlock", "ReadUnlock": "runlock",
+         "WriteLock": "wlock", "WriteUnlock": "wunlock", "Downgrade": "downgrade"}
+LINE = re.compile(r"-- (\w+) (\w+)(?: looks at .*)?$", re.MULTILINE)
+
+
+def in_document(lock):
+    """The (kind, phase) of each line of a lock's block; of a call its word stands for the phase."""
+    text = (TOP / "docs" / "LOCKS.md").read_text()
+    return set(LINE.findall(re.search(rf"```{lock}\n(.*?)\n```", text, re.DOTALL).group(1)))
+
+
+def in_definitions(name, missing):
+    """The same by the definitions."""
+    text = (SPECS / f"{name}.antt").read_text()
+    due = re.findall(r"^step_due \(?([A-Z]\w+).* = Some (\w+)$", text, re.MULTILINE)
+    calls = re.findall(r"^after_call .* (\w+) = Some", text, re.MULTILINE)
+    leads = re.findall(r"^after_call .* = Some \(?(\w+)", text, re.MULTILINE)
+    if not due:  # every phase in which a call is pending has a section due
+        due = [(phase, "Section") for phase in leads + ["AwaitReaders"]]
+    inside = re.findall(r"^after_call \(?([A-Z]\w+).* = Some", text, re.MULTILINE)
+    return ({(kind.lower(), phase) for phase, kind in due if phase not in missing}
+            | {("call", CALLS[call]) for call in calls}
+            | {("inside", phase) for phase in inside if phase != "Idle"})
+
+
+def main():
+    passed = failed = 0
+    for lock, (name, missing) in LOCKS.items():
+        written, defined = in_document(lock), in_definitions(name, missing)
+        passed += len(written & defined)
+        failed += len(written ^ defined)
+        for kind, phase in sorted(written - defined):
+            print(f"FAILED {lock}: the document has '{kind} {phase}', the definitions have not")
+        for kind, phase in sorted(defined - written):
+            print(f"FAILED {lock}: the definitions have '{kind} {phase}', the document has not")
+    print(f"{passed} passed, {failed} failed")
+    return 0 if failed == 0 and passed else 1
+
+
+if __name__ == "__main__":
+    if sys.argv[1:]:
+        sys.exit(__doc__)
+    sys.exit(main())
