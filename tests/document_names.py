@@ -34,7 +34,7 @@ INNER = re.compile(r"^    (?:fn (\w+)|([A-Z]\w*)[(,{ ])", re.MULTILINE)
 # What documents name that is no part of the repository: the kit, the C library, other programs.
 OUTSIDE = set("""
     ArrayVec AllocError BufWriter Vec String Mutex Global Display SIGPIPE WebAssembly include_str
-    include_bytes thiserror arrayvec atomic_table memchr itoa clap fetch_and_store qnode
+    include_bytes thiserror arrayvec atomic_table memchr itoa clap fetch_and_store qnode QNode
     fetch_and_increment memory_order_seq_cst compare_exchange_weak try_acquire sched_yield pthread
     futex parallel ssh rsync hosts Host Exitval RT_JOBS SimpleReadWriteLock FifoReadWriteLock
     mkdir libck
