@@ -44,6 +44,9 @@ tried:
 	tests/process.py $(PROGRAM)
 	tests/short_memory.py $(PROGRAM)
 	tests/memory.py $(PROGRAM)
+	tests/documents.py $(PROGRAM)
+	tests/locks_code.py
+	tests/style.py
 	fuzz/fuzz.py $(PROGRAM) --seconds $(FUZZ_SECONDS)
 
 gate:

@@ -36,6 +36,7 @@ NOT_YET = {"docs/PARALLEL.md", "docs/BENCHMARKS.md", "docs/LOCKTRACE.md", "docs/
            "bench/README.md", "page/README.md", "examples/recording/README.md"}
 SHELLS = {"bash", "shell", "zsh", "fish", "shell-session"}
 SECONDS = 50
+OF_MAKE = {"MAKELEVEL", "MAKEFLAGS", "MFLAGS"}
 END = "status of this command:"
 
 
@@ -63,7 +64,9 @@ class Room:
                 (tools / name).symlink_to(path)
         (out / "lockreplay").symlink_to(program)
         self.has = {path.name for path in tools.iterdir()}
-        self.environment = {**os.environ, "LC_ALL": "C.UTF-8", "MAKEFLAGS": "",
+        # A `make` that is started by another `make` would say so.
+        inherited = {name: text for name, text in os.environ.items() if name not in OF_MAKE}
+        self.environment = {**inherited, "LC_ALL": "C.UTF-8",
                             "PATH": f"{tools}:{os.environ['PATH']}"}
 
     @staticmethod

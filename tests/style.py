@@ -25,8 +25,27 @@ COLUMNS, LINES, BODY = 100, 400, 40
 # A pattern of paths, and the rule that is not looked at there.
 NOT_YET = [
     ("crates/*.antt", "columns"),
-    ("crates/*.rt", "columns"),
     ("crates/*.antt", "lines"),
+    ("crates/*.rt", "columns"),
+    ("crates/lockreplay/src/command_line/tests.rt", "body"),
+    ("record/lockreplay_record.h", "lines"),
+    ("bench/*", "columns"),
+    ("docs/BENCHMARKS.md", "columns"),
+    ("docs/CHECKING.md", "columns"),
+    ("docs/DECISIONS.md", "columns"),
+    ("docs/LOCKTRACE.md", "columns"),
+    ("docs/MODULE.md", "columns"),
+    ("docs/PARALLEL.md", "columns"),
+    ("fuzz/*.py", "columns"),
+    ("page/README.md", "columns"),
+    ("tests/edits.py", "columns"),
+    ("tests/process.py", "columns"),
+    ("tests/rattle_rows.py", "columns"),
+    ("tests/refuse/*", "columns"),
+    ("tests/rows.py", "columns"),
+    ("tests/short_memory.py", "columns"),
+    ("tests/statement.py", "columns"),
+    ("tests/worked_rows.py", "columns"),
 ]
 # Written by a script from files that are kept to the rules.
 GENERATED = ["crates/lk_replay/src/tests/rows/*"]
