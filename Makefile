@@ -46,6 +46,7 @@ tried:
 	tests/memory.py $(PROGRAM)
 	tests/documents.py $(PROGRAM)
 	tests/locks_code.py
+	tests/definitions.py
 	tests/style.py
 	fuzz/fuzz.py $(PROGRAM) --seconds $(FUZZ_SECONDS)
 
