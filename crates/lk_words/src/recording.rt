@@ -1,7 +1,8 @@
-//! Words that remember the last operation on them, to see which word a step touches and what it finds there.
+//! Words that remember the last operation on them, to see which word a step touches and what it
+//! finds there.
 //!
-//! Nothing is asked of the words inside but the operation itself, so a write and a compare-and-swap that fails do not know what
-//! they found.
+//! Nothing is asked of the words inside but the operation itself, so a write and a compare-and-swap
+//! that fails do not know what they found.
 
 ghost use Rattle.std.specs.Prelude.{◌≡◌, ◌+◌, ◌%◌, ◌^◌, ◌<◌, ◌==◌, cond, slice_index, slice_set, length, None, Some};
 ghost use Rattle.lk_words.specs.declared.recording.Operation.TheVariants.{Read, Write, Swap, CompareAndSwap, FetchAndAdd};

@@ -1,10 +1,12 @@
-//! From a real run to the model: two threads add to one count under the running ticket lock, each writes down what its steps found,
-//! and the two lists, put in an order that the lock itself tells, are a schedule that the replayer accepts.
+//! From a real run to the model: two threads add to one count under the running ticket lock, each
+//! writes down what its steps found, and the two lists, put in an order that the lock itself tells,
+//! are a schedule that the replayer accepts.
 //!
-//! What a thread writes down is the ticket that its take answered, and the `now_serving` that its looks found. Nothing else passes
-//! between the threads and the schedule, and no clock is read.
+//! What a thread writes down is the ticket that its take answered, and the `now_serving` that its
+//! looks found. Nothing else passes between the threads and the schedule, and no clock is read.
 //!
-//! The program prints the same however the threads meet. The schedule itself differs from run to run.
+//! The program prints the same however the threads meet. The schedule itself differs from run to
+//! run.
 #![tactic(auto)]
 
 ghost use Rattle.lk_workers.specs.invariants.Rounds.{IsIdleOf};

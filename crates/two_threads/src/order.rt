@@ -1,11 +1,13 @@
 //! Two recordings made one schedule.
 //!
-//! The words tell the order. A take that found ticket t comes where `next_ticket` is t. A look that found v comes where `now_serving`
-//! is v: after the pass of ticket v - 1 and before that of ticket v. Within a thread its own order holds. So the merge keeps both
-//! words as it goes, and lets a thread make its next step where the word is what that step found. A pass waits until no other step
-//! can be made, since it ends the time in which its ticket is served. In the order that results each step finds what it found in
-//! the run, so no thread could tell the two apart. The steps of the run came one after another in an order of this kind, so there is
-//! one; which of them was the one in time is not known, and nothing here says it.
+//! The words tell the order. A take that found ticket t comes where `next_ticket` is t. A look that
+//! found v comes where `now_serving` is v: after the pass of ticket v - 1 and before that of ticket
+//! v. Within a thread its own order holds. So the merge keeps both words as it goes, and lets a
+//! thread make its next step where the word is what that step found. A pass waits until no other
+//! step can be made, since it ends the time in which its ticket is served. In the order that
+//! results each step finds what it found in the run, so no thread could tell the two apart. The
+//! steps of the run came one after another in an order of this kind, so there is one; which of them
+//! was the one in time is not known, and nothing here says it.
 
 use crate::rounds::Step;
 use std::alloc::{AllocError, Global};
@@ -56,7 +58,8 @@ impl Words {
     }
 }
 
-// The call just before a step, where the step is the first of its call, and the step, as words of a schedule.
+// The call just before a step, where the step is the first of its call, and the step, as words of a
+// schedule.
 fn words_of(step: Step) -> (Option<&'static str>, &'static str) {
     match step {
         Step::Take(_) => (Some("acquire"), "add"),
@@ -82,7 +85,8 @@ fn push_step(text: &mut Vec<u8>, thread: &str, step: Step) -> Result<(), AllocEr
     push_move(text, thread, word)
 }
 
-/// A schedule of both threads' steps in which each finds what it found, or `None` where the merge comes to no end.
+/// A schedule of both threads' steps in which each finds what it found, or `None` where the merge
+/// comes to no end.
 pub fn schedule_of(
     alloc: Global,
     first: &[Step],

@@ -28,7 +28,8 @@ pub enum Step {
 /// The steps of one thread, the first one first.
 pub type Recorded = Vec<Step>;
 
-// Waits until the seat is inside. A look that finds what the last one found changes nothing and is not written down.
+// Waits until the seat is inside. A look that finds what the last one found changes nothing and is
+// not written down.
 fn wait(lock: &LiveTicket, seat: &mut LiveSeat, steps: &mut Recorded) -> Result<bool, AllocError>
     requires { (seat.old.table ≡ lock.now) × (seat.old.state.phase ≡ Waiting) }
     ensures own { seat.new.table ≡ lock.now }
@@ -50,7 +51,8 @@ fn wait(lock: &LiveTicket, seat: &mut LiveSeat, steps: &mut Recorded) -> Result<
     Ok(false)
 }
 
-// One round: the count grows by one, by a load and a store that only the lock keeps together. False where the turn never came.
+// One round: the count grows by one, by a load and a store that only the lock keeps together. False
+// where the turn never came.
 fn round(
     lock: &LiveTicket,
     seat: &mut LiveSeat,
