@@ -32,7 +32,6 @@ NOT_YET = [
     ("bench/*", "columns"),
     ("docs/BENCHMARKS.md", "columns"),
     ("docs/CHECKING.md", "columns"),
-    ("docs/DECISIONS.md", "columns"),
     ("docs/LOCKTRACE.md", "columns"),
     ("docs/MODULE.md", "columns"),
     ("docs/PARALLEL.md", "columns"),
