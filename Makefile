@@ -7,6 +7,8 @@
 # make rows     writes the worked rows down for the tests in Rattle
 # make demo     builds the program where it is missing or older than a source, and replays a schedule of two threads on a ticket lock
 # make bench    measures the built program beside `cat`, a hand-written replayer and plain reading
+# make install, make uninstall         [PREFIX=/usr/local] [DESTDIR=]: what packaging/contents.txt lists
+# make release-checks                  tries what is installed
 #
 # docs/CHECKING.md says how long each takes, and where the time goes.
 
@@ -68,6 +70,8 @@ demo: $(PROGRAM)
 bench: $(PROGRAM) tools
 	bench/run.py $(PROGRAM)
 	bench/batch.py $(PROGRAM)
+
+include packaging/targets.mk
 
 $(PROGRAM): $(SOURCES)
 	cd crates/lockreplay && rt run -- replay < ../../$(LESSON) > /dev/null
