@@ -8,7 +8,8 @@
 # make demo     builds the program where it is missing or older than a source, and replays a schedule of two threads on a ticket lock
 # make bench    measures the built program beside `cat`, a hand-written replayer and plain reading
 # make install, make uninstall         [PREFIX=/usr/local] [DESTDIR=]: what packaging/contents.txt lists
-# make release-checks                  tries what is installed
+# make dist, make deb                  a tarball, and a Debian package, in dist/
+# make release-checks                  tries what is installed and packaged
 #
 # docs/CHECKING.md says how long each takes, and where the time goes.
 

@@ -4,7 +4,7 @@ PREFIX  := /usr/local
 DESTDIR :=
 TREE     = $(DESTDIR)$(PREFIX)
 
-.PHONY: install uninstall release-checks
+.PHONY: install uninstall dist deb release-checks
 
 install: $(PROGRAM)
 	packaging/install.sh install '$(TREE)'
@@ -12,6 +12,13 @@ install: $(PROGRAM)
 uninstall:
 	packaging/install.sh uninstall '$(TREE)'
 
+dist: $(PROGRAM)
+	packaging/dist.sh
+
+deb: $(PROGRAM)
+	packaging/deb.sh
+
 # Debian packages that these need are installed by them where they are missing.
 release-checks: $(PROGRAM) tools
+	tests/packages.py
 	tests/installed.py
