@@ -9,7 +9,7 @@
 # make bench    measures the built program beside `cat`, a hand-written replayer and plain reading
 # make install, make uninstall         [PREFIX=/usr/local] [DESTDIR=]: what packaging/contents.txt lists
 # make dist, make deb                  a tarball, and a Debian package, in dist/
-# make release-checks                  tries what is installed and packaged
+# make release-checks                  tries what is installed and packaged, and two hosts over ssh
 #
 # docs/CHECKING.md says how long each takes, and where the time goes.
 

@@ -22,3 +22,4 @@ deb: $(PROGRAM)
 release-checks: $(PROGRAM) tools
 	tests/packages.py
 	tests/installed.py
+	tests/parallel_ssh.py $(PROGRAM)
