@@ -1,5 +1,5 @@
 # make test     the one test command: proves every crate and its tests, tries each wrong body, runs every test, and tries the built
-#               program on rows, failing devices, short and refused memory and random schedules
+#               program on rows, failing devices, short and refused memory and random schedules, and what is installed and packaged
 # make check    the quick door: builds the program, and tries it on rows, devices, short memory and random schedules
 # make check CRATE=NAME                proves one crate and its tests, and runs them
 # make edits CRATE=NAME [EDIT=NAME]    tries a crate's wrong bodies and their right twins, or one of each
@@ -25,7 +25,7 @@ EDIT := *
 .PHONY: test check edits twins rows demo bench gate tools
 
 test: gate tools
-	$(MAKE) --no-print-directory tried FUZZ_SECONDS=$(FUZZ_SECONDS)
+	$(MAKE) --no-print-directory tried release-checks FUZZ_SECONDS=$(FUZZ_SECONDS)
 	tests/refuse/run.sh request $(foreach crate,$(REFUSING),crates/$(crate)/out/$(crate)_tests)
 
 ifdef CRATE
