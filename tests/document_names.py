@@ -75,7 +75,8 @@ class Names:
             self.defined.add(os.path.splitext(os.path.basename(path))[0])
             if path.endswith(TEXTS) and os.path.isfile(top / path):
                 self.add_text(path, (top / path).read_text(errors="replace"))
-        make = (top / "Makefile").read_text()
+        files = [top / "Makefile", *(top / "packaging").glob("*.mk")]
+        make = "\n".join(file.read_text() for file in files)
         self.targets = set(re.findall(r"^([\w-]+)(?: [\w-]+)*:", make, re.MULTILINE))
         self.variables = set(re.findall(r"^(?:ifdef |)(\w+)(?: *:?=|$)", make, re.MULTILINE))
 
