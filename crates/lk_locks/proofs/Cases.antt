@@ -3,8 +3,8 @@ use Rattle.std.proofs.Common.{Bool, List, [], false, if◌then◌else◌, length
 use Rattle.std.specs.List.{AllByRecursion}
 use Rattle.lk_locks.specs.Change.{Change}
 use Rattle.lk_locks.specs.Entries.{step_entries}
-use Rattle.lk_locks.specs.Legal.{AreEnabled, after_entries, thread_of, whole_call}
-use Rattle.lk_locks.specs.Sequential.{Sequential}
+use Rattle.lk_locks.specs.Legal.{AreEnabled, after_entries, whole_call}
+use Rattle.lk_locks.specs.Sequential.{Sequential, thread_of}
 use Rattle.lk_locks.specs.Steps.{after_call}
 use Rattle.lk_locks.specs.invariants.Owed.{owed_of}
 use Rattle.lk_locks.specs.invariants.WellFormed.{IsPhaseOf}

@@ -5,8 +5,8 @@ use Rattle.lk_locks.specs.State.{State, phase_at}
 use Rattle.lk_locks.specs.Change.{Change}
 use Rattle.lk_locks.specs.Steps.{move_change, change_of, next_state, refusal_in, refusal_of, belongs}
 use Rattle.lk_locks.specs.Entries.{step_entries, move_entries, entries_of}
-use Rattle.lk_locks.specs.Sequential.{Sequential}
-use Rattle.lk_locks.specs.Legal.{AreEnabled, after_entries, thread_of, Legal}
+use Rattle.lk_locks.specs.Sequential.{Sequential, thread_of}
+use Rattle.lk_locks.specs.Legal.{AreEnabled, after_entries, Legal}
 use Rattle.lk_locks.specs.invariants.WellFormed.{IsPhaseOf}
 use Rattle.lk_locks.specs.invariants.Owed.{owed_of, IsInTurn}
 use Rattle.lk_locks.specs.invariants.Kept.{Kept, AgreeAs}
@@ -85,7 +85,7 @@ legal_of s q es k = record {
   allowed = k.allowed;
   well_formed =
       λ t h. let i : IsInTurn s.kind es t (phase_at s.phases t) =
-      k.turns t h in (i.0, (owed_of s.kind t (phase_at s.phases t), i.1));
+      k.turns t h in (i.0, owed_of s.kind t (phase_at s.phases t), i.1);
   no_others = k.no_others;
 }
 

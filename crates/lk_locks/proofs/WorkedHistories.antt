@@ -1,9 +1,9 @@
 -- Histories that are written out: those that are legal, and what the others lack.
 use Rattle.std.proofs.Common.{◌≡◌, ℕ, zero, suc, ◌<◌, List, [], ◌∷◌, ◌++◌, refl, ap, ◌∙◌, arith, rules, inl, inr}
-use Rattle.std.specs.List.{flat_map}
+use Rattle.std.specs.List.{flat_map, Any}
 use Rattle.lk_locks.specs.Legal.{Legal, subhistory, whole_call}
-use Rattle.lk_locks.specs.Places.{Occurs}
 use Rattle.lk_locks.specs.Calls.{HasDone}
+use Rattle.lk_locks.proofs.Places.{HasOne, any_of, one_of}
 use Rattle.lk_locks.specs.WorkedHistories.{handed_on, writers_in_turn, announced_entered, uncalled}
 use Rattle.lk_locks.specs.declared.kinds.LockKind.TheVariants.{Ticket, Mcs, RwSimple, RwFifo}
 use Rattle.lk_locks.specs.declared.kinds.Op.{Op}
@@ -19,14 +19,14 @@ two_threads P p q (suc (suc t)) h = absurd (omega arith)
 pub ticket_legal : Legal Ticket 2 handed_on
 ticket_legal = record {
   allowed = (tt, (refl, (refl, (tt, (refl, (tt, (refl, (tt, (refl, tt)))))))));
-  well_formed = two_threads _ (Acquire ∷ Release ∷ [], ([], refl)) (Acquire ∷ [], ([], refl));
+  well_formed = two_threads _ (Acquire ∷ Release ∷ [], [], refl) (Acquire ∷ [], [], refl);
   no_others = search rules;
 }
 
 pub mcs_legal : Legal Mcs 2 handed_on
 mcs_legal = record {
   allowed = (tt, (refl, (refl, (tt, (refl, (tt, (refl, (tt, (refl, tt)))))))));
-  well_formed = two_threads _ (Acquire ∷ Release ∷ [], ([], refl)) (Acquire ∷ [], ([], refl));
+  well_formed = two_threads _ (Acquire ∷ Release ∷ [], [], refl) (Acquire ∷ [], [], refl);
   no_others = search rules;
 }
 
@@ -35,15 +35,15 @@ simple_legal = record {
   allowed =
       (tt, (refl, (tt, (tt, (refl, (tt, (tt, (refl, (tt, (tt, (refl, (tt, (tt, (refl, (tt, (tt, (refl, (tt, tt))))))))))))))))));
   well_formed = two_threads _
-      (WriteLock ∷ Downgrade ∷ ReadUnlock ∷ [], ([], refl))
-      (ReadLock ∷ ReadUnlock ∷ WriteLock ∷ [], ([], refl));
+      (WriteLock ∷ Downgrade ∷ ReadUnlock ∷ [], [], refl)
+      (ReadLock ∷ ReadUnlock ∷ WriteLock ∷ [], [], refl);
   no_others = search rules;
 }
 
 pub fifo_legal : Legal RwFifo 2 announced_entered
 fifo_legal = record {
   allowed = (tt, (refl, (tt, (tt, (refl, (tt, (refl, (tt, (refl, (tt, tt))))))))));
-  well_formed = two_threads _ (ReadLock ∷ ReadUnlock ∷ [], ([], refl)) (WriteLock ∷ [], ([], refl));
+  well_formed = two_threads _ (ReadLock ∷ ReadUnlock ∷ [], [], refl) (WriteLock ∷ [], [], refl);
   no_others = search rules;
 }
 
@@ -53,28 +53,37 @@ no_call [] rest e = cc
 no_call (op ∷ ops) rest e = cc
 
 pub not_legal : Legal Mcs 2 uncalled → ⊥
-not_legal l = let w = l.well_formed 0 (omega arith) in no_call w.0 w.1.0 w.1.1
+not_legal l = let w = l.well_formed 0 (omega arith) in no_call w.0 w.1 w.2
 
-pub not_of_one : (e x : Entry) → (x ≡ e → ⊥) → Occurs e (x ∷ []) → ⊥
-not_of_one e x f o = elim o [ inl d ↦ f d | inr n ↦ n ]
+pub not_of_one : (P : Entry → Type 0) (x : Entry) → (P x → ⊥) → Any P (x ∷ []) → ⊥
+not_of_one P x f a = elim (one_of P (x ∷ []) a) [ inl d ↦ f d | inr n ↦ n ]
 
-pub not_of_two : (e x y : Entry) → (x ≡ e → ⊥) → (y ≡ e → ⊥) → Occurs e (x ∷ y ∷ []) → ⊥
-not_of_two e x y f g o = elim o [ inl d ↦ f d | inr r ↦ not_of_one e y g r ]
+pub not_of_two : (P : Entry → Type 0) (x y : Entry) → (P x → ⊥) → (P y → ⊥)
+    → Any P (x ∷ y ∷ []) → ⊥
+not_of_two P x y f g a = elim (one_of P (x ∷ y ∷ []) a) [
+  | inl d ↦ f d
+  | inr r ↦ not_of_one P y g (any_of P (y ∷ []) r)
+]
 
-occurs_in : (e : Entry) (start middle : List Entry) → Occurs e (start ++ e ∷ middle)
-occurs_in e [] middle = inl refl
-occurs_in e (x ∷ start) middle = inr (occurs_in e start middle)
+-- the call stands in the list
+abbrev IsCalled : ℕ → Op → List Entry → Type 0
+IsCalled t op es = Any (λ x. x ≡ Called t op) es
 
-since : (t : ℕ) (op : Op) (deeds rest start middle : List Entry) → (Occurs (Called t op) rest → ⊥)
+called_in : (t : ℕ) (op : Op) (start middle : List Entry)
+    → HasOne (λ x. x ≡ Called t op) (start ++ Called t op ∷ middle)
+called_in t op [] middle = inl refl
+called_in t op (x ∷ start) middle = inr (called_in t op start middle)
+
+since : (t : ℕ) (op : Op) (deeds rest start middle : List Entry) → (IsCalled t op rest → ⊥)
     → Called t op ∷ rest ≡ start ++ Called t op ∷ middle → subhistory t middle ≡ deeds
     → subhistory t rest ≡ deeds
 since t op deeds rest [] middle n e s = let m : rest ≡ middle = cc in ap (subhistory t) m ∙ s
 since t op deeds rest (x ∷ start) middle n e s =
     let m : rest ≡ start ++ Called t op ∷ middle = cc in
-    absurd (n (rw m (occurs_in (Called t op) start middle)))
+    absurd (n (rw m (any_of _ (start ++ Called t op ∷ middle) (called_in t op start middle))))
 
 -- what a thread did since its only call
-pub since_call : (t : ℕ) (op : Op) (deeds rest : List Entry) → (Occurs (Called t op) rest → ⊥)
+pub since_call : (t : ℕ) (op : Op) (deeds rest : List Entry) → (IsCalled t op rest → ⊥)
     → HasDone t op deeds (Called t op ∷ rest) → subhistory t rest ≡ deeds
 since_call t op deeds rest n h = since t op deeds rest h.0 h.1 n h.2 h.3
 

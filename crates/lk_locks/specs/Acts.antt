@@ -4,7 +4,9 @@ use Rattle.std.specs.Prelude.{ℕ, List, [], ◌∷◌}
 use Rattle.lk_locks.specs.declared.kinds.LockKind.{LockKind}
 use Rattle.lk_locks.specs.declared.kinds.LockKind.TheVariants.{RwFifo}
 use Rattle.lk_locks.specs.declared.kinds.Op.{Op}
-use Rattle.lk_locks.specs.declared.kinds.Op.TheVariants.{WriteLock}
+use Rattle.lk_locks.specs.declared.kinds.Op.TheVariants.{Acquire, Release, ReadLock, ReadUnlock, WriteLock, WriteUnlock, Downgrade}
+use Rattle.lk_locks.specs.declared.kinds.Act.{Act}
+use Rattle.lk_locks.specs.declared.kinds.Act.TheVariants as act
 use Rattle.lk_locks.specs.declared.kinds.Entry.{Entry}
 use Rattle.lk_locks.specs.declared.kinds.Entry.TheVariants.{Announced, Acted, Returned}
 
@@ -14,3 +16,14 @@ announcement kind t op = []
 
 abbrev pub acts : ℕ → Op → List Entry
 acts t op = Acted t op ∷ Returned t op ∷ []
+
+-- the entry in which an act on the sequential object is told
+abbrev pub entry_of : Act → Entry
+entry_of (act.Acquire t) = Acted t Acquire
+entry_of (act.Release t) = Acted t Release
+entry_of (act.ReadLock t) = Acted t ReadLock
+entry_of (act.ReadUnlock t) = Acted t ReadUnlock
+entry_of (act.Announce t) = Announced t
+entry_of (act.WriteLock t) = Acted t WriteLock
+entry_of (act.WriteUnlock t) = Acted t WriteUnlock
+entry_of (act.Downgrade t) = Acted t Downgrade

@@ -3,7 +3,7 @@ use Rattle.std.specs.Prelude.{◌≡◌, ℕ, List, [], ◌∷◌, ◌++◌, Opt
 use Rattle.lk_locks.specs.Sequential.{Sequential, nobody, is_head}
 use Rattle.lk_locks.specs.Legal.{Legal, after_entries}
 use Rattle.lk_locks.specs.Holding.{holder_after}
-use Rattle.lk_locks.specs.Places.{Occurs, Between}
+use Rattle.lk_locks.specs.Places.{Between}
 use Rattle.lk_locks.specs.declared.kinds.LockKind.{LockKind}
 use Rattle.lk_locks.specs.declared.kinds.LockKind.TheVariants.{Ticket, Mcs, RwFifo}
 use Rattle.lk_locks.specs.declared.kinds.Op.TheVariants.{Acquire, Release, ReadLock, ReadUnlock, WriteLock, WriteUnlock, Downgrade}
@@ -20,7 +20,7 @@ IsQueueLock kind = ⊥
 -- between the return of an acquire and the return of a later one stands the act of the first one's release
 abbrev pub HasOneHolder : List Entry → Type 0
 HasOneHolder es =
-    (t u : ℕ) → Between (Returned t Acquire) (Returned u Acquire) (Occurs (Acted t Release)) es
+    (t u : ℕ) → Between (Returned t Acquire) (Returned u Acquire) (λ e. e ≡ Acted t Release) es
 
 abbrev pub HoldersAreApart : Type 0
 HoldersAreApart = (kind : LockKind) (n : ℕ) (es : List Entry) → Legal kind n es → HasOneHolder es
@@ -51,35 +51,31 @@ HolderIsHead = (kind : LockKind) (n : ℕ) (es : List Entry) → Legal kind n es
 
 -- Read-write locks
 
--- t has stopped writing, by an unlock or as a reader
-abbrev pub HasStoppedWriting : ℕ → List Entry → Type 0
-HasStoppedWriting t es = Occurs (Acted t WriteUnlock) es ⊎ Occurs (Acted t Downgrade) es
+-- t stops writing, by an unlock or as a reader
+abbrev pub StopsWriting : ℕ → Entry → Type 0
+StopsWriting t e = (e ≡ Acted t WriteUnlock) ⊎ (e ≡ Acted t Downgrade)
 
 -- between two writers the first stops writing
 abbrev pub HasOneWriter : List Entry → Type 0
 HasOneWriter es =
-    (t u : ℕ) → Between (Acted t WriteLock) (Acted u WriteLock) (HasStoppedWriting t) es
+    (t u : ℕ) → Between (Acted t WriteLock) (Acted u WriteLock) (StopsWriting t) es
 
 abbrev pub NeverTwoWriters : Type 0
 NeverTwoWriters = (kind : LockKind) (n : ℕ) (es : List Entry) → Legal kind n es → HasOneWriter es
 
--- after whatever beginning of the history: where there is a writer, there is no reader
-abbrev pub HasNoReaderBeside : LockKind → List Entry → Type 0
-HasNoReaderBeside kind es =
-    (before after : List Entry) → es ≡ before ++ after
-    → let now : Sequential = after_entries (nobody kind) before in
-    (w : ℕ) → now.writer ≡ Some w → now.readers ≡ []
-
 -- A reader enters only after the writer before it stopped writing, and a writer only after each reader before
--- it left, and each writer that became a reader.
+-- it left, and each writer that became a reader. After whatever beginning of the history: where there is a
+-- writer, there is no reader.
 pub record IsNeverBesideReader (kind : LockKind) (es : List Entry) : Type 0 where
   pub then_reader : (t u : ℕ)
-      → Between (Acted t WriteLock) (Acted u ReadLock) (HasStoppedWriting t) es
+      → Between (Acted t WriteLock) (Acted u ReadLock) (StopsWriting t) es
   pub then_writer : (t u : ℕ)
-      → Between (Acted t ReadLock) (Acted u WriteLock) (Occurs (Acted t ReadUnlock)) es
+      → Between (Acted t ReadLock) (Acted u WriteLock) (λ e. e ≡ Acted t ReadUnlock) es
   pub downgraded_writer : (t u : ℕ)
-      → Between (Acted t Downgrade) (Acted u WriteLock) (Occurs (Acted t ReadUnlock)) es
-  pub no_reader : HasNoReaderBeside kind es
+      → Between (Acted t Downgrade) (Acted u WriteLock) (λ e. e ≡ Acted t ReadUnlock) es
+  pub no_reader : (before after : List Entry) → es ≡ before ++ after
+      → let now : Sequential = after_entries (nobody kind) before in
+      (w : ℕ) → now.writer ≡ Some w → now.readers ≡ []
 
 abbrev pub NeverAWriterBesideAReader : Type 0
 NeverAWriterBesideAReader =
@@ -89,9 +85,9 @@ NeverAWriterBesideAReader =
 -- that writer's entering
 pub record IsAnnouncedFirst (es : List Entry) : Type 0 where
   pub then_reader : (t u : ℕ)
-      → Between (Announced t) (Acted u ReadLock) (Occurs (Acted t WriteLock)) es
+      → Between (Announced t) (Acted u ReadLock) (λ e. e ≡ Acted t WriteLock) es
   pub then_announced : (t u : ℕ)
-      → Between (Announced t) (Announced u) (Occurs (Acted t WriteLock)) es
+      → Between (Announced t) (Announced u) (λ e. e ≡ Acted t WriteLock) es
 
 abbrev pub AnnouncedWriterGoesFirst : Type 0
 AnnouncedWriterGoesFirst = (n : ℕ) (es : List Entry) → Legal RwFifo n es → IsAnnouncedFirst es

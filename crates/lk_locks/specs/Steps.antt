@@ -1,6 +1,6 @@
 -- Definitions. Which moves are accepted, and what an accepted move does. The rooms say what is each lock's own; this file knows none
 -- of their phases or words. This project's own: the seven refusals and their order.
-use Rattle.std.specs.Prelude.{ℕ, List, [], ◌∷◌, length, set, Option, None, Some, unwrap_or, Bool, true, false, not, nat_lt, if◌then◌else◌, Result, Ok, Err}
+use Rattle.std.specs.Prelude.{ℕ, List, [], ◌∷◌, length, set, Option, None, Some, is_some, is_none, unwrap_or, Bool, true, false, not, nat_lt, if◌then◌else◌, Result, Ok, Err}
 use Rattle.std.specs.List.{list_any}
 use Rattle.lk_locks.specs.Change.{Change, to}
 use Rattle.lk_locks.specs.State.{State, phase_at}
@@ -75,16 +75,13 @@ abbrev pub belongs : LockKind → Move → Bool
 belongs kind (Call op) = has_op kind op
 belongs kind (Step step) = list_any (same_step step) (steps_of kind)
 
--- Why a call is refused, by where it leads and where it would lead an idle thread. What an idle thread may
+-- Why a move of a thread in this phase is refused, by the step that it is due to take. What an idle thread may
 -- call acquires; a thread that is not idle and has no pending call holds the lock.
-abbrev pub refusal_of_call : Option Phase → Option Phase → Option Refusal
-refusal_of_call (Some next) idle = None
-refusal_of_call None (Some next) = Some AlreadyHolds
-refusal_of_call None None = Some NotHolder
-
--- why a move of a thread in this phase, whose next step is due, is refused
 abbrev pub refusal_at : LockKind → Phase → Option StepKind → Move → Option Refusal
-refusal_at kind p None (Call op) = refusal_of_call (after_call kind p op) (after_call kind Idle op)
+refusal_at kind p None (Call op) =
+    if is_some (after_call kind p op)
+    then None
+    else (if is_some (after_call kind Idle op) then Some AlreadyHolds else Some NotHolder)
 refusal_at kind p (Some next) (Call op) = Some Busy
 refusal_at kind p None (Step step) = Some NoCall
 refusal_at kind p (Some next) (Step s) = if same_step next s then None else Some (WrongStep next)
@@ -128,8 +125,7 @@ refused_with (Ok o) = None
 refused_with (Err r) = Some r
 
 abbrev pub unless_refused : {A : Type 0} → Option Refusal → A → A → A
-unless_refused None next now = next
-unless_refused (Some r) next now = now
+unless_refused r next now = if is_none r then next else now
 
 abbrev pub after_move : State → ℕ → Move → State
 after_move s t m = unless_refused (refusal_of s t m) (next_state s t m) s

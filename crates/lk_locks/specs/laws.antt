@@ -7,7 +7,7 @@
 -- Both the machine that replays schedules and the lock that runs on shared words are stated by these events.
 use Rattle.std.specs.Prelude.{ℕ, ◌+◌, ◌%◌, ◌^◌, ◌==◌, if◌then◌else◌}
 use Rattle.lk_locks.specs.declared.kinds.Phase.{Phase}
-use Rattle.lk_locks.specs.declared.kinds.Phase.TheVariants.{Idle, TakeTicket, AwaitTurn, TicketInside, ReadServing, PassOn}
+use Rattle.lk_locks.specs.declared.kinds.Phase.TheVariants.{Idle, AwaitTurn, TicketInside, PassOn}
 use Rattle.lk_locks.specs.declared.kinds.Outcome.{Outcome}
 use Rattle.lk_locks.specs.declared.kinds.Outcome.TheVariants.{Moved, Waits, Entered, Left}
 
@@ -19,13 +19,6 @@ pub record Event : Type 0 where
 
 abbrev pub event : ℕ → Phase → Outcome → Event
 event word phase outcome = record { word = word; phase = phase; outcome = outcome }
-
--- the call of an acquire, and that of a release by the thread with this ticket, change the thread's phase alone
-abbrev pub acquiring : Phase
-acquiring = TakeTicket
-
-abbrev pub releasing : ℕ → Phase
-releasing ticket = ReadServing ticket
 
 -- the fetch-and-add on `next_ticket`: the word found is the thread's ticket
 abbrev pub take_event : ℕ → ℕ → Event

@@ -46,6 +46,13 @@ step_due AwaitLink = Some Read
 step_due (Grant j) = Some Write
 step_due p = None
 
+-- thread i reads its successor: it goes on to grant that, or does otherwise where there is none yet
+abbrev pub grant_next_or : ℕ → List ℕ → Change → Change
+grant_next_or i ws otherwise =
+    if slice_index ws (next i) == 0
+    then otherwise
+    else to ws (Grant (slice_index ws (next i) - 1)) Moved
+
 -- a step of thread i in this phase
 abbrev pub step : ℕ → ℕ → List ℕ → Phase → Change
 step bits i ws ClearNext = to (set ws (next i) 0) SwapTail Moved
@@ -57,24 +64,18 @@ step bits i ws (SetLocked j) = to (set ws (locked i) 1) (LinkTo j) Moved
 step bits i ws (LinkTo j) = to (set ws (next j) (i + 1)) AwaitGrant Moved
 step bits i ws AwaitGrant =
     if slice_index ws (locked i) == 0 then to ws McsInside Entered else to ws AwaitGrant Waits
-step bits i ws ReadNext =
-    if slice_index ws (next i) == 0
-    then to ws CasTail Moved
-    else to ws (Grant (slice_index ws (next i) - 1)) Moved
+step bits i ws ReadNext = grant_next_or i ws (to ws CasTail Moved)
 step bits i ws CasTail =
     if slice_index ws tail == i + 1 then to (set ws tail 0) Idle Left else to ws AwaitLink Moved
-step bits i ws AwaitLink =
-    if slice_index ws (next i) == 0
-    then to ws AwaitLink Waits
-    else to ws (Grant (slice_index ws (next i) - 1)) Moved
+step bits i ws AwaitLink = grant_next_or i ws (to ws AwaitLink Waits)
 step bits i ws (Grant j) = to (set ws (locked j) 0) Idle Left
 step bits i ws p = to ws p Waits
 
--- The entries of such a step. An acquire acts where it swaps the tail, and returns where the lock is granted.
+-- The entries of such a step. An acquire acts where it swaps the tail, and returns where the lock is granted; a
+-- release acts where it leaves.
 abbrev pub entries : ℕ → Phase → Outcome → List Entry
 entries i SwapTail Moved = Acted i Acquire ∷ []
 entries i SwapTail Entered = acts i Acquire
 entries i AwaitGrant Entered = Returned i Acquire ∷ []
-entries i CasTail Left = acts i Release
-entries i (Grant j) Left = acts i Release
+entries i p Left = acts i Release
 entries i p o = []

@@ -8,7 +8,7 @@
 use Rattle.std.specs.Prelude.{ℕ, List, [], ◌∷◌, slice_index, set, Option, None, Some}
 use Rattle.lk_locks.specs.Change.{Change, to}
 use Rattle.lk_locks.specs.Acts.{acts}
-use Rattle.lk_locks.specs.laws.{Event, acquiring, releasing, take_event, look_event, read_event, pass_event}
+use Rattle.lk_locks.specs.laws.{Event, take_event, look_event, read_event, pass_event}
 use Rattle.lk_locks.specs.declared.kinds.Phase.{Phase}
 use Rattle.lk_locks.specs.declared.kinds.Phase.TheVariants.{Idle, TakeTicket, AwaitTurn, TicketInside, ReadServing, PassOn}
 use Rattle.lk_locks.specs.declared.kinds.Op.{Op}
@@ -29,8 +29,8 @@ now_serving = 1
 
 -- the calls that a thread in this phase may make, and where they lead
 abbrev pub after_call : Phase → Op → Option Phase
-after_call Idle Acquire = Some acquiring
-after_call (TicketInside t) Release = Some (releasing t)
+after_call Idle Acquire = Some TakeTicket
+after_call (TicketInside t) Release = Some (ReadServing t)
 after_call p op = None
 
 -- the step that a thread takes next

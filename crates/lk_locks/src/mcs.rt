@@ -172,7 +172,7 @@ pub fn add_entries(added: &mut Added, thread: u8, phase: Phase, outcome: Outcome
         (Phase::SwapTail, Outcome::Moved) => added.one(Entry::Acted(thread, Op::Acquire)),
         (Phase::SwapTail, Outcome::Entered) => added.acts(thread, Op::Acquire),
         (Phase::AwaitGrant, Outcome::Entered) => added.one(Entry::Returned(thread, Op::Acquire)),
-        (Phase::CasTail | Phase::Grant(_), Outcome::Left) => added.acts(thread, Op::Release),
+        (_, Outcome::Left) => added.acts(thread, Op::Release),
         _ => {}
     }
 }

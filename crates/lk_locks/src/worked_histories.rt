@@ -2,12 +2,11 @@
 //!
 //! Each function's contract evaluates the definitions of one file on worked histories, and its body is empty.
 
-ghost use Rattle.std.specs.Prelude.{◌≡◌, ◌++◌, [], ◌∷◌, None, Some};
+ghost use Rattle.std.specs.Prelude.{◌≡◌, ◌++◌, [], ◌∷◌, None, Some, Any};
 ghost use Rattle.lk_locks.specs.WorkedHistories.{one_inside, left_free, handed_on, two_inside, overtaken, released_by_another, unasked, asked_twice, uncalled, reads, writes, two_readers, writers_in_turn, two_writers, reader_beside_writer, writer_beside_reader, writer_beside_downgraded, announced, announced_entered, reader_passes, writer_passes, ticket_moves, mcs_moves, simple_moves, fifo_moves};
 ghost use Rattle.lk_locks.specs.Legal.{Legal, subhistory};
 ghost use Rattle.lk_locks.specs.Holding.{holder_after, holding_of, waiting_of, IsListed, Free, HeldBy, ReadBy, WrittenBy};
-ghost use Rattle.lk_locks.specs.Places.{Occurs};
-ghost use Rattle.lk_locks.specs.Exclusion.{IsQueueLock, HasOneHolder, IsHeldInTurn, IsHeldByHead, HasStoppedWriting, HasOneWriter, IsNeverBesideReader, HasNoReaderBeside, IsAnnouncedFirst};
+ghost use Rattle.lk_locks.specs.Exclusion.{IsQueueLock, HasOneHolder, IsHeldInTurn, IsHeldByHead, StopsWriting, HasOneWriter, IsNeverBesideReader, IsAnnouncedFirst};
 ghost use Rattle.lk_locks.specs.Order.{requested, entered, IsInOrder};
 ghost use Rattle.lk_locks.specs.Calls.{ActsOnce, ActsInCalls, ReturnsNext};
 ghost use Rattle.lk_locks.specs.Runs.{after_moves, new_lock};
@@ -70,9 +69,9 @@ pub fn holders_of_queue_locks()
 
 /// A writer is alone.
 pub fn writers_of_read_write_locks()
-    ensures unlocked { HasStoppedWriting 0 (Acted 0 WriteUnlock ∷ []) }
-    ensures downgraded { HasStoppedWriting 0 (Acted 0 Downgrade ∷ []) }
-    ensures another { HasStoppedWriting 0 (Acted 1 WriteUnlock ∷ Acted 1 Downgrade ∷ []) → ⊥ }
+    ensures unlocked { StopsWriting 0 (Acted 0 WriteUnlock) }
+    ensures downgraded { StopsWriting 0 (Acted 0 Downgrade) }
+    ensures another { Any (StopsWriting 0) (Acted 1 WriteUnlock ∷ Acted 1 Downgrade ∷ []) → ⊥ }
     ensures in_turn { HasOneWriter writers_in_turn }
     ensures at_once { HasOneWriter two_writers → ⊥ }
     ensures alone { IsNeverBesideReader RwSimple writers_in_turn }

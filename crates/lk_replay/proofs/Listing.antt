@@ -5,7 +5,8 @@ use Rattle.std.proofs.Math.Seq.{drop-append_seam, take-append_seam}
 use Rattle.std.proofs.lemmas.Bool.{cases_Bool, eqb-true, le-ltb, lt-ltb}
 use Rattle.std.proofs.lemmas.Fmt.{length-decimal-le}
 use Rattle.lk_locks.specs.Sequential.{Sequential, IsAscending, has, is_head, joined, kind_allows, left_by}
-use Rattle.lk_locks.specs.declared.kinds.Act.TheVariants.{Release, ReadUnlock}
+use Rattle.lk_locks.specs.declared.kinds.Op.TheVariants.{Release, ReadUnlock}
+use Rattle.lk_locks.specs.declared.kinds.Entry.TheVariants.{Acted}
 use Rattle.lk_locks.specs.declared.kinds.LockKind.{LockKind}
 use Rattle.lk_locks.specs.declared.kinds.LockKind.TheVariants.{Ticket, Mcs, RwSimple, RwFifo}
 use Rattle.lk_replay.proofs.Lists.{later_append}
@@ -168,14 +169,14 @@ all_left (x ∷ xs) t (c, a) = elim (cases_Bool (eqb t x)) [
 
 -- ---- what an allowed act tells
 
-pub release_of_head : (kind : LockKind) (b : Bool) (q : Sequential) (t : ℕ) → (b && kind_allows kind q (Release t)) ≡ true → is_head q.queue t ≡ true
+pub release_of_head : (kind : LockKind) (b : Bool) (q : Sequential) (t : ℕ) → (b && kind_allows kind q (Acted t Release)) ≡ true → is_head q.queue t ≡ true
 release_of_head Ticket true q t h = h
 release_of_head Mcs true q t h = h
 release_of_head RwSimple true q t h = absurd (cc)
 release_of_head RwFifo true q t h = absurd (cc)
 release_of_head kind false q t h = absurd (cc)
 
-pub unlock_of_reader : (kind : LockKind) (b : Bool) (q : Sequential) (t : ℕ) → (b && kind_allows kind q (ReadUnlock t)) ≡ true → has q.readers t ≡ true
+pub unlock_of_reader : (kind : LockKind) (b : Bool) (q : Sequential) (t : ℕ) → (b && kind_allows kind q (Acted t ReadUnlock)) ≡ true → has q.readers t ≡ true
 unlock_of_reader Ticket true q t h = absurd (cc)
 unlock_of_reader Mcs true q t h = absurd (cc)
 unlock_of_reader RwSimple true q t h = h

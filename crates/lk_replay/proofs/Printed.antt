@@ -5,8 +5,8 @@ use Rattle.std.proofs.Math.Seq.{drop-append_seam, take-append_seam}
 use Rattle.std.proofs.lemmas.List.{drop-drop, drop_more, length-map}
 use Rattle.std.proofs.lemmas.List.Sums.{sum_by-drop_more}
 use Rattle.std.proofs.lemmas.List.Splits.{join_with_byte-slice_split}
-use Rattle.lk_locks.specs.Legal.{AreEnabled, after_entries, after_entry}
-use Rattle.lk_locks.specs.Sequential.{Sequential}
+use Rattle.lk_locks.specs.Legal.{AreEnabled, after_entries}
+use Rattle.lk_locks.specs.Sequential.{Sequential, after_entry}
 use Rattle.lk_locks.specs.declared.kinds.Entry.{Entry}
 use Rattle.lk_locks.specs.declared.kinds.LockKind.{LockKind}
 use Rattle.lk_locks.specs.declared.kinds.Refusal.{Refusal}

@@ -130,8 +130,7 @@ mcs_few : (t : ℕ) (p : Phase) (o : Outcome) → length (mcs.entries t p o) ≤
 mcs_few t SwapTail Moved = omega arith
 mcs_few t SwapTail Entered = omega arith
 mcs_few t AwaitGrant Entered = omega arith
-mcs_few t CasTail Left = omega arith
-mcs_few t (Grant u) Left = omega arith
+mcs_few t p Left = omega arith
 mcs_few t p o = omega arith
 
 write_few : (kind : LockKind) (t : ℕ) → length (read_write.entries kind t TryWrite Entered) ≤ 3

@@ -7,9 +7,9 @@ use mathlib.Core.Option.{some}
 use lib.ListN.{get_elem?}
 use Rattle.atomic_table.specs.Table.{Act, stepped}
 use Rattle.lk_locks.specs.declared.kinds.Phase.{Phase}
-use Rattle.lk_locks.specs.declared.kinds.Phase.TheVariants.{AwaitTurn, PassOn}
+use Rattle.lk_locks.specs.declared.kinds.Phase.TheVariants.{TakeTicket, AwaitTurn, ReadServing, PassOn}
 use Rattle.lk_locks.specs.Change.{to}
-use Rattle.lk_locks.specs.laws.{Event, acquiring, releasing}
+use Rattle.lk_locks.specs.laws.{Event}
 use Rattle.lk_locks.specs.ticket.{step}
 use Rattle.lk_workers.specs.declared.live.LivePhase.{LivePhase}
 use Rattle.lk_workers.specs.declared.live.LivePhase.TheVariants.{Idle, Waiting, Inside, Leaving}
@@ -58,9 +58,9 @@ OthersStay = (s : Table) (id j : ℕ) → j ≢ id
 
 -- the phase in which a thread makes the step of its seat: after the call of an acquire where it is idle, and after that of a release where it is inside
 abbrev pub due_in : LivePhase → ℕ → Phase
-due_in Idle t = acquiring
+due_in Idle t = TakeTicket
 due_in Waiting t = AwaitTurn t
-due_in Inside t = releasing t
+due_in Inside t = ReadServing t
 due_in Leaving t = PassOn t
 
 -- From s to s' the thread of one seat, which is in the phase `due`, makes this event on this word, and all else stays

@@ -7,7 +7,7 @@ use Rattle.lk_locks.specs.Change.{Change}
 use Rattle.lk_locks.specs.Entries.{move_entries}
 use Rattle.lk_locks.specs.Holding.{holder_after}
 use Rattle.lk_locks.specs.Legal.{after_entries}
-use Rattle.lk_locks.specs.Sequential.{Sequential, has, is_allowed, is_empty, is_head}
+use Rattle.lk_locks.specs.Sequential.{Sequential, has, is_allowed, is_head}
 use Rattle.lk_locks.specs.State.{phase_at}
 use Rattle.lk_locks.specs.Steps.{belongs, has_op, move_change, refusal_in}
 use Rattle.lk_locks.specs.invariants.Inside.{inside_of}
@@ -26,7 +26,7 @@ use Rattle.lk_locks.specs.declared.kinds.Op.{Op}
 use Rattle.lk_locks.specs.declared.kinds.Op.TheVariants.{Acquire, Release}
 use Rattle.lk_locks.specs.declared.kinds.Phase.{Phase}
 use Rattle.lk_locks.specs.declared.kinds.Phase.TheVariants.{AwaitGrant, AwaitLink, CasTail, ClearNext, Grant, Idle, LinkTo, McsInside, ReadNext, SetLocked, SwapTail}
-use Rattle.lk_locks.specs.declared.kinds.Act.TheVariants as act
+use Rattle.lk_locks.specs.declared.kinds.Entry.TheVariants.{Acted}
 
 -- each step adds the next entries of the pending call
 pub goes_on : (bits t : ℕ) (ws : List ℕ) (p : Phase) → GoesOn Mcs t p (step bits t ws p)
@@ -133,11 +133,11 @@ links_fit n bits t ws (Grant j) h l = set_links n ws _ 0 (omega arith) l
 links_fit n bits t ws p h l = l
 
 pub allows_acquire : (q : Sequential) (t : ℕ) → q.kind ≡ Mcs → t < 64 → has q.queue t ≡ false
-    → is_allowed q (act.Acquire t) ≡ true
+    → is_allowed q (Acted t Acquire) ≡ true
 allows_acquire q t k h n = rw (lt-ltb t 64 h, k, n) refl
 
 pub allows_release : (q : Sequential) (t : ℕ) → q.kind ≡ Mcs → t < 64 → is_head q.queue t ≡ true
-    → is_allowed q (act.Release t) ≡ true
+    → is_allowed q (Acted t Release) ≡ true
 allows_release q t k h n = rw (lt-ltb t 64 h, k, n) refl
 
 pub head_is : (q : List ℕ) (t : ℕ) (r : List ℕ) → q ≡ t ∷ r → is_head q t ≡ true
@@ -154,9 +154,9 @@ goes_inside ws ps q t p i h f a = rw i.is (mcs_head ws ps i.rest t p h f (rw i.i
 
 -- a linked head may be in AwaitLink only if it has one behind it
 not_alone : (ws : List ℕ) (ps : List Phase) (q : List ℕ) (t : ℕ) (r : List ℕ) → q ≡ t ∷ r
-    → IsQueue ws ps q → slice_index ws 0 ≢ t + 1 → is_empty r ≡ false
+    → IsQueue ws ps q → slice_index ws 0 ≢ t + 1 → r ≢ []
 not_alone ws ps q t [] e k n = absurd (n (k.tail_is ∙ ap tail_of e))
-not_alone ws ps q t (x ∷ r) e k n = refl
+not_alone ws ps q t (x ∷ r) e k n = λ d. cc
 
 alone : (ws : List ℕ) (ps : List Phase) (q : List ℕ) (t : ℕ) (r : List ℕ) → q ≡ t ∷ r
     → IsQueue ws ps q → slice_index ws 0 ≡ t + 1 → r ≡ []
@@ -229,20 +229,20 @@ keeps bits ws ps q t ClearNext (Step s) k h n w e f b r a =
 keeps bits ws ps q t SwapTail (Step s) k h n w e f b r a =
     let o : has q.queue t ≡ false =
     not_member ws ps q.queue t a (λ r x. rw e at x) (λ v x. rw e at x) in
-    let y : is_allowed q (act.Acquire t) ≡ true = allows_acquire q t k (omega arith) o in
+    let y : is_allowed q (Acted t Acquire) ≡ true = allows_acquire q t k (omega arith) o in
     let z : next_of ws t ≡ 0 = rw e at (a.others t o) in
     elim (eqb_tells (slice_index ws 0) 0) [
       | inl d ↦
           let g : q.queue ≡ [] = empty_of ws ps q.queue d.1 a in
           rw d.0 (record {
-            allowed = (y, (rw (y, g) (eq-eqb t t refl), tt));
-            kind_is = rw y k;
-            agrees = rw (y, g) (mcs_first ws ps t h (omega arith) z (rw g at a));
+            allowed = (y, (rw g (eq-eqb t t refl), tt));
+            kind_is = k;
+            agrees = rw g (mcs_first ws ps t h (omega arith) z (rw g at a));
           })
       | inr d ↦ rw d.0 (record {
         allowed = (y, tt);
-        kind_is = rw y k;
-        agrees = rw y (swapped ws ps q.queue t h (omega arith) o z d.1 a);
+        kind_is = k;
+        agrees = swapped ws ps q.queue t h (omega arith) o z d.1 a;
       })
     ]
 keeps bits ws ps q t (SetLocked j) (Step s) k h n w e f b r a =
@@ -307,7 +307,7 @@ keeps bits ws ps q t ReadNext (Step s) k h n w e f b r a =
 keeps bits ws ps q t CasTail (Step s) k h n w e f b r a =
     let i : IsHeadOf ws ps q.queue t =
     first_of_head ws ps q.queue t CasTail e (λ x. x) (λ v x. x) a in
-    let y : is_allowed q (act.Release t) ≡ true =
+    let y : is_allowed q (Acted t Release) ≡ true =
     allows_release q t k (omega arith) (head_is q.queue t i.rest i.is) in
     elim (eqb_tells (slice_index ws 0) (t + 1)) [
       | inl d ↦
@@ -315,8 +315,8 @@ keeps bits ws ps q t CasTail (Step s) k h n w e f b r a =
           let x : q.queue ≡ t ∷ [] = i.is ∙ ap (λ z. t ∷ z) g in
           rw d.0 (record {
             allowed = (y, (tt, tt));
-            kind_is = rw y k;
-            agrees = rw (y, x) (mcs_last ws ps t h (omega arith) (rw x at a));
+            kind_is = k;
+            agrees = rw x (mcs_last ws ps t h (omega arith) (rw x at a));
           })
       | inr d ↦
           rw d.0
@@ -334,12 +334,12 @@ keeps bits ws ps q t AwaitLink (Step s) k h n w e f b r a =
 keeps bits ws ps q t (Grant j) (Step s) k h n w e f b r a =
     let i : IsHeadOf ws ps q.queue t =
     first_of_head ws ps q.queue t (Grant j) e (λ x. x) (λ v x. x) a in
-    let y : is_allowed q (act.Release t) ≡ true =
+    let y : is_allowed q (Acted t Release) ≡ true =
     allows_release q t k (omega arith) (head_is q.queue t i.rest i.is) in
     record {
       allowed = (y, (tt, tt));
-      kind_is = rw y k;
-      agrees = rw (y, i.is) (mcs_grant ws ps i.rest t j h (omega arith) e (rw i.is at a));
+      kind_is = k;
+      agrees = rw i.is (mcs_grant ws ps i.rest t j h (omega arith) e (rw i.is at a));
     }
 keeps bits ws ps q t p m k h n w e f b r a = cc
 
@@ -377,15 +377,15 @@ holds bits ws ps q t ClearNext (Step s) k h n e f b r a =
 holds bits ws ps q t SwapTail (Step s) k h n e f b r a =
     let o : has q.queue t ≡ false =
     not_member ws ps q.queue t a (λ r x. rw e at x) (λ v x. rw e at x) in
-    let y : is_allowed q (act.Acquire t) ≡ true = allows_acquire q t k (omega arith) o in
+    let y : is_allowed q (Acted t Acquire) ≡ true = allows_acquire q t k (omega arith) o in
     elim (eqb_tells (slice_index ws 0) 0) [
       | inl d ↦
           let g : q.queue ≡ [] = empty_of ws ps q.queue d.1 a in
-          rw (d.0, y, g)
+          rw (d.0, g)
           (sym (inside_head Mcs (set ps t McsInside) (t ∷ []) t (same t) (ap is_inside (at_same ps t McsInside h))))
       | inr d ↦
           let p : Phase = SetLocked (slice_index ws 0 - 1) in
-          rw (d.0, y)
+          rw d.0
           (sym (inside_more Mcs (set ps t p) q.queue t (ap is_inside (at_same ps t p h)) ∙ inside_frame Mcs ps q.queue t p h (sym (ap is_inside e))))
     ]
 holds bits ws ps q t (SetLocked j) (Step s) k h n e f b r a =
@@ -411,10 +411,10 @@ holds bits ws ps q t ReadNext (Step s) k h n e f b r a = elim (eqb_tells (next_o
 holds bits ws ps q t CasTail (Step s) k h n e f b r a =
     let i : IsHeadOf ws ps q.queue t =
     first_of_head ws ps q.queue t CasTail e (λ x. x) (λ v x. x) a in
-    let y : is_allowed q (act.Release t) ≡ true =
+    let y : is_allowed q (Acted t Release) ≡ true =
     allows_release q t k (omega arith) (head_is q.queue t i.rest i.is) in
     elim (eqb_tells (slice_index ws 0) (t + 1)) [
-      | inl d ↦ rw (d.0, y) (leaves ws ps q.queue i.rest t i.is a.once i.later)
+      | inl d ↦ rw d.0 (leaves ws ps q.queue i.rest t i.is a.once i.later)
       | inr d ↦ rw d.0 (sym (inside_frame Mcs ps q.queue t AwaitLink h (sym (ap is_inside e))))
     ]
 holds bits ws ps q t AwaitLink (Step s) k h n e f b r a = elim (eqb_tells (next_of ws t) 0) [
@@ -426,7 +426,7 @@ holds bits ws ps q t AwaitLink (Step s) k h n e f b r a = elim (eqb_tells (next_
 holds bits ws ps q t (Grant j) (Step s) k h n e f b r a =
     let i : IsHeadOf ws ps q.queue t =
     first_of_head ws ps q.queue t (Grant j) e (λ x. x) (λ v x. x) a in
-    let y : is_allowed q (act.Release t) ≡ true =
+    let y : is_allowed q (Acted t Release) ≡ true =
     allows_release q t k (omega arith) (head_is q.queue t i.rest i.is) in
-    rw y (leaves ws ps q.queue i.rest t i.is a.once i.later)
+    (leaves ws ps q.queue i.rest t i.is a.once i.later)
 holds bits ws ps q t p m k h n e f b r a = cc

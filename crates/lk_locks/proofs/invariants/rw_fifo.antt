@@ -6,9 +6,10 @@ use Rattle.std.proofs.lemmas.Bool.Decides.{eqb_tells}
 use Rattle.std.proofs.lemmas.List.{get_or-set_other, get_or-set_same, length-set, set-get_or}
 use Rattle.lk_locks.specs.Change.{Change, plus_one}
 use Rattle.lk_locks.specs.Entries.{move_entries}
-use Rattle.lk_locks.specs.Sequential.{Sequential, acted, has, is_allowed, is_this, left_by}
+use Rattle.lk_locks.specs.Sequential.{Sequential, after_entry, has, is_allowed, left_by}
 use Rattle.lk_locks.specs.State.{phase_at}
 use Rattle.lk_locks.specs.Steps.{belongs, has_op, move_change, refusal_in}
+use Rattle.lk_locks.specs.invariants.Threads.{is_this}
 use Rattle.lk_locks.specs.invariants.WellFormed.{IsPhaseOf}
 use Rattle.lk_locks.specs.invariants.read_write.{AreHolders, is_announced, is_reading, is_writing}
 use Rattle.lk_locks.specs.invariants.rw_fifo.{AgreesWith, is_phase, owed}
@@ -25,7 +26,7 @@ use Rattle.lk_locks.specs.declared.kinds.Op.TheVariants.{Downgrade, ReadLock, Re
 use Rattle.lk_locks.specs.declared.kinds.Phase.{Phase}
 use Rattle.lk_locks.specs.declared.kinds.Phase.TheVariants.{AwaitReaders, Idle, LeaveRead, LeaveWrite, Reading, TryDowngrade, TryRead, TryWrite, Writing}
 use Rattle.lk_locks.specs.read_write
-use Rattle.lk_locks.specs.declared.kinds.Act.TheVariants as act
+use Rattle.lk_locks.specs.declared.kinds.Entry.TheVariants.{Acted, Announced}
 
 -- each section adds the next entries of the pending call
 pub goes_on : (bits t : ℕ) (ws : List ℕ) (p : Phase) → GoesOn RwFifo t p (step bits ws p)
@@ -118,8 +119,8 @@ same_thread t = eqb-same t
 
 -- the announcement before the act leaves nothing behind
 written : (ps : List Phase) (q : Sequential) (t : ℕ)
-    → AreHolders (set ps t Writing) (acted q (act.WriteLock t))
-    → AreHolders (set ps t Writing) (acted (acted q (act.Announce t)) (act.WriteLock t))
+    → AreHolders (set ps t Writing) (after_entry q (Acted t WriteLock))
+    → AreHolders (set ps t Writing) (after_entry (after_entry q (Announced t)) (Acted t WriteLock))
 written ps q t a = a
 
 -- each move keeps the words and the holders, and its entries may come
@@ -144,14 +145,14 @@ keeps bits ws ps q t TryRead (Step s) k h n w e f b r a = elim (eqb_tells (slice
       let o : (q.writer ≡ None) × (q.announced ≡ None) =
       flag_none q.writer q.announced (sym a.flag_is ∙ d.1) in
       let x : has q.readers t ≡ false = a.holders.reading t ∙ ap is_reading e in
-      let y : is_allowed q (act.ReadLock t) ≡ true =
+      let y : is_allowed q (Acted t ReadLock) ≡ true =
       rw (lt-ltb t 64 (omega arith), k, o.0, o.1, x) refl in
       let vs : List ℕ = set ws 0 (plus_one bits (slice_index ws 0)) in
       let one : slice_index vs 1 ≡ slice_index ws 1 =
       get_or-set_other ws 0 1 _ 0 (λ (c : 1 ≡ 0). omega (arith, c)) in
       let two : slice_index vs 2 ≡ slice_index ws 2 =
       get_or-set_other ws 0 2 _ 0 (λ (c : 2 ≡ 0). omega (arith, c)) in
-      let g : AgreesWith bits vs (set ps t Reading) (acted q (act.ReadLock t)) = record {
+      let g : AgreesWith bits vs (set ps t Reading) (after_entry q (Acted t ReadLock)) = record {
         narrow = rw (length-set ps t Reading) a.narrow;
         left = rw one a.left;
         came =
@@ -163,12 +164,12 @@ keeps bits ws ps q t TryRead (Step s) k h n w e f b r a = elim (eqb_tells (slice
             holders_join ps q t h (ap is_reading e) (ap is_writing e) (ap is_announced e) o.0
             a.holders;
       } in
-      rw d.0 (record { allowed = (y, (tt, tt)); kind_is = rw y k; agrees = rw y g })
+      rw d.0 (record { allowed = (y, (tt, tt)); kind_is = k; agrees = g })
   | inr d ↦ rw d.0 (record { allowed = tt; kind_is = k; agrees = rw (sym e) (rw set-get_or a) })
 ]
 keeps bits ws ps q t LeaveRead (Step s) k h n w e f b r a =
     let x : has q.readers t ≡ true = a.holders.reading t ∙ ap is_reading e in
-    let y : is_allowed q (act.ReadUnlock t) ≡ true = rw (lt-ltb t 64 (omega arith), k, x) refl in
+    let y : is_allowed q (Acted t ReadUnlock) ≡ true = rw (lt-ltb t 64 (omega arith), k, x) refl in
     let l : length (left_by q.readers t) + 1 ≡ length q.readers = length_left q.readers t x in
     let vs : List ℕ = set ws 1 (plus_one bits (slice_index ws 1)) in
     let zero : slice_index vs 0 ≡ slice_index ws 0 =
@@ -177,7 +178,7 @@ keeps bits ws ps q t LeaveRead (Step s) k h n w e f b r a =
     get_or-set_same ws 1 _ 0 (omega arith) in
     let two : slice_index vs 2 ≡ slice_index ws 2 =
     get_or-set_other ws 1 2 _ 0 (λ (c : 2 ≡ 1). omega (arith, c)) in
-    let g : AgreesWith bits vs (set ps t Idle) (acted q (act.ReadUnlock t)) = record {
+    let g : AgreesWith bits vs (set ps t Idle) (after_entry q (Acted t ReadUnlock)) = record {
       narrow = rw (length-set ps t Idle) a.narrow;
       left = rw one (plus_one-lt bits (slice_index ws 1));
       came =
@@ -189,14 +190,14 @@ keeps bits ws ps q t LeaveRead (Step s) k h n w e f b r a =
           holders_leave ps q t h (ap is_writing e) (ap is_announced e)
           (no_writer q.writer q.readers q.announced t a.holders.alone x) a.holders;
     } in
-    record { allowed = (y, (tt, tt)); kind_is = rw y k; agrees = rw y g }
+    record { allowed = (y, (tt, tt)); kind_is = k; agrees = g }
 keeps bits ws ps q t TryWrite (Step s) k h n w e f b r a = elim (eqb_tells (slice_index ws 2) 0) [
   | inr d ↦ rw d.0 (record { allowed = tt; kind_is = k; agrees = rw (sym e) (rw set-get_or a) })
   | inl d ↦
       let o : (q.writer ≡ None) × (q.announced ≡ None) =
       flag_none q.writer q.announced (sym a.flag_is ∙ d.1) in
       let x : has q.readers t ≡ false = a.holders.reading t ∙ ap is_reading e in
-      let y : is_allowed q (act.Announce t) ≡ true =
+      let y : is_allowed q (Announced t) ≡ true =
       rw (lt-ltb t 64 (omega arith), k, o.0, o.1, x) refl in
       let vs : List ℕ = set ws 2 1 in
       let zero : slice_index vs 0 ≡ slice_index ws 0 =
@@ -205,7 +206,7 @@ keeps bits ws ps q t TryWrite (Step s) k h n w e f b r a = elim (eqb_tells (slic
       get_or-set_other ws 2 1 1 0 (λ (c : 1 ≡ 2). omega (arith, c)) in
       elim (eqb_tells (slice_index ws 0) (slice_index ws 1)) [
         | inr c ↦
-            let g : AgreesWith bits vs (set ps t AwaitReaders) (acted q (act.Announce t)) = record {
+            let g : AgreesWith bits vs (set ps t AwaitReaders) (after_entry q (Announced t)) = record {
               narrow = rw (length-set ps t AwaitReaders) a.narrow;
               left = rw one a.left;
               came = zero ∙ a.came ∙ ap (λ y. (y + length q.readers) % 2 ^ bits) (sym one);
@@ -213,13 +214,13 @@ keeps bits ws ps q t TryWrite (Step s) k h n w e f b r a = elim (eqb_tells (slic
               holders =
                   holders_announce ps q t h (ap is_reading e) (ap is_writing e) o.0 o.1 a.holders;
             } in
-            rw (d.0, c.0) (record { allowed = (y, tt); kind_is = rw y k; agrees = rw y g })
+            rw (d.0, c.0) (record { allowed = (y, tt); kind_is = k; agrees = g })
         | inl c ↦
             let z : q.readers ≡ [] = none_read bits ws ps q a c.1 in
-            let u : Sequential = acted q (act.Announce t) in
-            let v : is_allowed u (act.WriteLock t) ≡ true =
+            let u : Sequential = after_entry q (Announced t) in
+            let v : is_allowed u (Acted t WriteLock) ≡ true =
             rw (lt-ltb t 64 (omega arith), k, z, same_thread t) refl in
-            let g : AgreesWith bits vs (set ps t Writing) (acted u (act.WriteLock t)) = record {
+            let g : AgreesWith bits vs (set ps t Writing) (after_entry u (Acted t WriteLock)) = record {
               narrow = rw (length-set ps t Writing) a.narrow;
               left = rw one a.left;
               came = zero ∙ a.came ∙ ap (λ y. (y + length q.readers) % 2 ^ bits) (sym one);
@@ -228,7 +229,7 @@ keeps bits ws ps q t TryWrite (Step s) k h n w e f b r a = elim (eqb_tells (slic
                   written ps q t (holders_write ps q t h z o.0 (λ u v. rw o.1 refl) a.holders);
             } in
             rw (d.0, c.0)
-            (record { allowed = (y, (rw y v, (tt, tt))); kind_is = rw (y, v) k; agrees = rw (y, v) g })
+            (record { allowed = (y, (v, (tt, tt))); kind_is = k; agrees = g })
       ]
 ]
 keeps bits ws ps q t AwaitReaders (Step s) k h n w e f b r a = elim (eqb_tells (slice_index ws 0) (slice_index ws 1)) [
@@ -238,9 +239,9 @@ keeps bits ws ps q t AwaitReaders (Step s) k h n w e f b r a = elim (eqb_tells (
       let x : q.readers ≡ [] = none_read bits ws ps q a c.1 in
       let o : q.writer ≡ None =
       no_writer_beside q.writer q.readers q.announced t a.holders.alone i in
-      let y : is_allowed q (act.WriteLock t) ≡ true =
+      let y : is_allowed q (Acted t WriteLock) ≡ true =
       rw (lt-ltb t 64 (omega arith), k, i, x) refl in
-      let g : AgreesWith bits ws (set ps t Writing) (acted q (act.WriteLock t)) = record {
+      let g : AgreesWith bits ws (set ps t Writing) (after_entry q (Acted t WriteLock)) = record {
         narrow = rw (length-set ps t Writing) a.narrow;
         left = a.left;
         came = a.came;
@@ -252,17 +253,17 @@ keeps bits ws ps q t AwaitReaders (Step s) k h n w e f b r a = elim (eqb_tells (
             holders_write ps q t h x o (λ u v. rw (announced_is q.announced t i) (not_same u t v))
             a.holders;
       } in
-      rw c.0 (record { allowed = (y, (tt, tt)); kind_is = rw y k; agrees = rw y g })
+      rw c.0 (record { allowed = (y, (tt, tt)); kind_is = k; agrees = g })
 ]
 keeps bits ws ps q t LeaveWrite (Step s) k h n w e f b r a =
     let x : is_this q.writer t ≡ true = a.holders.writing t ∙ ap is_writing e in
-    let y : is_allowed q (act.WriteUnlock t) ≡ true = rw (lt-ltb t 64 (omega arith), k, x) refl in
+    let y : is_allowed q (Acted t WriteUnlock) ≡ true = rw (lt-ltb t 64 (omega arith), k, x) refl in
     let vs : List ℕ = set ws 2 0 in
     let zero : slice_index vs 0 ≡ slice_index ws 0 =
     get_or-set_other ws 2 0 0 0 (λ (c : 0 ≡ 2). omega (arith, c)) in
     let one : slice_index vs 1 ≡ slice_index ws 1 =
     get_or-set_other ws 2 1 0 0 (λ (c : 1 ≡ 2). omega (arith, c)) in
-    let g : AgreesWith bits vs (set ps t Idle) (acted q (act.WriteUnlock t)) = record {
+    let g : AgreesWith bits vs (set ps t Idle) (after_entry q (Acted t WriteUnlock)) = record {
       narrow = rw (length-set ps t Idle) a.narrow;
       left = rw one a.left;
       came = zero ∙ a.came ∙ ap (λ y. (y + length q.readers) % 2 ^ bits) (sym one);
@@ -272,10 +273,10 @@ keeps bits ws ps q t LeaveWrite (Step s) k h n w e f b r a =
           (let o : q.announced ≡ None = none_announced q.writer q.readers q.announced t a.holders.alone x in rw o refl);
       holders = holders_unwrite ps q t h (ap is_reading e) (ap is_announced e) x a.holders;
     } in
-    record { allowed = (y, (tt, tt)); kind_is = rw y k; agrees = rw y g }
+    record { allowed = (y, (tt, tt)); kind_is = k; agrees = g }
 keeps bits ws ps q t TryDowngrade (Step s) k h n w e f b r a =
     let x : is_this q.writer t ≡ true = a.holders.writing t ∙ ap is_writing e in
-    let y : is_allowed q (act.Downgrade t) ≡ true = rw (lt-ltb t 64 (omega arith), k, x) refl in
+    let y : is_allowed q (Acted t Downgrade) ≡ true = rw (lt-ltb t 64 (omega arith), k, x) refl in
     let z : has q.readers t ≡ false = a.holders.reading t ∙ ap is_reading e in
     let o : q.announced ≡ None =
     none_announced q.writer q.readers q.announced t a.holders.alone x in
@@ -288,7 +289,7 @@ keeps bits ws ps q t TryDowngrade (Step s) k h n w e f b r a =
     let one : slice_index vs 1 ≡ slice_index ws 1 =
     get_or-set_other us 2 1 0 0 (λ (c : 1 ≡ 2). omega (arith, c))
     ∙ get_or-set_other ws 0 1 _ 0 (λ (c : 1 ≡ 0). omega (arith, c)) in
-    let g : AgreesWith bits vs (set ps t Reading) (acted q (act.Downgrade t)) = record {
+    let g : AgreesWith bits vs (set ps t Reading) (after_entry q (Acted t Downgrade)) = record {
       narrow = rw (length-set ps t Reading) a.narrow;
       left = rw one a.left;
       came =
@@ -298,5 +299,5 @@ keeps bits ws ps q t TryDowngrade (Step s) k h n w e f b r a =
       flag_is = get_or-set_same us 2 0 0 (omega arith) ∙ rw o refl;
       holders = holders_downgrade ps q t h (ap is_reading e) (ap is_announced e) x a.holders;
     } in
-    record { allowed = (y, (tt, tt)); kind_is = rw y k; agrees = rw y g }
+    record { allowed = (y, (tt, tt)); kind_is = k; agrees = g }
 keeps bits ws ps q t p m k h n w e f b r a = cc

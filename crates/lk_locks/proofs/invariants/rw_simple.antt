@@ -6,9 +6,10 @@ use Rattle.std.proofs.lemmas.Bool.Decides.{eqb_tells}
 use Rattle.std.proofs.lemmas.List.{get_or-set_other, get_or-set_same, length-set, set-get_or}
 use Rattle.lk_locks.specs.Change.{Change, less_one, plus_one}
 use Rattle.lk_locks.specs.Entries.{move_entries}
-use Rattle.lk_locks.specs.Sequential.{Sequential, acted, has, is_allowed, is_this, left_by}
+use Rattle.lk_locks.specs.Sequential.{Sequential, after_entry, has, is_allowed, left_by}
 use Rattle.lk_locks.specs.State.{phase_at}
 use Rattle.lk_locks.specs.Steps.{belongs, has_op, move_change, refusal_in}
+use Rattle.lk_locks.specs.invariants.Threads.{is_this}
 use Rattle.lk_locks.specs.invariants.WellFormed.{IsPhaseOf}
 use Rattle.lk_locks.specs.invariants.read_write.{is_announced, is_reading, is_writing}
 use Rattle.lk_locks.specs.invariants.rw_simple.{AgreesWith, is_phase, owed}
@@ -23,7 +24,7 @@ use Rattle.lk_locks.specs.declared.kinds.Op.TheVariants.{Downgrade, ReadLock, Re
 use Rattle.lk_locks.specs.declared.kinds.Phase.{Phase}
 use Rattle.lk_locks.specs.declared.kinds.Phase.TheVariants.{Idle, LeaveRead, LeaveWrite, Reading, TryDowngrade, TryRead, TryWrite, Writing}
 use Rattle.lk_locks.specs.read_write
-use Rattle.lk_locks.specs.declared.kinds.Act.TheVariants as act
+use Rattle.lk_locks.specs.declared.kinds.Entry.TheVariants.{Acted}
 
 -- each section adds the next entries of the pending call
 pub goes_on : (bits t : ℕ) (ws : List ℕ) (p : Phase) → GoesOn RwSimple t p (step bits ws p)
@@ -120,12 +121,12 @@ keeps bits ws ps q t TryRead (Step s) k h n w e f b r a = elim (eqb_tells (slice
       let o : (q.writer ≡ None) × (q.announced ≡ None) =
       flag_none q.writer q.announced (sym a.flag_is ∙ d.1) in
       let x : has q.readers t ≡ false = a.holders.reading t ∙ ap is_reading e in
-      let y : is_allowed q (act.ReadLock t) ≡ true =
+      let y : is_allowed q (Acted t ReadLock) ≡ true =
       rw (lt-ltb t 64 (omega arith), k, o.0, x) refl in
       let l : length q.readers < length ps = readers_fit ps q t a.holders h x in
       let one : slice_index (set ws 0 (plus_one bits (slice_index ws 0))) 1 ≡ slice_index ws 1 =
       get_or-set_other ws 0 1 _ 0 (λ (c : 1 ≡ 0). omega (arith, c)) in
-      let g : AgreesWith bits (set ws 0 (plus_one bits (slice_index ws 0))) (set ps t Reading) (acted q (act.ReadLock t)) = record {
+      let g : AgreesWith bits (set ws 0 (plus_one bits (slice_index ws 0))) (set ps t Reading) (after_entry q (Acted t ReadLock)) = record {
         narrow = rw (length-set ps t Reading) a.narrow;
         count =
             get_or-set_same ws 0 _ 0 (omega arith) ∙ ap (plus_one bits) a.count
@@ -136,16 +137,16 @@ keeps bits ws ps q t TryRead (Step s) k h n w e f b r a = elim (eqb_tells (slice
             holders_join ps q t h (ap is_reading e) (ap is_writing e) (ap is_announced e) o.0
             a.holders;
       } in
-      rw d.0 (record { allowed = (y, (tt, tt)); kind_is = rw y k; agrees = rw y g })
+      rw d.0 (record { allowed = (y, (tt, tt)); kind_is = k; agrees = g })
   | inr d ↦ rw d.0 (record { allowed = tt; kind_is = k; agrees = rw (sym e) (rw set-get_or a) })
 ]
 keeps bits ws ps q t LeaveRead (Step s) k h n w e f b r a =
     let x : has q.readers t ≡ true = a.holders.reading t ∙ ap is_reading e in
-    let y : is_allowed q (act.ReadUnlock t) ≡ true = rw (lt-ltb t 64 (omega arith), k, x) refl in
+    let y : is_allowed q (Acted t ReadUnlock) ≡ true = rw (lt-ltb t 64 (omega arith), k, x) refl in
     let l : length (left_by q.readers t) + 1 ≡ length q.readers = length_left q.readers t x in
     let one : slice_index (set ws 0 (less_one bits (slice_index ws 0))) 1 ≡ slice_index ws 1 =
     get_or-set_other ws 0 1 _ 0 (λ (c : 1 ≡ 0). omega (arith, c)) in
-    let g : AgreesWith bits (set ws 0 (less_one bits (slice_index ws 0))) (set ps t Idle) (acted q (act.ReadUnlock t)) = record {
+    let g : AgreesWith bits (set ws 0 (less_one bits (slice_index ws 0))) (set ps t Idle) (after_entry q (Acted t ReadUnlock)) = record {
       narrow = rw (length-set ps t Idle) a.narrow;
       count =
           get_or-set_same ws 0 _ 0 (omega arith) ∙ ap (less_one bits) (a.count ∙ sym l)
@@ -156,7 +157,7 @@ keeps bits ws ps q t LeaveRead (Step s) k h n w e f b r a =
           holders_leave ps q t h (ap is_writing e) (ap is_announced e)
           (no_writer q.writer q.readers q.announced t a.holders.alone x) a.holders;
     } in
-    record { allowed = (y, (tt, tt)); kind_is = rw y k; agrees = rw y g }
+    record { allowed = (y, (tt, tt)); kind_is = k; agrees = g }
 keeps bits ws ps q t TryWrite (Step s) k h n w e f b r a = elim (eqb_tells (slice_index ws 0) 0) [
   | inr c ↦ rw c.0 (record { allowed = tt; kind_is = k; agrees = rw (sym e) (rw set-get_or a) })
   | inl c ↦ elim (eqb_tells (slice_index ws 1) 0) [
@@ -166,25 +167,25 @@ keeps bits ws ps q t TryWrite (Step s) k h n w e f b r a = elim (eqb_tells (slic
         let o : (q.writer ≡ None) × (q.announced ≡ None) =
         flag_none q.writer q.announced (sym a.flag_is ∙ d.1) in
         let x : q.readers ≡ [] = empty_of_length q.readers (sym a.count ∙ c.1) in
-        let y : is_allowed q (act.WriteLock t) ≡ true =
+        let y : is_allowed q (Acted t WriteLock) ≡ true =
         rw (lt-ltb t 64 (omega arith), k, o.0, x) refl in
         let zero : slice_index (set ws 1 1) 0 ≡ slice_index ws 0 =
         get_or-set_other ws 1 0 1 0 (λ (c : 0 ≡ 1). omega (arith, c)) in
-        let g : AgreesWith bits (set ws 1 1) (set ps t Writing) (acted q (act.WriteLock t)) = record {
+        let g : AgreesWith bits (set ws 1 1) (set ps t Writing) (after_entry q (Acted t WriteLock)) = record {
           narrow = rw (length-set ps t Writing) a.narrow;
           count = zero ∙ a.count;
           flag_is = get_or-set_same ws 1 1 0 (omega arith);
           holders = holders_write ps q t h x o.0 (λ u v. rw o.1 refl) a.holders;
         } in
-        rw (c.0, d.0) (record { allowed = (y, (tt, tt)); kind_is = rw y k; agrees = rw y g })
+        rw (c.0, d.0) (record { allowed = (y, (tt, tt)); kind_is = k; agrees = g })
   ]
 ]
 keeps bits ws ps q t LeaveWrite (Step s) k h n w e f b r a =
     let x : is_this q.writer t ≡ true = a.holders.writing t ∙ ap is_writing e in
-    let y : is_allowed q (act.WriteUnlock t) ≡ true = rw (lt-ltb t 64 (omega arith), k, x) refl in
+    let y : is_allowed q (Acted t WriteUnlock) ≡ true = rw (lt-ltb t 64 (omega arith), k, x) refl in
     let zero : slice_index (set ws 1 0) 0 ≡ slice_index ws 0 =
     get_or-set_other ws 1 0 0 0 (λ (c : 0 ≡ 1). omega (arith, c)) in
-    let g : AgreesWith bits (set ws 1 0) (set ps t Idle) (acted q (act.WriteUnlock t)) = record {
+    let g : AgreesWith bits (set ws 1 0) (set ps t Idle) (after_entry q (Acted t WriteUnlock)) = record {
       narrow = rw (length-set ps t Idle) a.narrow;
       count = zero ∙ a.count;
       flag_is =
@@ -193,10 +194,10 @@ keeps bits ws ps q t LeaveWrite (Step s) k h n w e f b r a =
           (let o : q.announced ≡ None = none_announced q.writer q.readers q.announced t a.holders.alone x in rw o refl);
       holders = holders_unwrite ps q t h (ap is_reading e) (ap is_announced e) x a.holders;
     } in
-    record { allowed = (y, (tt, tt)); kind_is = rw y k; agrees = rw y g }
+    record { allowed = (y, (tt, tt)); kind_is = k; agrees = g }
 keeps bits ws ps q t TryDowngrade (Step s) k h n w e f b r a =
     let x : is_this q.writer t ≡ true = a.holders.writing t ∙ ap is_writing e in
-    let y : is_allowed q (act.Downgrade t) ≡ true = rw (lt-ltb t 64 (omega arith), k, x) refl in
+    let y : is_allowed q (Acted t Downgrade) ≡ true = rw (lt-ltb t 64 (omega arith), k, x) refl in
     let z : has q.readers t ≡ false = a.holders.reading t ∙ ap is_reading e in
     let o : q.announced ≡ None =
     none_announced q.writer q.readers q.announced t a.holders.alone x in
@@ -207,7 +208,7 @@ keeps bits ws ps q t TryDowngrade (Step s) k h n w e f b r a =
     get_or-set_other us 1 0 0 0 (λ (c : 0 ≡ 1). omega (arith, c))
     ∙ get_or-set_same ws 0 _ 0 (omega arith) in
     let l : length q.readers < length ps = readers_fit ps q t a.holders h z in
-    let g : AgreesWith bits vs (set ps t Reading) (acted q (act.Downgrade t)) = record {
+    let g : AgreesWith bits vs (set ps t Reading) (after_entry q (Acted t Downgrade)) = record {
       narrow = rw (length-set ps t Reading) a.narrow;
       count =
           zero ∙ ap (plus_one bits) a.count
@@ -216,5 +217,5 @@ keeps bits ws ps q t TryDowngrade (Step s) k h n w e f b r a =
       flag_is = get_or-set_same us 1 0 0 (omega arith) ∙ rw o refl;
       holders = holders_downgrade ps q t h (ap is_reading e) (ap is_announced e) x a.holders;
     } in
-    record { allowed = (y, (tt, tt)); kind_is = rw y k; agrees = rw y g }
+    record { allowed = (y, (tt, tt)); kind_is = k; agrees = g }
 keeps bits ws ps q t p m k h n w e f b r a = cc

@@ -27,7 +27,7 @@ use Rattle.lk_locks.specs.declared.kinds.Op.{Op}
 use Rattle.lk_locks.specs.declared.kinds.Op.TheVariants.{Acquire, Release}
 use Rattle.lk_locks.specs.declared.kinds.Phase.{Phase}
 use Rattle.lk_locks.specs.declared.kinds.Phase.TheVariants.{AwaitTurn, Idle, PassOn, ReadServing, TakeTicket, TicketInside}
-use Rattle.lk_locks.specs.declared.kinds.Act.TheVariants as act
+use Rattle.lk_locks.specs.declared.kinds.Entry.TheVariants.{Acted}
 
 -- each step adds the next entries of the pending call
 pub goes_on : (bits t : ℕ) (ws : List ℕ) (p : Phase) → GoesOn Ticket t p (step bits t ws p)
@@ -73,11 +73,11 @@ call_fits p op f = f
 
 -- a queue lock allows a new request, and the release of the head
 pub allows_acquire : (q : Sequential) (t : ℕ) → q.kind ≡ Ticket → t < 64 → has q.queue t ≡ false
-    → is_allowed q (act.Acquire t) ≡ true
+    → is_allowed q (Acted t Acquire) ≡ true
 allows_acquire q t k h n = rw (lt-ltb t 64 h, k, n) refl
 
 pub allows_release : (q : Sequential) (t : ℕ) → q.kind ≡ Ticket → t < 64 → is_head q.queue t ≡ true
-    → is_allowed q (act.Release t) ≡ true
+    → is_allowed q (Acted t Release) ≡ true
 allows_release q t k h n = rw (lt-ltb t 64 h, k, n) refl
 
 rest_false : (q : List ℕ) (t : ℕ) → has q t ≡ false → has (drop 1 q) t ≡ false
@@ -113,11 +113,11 @@ keeps bits ws ps q t (TicketInside x) (Call Release) k h n w e f b r a = record 
 }
 keeps bits ws ps q t TakeTicket (Step s) k h n w e f b r a =
     let o : has q.queue t ≡ false = no_member bits ws ps q.queue t a (ap ticket_of e) in
-    let y : is_allowed q (act.Acquire t) ≡ true = allows_acquire q t k (omega arith) o in
+    let y : is_allowed q (Acted t Acquire) ≡ true = allows_acquire q t k (omega arith) o in
     record {
       allowed = (y, tt);
-      kind_is = rw y k;
-      agrees = rw y (queue_take bits ws ps q.queue t h w (ap ticket_of e) a);
+      kind_is = k;
+      agrees = queue_take bits ws ps q.queue t h w (ap ticket_of e) a;
     }
 keeps bits ws ps q t (AwaitTurn x) (Step s) k h n w e f b r a = elim (eqb_tells (slice_index ws 1) x) [
   | inl d ↦
@@ -148,11 +148,11 @@ keeps bits ws ps q t (ReadServing x) (Step s) k h n w e f b r a =
 keeps bits ws ps q t (PassOn x) (Step s) k h n w e f b r a =
     let i : IsHead ws ps q.queue t x =
     inside_is_head bits ws ps q.queue t x a (ap ticket_of e) (λ y d. let g : PassOn x ≡ AwaitTurn y = sym e ∙ d in cc) in
-    let y : is_allowed q (act.Release t) ≡ true = allows_release q t k (omega arith) i.head in
+    let y : is_allowed q (Acted t Release) ≡ true = allows_release q t k (omega arith) i.head in
     record {
       allowed = (y, (tt, tt));
-      kind_is = rw y k;
-      agrees = rw (y, i.ticket) (queue_pass bits ws ps q.queue t h w i.head i.alone a);
+      kind_is = k;
+      agrees = rw i.ticket (queue_pass bits ws ps q.queue t h w i.head i.alone a);
     }
 keeps bits ws ps q t p m k h n w e f b r a = cc
 
@@ -185,10 +185,9 @@ holds bits ws ps q t Idle (Call Acquire) k h n e f b r a =
 holds bits ws ps q t (TicketInside x) (Call Release) k h n e f b r a =
     sym (inside_frame Ticket ps q.queue t (ReadServing x) h (sym (ap is_inside e)))
 holds bits ws ps q t TakeTicket (Step s) k h n e f b r a =
-    let y : is_allowed q (act.Acquire t) ≡ true =
+    let y : is_allowed q (Acted t Acquire) ≡ true =
     allows_acquire q t k (omega arith) (no_member bits ws ps q.queue t a (ap ticket_of e)) in
     let p : Phase = AwaitTurn (slice_index ws 0) in
-    rw y
     (sym (inside_more Ticket (set ps t p) q.queue t (ap is_inside (at_same ps t p h)) ∙ inside_frame Ticket ps q.queue t p h (sym (ap is_inside e))))
 holds bits ws ps q t (AwaitTurn x) (Step s) k h n e f b r a = elim (eqb_tells (slice_index ws 1) x) [
   | inl d ↦
@@ -203,6 +202,6 @@ holds bits ws ps q t (ReadServing x) (Step s) k h n e f b r a =
 holds bits ws ps q t (PassOn x) (Step s) k h n e f b r a =
     let i : IsHead ws ps q.queue t x =
     inside_is_head bits ws ps q.queue t x a (ap ticket_of e) (λ y d. let g : PassOn x ≡ AwaitTurn y = sym e ∙ d in cc) in
-    let y : is_allowed q (act.Release t) ≡ true = allows_release q t k (omega arith) i.head in
-    rw y (sym (inside_rest bits ps x t q.queue i.alone (line_rest bits ws ps q.queue a)))
+    let y : is_allowed q (Acted t Release) ≡ true = allows_release q t k (omega arith) i.head in
+    (sym (inside_rest bits ps x t q.queue i.alone (line_rest bits ws ps q.queue a)))
 holds bits ws ps q t p m k h n e f b r a = cc

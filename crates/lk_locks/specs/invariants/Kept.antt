@@ -2,8 +2,8 @@
 use Rattle.std.specs.Prelude.{◌≡◌, ℕ, ◌<◌, ◌≤◌, List, length, None}
 use Rattle.std.specs.List.{AllByRecursion}
 use Rattle.lk_locks.specs.State.{State, phase_at}
-use Rattle.lk_locks.specs.Sequential.{Sequential, nobody}
-use Rattle.lk_locks.specs.Legal.{AreEnabled, after_entries, thread_of}
+use Rattle.lk_locks.specs.Sequential.{Sequential, nobody, thread_of}
+use Rattle.lk_locks.specs.Legal.{AreEnabled, after_entries}
 use Rattle.lk_locks.specs.Holding.{holder_after}
 use Rattle.lk_locks.specs.Play.{RecordedLock}
 use Rattle.lk_locks.specs.invariants.ticket

@@ -1,9 +1,9 @@
 -- Invariants. The MCS lock's: its phases, what a pending call still owes the history, who is inside, and how its words agree with the
 -- queue of its sequential object, which is only partly linked at most moments.
-use Rattle.std.specs.Prelude.{◌≡◌, ℕ, ◌+◌, ◌<◌, ◌≤◌, List, [], ◌∷◌, length, slice_index, Bool, true, false, IsTrue}
+use Rattle.std.specs.Prelude.{◌≡◌, ◌≢◌, ℕ, ◌+◌, ◌<◌, ◌≤◌, List, [], ◌∷◌, length, slice_index, Bool, true, false, IsTrue}
 use Rattle.lk_locks.specs.State.{phase_at}
 use Rattle.lk_locks.specs.Acts.{acts}
-use Rattle.lk_locks.specs.Sequential.{has, is_head, is_empty}
+use Rattle.lk_locks.specs.Sequential.{has, is_head}
 use Rattle.lk_locks.specs.mcs.{tail, next, locked}
 use Rattle.lk_locks.specs.invariants.Threads.{EachOnce}
 use Rattle.lk_locks.specs.declared.kinds.Phase.{Phase}
@@ -89,7 +89,7 @@ IsFirst ws t q AwaitGrant = locked_of ws t ≡ 0
 IsFirst ws t q McsInside = Unit {0}
 IsFirst ws t q ReadNext = Unit {0}
 IsFirst ws t q CasTail = Unit {0}
-IsFirst ws t q AwaitLink = is_empty q ≡ false
+IsFirst ws t q AwaitLink = q ≢ []
 IsFirst ws t q (Grant j) = (is_head q j ≡ true) × (next_of ws t ≡ j + 1)
 IsFirst ws t q p = ⊥
 

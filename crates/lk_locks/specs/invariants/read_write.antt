@@ -1,8 +1,8 @@
 -- Invariants. What the two read-write locks share: who reads, who writes and who has announced itself.
 use Rattle.std.specs.Prelude.{◌≡◌, ℕ, List, [], Option, None, Some, Bool, true, false}
 use Rattle.lk_locks.specs.State.{phase_at}
-use Rattle.lk_locks.specs.Sequential.{Sequential, has, is_this}
-use Rattle.lk_locks.specs.invariants.Threads.{EachOnce}
+use Rattle.lk_locks.specs.Sequential.{Sequential, has}
+use Rattle.lk_locks.specs.invariants.Threads.{EachOnce, is_this}
 use Rattle.lk_locks.specs.declared.kinds.Phase.{Phase}
 use Rattle.lk_locks.specs.declared.kinds.Phase.TheVariants.{Reading, LeaveRead, AwaitReaders, Writing, LeaveWrite, TryDowngrade}
 

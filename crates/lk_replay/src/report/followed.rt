@@ -95,9 +95,8 @@ fn remove_reader(text: &mut Text, readers: &[u8], thread: u8)
 }
 
 impl Followed {
-    ghost use Rattle.std.specs.Prelude.{◌≡◌, ◌≤◌, [], ◌∷◌, length, not};
+    ghost use Rattle.std.specs.Prelude.{◌≡◌, ◌≤◌, ◌==◌, [], ◌∷◌, length, not};
     ghost use Rattle.lk_locks.specs.Legal.{IsEnabled};
-    ghost use Rattle.lk_locks.specs.Sequential.{is_empty};
     ghost use Rattle.lk_replay.specs.Following.{followed_by, following};
     ghost use Rattle.lk_replay.specs.Report.{numbers_text, queue_text};
 
@@ -192,7 +191,7 @@ impl Followed {
 
     /// Whether somebody reads.
     pub fn is_read(&self) -> bool
-        ensures { result ≡ not (is_empty self.now.sequential.readers) }
+        ensures { result ≡ not (length self.now.sequential.readers == 0) }
     {
         !self.sequential.readers().is_empty()
     }

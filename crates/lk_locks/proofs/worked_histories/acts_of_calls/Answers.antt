@@ -1,6 +1,7 @@
 use Rattle.std.proofs.Common.{◌≡◌, [], ◌∷◌, refl}
 use Rattle.lk_locks.specs.WorkedHistories.{handed_on, writers_in_turn}
 use Rattle.lk_locks.proofs.CallLaws.{calls_act_once, acts_are_called}
+use Rattle.lk_locks.proofs.Places.{one_of}
 use Rattle.lk_locks.proofs.WorkedHistories.{mcs_legal, simple_legal, not_of_one, not_of_two, since_call, nothing_done}
 use Rattle.lk_locks.specs.declared.kinds.LockKind.TheVariants.{Mcs, RwSimple}
 use Rattle.lk_locks.specs.declared.kinds.Op.TheVariants.{Acquire, WriteLock}
@@ -13,14 +14,14 @@ returns-clause-once c = calls_act_once Mcs 2 handed_on mcs_legal
 pub returns-clause-never : goal.returns-clause-never
 returns-clause-never c = λ h.
     let s : [] ≡ Acted 0 Acquire ∷ [] =
-    since_call 0 Acquire (Acted 0 Acquire ∷ []) [] (λ o. o) (h 0 Acquire (Called 0 Acquire ∷ []) [] refl) in
+    since_call 0 Acquire (Acted 0 Acquire ∷ []) [] (λ a. one_of _ [] a) (h 0 Acquire (Called 0 Acquire ∷ []) [] refl) in
     cc
 
 pub returns-clause-twice : goal.returns-clause-twice
 returns-clause-twice c = λ h.
     let s : Acted 0 Acquire ∷ Acted 0 Acquire ∷ [] ≡ Acted 0 Acquire ∷ [] =
     since_call 0 Acquire (Acted 0 Acquire ∷ []) (Acted 0 Acquire ∷ Acted 0 Acquire ∷ [])
-    (not_of_two (Called 0 Acquire) (Acted 0 Acquire) (Acted 0 Acquire) (λ e. cc) (λ e. cc))
+    (not_of_two (λ x. x ≡ Called 0 Acquire) (Acted 0 Acquire) (Acted 0 Acquire) (λ e. cc) (λ e. cc))
     (h 0 Acquire (Called 0 Acquire ∷ Acted 0 Acquire ∷ Acted 0 Acquire ∷ []) [] refl) in
     cc
 
@@ -31,7 +32,7 @@ pub returns-clause-unannounced : goal.returns-clause-unannounced
 returns-clause-unannounced c = λ h.
     let s : Acted 0 WriteLock ∷ [] ≡ Announced 0 ∷ Acted 0 WriteLock ∷ [] =
     since_call 0 WriteLock (Announced 0 ∷ Acted 0 WriteLock ∷ []) (Acted 0 WriteLock ∷ [])
-    (not_of_one (Called 0 WriteLock) (Acted 0 WriteLock) (λ e. cc))
+    (not_of_one (λ x. x ≡ Called 0 WriteLock) (Acted 0 WriteLock) (λ e. cc))
     (h 0 WriteLock (Called 0 WriteLock ∷ Acted 0 WriteLock ∷ []) [] refl) in
     cc
 

@@ -1,4 +1,4 @@
-use Rattle.std.proofs.Common.{[], ◌∷◌, refl}
+use Rattle.std.proofs.Common.{◌≡◌, [], ◌∷◌, refl}
 use Rattle.std.proofs.lemmas.Bool.{false≢true}
 use Rattle.lk_locks.specs.WorkedHistories.{handed_on}
 use Rattle.lk_locks.proofs.QueueLaws.{holders_are_apart}
@@ -13,7 +13,7 @@ returns-clause-apart c = holders_are_apart Ticket 2 handed_on ticket_legal
 
 pub returns-clause-beside : goal.returns-clause-beside
 returns-clause-beside c = λ h.
-    not_of_two (Acted 0 Release) (Called 1 Acquire) (Acted 1 Acquire) (λ e. cc) (λ e. cc)
+    not_of_two (λ e. e ≡ Acted 0 Release) (Called 1 Acquire) (Acted 1 Acquire) (λ e. cc) (λ e. cc)
     (h 0 1 (Called 0 Acquire ∷ Acted 0 Acquire ∷ []) (Called 1 Acquire ∷ Acted 1 Acquire ∷ []) [] refl)
 
 pub returns-clause-overtakes : goal.returns-clause-overtakes

@@ -1,5 +1,6 @@
-use Rattle.std.proofs.Common.{[], ◌∷◌, ◌++◌, refl, inl, inr}
+use Rattle.std.proofs.Common.{◌≡◌, [], ◌∷◌, ◌++◌, refl, inl, inr}
 use Rattle.lk_locks.specs.WorkedHistories.{writes, reads, writers_in_turn, announced_entered}
+use Rattle.lk_locks.specs.Exclusion.{StopsWriting}
 use Rattle.lk_locks.proofs.SharedLaws.{never_two_writers, never_a_writer_beside_a_reader, announced_writer_goes_first}
 use Rattle.lk_locks.proofs.WorkedHistories.{simple_legal, fifo_legal, not_of_one, not_of_two}
 use Rattle.lk_locks.specs.declared.kinds.LockKind.TheVariants.{RwSimple}
@@ -12,37 +13,27 @@ returns-clause-in_turn c = never_two_writers RwSimple 2 writers_in_turn simple_l
 
 pub returns-clause-at_once : goal.returns-clause-at_once
 returns-clause-at_once c = λ h.
-    elim (h 0 1 (Called 0 WriteLock ∷ []) (Returned 0 WriteLock ∷ Called 1 WriteLock ∷ []) (Returned 1 WriteLock ∷ []) refl) [
-      | inl o ↦
-          not_of_two (Acted 0 WriteUnlock) (Returned 0 WriteLock) (Called 1 WriteLock) (λ e. cc)
-          (λ e. cc) o
-      | inr o ↦
-          not_of_two (Acted 0 Downgrade) (Returned 0 WriteLock) (Called 1 WriteLock) (λ e. cc)
-          (λ e. cc) o
-    ]
+    not_of_two (StopsWriting 0) (Returned 0 WriteLock) (Called 1 WriteLock)
+    (λ s. elim s [ inl e ↦ cc | inr e ↦ cc ]) (λ s. elim s [ inl e ↦ cc | inr e ↦ cc ])
+    (h 0 1 (Called 0 WriteLock ∷ []) (Returned 0 WriteLock ∷ Called 1 WriteLock ∷ []) (Returned 1 WriteLock ∷ []) refl)
 
 pub returns-clause-alone : goal.returns-clause-alone
 returns-clause-alone c = never_a_writer_beside_a_reader RwSimple 2 writers_in_turn simple_legal
 
 pub returns-clause-reader : goal.returns-clause-reader
 returns-clause-reader c = λ h.
-    elim (h.then_reader 0 1 (Called 0 WriteLock ∷ []) (Returned 0 WriteLock ∷ Called 1 ReadLock ∷ []) (Returned 1 ReadLock ∷ []) refl) [
-      | inl o ↦
-          not_of_two (Acted 0 WriteUnlock) (Returned 0 WriteLock) (Called 1 ReadLock) (λ e. cc)
-          (λ e. cc) o
-      | inr o ↦
-          not_of_two (Acted 0 Downgrade) (Returned 0 WriteLock) (Called 1 ReadLock) (λ e. cc)
-          (λ e. cc) o
-    ]
+    not_of_two (StopsWriting 0) (Returned 0 WriteLock) (Called 1 ReadLock)
+    (λ s. elim s [ inl e ↦ cc | inr e ↦ cc ]) (λ s. elim s [ inl e ↦ cc | inr e ↦ cc ])
+    (h.then_reader 0 1 (Called 0 WriteLock ∷ []) (Returned 0 WriteLock ∷ Called 1 ReadLock ∷ []) (Returned 1 ReadLock ∷ []) refl)
 
 pub returns-clause-writer : goal.returns-clause-writer
 returns-clause-writer c = λ h.
-    not_of_two (Acted 0 ReadUnlock) (Returned 0 ReadLock) (Called 1 WriteLock) (λ e. cc) (λ e. cc)
+    not_of_two (λ e. e ≡ Acted 0 ReadUnlock) (Returned 0 ReadLock) (Called 1 WriteLock) (λ e. cc) (λ e. cc)
     (h.then_writer 0 1 (Called 0 ReadLock ∷ []) (Returned 0 ReadLock ∷ Called 1 WriteLock ∷ []) (Returned 1 WriteLock ∷ []) refl)
 
 pub returns-clause-downgraded_reader : goal.returns-clause-downgraded_reader
 returns-clause-downgraded_reader c = λ h.
-    not_of_two (Acted 0 ReadUnlock) (Returned 0 Downgrade) (Called 1 WriteLock) (λ e. cc) (λ e. cc)
+    not_of_two (λ e. e ≡ Acted 0 ReadUnlock) (Returned 0 Downgrade) (Called 1 WriteLock) (λ e. cc) (λ e. cc)
     (h.downgraded_writer 0 1 (writes 0 ++ Called 0 Downgrade ∷ []) (Returned 0 Downgrade ∷ Called 1 WriteLock ∷ []) (Returned 1 WriteLock ∷ []) refl)
 
 pub returns-clause-first : goal.returns-clause-first
@@ -50,10 +41,15 @@ returns-clause-first c = announced_writer_goes_first 2 announced_entered fifo_le
 
 pub returns-clause-reader_passes : goal.returns-clause-reader_passes
 returns-clause-reader_passes c = λ h.
-    not_of_one (Acted 1 WriteLock) (Called 2 ReadLock) (λ e. cc)
+    not_of_one (λ e. e ≡ Acted 1 WriteLock) (Called 2 ReadLock) (λ e. cc)
     (h.then_reader 1 2 (reads 0 ++ Called 1 WriteLock ∷ []) (Called 2 ReadLock ∷ []) (Returned 2 ReadLock ∷ []) refl)
 
 pub returns-clause-writer_passes : goal.returns-clause-writer_passes
 returns-clause-writer_passes c = λ h.
-    not_of_one (Acted 1 WriteLock) (Called 2 WriteLock) (λ e. cc)
+    not_of_one (λ e. e ≡ Acted 1 WriteLock) (Called 2 WriteLock) (λ e. cc)
     (h.then_announced 1 2 (reads 0 ++ Called 1 WriteLock ∷ []) (Called 2 WriteLock ∷ []) [] refl)
+
+pub returns-clause-another : goal.returns-clause-another
+returns-clause-another c =
+    not_of_two (StopsWriting 0) (Acted 1 WriteUnlock) (Acted 1 Downgrade)
+    (λ s. elim s [ inl e ↦ cc | inr e ↦ cc ]) (λ s. elim s [ inl e ↦ cc | inr e ↦ cc ])
