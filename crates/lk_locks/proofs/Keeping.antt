@@ -1,5 +1,5 @@
 -- Each accepted move keeps what is known of a lock and its history.
-use Rattle.std.proofs.Common.{◌≡◌, ℕ, ◌<◌, List, [], ◌∷◌, ◌++◌, length, set, true, None, refl, ap, ◌∙◌}
+use Rattle.std.proofs.Common.{◌≡◌, ℕ, ◌<◌, List, ◌++◌, length, set, true, None, refl, ap, sym, ◌∙◌}
 use Rattle.std.proofs.lemmas.List.{length-set}
 use Rattle.lk_locks.specs.State.{State, phase_at}
 use Rattle.lk_locks.specs.Change.{Change}
@@ -9,19 +9,19 @@ use Rattle.lk_locks.specs.Sequential.{Sequential, thread_of}
 use Rattle.lk_locks.specs.Legal.{AreEnabled, after_entries, Legal}
 use Rattle.lk_locks.specs.invariants.WellFormed.{IsPhaseOf}
 use Rattle.lk_locks.specs.invariants.Owed.{owed_of, IsInTurn}
-use Rattle.lk_locks.specs.invariants.Kept.{Kept, AgreeAs}
+use Rattle.lk_locks.specs.Holding.{holder_after}
+use Rattle.lk_locks.specs.Tracked.{Tracked, followed}
+use Rattle.lk_locks.specs.invariants.Kept.{Kept, IsRecorded, AgreeAs}
 use Rattle.lk_locks.proofs.Cases.{AreOf, IsAgreed}
 use Rattle.lk_locks.proofs.Threads.{each_phase}
-use Rattle.lk_locks.proofs.Moves.{Accepted, accepted_of, well_kept, agreed, held_kept, step_goes_on, call_begins, owed_is_own}
-use Rattle.lk_locks.proofs.Histories.{after_append, allowed_append, all_append, all_prefix, all_map, turn_of_step, turn_of_call, turn_of_other}
+use Rattle.lk_locks.proofs.Moves.{Accepted, accepted_of, well_kept, agreed, step_goes_on, call_begins, owed_is_own}
+use Rattle.lk_locks.proofs.Histories.{holder_append, after_append, allowed_append, all_append, all_prefix, all_map, turn_of_step, turn_of_call, turn_of_other}
 use Rattle.lk_locks.specs.declared.kinds.LockKind.{LockKind}
 use Rattle.lk_locks.specs.declared.kinds.Phase.{Phase}
 use Rattle.lk_locks.specs.declared.kinds.Move.{Move}
 use Rattle.lk_locks.specs.declared.kinds.Move.TheVariants.{Call, Step}
-use Rattle.lk_locks.specs.declared.kinds.Op.{Op}
 use Rattle.lk_locks.specs.declared.kinds.StepKind.{StepKind}
 use Rattle.lk_locks.specs.declared.kinds.Entry.{Entry}
-use Rattle.lk_locks.specs.declared.kinds.Entry.TheVariants.{Called}
 use Rattle.lk_locks.specs.declared.kinds.Outcome.{Outcome}
 
 pub entries_are_own : (kind : LockKind) (bits : ℕ) (ws : List ℕ) (t : ℕ) (p : Phase) (m : Move)
@@ -69,7 +69,6 @@ keeps s q es t m k a =
           rw n
           (all_append (λ e. thread_of e < length s.phases) es new k.no_others (all_map _ (λ e. thread_of e < length s.phases) (λ e h. rw h a.thread) new of));
       agree = g.agrees;
-      held = held_kept s.kind s.bits s.words s.phases q es t m k.well k.few k.kind a k.agree k.held;
     }
 
 -- the entries of an accepted move may come
@@ -89,22 +88,20 @@ legal_of s q es k = record {
   no_others = k.no_others;
 }
 
--- the entries that the code makes of a call, and of a step
-pub called_entries : (s : State) (t : ℕ) (m : Move) (op : Op) → m ≡ Call op
-    → Called t op ∷ [] ≡ entries_of s t m
-called_entries s t m op d = rw d refl
-
+-- the entries that the code makes of a step
 pub made_entries : (s : State) (t : ℕ) (m : Move) (k : StepKind) (kind : LockKind) (p : Phase)
     (o : Outcome) (added slice : List Entry) → m ≡ Step k → kind ≡ s.kind → p ≡ phase_at s.phases t
     → o ≡ (change_of s t m).outcome → added ≡ step_entries kind t p o → slice ≡ added
     → slice ≡ entries_of s t m
 made_entries s t m k kind p o added slice d i e f g h = h ∙ g ∙ rw (f, i, e, d) refl
 
-pub kept_after : (s r : State) (q u : Sequential) (es now : List Entry) (first second : List Entry)
-    (t : ℕ) (m : Move) → Kept s q es → refusal_of s t m ≡ None → first ≡ entries_of s t m
-    → second ≡ entries_of s t m → r ≡ next_state s t m → u ≡ after_entries q first
-    → now ≡ es ++ second → Kept r u now
-kept_after s r q u es now first second t m k h a b c d e =
-    let g : Kept (next_state s t m) (after_entries q (entries_of s t m)) (es ++ entries_of s t m) =
-    keeps s q es t m k (accepted_of s t m h) in
-    rw (c, d, e, a, b) g
+-- a lock and its history go on by an accepted move
+pub recorded_on : (k : Tracked) (es : List Entry) (t : ℕ) (m : Move) → IsRecorded k es
+    → refusal_of k.state t m ≡ None
+    → IsRecorded (followed k (next_state k.state t m) (entries_of k.state t m)) (es ++ entries_of k.state t m)
+recorded_on k es t m r a =
+    let new : List Entry = entries_of k.state t m in
+    record {
+      kept = keeps k.state k.sequential es t m r.kept (accepted_of k.state t m a);
+      holder = ap (λ h. holder_after h new) r.holder ∙ sym (holder_append None es new);
+    }

@@ -1,22 +1,17 @@
 -- What every move keeps, whatever the lock: the rooms prove it, each of its own lock.
-use Rattle.std.proofs.Common.{Bool, List, None, Option, Some, ap, arith, false, if◌then◌else◌, length, nat_lt, refl, set, true, unwrap_or, ℕ, ◌++◌, ◌<◌, ◌∙◌, ◌≡◌, ◌≤◌}
+use Rattle.std.proofs.Common.{Bool, List, None, Option, Some, arith, false, if◌then◌else◌, length, nat_lt, refl, set, true, unwrap_or, ℕ, ◌<◌, ◌≡◌, ◌≤◌}
 use Rattle.std.proofs.lemmas.Bool.{ltb-true}
 use Rattle.std.proofs.lemmas.List.{length-set}
 use Rattle.lk_locks.specs.Change.{Change}
 use Rattle.lk_locks.specs.Entries.{entries_of}
-use Rattle.lk_locks.specs.Holding.{holder_after}
-use Rattle.lk_locks.specs.Legal.{after_entries}
 use Rattle.lk_locks.specs.Sequential.{Sequential}
 use Rattle.lk_locks.specs.State.{State, phase_at}
 use Rattle.lk_locks.specs.Steps.{after_call, belongs, change_of, has_op, move_change, next_state, refusal_in, refusal_of, step_of}
-use Rattle.lk_locks.specs.invariants.Inside.{IsHeldInside}
 use Rattle.lk_locks.specs.invariants.Kept.{AgreeAs}
 use Rattle.lk_locks.specs.invariants.Owed.{owed_of}
 use Rattle.lk_locks.specs.invariants.WellFormed.{AreLinks, IsPhaseOf, WellFormed}
 use Rattle.lk_locks.proofs.Cases.{AreOf, Begins, GoesOn, IsAgreed}
-use Rattle.lk_locks.proofs.invariants.Inside.{holder_append}
 use Rattle.lk_locks.proofs.Threads.{each_phase}
-use Rattle.lk_locks.specs.declared.kinds.Entry.{Entry}
 use Rattle.lk_locks.specs.declared.kinds.LockKind.{LockKind}
 use Rattle.lk_locks.specs.declared.kinds.LockKind.TheVariants.{Mcs, RwFifo, RwSimple, Ticket}
 use Rattle.lk_locks.specs.declared.kinds.Move.{Move}
@@ -133,23 +128,3 @@ agreed RwSimple bits ws ps q t m w n k a g =
 agreed RwFifo bits ws ps q t m w n k a g =
     rw_fifo.keeps bits ws ps q t (phase_at ps t) m k a.thread n w.enough refl
     (w.phases_fit t a.thread) a.own a.fits g
-
-pub held_kept : (kind : LockKind) (bits : ℕ) (ws : List ℕ) (ps : List Phase) (q : Sequential)
-    (es : List Entry) (t : ℕ) (m : Move)
-    → let s : State = record { kind = kind; bits = bits; words = ws; phases = ps } in WellFormed s
-    → length ps ≤ 64 → q.kind ≡ kind → Accepted s t m → AgreeAs kind s q
-    → IsHeldInside kind ps q.queue (holder_after None es)
-    → IsHeldInside kind (next_state s t m).phases (after_entries q (entries_of s t m)).queue
-    (holder_after None (es ++ entries_of s t m))
-held_kept Ticket bits ws ps q es t m w n k a g i =
-    let s : State = record { kind = Ticket; bits = bits; words = ws; phases = ps } in
-    holder_append None es (entries_of s t m) ∙ ap (λ x. holder_after x (entries_of s t m)) i
-    ∙ ticket.holds bits ws ps q t (phase_at ps t) m k a.thread n refl (w.phases_fit t a.thread)
-    a.own a.fits g
-held_kept Mcs bits ws ps q es t m w n k a g i =
-    let s : State = record { kind = Mcs; bits = bits; words = ws; phases = ps } in
-    holder_append None es (entries_of s t m) ∙ ap (λ x. holder_after x (entries_of s t m)) i
-    ∙ mcs.holds bits ws ps q t (phase_at ps t) m k a.thread n refl (w.phases_fit t a.thread) a.own
-    a.fits g
-held_kept RwSimple bits ws ps q es t m w n k a g i = tt
-held_kept RwFifo bits ws ps q es t m w n k a g i = tt

@@ -1,5 +1,5 @@
 -- A new lock, with nobody and no entry.
-use Rattle.std.proofs.Common.{◌≡◌, ℕ, ◌+◌, ◌<◌, ◌≤◌, ◌^◌, ◌%◌, List, [], length, replicate, None, refl, ap, sym, ◌∙◌, arith, slice_index, inl, inr}
+use Rattle.std.proofs.Common.{◌≡◌, ℕ, ◌+◌, ◌<◌, ◌≤◌, ◌^◌, ◌%◌, List, [], length, replicate, refl, ap, sym, ◌∙◌, arith, slice_index, inl, inr}
 use Rattle.std.proofs.lemmas.List.{length-replicate, get_or-replicate, get_or_past}
 use Rattle.std.proofs.lemmas.Bool.{cases_lt, false≢true}
 use Rattle.std.proofs.lemmas.Nat.{pow_pos}
@@ -9,7 +9,6 @@ use Rattle.lk_locks.specs.Sequential.{nobody}
 use Rattle.lk_locks.specs.invariants.Kept.{Kept, AgreeAs}
 use Rattle.lk_locks.specs.invariants.read_write.{AreHolders, is_reading, is_writing, is_announced}
 use Rattle.lk_locks.specs.invariants.ticket.{ticket_of}
-use Rattle.lk_locks.specs.invariants.Inside.{IsHeldInside}
 use Rattle.lk_locks.specs.invariants.Owed.{owed_of}
 use Rattle.lk_locks.specs.invariants.WellFormed.{IsMachine}
 use Rattle.lk_locks.proofs.Machines.{machine_new}
@@ -62,12 +61,6 @@ agree_start RwFifo bits ws n h z = record {
   holders = no_holders RwFifo n;
 }
 
-held_start : (kind : LockKind) (n : ℕ) → IsHeldInside kind (replicate n Idle) [] None
-held_start Ticket n = refl
-held_start Mcs n = refl
-held_start RwSimple n = tt
-held_start RwFifo n = tt
-
 idle_rest : (kind : LockKind) (t : ℕ) → owed_of kind t Idle ≡ []
 idle_rest Ticket t = refl
 idle_rest Mcs t = refl
@@ -90,5 +83,4 @@ kept_start kind bits ws n h b w z =
       turns = λ t k. ([], ap (owed_of kind t) (all_idle n t) ∙ idle_rest kind t);
       no_others = tt;
       agree = agree_start kind bits ws n (omega arith) zero;
-      held = held_start kind n;
     }

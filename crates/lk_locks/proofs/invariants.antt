@@ -1,5 +1,4 @@
 -- Each lock's invariant is kept by its moves: a room for each, and what they share.
-pub mod Inside
 pub mod HolderLists
 pub mod TicketLine
 pub mod ticket

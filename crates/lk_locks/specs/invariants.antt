@@ -7,7 +7,6 @@ pub mod rw_simple
 pub mod rw_fifo
 pub mod WellFormed
 pub mod Owed
-pub mod Inside
 pub mod SequentialKept
 pub mod Kept
 pub mod Tracking

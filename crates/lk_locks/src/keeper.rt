@@ -1,21 +1,17 @@
 //! A lock with its sequential object and its history: the machine steps, and what it does is recorded and is legal.
 
-use crate::entries::{Added, add_entries};
-use crate::holders::{alone, copy_of};
-use crate::steps::is_inside;
-use crate::{
-    Entry, History, Holders, LockKind, Machine, Move, Outcome, PlayFault, SeqLock, StepKind,
-};
+use crate::entries::Added;
+use crate::{Entry, History, Holders, LockKind, Move, Outcome, PlayFault, StepKind, Tracker};
 use arrayvec::ArrayVec;
 use lk_words::Words;
 use std::alloc::Global;
 use std::marker::Model;
 
-/// Machine, sequential lock and history together. A contract sees the state, the sequential object and the entries.
+/// A lock that knows who holds and who is in line, and its history. A contract sees the state, the
+/// sequential object and the entries.
 #[derive(Drop)]
 pub struct Keeper<W: Words> {
-    machine: Machine<W>,
-    sequential: SeqLock,
+    lock: Tracker<W>,
     history: History,
 }
 
@@ -24,18 +20,17 @@ impl<W: Words> Model for Keeper<W> {
 
     ghost Value = { RecordedLock };
 
-    ghost use Rattle.lk_locks.specs.invariants.Kept.{Kept};
+    ghost use Rattle.lk_locks.specs.invariants.Kept.{IsRecorded};
 
-    ghost view = { λ a. record { state = a.machine; sequential = a.sequential; entries = a.history.entries } };
+    ghost view = { λ a. record { state = a.lock.state; sequential = a.lock.sequential; entries = a.history.entries } };
 
-    ghost invariant = { λ a. Kept a.machine a.sequential a.history.entries };
+    ghost invariant = { λ a. IsRecorded a.lock a.history.entries };
 }
 
 impl<W: Words> Keeper<W> {
     ghost use Rattle.std.specs.Prelude.{◌≡◌, ℕ, ◌<◌, ◌≤◌, ◌^◌, length, slice_index, OnOk, OnErr, []};
     ghost use Rattle.lk_locks.specs.State.{start, word_count, phase_at};
     ghost use Rattle.lk_locks.specs.Steps.{step_due, refusal_of, change_of};
-    ghost use Rattle.lk_locks.specs.invariants.Inside.{is_inside};
     ghost use Rattle.lk_locks.specs.Sequential.{nobody};
     ghost use Rattle.lk_locks.specs.MainTheorem.{IsAsPromised};
     ghost use Rattle.lk_locks.specs.Play.{after_play, IsPlayAnswer};
@@ -52,8 +47,7 @@ impl<W: Words> Keeper<W> {
         ensures { result ≡ record { state = start kind (W.width words) (W.list words) threads; sequential = nobody kind; entries = [] } }
     {
         Keeper {
-            machine: Machine::new(kind, threads, words),
-            sequential: SeqLock::new(kind),
+            lock: Tracker::new(kind, threads, words),
             history: History::new(alloc),
         }
     }
@@ -67,25 +61,15 @@ impl<W: Words> Keeper<W> {
         ensures played { OnOk result (self.new ≡ after_play self.old t m) }
         ensures kept { OnErr result (self.new ≡ self.old) }
     {
-        if let Some(refusal) = self.machine.refusal(t, m) {
+        if let Some(refusal) = self.lock.machine().refusal(t, m) {
             return Err(PlayFault::Refused(refusal));
         }
         if self.history.make_room().is_err() {
             return Err(PlayFault::OutOfMemory);
         }
-        let kind = self.machine.kind();
-        let phase = self.machine.phase(t);
-        let outcome = self.machine.make(t, m);
-        match m {
-            // a call is no act, so the sequential object stays
-            Move::Call(op) => self.history.append(&[Entry::Called(t, op)]),
-            Move::Step(_) => {
-                let mut added = Added::none();
-                add_entries(&mut added, kind, t, phase, outcome);
-                self.sequential.follow(added.as_slice());
-                self.history.append(added.as_slice());
-            }
-        }
+        let mut added = Added::none();
+        let outcome = self.lock.make(t, m, &mut added);
+        self.history.append(added.as_slice());
         Ok(outcome)
     }
 
@@ -103,15 +87,7 @@ impl<W: Words> Keeper<W> {
         requires { t < length self.now.state.phases }
         ensures { result ≡ step_due self.now.state.kind (phase_at self.now.state.phases t) }
     {
-        self.machine.next_step(t)
-    }
-
-    // Whether a thread is inside a queue lock.
-    fn is_inside(&self, t: u8) -> bool
-        requires { t < length self.now.state.phases }
-        ensures { result ≡ is_inside self.now.state.kind (phase_at self.now.state.phases t) }
-    {
-        is_inside(self.machine.kind(), self.machine.phase(t))
+        self.lock.machine().next_step(t)
     }
 
     /// Who holds now, by the history. A pending release of a queue lock still holds. This does not depend on how long the history is.
@@ -119,17 +95,7 @@ impl<W: Words> Keeper<W> {
         ensures holding { holding result ≡ holding_of self.now.state.kind self.now.entries }
         ensures listed { IsListed (holding result) }
     {
-        match self.machine.kind() {
-            LockKind::Ticket | LockKind::Mcs => match self.sequential.oldest() {
-                Some(t) if self.is_inside(t) => Holders::Holder(t),
-                _ => Holders::Nobody,
-            },
-            LockKind::RwSimple | LockKind::RwFifo => match self.sequential.writer() {
-                Some(t) => Holders::Writer(t),
-                None if self.sequential.readers().is_empty() => Holders::Nobody,
-                None => Holders::Readers(copy_of(self.sequential.readers())),
-            },
-        }
+        self.lock.holders()
     }
 
     /// Who is in line, by the history: the requests of a queue lock, oldest first, the holder's too; the announced writer of a FIFO
@@ -137,13 +103,6 @@ impl<W: Words> Keeper<W> {
     pub fn queue(&self) -> ArrayVec<u8, 64>
         ensures { result.items ≡ waiting_of self.now.state.kind self.now.entries }
     {
-        match self.machine.kind() {
-            LockKind::Ticket | LockKind::Mcs => copy_of(self.sequential.queue()),
-            LockKind::RwSimple => ArrayVec::new(),
-            LockKind::RwFifo => match self.sequential.announced() {
-                Some(t) => alone(t),
-                None => ArrayVec::new(),
-            },
-        }
+        self.lock.queue()
     }
 }

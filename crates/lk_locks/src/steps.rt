@@ -4,7 +4,6 @@ ghost use Rattle.std.specs.Prelude.{◌≡◌, Option, None, Some};
 ghost use Rattle.lk_locks.specs.Steps.{has_op, steps_of, same_step, after_call, step_due, refusal_at, refusal_in, belongs, move_change, step_of};
 ghost use Rattle.std.specs.List.{list_any};
 ghost use Rattle.lk_locks.specs.declared.kinds.Move.TheVariants.{Call};
-ghost use Rattle.lk_locks.specs.invariants.Inside.{is_inside};
 ghost use Rattle.lk_locks.specs.invariants.WellFormed.{IsReady};
 
 use crate::{
@@ -54,17 +53,6 @@ pub fn step_due(kind: LockKind, phase: Phase) -> Option<StepKind>
         LockKind::Ticket => ticket::step_due(phase),
         LockKind::Mcs => mcs::step_due(phase),
         LockKind::RwSimple | LockKind::RwFifo => read_write::step_due(phase),
-    }
-}
-
-/// Whether a thread in this phase is inside a queue lock.
-pub fn is_inside(kind: LockKind, phase: Phase) -> bool
-    ensures { result ≡ is_inside kind phase }
-{
-    match kind {
-        LockKind::Ticket => ticket::is_inside(phase),
-        LockKind::Mcs => mcs::is_inside(phase),
-        LockKind::RwSimple | LockKind::RwFifo => false,
     }
 }
 

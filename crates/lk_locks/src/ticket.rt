@@ -6,7 +6,6 @@
 
 ghost use Rattle.std.specs.Prelude.{◌≡◌, []};
 ghost use Rattle.lk_locks.specs.ticket.{after_call, step_due, step, entries};
-ghost use Rattle.lk_locks.specs.invariants.ticket.{is_inside};
 ghost use Rattle.lk_locks.specs.invariants.WellFormed.{IsReady};
 ghost use Rattle.lk_locks.specs.declared.kinds.LockKind.TheVariants.{Ticket};
 
@@ -43,16 +42,6 @@ pub fn step_due(phase: Phase) -> Option<StepKind>
         Phase::PassOn(_) => Some(StepKind::Write),
         _ => None,
     }
-}
-
-/// Whether a thread in this phase is between the step that enters and the step that leaves.
-pub fn is_inside(phase: Phase) -> bool
-    ensures { result ≡ is_inside phase }
-{
-    matches!(
-        phase,
-        Phase::TicketInside(_) | Phase::ReadServing(_) | Phase::PassOn(_)
-    )
 }
 
 /// One step of a thread in this phase, with its new phase.

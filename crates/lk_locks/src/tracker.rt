@@ -1,5 +1,5 @@
-//! A lock with its sequential object and no history, for who may take no memory: who holds and who is in line is known after each
-//! move. This project's own.
+//! A lock with its sequential object: after each move it is known who holds and who is in line. It
+//! keeps no history and takes no memory; `Keeper` adds the history. This project's own.
 
 ghost use Rattle.std.specs.Prelude.{◌≡◌};
 ghost use Rattle.lk_locks.specs.Holding.{holder_after};
@@ -32,11 +32,12 @@ impl<W: Words> Model for Tracker<W> {
 }
 
 impl<W: Words> Tracker<W> {
-    ghost use Rattle.std.specs.Prelude.{◌≡◌, ℕ, ◌<◌, ◌≤◌, ◌^◌, length, slice_index, []};
+    ghost use Rattle.std.specs.Prelude.{◌≡◌, ℕ, ◌<◌, ◌≤◌, ◌^◌, length, slice_index, [], None};
     ghost use Rattle.lk_locks.specs.State.{start, word_count};
-    ghost use Rattle.lk_locks.specs.Steps.{answer_to};
+    ghost use Rattle.lk_locks.specs.Steps.{answer_to, change_of, next_state, refusal_of};
+    ghost use Rattle.lk_locks.specs.Entries.{entries_of};
     ghost use Rattle.lk_locks.specs.Holding.{holding, IsListed};
-    ghost use Rattle.lk_locks.specs.Tracked.{tracked, after_tracked, holding_in, waiting_in};
+    ghost use Rattle.lk_locks.specs.Tracked.{tracked, followed, after_tracked, holding_in, waiting_in};
 
     /// A new lock with 1 to 64 threads, fewer than 2^B for words of B bits, which are all 0.
     pub fn new(kind: LockKind, threads: u8, words: W) -> Tracker<W>
@@ -54,7 +55,32 @@ impl<W: Words> Tracker<W> {
         }
     }
 
-    /// Makes the move, or answers the first refusal that applies and changes nothing, as `Machine::apply` does.
+    // Makes a move that is not refused, and fills in the entries that it adds.
+    #[inline]
+    pub(crate) fn make(&mut self, t: u8, m: Move, added: &mut Added) -> Outcome
+        requires accepted { refusal_of self.old.state t m ≡ None }
+        requires none { added.old ≡ [] }
+        ensures outcome { result ≡ (change_of self.old.state t m).outcome }
+        ensures after { self.new ≡ followed self.old (next_state self.old.state t m) (entries_of self.old.state t m) }
+        ensures entries { added.new ≡ entries_of self.old.state t m }
+    {
+        let kind = self.machine.kind();
+        let phase = self.machine.phase(t);
+        let outcome = self.machine.make(t, m);
+        match m {
+            // a call is no act, so the sequential object and the holder stay
+            Move::Call(op) => added.one(Entry::Called(t, op)),
+            Move::Step(_) => {
+                add_entries(added, kind, t, phase, outcome);
+                self.sequential.follow(added.as_slice());
+                self.holder = holder_after(self.holder, added.as_slice());
+            }
+        }
+        outcome
+    }
+
+    /// Makes the move, or answers the first refusal that applies and changes nothing, as
+    /// `Machine::apply` does.
     pub fn apply(&mut self, t: u8, m: Move) -> Result<Outcome, Refusal>
         ensures answer { result ≡ answer_to self.old.state t m }
         ensures after { self.new ≡ after_tracked self.old t m }
@@ -62,20 +88,8 @@ impl<W: Words> Tracker<W> {
         if let Some(refusal) = self.machine.refusal(t, m) {
             return Err(refusal);
         }
-        let kind = self.machine.kind();
-        let phase = self.machine.phase(t);
-        let outcome = self.machine.make(t, m);
-        match m {
-            // a call is no act, so the sequential object and the holder stay
-            Move::Call(_) => {}
-            Move::Step(_) => {
-                let mut added = Added::none();
-                add_entries(&mut added, kind, t, phase, outcome);
-                self.sequential.follow(added.as_slice());
-                self.holder = holder_after(self.holder, added.as_slice());
-            }
-        }
-        Ok(outcome)
+        let mut added = Added::none();
+        Ok(self.make(t, m, &mut added))
     }
 
     /// The lock alone, to look at: its words, its phases, and what would be refused.

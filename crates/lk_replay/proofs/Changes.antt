@@ -5,7 +5,7 @@ use Rattle.std.proofs.lemmas.List.{length-append, take_all}
 use Rattle.lk_locks.specs.Legal.{Legal, AreEnabled, after_entries}
 use Rattle.lk_locks.specs.Holding.{held_by_one, holder_after}
 use Rattle.lk_locks.proofs.Histories.{after_append}
-use Rattle.lk_locks.proofs.invariants.Inside.{holder_append}
+use Rattle.lk_locks.proofs.Histories.{holder_append}
 use Rattle.lk_locks.specs.Sequential.{Sequential, nobody, after_entry}
 use Rattle.lk_locks.specs.declared.kinds.Entry.{Entry}
 use Rattle.lk_locks.specs.declared.kinds.Entry.TheVariants.{Called, Acted, Returned}

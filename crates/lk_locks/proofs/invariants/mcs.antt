@@ -5,20 +5,14 @@ use Rattle.std.proofs.lemmas.Bool.Decides.{eqb_tells}
 use Rattle.std.proofs.lemmas.List.{get_or-set_other, get_or-set_same, length-set, set-get_or, set_past}
 use Rattle.lk_locks.specs.Change.{Change}
 use Rattle.lk_locks.specs.Entries.{move_entries}
-use Rattle.lk_locks.specs.Holding.{holder_after}
-use Rattle.lk_locks.specs.Legal.{after_entries}
 use Rattle.lk_locks.specs.Sequential.{Sequential, has, is_allowed, is_head}
 use Rattle.lk_locks.specs.State.{phase_at}
 use Rattle.lk_locks.specs.Steps.{belongs, has_op, move_change, refusal_in}
-use Rattle.lk_locks.specs.invariants.Inside.{inside_of}
 use Rattle.lk_locks.specs.invariants.Threads.{EachOnce}
-use Rattle.lk_locks.specs.invariants.mcs.{AreLinks, IsBehind, IsFirst, IsLater, IsOutside, IsPhase, IsQueue, is_inside, last_of, locked_of, next_of, owed, tail_of}
+use Rattle.lk_locks.specs.invariants.mcs.{AreLinks, IsBehind, IsFirst, IsOutside, IsPhase, IsQueue, last_of, locked_of, next_of, owed, tail_of}
 use Rattle.lk_locks.specs.mcs.{after_call, locked, next, step}
 use Rattle.lk_locks.proofs.Cases.{AreOf, Begins, Fits, GoesOn, IsAgreed, KeepsLength, either_way}
-use Rattle.lk_locks.proofs.invariants.Inside.{inside_frame, inside_head, inside_more, same}
-use Rattle.lk_locks.proofs.invariants.McsLine.{IsHeadOf, apart, first_frame, first_has, head_of, last_member, locked_after_locked, locked_after_next, mcs_first, mcs_grant, mcs_head, mcs_last, mcs_later, mcs_more, mcs_out, member_of, next_after_locked, next_after_next, not_member, place, second, tail_after}
-use Rattle.lk_locks.proofs.Threads.{at_other, at_same}
-use Rattle.lk_locks.specs.declared.kinds.Entry.{Entry}
+use Rattle.lk_locks.proofs.invariants.McsLine.{IsHeadOf, first_frame, head_of, last_member, locked_after_locked, locked_after_next, mcs_first, mcs_grant, mcs_head, mcs_last, mcs_later, mcs_more, mcs_out, member_of, next_after_locked, next_after_next, not_member, place, second, tail_after}
 use Rattle.lk_locks.specs.declared.kinds.LockKind.TheVariants.{Mcs}
 use Rattle.lk_locks.specs.declared.kinds.Move.{Move}
 use Rattle.lk_locks.specs.declared.kinds.Move.TheVariants.{Call, Step}
@@ -342,91 +336,3 @@ keeps bits ws ps q t (Grant j) (Step s) k h n w e f b r a =
       agrees = rw i.is (mcs_grant ws ps i.rest t j h (omega arith) e (rw i.is at a));
     }
 keeps bits ws ps q t p m k h n w e f b r a = cc
-
--- who is behind another is not inside
-behind_outside : (ws : List ℕ) (u t : ℕ) (p : Phase) → IsBehind ws u t p → is_inside p ≡ false
-behind_outside ws u t (SetLocked j) b = refl
-behind_outside ws u t (LinkTo j) b = refl
-behind_outside ws u t AwaitGrant b = refl
-behind_outside ws u t p b = absurd b
-
--- the head leaves, and who is behind it is not inside yet
-leaves : (ws : List ℕ) (ps : List Phase) (q r : List ℕ) (t : ℕ) → q ≡ t ∷ r → EachOnce q
-    → IsLater ws ps t r → None ≡ inside_of Mcs (set ps t Idle) (drop 1 q)
-leaves ws ps q [] t e o l = rw e refl
-leaves ws ps q (x ∷ r) t e o l =
-    let c : EachOnce (t ∷ x ∷ r) = rw e at o in
-    let d : x ≢ t = apart (x ∷ r) t x c.0 (first_has x r) in
-    rw (e, at_other ps t x Idle d, behind_outside ws t x (phase_at ps x) l.0) refl
-
--- the holder by the history is the head that is inside
-pub holds : (bits : ℕ) (ws : List ℕ) (ps : List Phase) (q : Sequential) (t : ℕ) (p : Phase)
-    (m : Move) → q.kind ≡ Mcs → t < length ps → length ps ≤ 64 → phase_at ps t ≡ p
-    → IsPhase (length ps) p → belongs Mcs m ≡ true → refusal_in Mcs p m ≡ None
-    → IsQueue ws ps q.queue
-    → let c : Change =
-    move_change Mcs bits ws t p m in let es : List Entry =
-    move_entries Mcs t p m c.outcome in holder_after (inside_of Mcs ps q.queue) es
-    ≡ inside_of Mcs (set ps t c.phase) (after_entries q es).queue
-holds bits ws ps q t Idle (Call Acquire) k h n e f b r a =
-    sym (inside_frame Mcs ps q.queue t ClearNext h (sym (ap is_inside e)))
-holds bits ws ps q t McsInside (Call Release) k h n e f b r a =
-    sym (inside_frame Mcs ps q.queue t ReadNext h (sym (ap is_inside e)))
-holds bits ws ps q t ClearNext (Step s) k h n e f b r a =
-    sym (inside_frame Mcs ps q.queue t SwapTail h (sym (ap is_inside e)))
-holds bits ws ps q t SwapTail (Step s) k h n e f b r a =
-    let o : has q.queue t ≡ false =
-    not_member ws ps q.queue t a (λ r x. rw e at x) (λ v x. rw e at x) in
-    let y : is_allowed q (Acted t Acquire) ≡ true = allows_acquire q t k (omega arith) o in
-    elim (eqb_tells (slice_index ws 0) 0) [
-      | inl d ↦
-          let g : q.queue ≡ [] = empty_of ws ps q.queue d.1 a in
-          rw (d.0, g)
-          (sym (inside_head Mcs (set ps t McsInside) (t ∷ []) t (same t) (ap is_inside (at_same ps t McsInside h))))
-      | inr d ↦
-          let p : Phase = SetLocked (slice_index ws 0 - 1) in
-          rw d.0
-          (sym (inside_more Mcs (set ps t p) q.queue t (ap is_inside (at_same ps t p h)) ∙ inside_frame Mcs ps q.queue t p h (sym (ap is_inside e))))
-    ]
-holds bits ws ps q t (SetLocked j) (Step s) k h n e f b r a =
-    sym (inside_frame Mcs ps q.queue t (LinkTo j) h (sym (ap is_inside e)))
-holds bits ws ps q t (LinkTo j) (Step s) k h n e f b r a =
-    sym (inside_frame Mcs ps q.queue t AwaitGrant h (sym (ap is_inside e)))
-holds bits ws ps q t AwaitGrant (Step s) k h n e f b r a = elim (eqb_tells (locked_of ws t) 0) [
-  | inl d ↦ rw d.0 (elim (place ws ps q.queue t a.line (member_of ws ps q.queue t a (λ x. rw e at x))) [
-    | inl i ↦
-        sym
-        (inside_head Mcs (set ps t McsInside) q.queue t (head_is q.queue t i.rest i.is) (ap is_inside (at_same ps t McsInside h)))
-    | inr i ↦
-        let g : IsBehind ws i.1.0 t AwaitGrant = rw e at i.1.1 in absurd (omega (arith, g.1, d.1))
-  ])
-  | inr d ↦ rw d.0 (sym (inside_frame Mcs ps q.queue t AwaitGrant h (sym (ap is_inside e))))
-]
-holds bits ws ps q t ReadNext (Step s) k h n e f b r a = elim (eqb_tells (next_of ws t) 0) [
-  | inl d ↦ rw d.0 (sym (inside_frame Mcs ps q.queue t CasTail h (sym (ap is_inside e))))
-  | inr d ↦
-      rw d.0
-      (sym (inside_frame Mcs ps q.queue t (Grant (next_of ws t - 1)) h (sym (ap is_inside e))))
-]
-holds bits ws ps q t CasTail (Step s) k h n e f b r a =
-    let i : IsHeadOf ws ps q.queue t =
-    first_of_head ws ps q.queue t CasTail e (λ x. x) (λ v x. x) a in
-    let y : is_allowed q (Acted t Release) ≡ true =
-    allows_release q t k (omega arith) (head_is q.queue t i.rest i.is) in
-    elim (eqb_tells (slice_index ws 0) (t + 1)) [
-      | inl d ↦ rw d.0 (leaves ws ps q.queue i.rest t i.is a.once i.later)
-      | inr d ↦ rw d.0 (sym (inside_frame Mcs ps q.queue t AwaitLink h (sym (ap is_inside e))))
-    ]
-holds bits ws ps q t AwaitLink (Step s) k h n e f b r a = elim (eqb_tells (next_of ws t) 0) [
-  | inl d ↦ rw d.0 (sym (inside_frame Mcs ps q.queue t AwaitLink h (sym (ap is_inside e))))
-  | inr d ↦
-      rw d.0
-      (sym (inside_frame Mcs ps q.queue t (Grant (next_of ws t - 1)) h (sym (ap is_inside e))))
-]
-holds bits ws ps q t (Grant j) (Step s) k h n e f b r a =
-    let i : IsHeadOf ws ps q.queue t =
-    first_of_head ws ps q.queue t (Grant j) e (λ x. x) (λ v x. x) a in
-    let y : is_allowed q (Acted t Release) ≡ true =
-    allows_release q t k (omega arith) (head_is q.queue t i.rest i.is) in
-    (leaves ws ps q.queue i.rest t i.is a.once i.later)
-holds bits ws ps q t p m k h n e f b r a = cc

@@ -1,25 +1,20 @@
 -- The room of the ticket lock: each step goes on with its call, and each move keeps the queue of the tickets.
-use Rattle.std.proofs.Common.{IsTrue, List, None, Some, [], ap, arith, drop, eqb, false, inl, inr, length, refl, rules, set, slice_index, sym, true, unwrap_or, ℕ, ◌<◌, ◌==◌, ◌∙◌, ◌∷◌, ◌≡◌, ◌≢◌, ◌≤◌}
+use Rattle.std.proofs.Common.{IsTrue, List, None, Some, [], ap, arith, drop, eqb, false, inl, inr, length, refl, rules, set, slice_index, sym, true, unwrap_or, ℕ, ◌<◌, ◌==◌, ◌∙◌, ◌∷◌, ◌≡◌, ◌≤◌}
 use Rattle.std.proofs.lemmas.Bool.{false≢true, lt-ltb}
 use Rattle.std.proofs.lemmas.Bool.Decides.{eqb_tells}
 use Rattle.std.proofs.lemmas.List.{length-set, set-get_or}
 use Rattle.lk_locks.specs.Change.{Change}
 use Rattle.lk_locks.specs.Entries.{move_entries}
-use Rattle.lk_locks.specs.Holding.{holder_after}
-use Rattle.lk_locks.specs.Legal.{after_entries}
 use Rattle.lk_locks.specs.Sequential.{Sequential, has, is_allowed, is_head}
 use Rattle.lk_locks.specs.State.{phase_at}
 use Rattle.lk_locks.specs.Steps.{belongs, has_op, move_change, refusal_in}
-use Rattle.lk_locks.specs.invariants.Inside.{inside_of}
 use Rattle.lk_locks.specs.invariants.WellFormed.{IsPhaseOf}
-use Rattle.lk_locks.specs.invariants.ticket.{IsQueue, WaitInLine, is_inside, is_phase, owed, ticket_of}
+use Rattle.lk_locks.specs.invariants.ticket.{IsQueue, is_phase, owed, ticket_of}
 use Rattle.lk_locks.specs.laws.{Event}
 use Rattle.lk_locks.specs.ticket.{after_call, now_serving, reads, step}
 use Rattle.lk_locks.proofs.Cases.{AreOf, Begins, Fits, GoesOn, IsAgreed, KeepsLength, either_way}
-use Rattle.lk_locks.proofs.invariants.Inside.{inside_frame, inside_head, inside_more, same}
-use Rattle.lk_locks.proofs.Threads.{at_other, at_same, bool_tells}
+use Rattle.lk_locks.proofs.Threads.{bool_tells}
 use Rattle.lk_locks.proofs.invariants.TicketLine.{IsHead, inside_is_head, no_member, queue_frame, queue_pass, queue_take, served_is_head}
-use Rattle.lk_locks.specs.declared.kinds.Entry.{Entry}
 use Rattle.lk_locks.specs.declared.kinds.LockKind.TheVariants.{Ticket}
 use Rattle.lk_locks.specs.declared.kinds.Move.{Move}
 use Rattle.lk_locks.specs.declared.kinds.Move.TheVariants.{Call, Step}
@@ -155,53 +150,3 @@ keeps bits ws ps q t (PassOn x) (Step s) k h n w e f b r a =
       agrees = rw i.ticket (queue_pass bits ws ps q.queue t h w i.head i.alone a);
     }
 keeps bits ws ps q t p m k h n w e f b r a = cc
-
--- the rest waits
-inside_rest : (bits : ℕ) (ps : List Phase) (x t : ℕ) (q : List ℕ) → has (drop 1 q) t ≡ false
-    → (y : ℕ) × WaitInLine bits ps y (drop 1 q) → inside_of Ticket (set ps t Idle) (drop 1 q) ≡ None
-inside_rest bits ps x t [] o w = refl
-inside_rest bits ps x t (u ∷ []) o w = refl
-inside_rest bits ps x t (u ∷ v ∷ q) o w =
-    let d : v ≢ t =
-    (λ e. absurd (false≢true (sym o ∙ (let g : has (v ∷ q) t ≡ true = rw (sym e, same v) refl in g)))) in
-    rw (at_other ps t v Idle d, w.1.0) refl
-
-line_rest : (bits : ℕ) (ws : List ℕ) (ps : List Phase) (q : List ℕ) → IsQueue bits ws ps q
-    → (y : ℕ) × WaitInLine bits ps y (drop 1 q)
-line_rest bits ws ps [] k = (0, tt)
-line_rest bits ws ps (u ∷ q) k = (_, k.line.1)
-
--- the holder by the history is the head that is inside
-pub holds : (bits : ℕ) (ws : List ℕ) (ps : List Phase) (q : Sequential) (t : ℕ) (p : Phase)
-    (m : Move) → q.kind ≡ Ticket → t < length ps → length ps ≤ 64 → phase_at ps t ≡ p
-    → IsTrue (is_phase p) → belongs Ticket m ≡ true → refusal_in Ticket p m ≡ None
-    → IsQueue bits ws ps q.queue
-    → let c : Change =
-    move_change Ticket bits ws t p m in let es : List Entry =
-    move_entries Ticket t p m c.outcome in holder_after (inside_of Ticket ps q.queue) es
-    ≡ inside_of Ticket (set ps t c.phase) (after_entries q es).queue
-holds bits ws ps q t Idle (Call Acquire) k h n e f b r a =
-    sym (inside_frame Ticket ps q.queue t TakeTicket h (sym (ap is_inside e)))
-holds bits ws ps q t (TicketInside x) (Call Release) k h n e f b r a =
-    sym (inside_frame Ticket ps q.queue t (ReadServing x) h (sym (ap is_inside e)))
-holds bits ws ps q t TakeTicket (Step s) k h n e f b r a =
-    let y : is_allowed q (Acted t Acquire) ≡ true =
-    allows_acquire q t k (omega arith) (no_member bits ws ps q.queue t a (ap ticket_of e)) in
-    let p : Phase = AwaitTurn (slice_index ws 0) in
-    (sym (inside_more Ticket (set ps t p) q.queue t (ap is_inside (at_same ps t p h)) ∙ inside_frame Ticket ps q.queue t p h (sym (ap is_inside e))))
-holds bits ws ps q t (AwaitTurn x) (Step s) k h n e f b r a = elim (eqb_tells (slice_index ws 1) x) [
-  | inl d ↦
-      let i : IsHead ws ps q.queue t (slice_index ws 1) =
-      served_is_head bits ws ps q.queue t a (e ∙ ap (λ y. AwaitTurn y) (sym d.1)) in
-      rw d.0
-      (sym (inside_head Ticket (set ps t (TicketInside x)) q.queue t i.head (ap is_inside (at_same ps t (TicketInside x) h))))
-  | inr d ↦ rw d.0 (sym (inside_frame Ticket ps q.queue t (AwaitTurn x) h (sym (ap is_inside e))))
-]
-holds bits ws ps q t (ReadServing x) (Step s) k h n e f b r a =
-    sym (inside_frame Ticket ps q.queue t (PassOn (slice_index ws 1)) h (sym (ap is_inside e)))
-holds bits ws ps q t (PassOn x) (Step s) k h n e f b r a =
-    let i : IsHead ws ps q.queue t x =
-    inside_is_head bits ws ps q.queue t x a (ap ticket_of e) (λ y d. let g : PassOn x ≡ AwaitTurn y = sym e ∙ d in cc) in
-    let y : is_allowed q (Acted t Release) ≡ true = allows_release q t k (omega arith) i.head in
-    (sym (inside_rest bits ps x t q.queue i.alone (line_rest bits ws ps q.queue a)))
-holds bits ws ps q t p m k h n e f b r a = cc

@@ -5,14 +5,13 @@ use Rattle.lk_locks.specs.State.{State, phase_at}
 use Rattle.lk_locks.specs.Sequential.{Sequential, nobody, thread_of}
 use Rattle.lk_locks.specs.Legal.{AreEnabled, after_entries}
 use Rattle.lk_locks.specs.Holding.{holder_after}
-use Rattle.lk_locks.specs.Play.{RecordedLock}
+use Rattle.lk_locks.specs.Tracked.{Tracked}
 use Rattle.lk_locks.specs.invariants.ticket
 use Rattle.lk_locks.specs.invariants.mcs
 use Rattle.lk_locks.specs.invariants.rw_simple
 use Rattle.lk_locks.specs.invariants.rw_fifo
 use Rattle.lk_locks.specs.invariants.WellFormed.{WellFormed}
 use Rattle.lk_locks.specs.invariants.Owed.{IsInTurn}
-use Rattle.lk_locks.specs.invariants.Inside.{IsHeldInside}
 use Rattle.lk_locks.specs.declared.kinds.LockKind.{LockKind}
 use Rattle.lk_locks.specs.declared.kinds.LockKind.TheVariants.{Ticket, Mcs, RwSimple, RwFifo}
 use Rattle.lk_locks.specs.declared.kinds.Entry.{Entry}
@@ -33,7 +32,8 @@ pub record Kept (s : State) (q : Sequential) (es : List Entry) : Type 0 where
   pub turns : (t : ℕ) → t < length s.phases → IsInTurn s.kind es t (phase_at s.phases t)
   pub no_others : AllByRecursion (λ e. thread_of e < length s.phases) es
   pub agree : AgreeAs s.kind s q
-  pub held : IsHeldInside s.kind s.phases q.queue (holder_after None es)
 
-abbrev pub IsPlayed : RecordedLock → Type 0
-IsPlayed k = Kept k.state k.sequential k.entries
+-- a lock that goes along with its history
+pub record IsRecorded (k : Tracked) (es : List Entry) : Type 0 where
+  pub kept : Kept k.state k.sequential es
+  pub holder : k.holder ≡ holder_after None es

@@ -1,4 +1,4 @@
--- Invariants. The ticket lock's: its phases, what a pending call still owes the history, who is inside, and how its words agree with the
+-- Invariants. The ticket lock's: its phases, what a pending call still owes the history, and how its words agree with the
 -- queue of its sequential object.
 use Rattle.std.specs.Prelude.{◌≡◌, ℕ, ◌+◌, ◌%◌, ◌^◌, ◌<◌, List, [], ◌∷◌, length, slice_index, Option, None, Some, Bool, true, false}
 use Rattle.lk_locks.specs.State.{phase_at}
@@ -29,13 +29,6 @@ owed i (AwaitTurn t) = Returned i Acquire ∷ []
 owed i (ReadServing t) = acts i Release
 owed i (PassOn v) = acts i Release
 owed i p = []
-
--- between the step that enters and the step that leaves
-abbrev pub is_inside : Phase → Bool
-is_inside (TicketInside t) = true
-is_inside (ReadServing t) = true
-is_inside (PassOn v) = true
-is_inside p = false
 
 -- the ticket that a thread has
 abbrev pub ticket_of : Phase → Option ℕ
