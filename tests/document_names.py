@@ -20,6 +20,7 @@ DEFINED = [re.compile(pattern, re.MULTILINE) for pattern in (
     r"^\s*(?:export )?(?:pub(?:\(\w+\))? )?(?:unsafe )?"
     r"(?:fn|struct|enum|trait|type|mod|const|static|class|function|let) (?:mut )?(\w+)",
     r"^(?:pub |pub\(\w+\) )?(?:abbrev|unfoldable|record|data|mod)(?: pub)? ([\w'-]+)",
+    r"^(?:pub )?([\w'-]+) :",
     r"^\s*(?:def|class) (\w+)",
     r"^(\w+) *:?=",
     r"#\s*(?:define|ifdef|ifndef) (\w+)",
@@ -37,7 +38,7 @@ OUTSIDE = set("""
     include_bytes thiserror arrayvec atomic_table memchr itoa clap fetch_and_store qnode QNode
     fetch_and_increment memory_order_seq_cst compare_exchange_weak try_acquire sched_yield pthread
     futex parallel ssh rsync hosts Host Exitval RT_JOBS SimpleReadWriteLock FifoReadWriteLock
-    mkdir libck
+    mkdir libck tas
 """.split())
 # Files that the commands of a document write, and parts that are not built yet.
 WRITTEN = (
@@ -101,10 +102,13 @@ class Names:
             or any(fnmatch.fnmatchcase(name, way) for way in WRITTEN)
 
     def is_command(self, words):
-        """Whether a command of `make` has its target, and sets variables that there are."""
-        chosen = [word for word in words[1:] if "=" not in word]
-        named = [word.split("=")[0] for word in words[1:] if "=" in word]
-        return set(chosen) <= self.targets and set(named) <= self.variables
+        """Whether a command of `make` has its target, variables, and the crate and edit named."""
+        given = dict(word.split("=", 1) for word in words if "=" in word)
+        chosen = {word for word in words if "=" not in word}
+        edit, crate = given.get("EDIT", "NAME"), given.get("CRATE", "NAME")
+        return (chosen <= self.targets and given.keys() <= self.variables
+                and (edit == "NAME" or edit in self.defined)
+                and (crate == "NAME" or f"crates/{crate}" in self.files))
 
     def is_path(self, name):
         """Whether `A::b` or `A::{b, c}` is public."""
@@ -114,8 +118,8 @@ class Names:
     def is_there(self, name, document):
         """Whether what stands in backticks is there, as far as it is a name."""
         words = name.split()
-        if words[:1] == ["make"]:
-            return self.is_command(words)
+        if "make" in words[:2]:
+            return self.is_command(words[words.index("make") + 1:])
         if "/" in words[0] and re.match(r"[\w./*-]+$", words[0]) or FILE.fullmatch(words[0]):
             return self.is_file(words[0], document)
         if re.fullmatch(r"\w+(::\w+)*::(\w+|\{[\w, ]+\})", name):
