@@ -33,8 +33,10 @@ DOCUMENTS = ("*.md", "docs/*.md", "[!d]*/README.md", "examples/recording/README.
 OTHERS = {"locktrace": TOP / "crates/locktrace/out/locktrace"}
 # Documents with indented commands that are not looked at yet.
 NOT_YET = {"docs/PARALLEL.md", "docs/BENCHMARKS.md", "docs/LOCKTRACE.md", "docs/MODULE.md",
-           "bench/README.md", "page/README.md", "examples/recording/README.md"}
+           "page/README.md", "examples/recording/README.md"}
 SHELLS = {"bash", "shell", "zsh", "fish", "shell-session"}
+INDENTED = re.compile(r" {4,}(\$ |(make|rt|gcc|git|awk|sed|node|parallel|python3) \S|"
+                      r"lockreplay (replay|batch) |(tests|fuzz|bench)/\w+\.(py|sh)\b)")
 SECONDS = 50
 OF_MAKE = {"MAKELEVEL", "MAKEFLAGS", "MFLAGS"}
 END = "status of this command:"
@@ -148,7 +150,7 @@ def try_document(document, program, names, tally):
         for block in blocks_of(lines):
             try_block(block, room, tally, f"{name}:{block.first}")
     for number, line in without_blocks(lines):
-        if re.match(r" {4,}\$ ", line) and name not in NOT_YET:
+        if INDENTED.match(line) and name not in NOT_YET:
             tally.note(False, f"{name}:{number}: a command that is indented is not run")
     for number, said in names.missing_in(document, lines):
         tally.note(False, f"{name}:{number}: {said}")
