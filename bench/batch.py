@@ -124,8 +124,8 @@ def worker_line(bench, name):
 
 def small_line(bench):
     took, reading = bench.small_files()
-    print(f"2,000 small files: {took * 1e3:.1f} ms, opening and reading them {reading * 1e3:.1f} ms, "
-          f"ratio {took / reading:.2f}", flush=True)
+    print(f"2,000 small files: {took * 1e3:.1f} ms, opening and reading them "
+          f"{reading * 1e3:.1f} ms, ratio {took / reading:.2f}", flush=True)
     return took / reading <= MOST_TO_READING * TOLERANCE
 
 

@@ -5,7 +5,7 @@
     mcs-contention   64 threads in one queue of an MCS lock, links that come late among them
     simple-readers   64 readers of a simple read-write lock that come and go
     fifo-readers     the same on a FIFO read-write lock
-    spinning         two threads of a ticket lock, the second looks in vain
+    spinning         two threads of a ticket lock, the second polls and fails
     mcs-spinning, simple-spinning, fifo-spinning   the same on the other locks
     alone            one thread of a ticket lock enters and leaves
     mcs-alone, simple-alone, fifo-alone   the same on the other locks
@@ -56,7 +56,7 @@ def come_and_go(replay, chance):
 
 
 def spin(replay, chance):
-    """Thread 0 holds, the second does what it can and looks in vain."""
+    """Thread 0 holds, the second does what it can, and then polls and fails."""
     taking = "acquire" if "acquire" in replay.lock.calls else "wlock"
     for thread in (0, 1):
         yield thread, taking

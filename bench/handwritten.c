@@ -5,8 +5,8 @@
  *     ./handwritten batch FILE...         keeps all reports, and writes them in the end
  *
  * It keeps words and phases as the published algorithms do, and reads the whole text before it
- * replays. The text ` hold H queue Q` is kept between two lines and made anew only where it changed;
- * the queue's text is a window that grows at its end and shrinks at its front. Nothing is proved
+ * replays. The text ` hold H queue Q` is kept between two lines, and made anew where it changed.
+ * The queue's text is a window that grows at its end and shrinks at its front. Nothing is proved
  * here, and nothing but schedules without a fault is meant to be replayed: a fault ends with
  * status 2. Different from lockreplay: a move is printed as it is made, so where `replay` cannot
  * write, what follows was not replayed.

@@ -75,7 +75,8 @@ def odd_line(chance):
         return chance.choice(["\r", "\r\r", "\r# 0 acquire", "\r0 acquire"])
     if chance.random() < 0.5:
         return f"{chance.choice(ODD_NUMBERS)} {chance.choice(WORDS)}"
-    return f"{chance.randint(0, 3)}{chance.choice([' ', '  ', '', chr(9)])}{chance.choice(ODD_WORDS)}"
+    thread, between = chance.randint(0, 3), chance.choice([" ", "  ", "", chr(9)])
+    return f"{thread}{between}{chance.choice(ODD_WORDS)}"
 
 
 def sprinkle(chance, lines):
@@ -125,7 +126,7 @@ def changed_text(chance, text):
 
 
 def most_moves(chance, beyond):
-    """A schedule of the most moves, or of so many more; or of the most and a line that is no move."""
+    """A schedule of the most moves, of so many more, or of the most and a line that is no move."""
     name, threads, line = header(chance)
     ends_oddly = chance.random() < 0.5
     played = moves(chance, name, threads, oracle.MOST_MOVES + (0 if ends_oddly else beyond))
