@@ -48,6 +48,7 @@ tried:
 	tests/short_memory.py $(PROGRAM)
 	tests/memory.py $(PROGRAM)
 	tests/documents.py $(PROGRAM)
+	tests/documents_fail.py $(PROGRAM)
 	tests/locks_code.py
 	tests/definitions.py
 	tests/style.py

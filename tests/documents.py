@@ -144,7 +144,7 @@ def try_block(block, room, tally, where):
 def try_document(document, program, names, tally):
     """Tries the blocks of a document, and the names in it."""
     lines = document.read_text().splitlines()
-    name = str(document.relative_to(TOP))
+    name = os.path.relpath(document, TOP)
     with tempfile.TemporaryDirectory(prefix="documents-") as folder:
         room = Room(pathlib.Path(folder), program)
         for block in blocks_of(lines):
