@@ -1,15 +1,17 @@
 #!/usr/bin/env python3
-"""Compares a replayer with the oracle on random schedules and texts.
+"""Compares a replayer with the oracle on stored texts, and then on random schedules and texts.
 
     fuzz.py PROGRAM --seconds N [--seed S]
 
-Texts are drawn from the seed, which is printed, and replayed in rounds: the whole round as one
-batch with 2 workers, those of the round that are accepted as another, and a few one by one by
-`replay`. Reports are compared byte for byte with those of oracle.py, and exit statuses with 0 where
-every report ends with `end K` and 1 otherwise. In each round one text is at a limit of size.
+The stored texts are corpus/, which corpus.py tells of. Random texts are drawn from the seed,
+which is printed, and replayed in rounds: the whole round as one batch with 2 workers, those of
+the round that are accepted as another, and a few one by one by `replay`. Reports are compared
+byte for byte with those of oracle.py, and exit statuses with 0 where every report ends with `end
+K` and 1 otherwise. In each round one text is at a limit of size.
 
-Where a text's report differs, the text is shrunk for up to a minute while it still differs, both are
-stored under fuzz/found/, and the fuzzer ends with 1. Prints `N passed, M failed` last; N counts texts.
+Where a text's report differs, the text is shrunk for up to a minute while it still differs, both
+are stored under fuzz/found/, and the fuzzer ends with 1. Prints `N passed, M failed` last; N
+counts texts.
 """
 import argparse
 import pathlib
@@ -19,6 +21,7 @@ import sys
 import tempfile
 import time
 
+import corpus
 import oracle
 import schedules
 
@@ -139,6 +142,20 @@ def find_failures(program, texts, reports, seed, first):
     return 1
 
 
+def play_corpus(program):
+    """The stored texts, each by itself and all as a batch; answers how many, and how many failed."""
+    texts = corpus.stored_texts()
+    wrong = list(corpus.mistakes(texts))
+    wrong += [f"{name}: printed {program.replay(text)[0][-300:]!r}"
+              for name, text in texts.items() if not is_right(program, text)]
+    reports = list(map(oracle.report_of, texts.values()))
+    if not wrong and not is_batch_right(program, texts.values(), reports, 2):
+        wrong.append("the stored texts as a batch, each of them right alone")
+    for what in wrong:
+        print(f"FAILED {what}")
+    return len(texts), len(wrong)
+
+
 def play_round(program, chance, seed, first):
     """One round of texts; answers how many there were and how many failed."""
     texts = [schedules.random_text(chance, LONGEST) for _ in range(ROUND - 1)]
@@ -162,11 +179,13 @@ def main():
     print(f"seed {asked.seed}", flush=True)
     chance = random.Random(asked.seed)
     until = time.monotonic() + asked.seconds
-    played = failed = 0
     with tempfile.TemporaryDirectory() as folder:
         program = Program(str(pathlib.Path(asked.program).resolve()), folder)
-        while failed == 0 and (played == 0 or time.monotonic() < until):
-            count, wrong = play_round(program, chance, asked.seed, played)
+        stored, failed = play_corpus(program)
+        print(f"{stored} stored texts", flush=True)
+        played = stored
+        while failed == 0 and (played == stored or time.monotonic() < until):
+            count, wrong = play_round(program, chance, asked.seed, played - stored)
             played += count
             failed += wrong
     print(f"{played - failed} passed, {failed} failed")
