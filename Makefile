@@ -10,6 +10,7 @@
 # make install, make uninstall         [PREFIX=/usr/local] [DESTDIR=]: what packaging/contents.txt lists
 # make dist, make deb                  a tarball, and a Debian package, in dist/
 # make release-checks                  tries what is installed and packaged, and two hosts over ssh
+# make soak     [SOAK_SECONDS=3600]    each long run once, and the fuzzer for what is left of the time
 #
 # docs/CHECKING.md says how long each takes, and where the time goes.
 
@@ -20,9 +21,10 @@ LESSON  := examples/ticket-hand-over.schedule
 REFUSING := lk_locks lk_replay lk_workers lockreplay
 FUZZ_SECONDS := 60
 SHORT_FUZZ_SECONDS := 5
+SOAK_SECONDS := 3600
 EDIT := *
 
-.PHONY: test check edits twins rows demo bench gate tools
+.PHONY: test check edits twins rows demo bench gate soak tools
 
 test: gate tools
 	$(MAKE) --no-print-directory tried release-checks FUZZ_SECONDS=$(FUZZ_SECONDS)
@@ -72,6 +74,9 @@ demo: $(PROGRAM)
 bench: $(PROGRAM) tools
 	bench/run.py $(PROGRAM)
 	bench/batch.py $(PROGRAM)
+
+soak: $(PROGRAM) tools
+	tests/soak.sh $(PROGRAM) $(SOAK_SECONDS)
 
 include packaging/targets.mk
 
