@@ -89,21 +89,31 @@ def try_manual(tally, tree):
                     output("mandoc", "-Tlint", "-Wstyle", "-M", manual, page), "")
         shown = output("man", "-M", manual, "--warnings", section, name, env=environment)
         tally.check(f"man {section} {name}", shown, lambda text: f"version {VERSION}." in text)
-        warnings = re.findall(r".*warning.*", shown)
+        warnings = re.findall(r".*: warning: .*", shown)
         tally.check(f"warnings of man {section} {name}", warnings, [])
     (manual / "mandoc.db").unlink()
 
 
-def try_words(tally, tree):
-    """The page and the program's help have the same words."""
-    page = (tree / "share/man/man1/lockreplay.1").read_text()
-    program = tree / "bin/lockreplay"
-    helps = "".join(output(program, *command, "--help") for command in ([], ["replay"], ["batch"]))
-    words = set(re.findall(r"^ +(?:--)?([a-z]+)(?: <N>)?  ", helps, re.MULTILINE))
-    tally.check("words of help", words, {"replay", "batch", "help", "workers"})
+def try_words(tally, tree, name, commands, due):
+    """What the help of a program offers is what is due, and each word of it is in the program's page."""
+    program, page = tree / "bin" / name, (tree / f"share/man/man1/{name}.1").read_text()
+    helps = "".join(output(program, *command, "--help") for command in ([], *commands))
+    words = set(re.findall(r"^ +(?:-\w, )?(?:--)?([a-z]+)(?: <[^>]*>)?(?:  |$)", helps, re.MULTILINE))
+    tally.check(f"words of {name}'s help", words, due)
     for word in sorted(words):
         found = re.search(rf"(Cm|Fl) {word}\b", page)
-        tally.check(f"'{word}' in lockreplay(1)", found is not None, True)
+        tally.check(f"'{word}' in {name}(1)", found is not None, True)
+
+
+def try_programs(tally, tree):
+    try_words(tally, tree, "lockreplay", [["replay"], ["batch"]],
+              {"replay", "batch", "help", "workers"})
+    if (tree / "bin" / "locktrace").exists():
+        try_words(tally, tree, "locktrace", [["check"], ["explain"], ["order"], ["schedule"]],
+                  {"check", "explain", "order", "schedule", "help", "version", "format", "summary",
+                   "jobs", "moves", "names"})
+        tally.check("locktrace's version", output(tree / "bin" / "locktrace", "--version").split(),
+                    ["locktrace", VERSION])
 
 
 def flags_of(tally, tree, name):
@@ -152,7 +162,7 @@ def main():
         (tree / "bin" / "other").unlink()
         try_files(tally, tree)
         try_manual(tally, tree)
-        try_words(tally, tree)
+        try_programs(tally, tree)
         try_headers(tally, tree, Path(folder))
         for name in completions.SHELLS:
             completions.try_completions(tally, name, str(tree))

@@ -12,4 +12,5 @@ def install(*packages):
     if missing:
         quiet = {"check": True, "stdout": subprocess.DEVNULL}
         subprocess.run(["apt-get", "update"], **quiet)
-        subprocess.run(["apt-get", "install", "--yes", *missing], **quiet)
+        waiting = ["-o", "DPkg::Lock::Timeout=300"]  # for another's run, in seconds
+        subprocess.run(["apt-get", *waiting, "install", "--yes", *missing], **quiet)
