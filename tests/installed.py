@@ -23,6 +23,7 @@ TOP = Path(__file__).resolve().parent.parent
 VERSION = (TOP / "VERSION").read_text().strip()
 PACKAGES = ["mandoc", "man-db", "groff-base", "pkgconf-bin", *completions.PACKAGES]
 WARNINGS = ["-O2", "-Wall", "-Wextra", "-Werror"]
+HELP_LINE = r"^ +(?:-\w, )?(?:--)?([a-z]+)(?: <[^>]*>)?(?:  |$)"  # `  -j, --jobs <N>  How many`
 FOREIGN = "another's\n"
 RECORDS = """#include <lockreplay_record.h>
 int main(void) { lr_run *run = lr_open("mcs", 1, 64, 1, 0); lr_close(run); return run == NULL; }
@@ -95,10 +96,10 @@ def try_manual(tally, tree):
 
 
 def try_words(tally, tree, name, commands, due):
-    """What the help of a program offers is what is due, and each word of it is in the program's page."""
+    """What a program's help offers is what is due, and each word of it is in the program's page."""
     program, page = tree / "bin" / name, (tree / f"share/man/man1/{name}.1").read_text()
     helps = "".join(output(program, *command, "--help") for command in ([], *commands))
-    words = set(re.findall(r"^ +(?:-\w, )?(?:--)?([a-z]+)(?: <[^>]*>)?(?:  |$)", helps, re.MULTILINE))
+    words = set(re.findall(HELP_LINE, helps, re.MULTILINE))
     tally.check(f"words of {name}'s help", words, due)
     for word in sorted(words):
         found = re.search(rf"(Cm|Fl) {word}\b", page)
