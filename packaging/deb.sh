@@ -16,7 +16,7 @@ find "$ROOT/usr/share/man" -type f -exec gzip --no-name --best {} +
 install -m 644 packaging/copyright "$DOCUMENTS/copyright"
 {
     printf 'lockreplay (%s) unstable; urgency=low\n\n' "$VERSION"
-    printf '  * What changed is in the project'\''s own history.\n\n'
+    printf '  * CHANGELOG.md beside this file tells what changed.\n\n'
     printf ' -- %s  %s\n' "$MAINTAINER" "$(date --date="@$TIME" '+%a, %d %b %Y %H:%M:%S +0000')"
 } | gzip --no-name --best > "$DOCUMENTS/changelog.gz"
 
