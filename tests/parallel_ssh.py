@@ -1,16 +1,17 @@
 #!/usr/bin/env python3
-"""Schedules on two hosts by GNU parallel, as docs/PARALLEL.md says.
+"""Schedules by GNU parallel, on this machine and on two hosts, as docs/PARALLEL.md says.
 
     tests/parallel_ssh.py PROGRAM
 
-The hosts are two sshd of this machine (hosts.py). 200 random schedules go to both: the reports
-come in the order of the files and the statuses are right. Of 60, nothing is lost where one host
-goes away in the middle; and a run that was ended in the middle goes on where it was. Reports and
-statuses that are due are the oracle's. The commands have to stand in docs/PARALLEL.md as they
-are run here. The last line counts the cases; the status is 1 where one failed.
+The hosts are two sshd of this machine (hosts.py). 200 random schedules are replayed here and on
+both: the reports come in the order of the files, and the statuses are right. Of 40 on the hosts,
+nothing is lost where one goes away in the middle. A run that was ended in the middle goes on where
+it was. Reports and statuses that are due are the oracle's. The commands are taken from the document
+as they stand there. The last line counts the cases; the status is 1 where one failed.
 """
 import os
 import random
+import re
 import signal
 import subprocess
 import sys
@@ -29,29 +30,20 @@ import oracle
 import schedules
 
 COUNT = 200
-FEW = 60
+FEW = 40
 LONGEST = 60  # moves
 SEED = 1991
 PATIENCE = 100  # seconds
-SEVERAL_HOSTS = r"""
-parallel --sshloginfile hosts --transferfile {} --cleanup --keep-order --joblog jobs.log \
-    'test -f {} || exit 3; lockreplay replay < {}' ::: *.schedule > reports
-"""
-HOST_GOES_AWAY = r"""
-parallel --sshloginfile hosts --transferfile {} --cleanup --keep-order --joblog jobs.log \
-    --retries 3 'test -f {} || exit 3; lockreplay replay < {}; test $? -le 1' \
-    ::: *.schedule > reports
-"""
-RESUMED = r"""
-parallel --sshloginfile hosts --transferfile {} --return {.}.report --cleanup \
-    --resume --joblog jobs.log 'lockreplay replay < {} > {.}.report' ::: *.schedule
-"""
+# The commands are the document's own, in the order in which they stand there.
+(ONE_MACHINE, LINES_OF_THE_LOG, AS_A_BATCH, RESUMED_HERE, SEVERAL_HOSTS, HOST_GOES_AWAY, RESUMED,
+ IN_GROUPS) = re.findall(r"```sh\n(.*?)\n```", (TOP / "docs/PARALLEL.md").read_text(), re.DOTALL)
+IN_GROUP = int(re.search(r"--max-args (\d+)", IN_GROUPS)[1])
 
 
 class Work:
     """A folder of so many schedules, and GNU parallel in it."""
 
-    def __init__(self, folder, hosts, count):
+    def __init__(self, folder, program, hosts, count):
         self.folder, self.count = folder / f"work-{count}", count
         self.folder.mkdir()
         self.log = self.folder / "jobs.log"
@@ -62,14 +54,16 @@ class Work:
             (self.folder / f"{number:03}.schedule").write_bytes(text)
             self.reports.append(oracle.report_of(text))
         self.statuses = [0 if oracle.is_accepted(report) else 1 for report in self.reports]
+        self.whole = b"".join(self.reports)
         (self.folder / "hosts").write_text("".join(f"4/{host.name}\n" for host in hosts))
         (folder / "parallel").mkdir(exist_ok=True)
         (folder / "parallel" / "will-cite").touch()
-        self.environment = {**os.environ, "PARALLEL_HOME": str(folder / "parallel"),
+        self.environment = {**os.environ, "PATH": f"{program.parent}:{os.environ['PATH']}",
+                            "PARALLEL_HOME": str(folder / "parallel"),
                             "PARALLEL_SSH": f"ssh -F {folder}/client"}
 
     def begin(self, command):
-        words = ["sh", "-c", f"exec {command.strip()}"]
+        words = ["sh", "-c", f"exec {command}"]
         return subprocess.Popen(words, cwd=self.folder, env=self.environment,
                                 stdin=subprocess.DEVNULL, stderr=subprocess.DEVNULL)
 
@@ -82,10 +76,10 @@ class Work:
             return f"no end in {PATIENCE} seconds"
 
     def jobs(self):
-        """The lines of the log: file, host and status."""
+        """The lines of the log: file, host, status, and when it was begun."""
         lines = self.log.read_text().splitlines()[1:] if self.log.exists() else []
         parts = [line.split("\t") for line in lines]
-        return [(int(part[0]), part[1], int(part[6])) for part in parts if len(part) > 6]
+        return [(int(part[0]), part[1], int(part[6]), part[2]) for part in parts if len(part) > 6]
 
     def wait_for_the_middle(self):
         """Until a quarter of the jobs has ended."""
@@ -97,14 +91,39 @@ class Work:
         return self.count // 4 <= len(jobs) < self.count
 
 
+    def printed(self):
+        return (self.folder / "reports").read_bytes()
+
+
+def try_in_order(tally, name, work, command):
+    """A run of all files: the reports, the statuses in the log, the status of the whole."""
+    status = work.end(work.begin(command))
+    tally.check(f"{name}: reports in the order of the files", work.printed(), work.whole)
+    tally.check(f"{name}: statuses", [job[2] for job in sorted(work.jobs())], work.statuses)
+    tally.check(f"{name}: status of all", status, min(sum(work.statuses), 101))
+
+
+def try_one_machine(tally, work):
+    try_in_order(tally, "one machine", work, ONE_MACHINE)
+    refused, not_replayed = (subprocess.check_output(["sh", "-c", line], cwd=work.folder)
+                             for line in LINES_OF_THE_LOG.splitlines())
+    tally.check("lines of refused moves", len(refused.splitlines()), sum(work.statuses))
+    tally.check("lines of files not replayed", not_replayed, b"")
+    work.log.unlink()
+    work.end(work.begin(AS_A_BATCH))
+    tally.check("as a batch", work.printed(), oracle.batch_of(work.reports))
+    work.end(work.begin(IN_GROUPS))
+    groups = [work.reports[at:at + IN_GROUP] for at in range(0, work.count, IN_GROUP)]
+    tally.check("in groups", work.printed(), b"".join(map(oracle.batch_of, groups)))
+    try_resumed(tally, "one machine", work, RESUMED_HERE)
+    for report in work.folder.glob("*.report"):
+        report.unlink()
+    work.log.unlink()
+
+
 def try_several_hosts(tally, work):
-    status = work.end(work.begin(SEVERAL_HOSTS))
-    jobs = sorted(work.jobs())
-    tally.check("reports in the order of the files", (work.folder / "reports").read_bytes(),
-                b"".join(work.reports))
-    tally.check("statuses", [status for _, _, status in jobs], work.statuses)
-    tally.check("status of all", status, min(sum(work.statuses), 101))
-    tally.check("hosts", {host for _, host, _ in jobs}, {"first", "second"})
+    try_in_order(tally, "hosts", work, SEVERAL_HOSTS)
+    tally.check("hosts", {job[1] for job in work.jobs()}, {"first", "second"})
 
 
 def try_host_that_goes_away(tally, work, host):
@@ -114,34 +133,32 @@ def try_host_that_goes_away(tally, work, host):
     tally.check("one host less, in the middle", work.jobs(), work.is_in_the_middle)
     tally.check("one host less: status of all", work.end(run), 0)
     tally.check("one host less: reports", (work.folder / "reports").read_bytes(),
-                b"".join(work.reports))
+                work.whole)
     tally.check("one host less: each file once", sorted(job[0] for job in work.jobs()),
                 list(range(1, work.count + 1)))
 
 
-def try_resumed(tally, work):
-    run = work.begin(RESUMED)
+def try_resumed(tally, name, work, command):
+    """A run that is ended in the middle, and given again."""
+    run = work.begin(command)
     work.wait_for_the_middle()
     run.send_signal(signal.SIGTERM)  # no further job is begun
     work.end(run)
     before = work.jobs()
-    tally.check("ended in the middle", before, work.is_in_the_middle)
-    work.end(work.begin(RESUMED))
+    tally.check(f"{name}: ended in the middle", before, work.is_in_the_middle)
+    work.end(work.begin(command))
     jobs = work.jobs()
-    tally.check("resumed: what was done stays", jobs[:len(before)], before)
-    tally.check("resumed: each file once", sorted(job[0] for job in jobs),
+    tally.check(f"{name}, resumed: what was done stays", jobs[:len(before)], before)
+    tally.check(f"{name}, resumed: each file once", sorted(job[0] for job in jobs),
                 list(range(1, work.count + 1)))
-    tally.check("resumed: statuses", [status for _, _, status in sorted(jobs)], work.statuses)
+    tally.check(f"{name}, resumed: statuses", [job[2] for job in sorted(jobs)], work.statuses)
     reports = [file.read_bytes() for file in sorted(work.folder.glob("*.report"))]
-    tally.check("resumed: reports", reports, work.reports)
+    tally.check(f"{name}, resumed: reports", reports, work.reports)
 
 
 def main(program):
     wanted.install("openssh-client", "openssh-server", "parallel", "rsync")
     tally = Tally()
-    document = (TOP / "docs" / "PARALLEL.md").read_text().replace("\n    ", "\n")
-    for command in (SEVERAL_HOSTS, HOST_GOES_AWAY, RESUMED):
-        tally.check(f"in the document: {command}", command in document, True)
     with tempfile.TemporaryDirectory() as name, ExitStack() as at_end:
         folder = Path(name)
         make_keys(folder)
@@ -149,13 +166,15 @@ def main(program):
         for name in ("first", "second"):
             hosts.append(Host(name, folder, program))
             at_end.callback(hosts[-1].go_away)
-        try_several_hosts(tally, Work(folder, hosts, COUNT))
-        few = Work(folder, hosts, FEW)
-        try_resumed(tally, few)
+        work = Work(folder, program, hosts, COUNT)
+        try_one_machine(tally, work)
+        try_several_hosts(tally, work)
+        left = [file for host in hosts for file in host.home.rglob("*.schedule")]
+        tally.check("schedules left on the hosts", left, [])
+        few = Work(folder, program, hosts, FEW)
+        try_resumed(tally, "hosts", few, RESUMED)
         few.log.unlink()
         try_host_that_goes_away(tally, few, hosts[1])
-        left = [file for host in hosts for file in host.home.rglob("*.schedule")]
-        tally.check("schedules left behind", left, lambda files: len(files) <= 4)
     return tally.end()
 
 
