@@ -1,0 +1,11 @@
+pub mod AtMostTwo
+pub mod Tracks
+pub mod PlayedOn
+pub mod Asked
+pub mod Ends
+pub mod Replayed
+pub mod Records
+pub mod Places
+pub mod Threads
+pub mod Turns
+pub mod StateBytes

@@ -1,0 +1,115 @@
+-- Definitions: the bytes of a record and of a state. This project's own. All numbers are little-endian.
+use Rattle.std.specs.Prelude.{ℕ, zero, suc, ◌+◌, ◌-◌, ◌*◌, List, [], ◌∷◌, ◌++◌, length, replicate, Option, None, Some, is_none, Bool, if◌then◌else◌, nat_lt}
+use Rattle.std.specs.Int.{to_le_bytes, w16, w32, w64}
+use Rattle.std.specs.List.{flat_map}
+use Rattle.lk_locks.specs.State.{State, phase_at}
+use Rattle.lk_locks.specs.Steps.{refusal_of, step_due}
+use Rattle.lk_locks.specs.Holding.{Holding, Free, HeldBy, ReadBy, WrittenBy, holding_of, waiting_of}
+use Rattle.lk_locks.specs.declared.kinds.Op.{Op}
+use Rattle.lk_locks.specs.declared.kinds.Op.TheVariants.{Acquire, Release, ReadLock, ReadUnlock, WriteLock, WriteUnlock, Downgrade}
+use Rattle.lk_locks.specs.declared.kinds.Move.TheVariants.{Call}
+use Rattle.lk_locks.specs.declared.kinds.Refusal.{Refusal}
+use Rattle.lk_replay.specs.Faults.{Fault}
+use Rattle.lk_page.specs.Codes.{lock_code, action_code, word_code, outcome_code, phase_code, phase_number, due_code, refusal_code, refusal_step, fault_code, fault_line}
+use Rattle.lk_page.specs.Told.{Moment}
+use Rattle.lk_page.specs.declared.told.Touch.{Touch}
+use Rattle.lk_page.specs.declared.told.Standing.{Standing}
+use Rattle.lk_page.specs.declared.told.Record.{Record}
+
+-- what a page reads of a word that was touched; 65535 where none was
+abbrev pub touched_word : Option Touch → ℕ
+touched_word None = 65535
+touched_word (Some t) = t.word
+
+abbrev pub found_of : Option Touch → ℕ
+found_of None = 0
+found_of (Some t) = t.found
+
+abbrev pub left_of : Option Touch → ℕ
+left_of None = 0
+left_of (Some t) = t.left
+
+abbrev pub bit : Bool → ℕ
+bit b = if b then 1 else 0
+
+abbrev pub standing_code : Standing → ℕ
+standing_code s = bit s.holds + 2 * bit s.is_queued + 4 * bit s.writes
+
+-- 56 bytes
+unfoldable pub record_bytes : Record → List ℕ
+record_bytes r =
+    to_le_bytes w32 r.line
+    ++ (r.thread ∷ action_code r.action ∷ word_code r.action ∷ outcome_code r.outcome ∷ phase_code r.phase ∷ standing_code r.standing ∷ [])
+    ++ to_le_bytes w16 (touched_word r.first) ++ to_le_bytes w16 (touched_word r.second) ++ to_le_bytes w16 0
+    ++ to_le_bytes w64 (found_of r.first) ++ to_le_bytes w64 (left_of r.first)
+    ++ to_le_bytes w64 (found_of r.second) ++ to_le_bytes w64 (left_of r.second)
+    ++ to_le_bytes w64 (phase_number r.phase)
+
+-- a list, and zeros behind it
+abbrev pub padded : ℕ → List ℕ → List ℕ
+padded n xs = xs ++ replicate (n - length xs) 0
+
+abbrev pub holding_code : Holding → ℕ
+holding_code Free = 0
+holding_code (HeldBy t) = 1
+holding_code (ReadBy ts) = 2
+holding_code (WrittenBy t) = 3
+
+abbrev pub holder_list : Holding → List ℕ
+holder_list Free = []
+holder_list (HeldBy t) = t ∷ []
+holder_list (ReadBy ts) = ts
+holder_list (WrittenBy t) = t ∷ []
+
+-- 1 where the call would be accepted
+abbrev pub call_bit : State → ℕ → Op → ℕ
+call_bit s t op = bit (is_none (refusal_of s t (Call op)))
+
+-- the calls that would be accepted of a thread
+abbrev pub allowed_calls : State → ℕ → ℕ
+allowed_calls s t =
+    call_bit s t Acquire + 2 * call_bit s t Release + 4 * call_bit s t ReadLock + 8 * call_bit s t ReadUnlock
+    + 16 * call_bit s t WriteLock + 32 * call_bit s t WriteUnlock + 64 * call_bit s t Downgrade
+
+-- what a thread does, and what it may do next: 16 bytes
+abbrev pub own_bytes : State → ℕ → List ℕ
+own_bytes s t =
+    (phase_code (phase_at s.phases t) ∷ due_code (step_due s.kind (phase_at s.phases t)) ∷ allowed_calls s t ∷ 0 ∷ 0 ∷ 0 ∷ 0 ∷ 0 ∷ [])
+    ++ to_le_bytes w64 (phase_number (phase_at s.phases t))
+
+abbrev pub thread_bytes : State → ℕ → List ℕ
+thread_bytes s t = if nat_lt t (length s.phases) then own_bytes s t else replicate 16 0
+
+-- of so many threads, from thread t on
+abbrev pub threads_bytes : State → ℕ → ℕ → List ℕ
+threads_bytes s t zero = []
+threads_bytes s t (suc n) = thread_bytes s t ++ threads_bytes s (t + 1) n
+
+-- the refusal, its line, and the due step that it names
+abbrev pub stop_numbers : Option (ℕ × Refusal) → List ℕ
+stop_numbers None = 0 ∷ 0 ∷ 0 ∷ 0 ∷ []
+stop_numbers (Some r) = 1 ∷ refusal_code r.1 ∷ r.0 ∷ refusal_step r.1 ∷ []
+
+-- of a lock in this state after `count` of `moves` moves
+abbrev pub numbers : ℕ → ℕ → Option (ℕ × Refusal) → State → Holding → List ℕ → List ℕ
+numbers moves count refused s held queue =
+    stop_numbers refused
+    ++ lock_code s.kind ∷ length s.phases ∷ s.bits ∷ count ∷ moves ∷ length s.words ∷ holding_code held ∷ length (holder_list held) ∷ length queue ∷ 0 ∷ 0 ∷ 0 ∷ []
+
+-- 2,304 bytes
+unfoldable pub bytes_of_state : ℕ → ℕ → Option (ℕ × Refusal) → State → Holding → List ℕ → List ℕ
+bytes_of_state moves count refused s held queue =
+    flat_map (to_le_bytes w32) (numbers moves count refused s held queue)
+    ++ padded 64 (holder_list held) ++ padded 64 queue
+    ++ threads_bytes s 0 64
+    ++ flat_map (to_le_bytes w64) s.words ++ replicate (1088 - 8 * length s.words) 0
+
+abbrev pub state_bytes : ℕ → ℕ → Option (ℕ × Refusal) → Moment → List ℕ
+state_bytes moves count refused m =
+    bytes_of_state moves count refused m.state (holding_of m.state.kind m.entries) (waiting_of m.state.kind m.entries)
+
+unfoldable pub bytes_of_fault : ℕ → ℕ → List ℕ
+bytes_of_fault code line = flat_map (to_le_bytes w32) (2 ∷ code ∷ line ∷ []) ++ replicate 2292 0
+
+abbrev pub fault_bytes : Fault → List ℕ
+fault_bytes f = bytes_of_fault (fault_code f) (fault_line f)

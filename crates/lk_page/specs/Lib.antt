@@ -1,0 +1,6 @@
+pub mod Codes
+pub mod Told
+pub mod Changes
+pub mod Layout
+pub mod Written
+pub mod Playing

@@ -1,0 +1,161 @@
+//! The numbers by which a page knows locks, moves, outcomes, phases, refusals and faults.
+
+ghost use Rattle.std.specs.Prelude.{◌≡◌, IfSome};
+ghost use Rattle.lk_page.specs.Codes.{lock_code, op_code, step_code, action_code, word_code, outcome_code, phase_code, phase_number, due_code, refusal_code, refusal_step, fault_code, fault_line, as_fault};
+
+use lk_locks::{LockKind, Move, Op, Outcome, Phase, Refusal, StepKind};
+use lk_replay::ReadFault;
+
+pub fn lock_code(kind: LockKind) -> u8
+    ensures { result ≡ lock_code kind }
+{
+    match kind {
+        LockKind::Ticket => 0,
+        LockKind::Mcs => 1,
+        LockKind::RwSimple => 2,
+        LockKind::RwFifo => 3,
+    }
+}
+
+fn op_code(op: Op) -> u8
+    ensures { result ≡ op_code op }
+{
+    match op {
+        Op::Acquire => 0,
+        Op::Release => 1,
+        Op::ReadLock => 2,
+        Op::ReadUnlock => 3,
+        Op::WriteLock => 4,
+        Op::WriteUnlock => 5,
+        Op::Downgrade => 6,
+    }
+}
+
+fn step_code(step: StepKind) -> u8
+    ensures { result ≡ step_code step }
+{
+    match step {
+        StepKind::Read => 1,
+        StepKind::Write => 2,
+        StepKind::Swap => 3,
+        StepKind::Cas => 4,
+        StepKind::Add => 5,
+        StepKind::Section => 6,
+    }
+}
+
+/// Whether a move is a call or a step, and which.
+pub fn action_codes(action: Move) -> (u8, u8)
+    ensures action { result.0 ≡ action_code action }
+    ensures word { result.1 ≡ word_code action }
+{
+    match action {
+        Move::Call(op) => (0, op_code(op)),
+        Move::Step(step) => (1, step_code(step)),
+    }
+}
+
+pub fn outcome_code(outcome: Outcome) -> u8
+    ensures { result ≡ outcome_code outcome }
+{
+    match outcome {
+        Outcome::Called => 0,
+        Outcome::Moved => 1,
+        Outcome::Waits => 2,
+        Outcome::Entered => 3,
+        Outcome::Left => 4,
+    }
+}
+
+pub fn phase_code(phase: Phase) -> u8
+    ensures { result ≡ phase_code phase }
+{
+    match phase {
+        Phase::Idle => 0,
+        Phase::TakeTicket => 1,
+        Phase::AwaitTurn(_) => 2,
+        Phase::TicketInside(_) => 3,
+        Phase::ReadServing(_) => 4,
+        Phase::PassOn(_) => 5,
+        Phase::ClearNext => 6,
+        Phase::SwapTail => 7,
+        Phase::SetLocked(_) => 8,
+        Phase::LinkTo(_) => 9,
+        Phase::AwaitGrant => 10,
+        Phase::McsInside => 11,
+        Phase::ReadNext => 12,
+        Phase::CasTail => 13,
+        Phase::AwaitLink => 14,
+        Phase::Grant(_) => 15,
+        Phase::TryRead => 16,
+        Phase::Reading => 17,
+        Phase::LeaveRead => 18,
+        Phase::TryWrite => 19,
+        Phase::AwaitReaders => 20,
+        Phase::Writing => 21,
+        Phase::LeaveWrite => 22,
+        Phase::TryDowngrade => 23,
+    }
+}
+
+/// The ticket, value or thread that a phase carries, and 0 where it carries none.
+pub fn phase_number(phase: Phase) -> u64
+    ensures { result ≡ phase_number phase }
+{
+    match phase {
+        Phase::AwaitTurn(n) | Phase::TicketInside(n) | Phase::ReadServing(n) | Phase::PassOn(n) =>
+            n,
+        Phase::SetLocked(t) | Phase::LinkTo(t) | Phase::Grant(t) => u64::from(t),
+        _ => 0,
+    }
+}
+
+/// The step that is due, and 0 where none is.
+pub fn due_code(due: Option<StepKind>) -> u8
+    ensures { result ≡ due_code due }
+{
+    match due {
+        Some(step) => step_code(step),
+        None => 0,
+    }
+}
+
+pub fn refusal_code(refusal: Refusal) -> u32
+    ensures { result ≡ refusal_code refusal }
+{
+    match refusal {
+        Refusal::NoSuchThread => 1,
+        Refusal::WrongLock => 2,
+        Refusal::Busy => 3,
+        Refusal::NotHolder => 4,
+        Refusal::AlreadyHolds => 5,
+        Refusal::NoCall => 6,
+        Refusal::WrongStep { .. } => 7,
+    }
+}
+
+/// The due step that a refusal names, and 0 where it names none.
+pub fn refusal_step(refusal: Refusal) -> u8
+    ensures { result ≡ refusal_step refusal }
+{
+    match refusal {
+        Refusal::WrongStep { next } => step_code(next),
+        _ => 0,
+    }
+}
+
+/// The number of a fault, and the line that it names.
+pub fn fault_codes(fault: ReadFault) -> (u32, u32)
+    ensures { IfSome (as_fault fault) (λ f. (result.0 ≡ fault_code f) × (result.1 ≡ fault_line f)) }
+{
+    match fault {
+        ReadFault::TooLong => (1, 0),
+        ReadFault::NoHeader(line) => (2, line),
+        ReadFault::BadHeader(line) => (3, line),
+        ReadFault::BadThreads(line) => (4, line),
+        ReadFault::BadLine(line) => (5, line),
+        ReadFault::TooManyMoves(line) => (6, line),
+        ReadFault::OutOfMemory => (7, 0),
+        ReadFault::WordsTooNarrow(line) => (8, line),
+    }
+}

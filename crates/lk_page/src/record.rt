@@ -1,0 +1,155 @@
+//! A move that was made, as a page sees it: what it did to the words and to the thread.
+
+ghost use Rattle.std.specs.Prelude.{◌≡◌, ◌<◌, ◌≤◌, List, length, IfOk, None, Some};
+ghost use Rattle.lk_locks.specs.Sequential.{has};
+ghost use Rattle.lk_locks.specs.Steps.{refusal_of, refused_with};
+ghost use Rattle.lk_locks.specs.Tracked.{tracked, after_tracked, holding_in, waiting_in};
+ghost use Rattle.lk_locks.specs.declared.kinds.Entry.{Entry};
+ghost use Rattle.lk_page.specs.Told.{IsRecord, standing};
+ghost use Rattle.lk_page.specs.Changes.{IsUnseen};
+ghost use Rattle.lk_page.specs.Layout.{record_bytes, touched_word, found_of, left_of, standing_code};
+
+use crate::changes::touches;
+use crate::codes::{action_codes, outcome_code, phase_code, phase_number};
+use crate::layout::{put_bytes, put_u16, put_u32, put_u64};
+use crate::told::{Record, Standing, Touch};
+use arrayvec::ArrayVec;
+use lk_locks::{Holders, Move, Refusal, StepKind, Tracker};
+use lk_replay::Line;
+use lk_words::{RecordingWords, WordArray};
+
+/// How many bytes a record has.
+pub const RECORD_BYTES: usize = 56;
+
+fn has(threads: &[u8], thread: u8) -> bool
+    ensures { result ≡ has threads.now thread }
+{
+    threads.contains(&thread)
+}
+
+fn standing_of(lock: &Tracker<RecordingWords<WordArray>>, thread: u8) -> Standing
+    ensures { result ≡ standing (holding_in lock.now) (waiting_in lock.now) thread }
+{
+    let (holds, writes) = match lock.holders() {
+        Holders::Nobody => (false, false),
+        Holders::Holder(t) => (thread == t, false),
+        Holders::Readers(readers) => (has(readers.as_slice(), thread), false),
+        Holders::Writer(t) => (thread == t, thread == t),
+    };
+    Standing {
+        holds,
+        is_queued: has(lock.queue().as_slice(), thread),
+        writes,
+    }
+}
+
+/// A copy of the words as they stand.
+pub fn words_of(lock: &Tracker<RecordingWords<WordArray>>) -> ArrayVec<u64, 129>
+    ensures { result.items ≡ lock.now.state.words }
+{
+    let mut copy = ArrayVec::new();
+    let _fits = copy.try_extend_from_slice(lock.machine().words().inner().as_slice());
+    copy
+}
+
+// The word that a step looked at. A section looks at several, and a call at none.
+fn seen_word(lock: &Tracker<RecordingWords<WordArray>>, action: Move) -> Option<usize>
+    ensures { IsUnseen action result }
+{
+    match action {
+        Move::Call(_) | Move::Step(StepKind::Section) => None,
+        Move::Step(_) => {
+            let access = lock.machine().words().last()?;
+            Some(access.word)
+        }
+    }
+}
+
+/// Makes a move, and tells what it did.
+pub fn play_line(
+    lock: &mut Tracker<RecordingWords<WordArray>>,
+    line: &Line,
+) -> Result<Record, Refusal>
+    ensures refused { refused_with result ≡ refusal_of lock.old.state line.now.thread line.now.action }
+    ensures after { lock.new ≡ after_tracked lock.old line.now.thread line.now.action }
+    ensures record { IfOk result (λ told. (es : List Entry) → lock.old ≡ tracked lock.old.state es
+        → IsRecord (record { state = lock.old.state; entries = es }) line.now told) }
+{
+    let before = words_of(lock);
+    let outcome = lock.apply(line.thread, line.action)?;
+    let seen = seen_word(lock, line.action);
+    let after = words_of(lock);
+    let old_words = before.as_slice();
+    let new_words = after.as_slice();
+    let (first, second) = touches(old_words, new_words, seen);
+    let phase = lock.machine().phase(line.thread);
+    let standing = standing_of(lock, line.thread);
+    Ok(Record {
+        line: line.number,
+        thread: line.thread,
+        action: line.action,
+        outcome,
+        phase,
+        standing,
+        first,
+        second,
+    })
+}
+
+fn touched_word(touch: Option<Touch>) -> u16
+    ensures { result ≡ touched_word touch }
+{
+    match touch {
+        Some(touch) => u16::from(touch.word),
+        None => u16::MAX,
+    }
+}
+
+fn values_of(touch: Option<Touch>) -> (u64, u64)
+    ensures found { result.0 ≡ found_of touch }
+    ensures left { result.1 ≡ left_of touch }
+{
+    match touch {
+        Some(touch) => (touch.found, touch.left),
+        None => (0, 0),
+    }
+}
+
+fn standing_code(standing: Standing) -> u8
+    ensures { result ≡ standing_code standing }
+{
+    u8::from(standing.holds) + 2 * u8::from(standing.is_queued) + 4 * u8::from(standing.writes)
+}
+
+/// The bytes of a record.
+#[tactic(auto, unfolding(crate::specs::Layout::record_bytes))]
+pub fn record_bytes(record: &Record) -> ArrayVec<u8, 56>
+    ensures bytes { result.items ≡ record_bytes record.now }
+    ensures size { length result.items ≡ 56 }
+{
+    let mut out = ArrayVec::new();
+    let (action, code) = action_codes(record.action);
+    let (found, left) = values_of(record.first);
+    let (found_second, left_second) = values_of(record.second);
+    put_u32(&mut out, record.line);
+    put_bytes(
+        &mut out,
+        &[
+            record.thread,
+            action,
+            code,
+            outcome_code(record.outcome),
+            phase_code(record.phase),
+            standing_code(record.standing),
+        ],
+    );
+    put_u16(&mut out, touched_word(record.first));
+    put_u16(&mut out, touched_word(record.second));
+    put_u16(&mut out, 0);
+    put_u64(&mut out, found);
+    put_u64(&mut out, left);
+    put_u64(&mut out, found_second);
+    put_u64(&mut out, left_second);
+    put_u64(&mut out, phase_number(record.phase));
+    out
+}

@@ -1,0 +1,207 @@
+//! A lock after the last move that was played, as a page sees it.
+
+ghost use Rattle.std.specs.Prelude.{◌≡◌, ◌+◌, ◌<◌, ◌≤◌, ◌++◌, length};
+ghost use Rattle.lk_locks.specs.Holding.{holding};
+ghost use Rattle.lk_locks.specs.Tracked.{holding_in, waiting_in};
+ghost use Rattle.lk_page.specs.Layout.{padded, holding_code, holder_list, call_bit, allowed_calls, own_bytes, thread_bytes, threads_bytes, stop_numbers, bytes_of_state, bytes_of_fault};
+
+use crate::codes::{due_code, lock_code, phase_code, phase_number, refusal_code, refusal_step};
+use crate::layout::{put_bytes, put_u32s, put_u64, put_u64s, put_zeros};
+use crate::record::words_of;
+use crate::told::Stopped;
+use arrayvec::ArrayVec;
+use lk_locks::{Holders, Machine, Move, Op, Refusal, Tracker};
+use lk_words::{RecordingWords, WordArray, Words};
+
+/// How many bytes a state has.
+pub const STATE_BYTES: usize = 2304;
+
+const MOST_THREADS: usize = 64;
+
+const THREAD_BYTES: usize = 16;
+
+// The bytes of the words, and of the zeros behind them.
+const WORDS_BYTES: usize = 1088;
+
+/// The bytes of a fault: what is wrong with the text, and in which line.
+#[tactic(auto, unfolding(crate::specs::Layout::bytes_of_fault))]
+pub fn fault_bytes(code: u32, line: u32) -> ArrayVec<u8, 2304>
+    ensures bytes { result.items ≡ bytes_of_fault code line }
+    ensures size { length result.items ≡ 2304 }
+{
+    let mut out = ArrayVec::new();
+    put_u32s(&mut out, &[2, code, line]);
+    put_zeros(&mut out, STATE_BYTES - 12);
+    out
+}
+
+// 1 where the call would be accepted.
+fn call_bit(machine: &Machine<RecordingWords<WordArray>>, thread: u8, op: Op) -> u8
+    ensures bit { result ≡ call_bit machine.now thread op }
+    ensures small { result ≤ 1 }
+{
+    match machine.check(thread, Move::Call(op)) {
+        Ok(()) => 1,
+        Err(_) => 0,
+    }
+}
+
+// The calls that would be accepted of a thread: bit k for the call with code k.
+fn allowed_calls(machine: &Machine<RecordingWords<WordArray>>, thread: u8) -> u8
+    ensures { result ≡ allowed_calls machine.now thread }
+{
+    call_bit(machine, thread, Op::Acquire)
+        + 2 * call_bit(machine, thread, Op::Release)
+        + 4 * call_bit(machine, thread, Op::ReadLock)
+        + 8 * call_bit(machine, thread, Op::ReadUnlock)
+        + 16 * call_bit(machine, thread, Op::WriteLock)
+        + 32 * call_bit(machine, thread, Op::WriteUnlock)
+        + 64 * call_bit(machine, thread, Op::Downgrade)
+}
+
+fn put_thread(
+    out: &mut ArrayVec<u8, 2304>,
+    machine: &Machine<RecordingWords<WordArray>>,
+    thread: u8,
+)
+    requires thread { thread < length machine.now.phases }
+    requires room { length out.old.items + 16 ≤ 2304 }
+    ensures bytes { out.new.items ≡ out.old.items ++ own_bytes machine.now thread }
+    ensures size { length out.new.items ≡ length out.old.items + 16 }
+{
+    let phase = machine.phase(thread);
+    let due = due_code(machine.next_step(thread));
+    let calls = allowed_calls(machine, thread);
+    put_bytes(out, &[phase_code(phase), due, calls, 0, 0, 0, 0, 0]);
+    put_u64(out, phase_number(phase));
+}
+
+// A thread, or zeros where the lock has it not.
+fn put_place(
+    out: &mut ArrayVec<u8, 2304>,
+    machine: &Machine<RecordingWords<WordArray>>,
+    threads: u8,
+    thread: u8,
+)
+    requires threads { threads ≡ length machine.now.phases }
+    requires room { length out.old.items + 16 ≤ 2304 }
+    ensures bytes { out.new.items ≡ out.old.items ++ thread_bytes machine.now thread }
+    ensures size { length out.new.items ≡ length out.old.items + 16 }
+{
+    if thread < threads {
+        put_thread(out, machine, thread);
+    } else {
+        put_zeros(out, THREAD_BYTES);
+    }
+}
+
+// All threads, and zeros for those that the lock has not.
+fn put_threads(
+    out: &mut ArrayVec<u8, 2304>,
+    machine: &Machine<RecordingWords<WordArray>>,
+    threads: u8,
+)
+    requires threads { threads ≡ length machine.now.phases }
+    requires room { length out.old.items + 1024 ≤ 2304 }
+    ensures bytes { out.new.items ≡ out.old.items ++ threads_bytes machine.now 0 64 }
+    ensures size { length out.new.items ≡ length out.old.items + 1024 }
+{
+    for thread in 0..64 {
+        put_place(out, machine, threads, thread);
+    }
+}
+
+// A list of threads, and zeros up to 64 bytes.
+fn put_list(out: &mut ArrayVec<u8, 2304>, threads: &[u8])
+    requires room { length out.old.items + 64 ≤ 2304 }
+    requires few { length threads.now ≤ 64 }
+    ensures bytes { out.new.items ≡ out.old.items ++ padded 64 threads.now }
+    ensures size { length out.new.items ≡ length out.old.items + 64 }
+{
+    put_bytes(out, threads);
+    put_zeros(out, MOST_THREADS - threads.len());
+}
+
+fn list_of(threads: &[u8]) -> ArrayVec<u8, 64>
+    requires { length threads.now ≤ 64 }
+    ensures { result.items ≡ threads.now }
+{
+    let mut list = ArrayVec::new();
+    let _fits = list.try_extend_from_slice(threads);
+    list
+}
+
+// The number of those who hold a lock so, and their list.
+fn holder_list(holders: &Holders) -> (u8, ArrayVec<u8, 64>)
+    ensures code { result.0 ≡ holding_code (holding holders.now) }
+    ensures list { result.1.items ≡ holder_list (holding holders.now) }
+{
+    match holders {
+        Holders::Nobody => (0, ArrayVec::new()),
+        Holders::Holder(t) => (1, list_of(&[*t])),
+        Holders::Readers(readers) => (2, list_of(readers.as_slice())),
+        Holders::Writer(t) => (3, list_of(&[*t])),
+    }
+}
+
+// The answer, the refusal, its line, and the due step that it names.
+fn stop_numbers(refused: Option<(u32, Refusal)>) -> [u32; 4]
+    ensures { result ≡ stop_numbers refused }
+{
+    match refused {
+        Some((line, refusal)) => [
+            1,
+            refusal_code(refusal),
+            line,
+            u32::from(refusal_step(refusal)),
+        ],
+        None => [0; 4],
+    }
+}
+
+/// The bytes of a lock's state, where a schedule has `moves` moves.
+#[tactic(auto, unfolding(crate::specs::Layout::bytes_of_state))]
+pub fn state_bytes(
+    lock: &Tracker<RecordingWords<WordArray>>,
+    threads: u8,
+    moves: u32,
+    stopped: Stopped,
+) -> ArrayVec<u8, 2304>
+    requires threads { threads ≡ length lock.now.state.phases }
+    ensures bytes { result.items ≡ bytes_of_state moves stopped.count stopped.refused lock.now.state (holding_in lock.now) (waiting_in lock.now) }
+    ensures size { length result.items ≡ 2304 }
+{
+    let mut out = ArrayVec::new();
+    let (code, holders) = holder_list(&lock.holders());
+    let queue = lock.queue();
+    let words = words_of(lock);
+    let holder_slice = holders.as_slice();
+    let queue_slice = queue.as_slice();
+    let word_slice = words.as_slice();
+    let bits = lock.machine().words().bits();
+    let kind = lock_code(lock.kind());
+    put_u32s(&mut out, &stop_numbers(stopped.refused));
+    put_u32s(
+        &mut out,
+        &[
+            kind as u32,
+            threads as u32,
+            bits as u32,
+            stopped.count,
+            moves,
+            word_slice.len() as u32,
+            code as u32,
+            holder_slice.len() as u32,
+            queue_slice.len() as u32,
+            0,
+            0,
+            0,
+        ],
+    );
+    put_list(&mut out, holder_slice);
+    put_list(&mut out, queue_slice);
+    put_threads(&mut out, lock.machine(), threads);
+    put_u64s(&mut out, word_slice);
+    put_zeros(&mut out, WORDS_BYTES - 8 * word_slice.len());
+    out
+}

@@ -1,0 +1,114 @@
+//! What a page is told of short schedules. What they expect was made by hand.
+
+use crate::play;
+use std::process::Abort;
+
+#[test]
+fn a_fault_is_numbered(rt: HostRuntime) {
+    let mut state = [0u8; 2304];
+    assert_eq!(rt; play(b"lock mcs threads 0\n", 9, &mut [], &mut state), 2);
+    assert_eq!(rt; (state[0], state[4], state[8]), (2, 4, 1));
+}
+
+#[test]
+fn a_short_state_is_left_alone(rt: HostRuntime) {
+    let mut state = [7u8; 2303];
+    assert_eq!(rt; play(b"lock mcs threads 1\n", 9, &mut [], &mut state), 3);
+    assert_eq!(rt; (state[0], state[2302]), (7, 7));
+}
+
+// Thread 1 of an MCS lock is in the queue, and its record is not linked yet.
+const LATE_LINK: &[u8] =
+    b"lock mcs threads 2\n\n0 acquire\n0 write\n0 swap\n1 acquire\n1 write\n1 swap\n0 release\n0 read\n0 cas\n0 read\n1 read\n";
+
+#[test]
+fn a_late_link_is_seen(rt: HostRuntime) {
+    let mut records = [9u8; 560];
+    let mut state = [0u8; 2304];
+    assert_eq!(rt; play(LATE_LINK, 99, &mut records, &mut state), 1);
+    // the refused move: its number, its line, and the due step
+    assert_eq!(rt; (state[4], state[8], state[12]), (7, 13, 2));
+    // ten of eleven moves, five words; held by thread 0, with 0 and 1 in line
+    assert_eq!(rt;
+        (
+            state[16], state[20], state[24], state[28], state[32], state[36]
+        ),
+        (1, 2, 64, 10, 11, 5)
+    );
+    assert_eq!(rt; (state[40], state[44], state[48]), (1, 1, 2));
+    assert_eq!(rt; (state[64], state[128], state[129]), (0, 0, 1));
+    // thread 0 awaits the link, thread 1 is to say that it waits behind thread 0; neither may call
+    assert_eq!(rt; (state[192], state[193], state[194]), (14, 1, 0));
+    assert_eq!(rt;
+        (state[208], state[209], state[210], state[216]),
+        (8, 2, 0, 0)
+    );
+    // the tail names record 2, and no record has a next
+    assert_eq!(rt; (state[1216], state[1224], state[1240]), (2, 0, 0));
+    // the third move, on line 5: thread 0 swaps the tail and enters, holds and is in the queue; word 0 was 0 and is 1
+    assert_eq!(rt;
+        (
+            records[112],
+            records[116],
+            records[117],
+            records[118],
+            records[119]
+        ),
+        (5, 0, 1, 3, 3)
+    );
+    assert_eq!(rt; (records[120], records[121]), (11, 3));
+    assert_eq!(rt;
+        (records[122], records[123], records[124], records[125]),
+        (0, 0, 255, 255)
+    );
+    assert_eq!(rt; (records[128], records[136]), (0, 1));
+    // the ninth move: a compare-and-swap of the tail that fails
+    assert_eq!(rt;
+        (records[448], records[454], records[455], records[456]),
+        (11, 4, 1, 14)
+    );
+    assert_eq!(rt;
+        (records[458], records[459], records[464], records[472]),
+        (0, 0, 2, 2)
+    );
+}
+
+#[test]
+fn a_downgrade_changes_two_words(rt: HostRuntime) {
+    let text = b"lock rw-fifo threads 3 bits 2\n2 wlock\n2 section\n2 downgrade\n2 section\n";
+    let mut records = [9u8; 300];
+    let mut state = [0u8; 2304];
+    assert_eq!(rt; play(text, 4, &mut records, &mut state), 0);
+    // the last record: `readAcquires` goes from 0 to 1, and the flag from 1 to 0
+    assert_eq!(rt;
+        (
+            records[178],
+            records[180],
+            records[184],
+            records[192],
+            records[200],
+            records[208]
+        ),
+        (0, 2, 0, 1, 1, 0)
+    );
+    // it reads, and may leave; the others may come
+    assert_eq!(rt;
+        (records[176], records[177], state[40], state[44], state[64]),
+        (17, 1, 2, 1, 2)
+    );
+    assert_eq!(rt; (state[194], state[210], state[226]), (20, 20, 8));
+    // behind the records nothing is written
+    assert_eq!(rt; (records[223], records[224], records[299]), (0, 9, 9));
+}
+
+#[test]
+fn so_many_moves_as_are_asked_for(rt: HostRuntime) {
+    let mut state = [0u8; 2304];
+    assert_eq!(rt; play(LATE_LINK, 0, &mut [], &mut state), 0);
+    assert_eq!(rt;
+        (state[28], state[32], state[40], state[194]),
+        (0, 11, 0, 1)
+    );
+    assert_eq!(rt; play(LATE_LINK, 10, &mut [], &mut state), 0);
+    assert_eq!(rt; (state[28], state[48]), (10, 2));
+}
