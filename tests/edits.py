@@ -49,7 +49,8 @@ def copy_of(name, room):
     uses = libraries()
     kept = with_below(name, uses)
     (room / "crates.txt").write_text("".join(
-        line for line in (TOP / "crates.txt").open() if line.split(":")[0] in kept))
+        line for line in (TOP / "crates.txt").open()
+        if not kept.isdisjoint(line.partition(":")[0].split())))
     for crate in kept:
         for part in PARTS:
             if (TOP / "crates" / crate / part).is_dir():
