@@ -23,7 +23,8 @@ class Firefox:
         self.requests = []
         self.ask("session.new", {"capabilities": {}})
         self.ask("session.subscribe", {"events": ["network.beforeRequestSent"]})
-        self.context = self.ask("browsingContext.getTree", {})["contexts"][0]["context"]
+        # A tab of its own: the first one may still be busy with what the browser opens by itself.
+        self.context = self.ask("browsingContext.create", {"type": "tab"})["context"]
 
     def ask(self, method, params):
         self.number += 1
