@@ -4,6 +4,8 @@
 # make check CRATE=NAME                proves one crate and its tests, and runs them
 # make edits CRATE=NAME [EDIT=NAME]    tries a crate's wrong bodies and their right twins, or one of each
 # make twins    shows that the right twin of each wrong body that has one is proved
+# make page     builds the page's module and page/lockreplay.html
+# make test-page                       fails where the page is not what its sources build to, and tests it in browsers
 # make rows     writes the worked rows down for the tests in Rattle
 # make demo     builds the program where it is missing or older than a source, and replays a schedule of two threads on a ticket lock
 # make bench    measures the built program beside `cat`, a hand-written replayer and plain reading
@@ -17,6 +19,10 @@
 PROGRAM := crates/lockreplay/out/lockreplay
 SOURCES := $(shell find crates -name out -prune -o \( -name '*.rt' -o -name '*.antt' \) -print)
 LESSON  := examples/ticket-hand-over.schedule
+MODULE  := crates/lk_page/out/lockreplay.wasm
+# what the module is made of
+MODULE_SOURCES := $(shell find $(addprefix crates/,lk_words lk_locks lk_replay lk_page) -name out -prune \
+	-o \( -name '*.rt' -o -name '*.antt' \) -print)
 # crates with tests in which each request for memory is refused in turn
 REFUSING := lk_locks lk_replay lk_workers lockreplay
 FUZZ_SECONDS := 60
@@ -29,6 +35,7 @@ EDIT := *
 test: gate tools
 	$(MAKE) --no-print-directory tried release-checks FUZZ_SECONDS=$(FUZZ_SECONDS)
 	tests/refuse/run.sh request $(foreach crate,$(REFUSING),crates/$(crate)/out/$(crate)_tests)
+	$(MAKE) --no-print-directory test-page
 
 ifdef CRATE
 check: tools
@@ -59,6 +66,16 @@ tried:
 gate:
 	rt ci
 
+.PHONY: page test-page browsers
+
+page: $(MODULE) browsers
+	node page/build.mjs $(MODULE)
+
+test-page: $(MODULE) $(PROGRAM) browsers
+	node page/build.mjs $(MODULE) --check
+	tests/page/module.mjs $(MODULE)
+	tests/page/run.py $(PROGRAM)
+
 edits: tools
 	tests/edits.py $(wildcard crates/$(CRATE)/must-fail/$(EDIT).edit crates/$(CRATE)/twins/$(EDIT).edit)
 
@@ -82,6 +99,14 @@ include packaging/targets.mk
 
 $(PROGRAM): $(SOURCES)
 	cd crates/lockreplay && rt run -- replay < ../../$(LESSON) > /dev/null
+
+$(MODULE): $(MODULE_SOURCES) page/build-module.sh
+	page/build-module.sh
+
+# Two browsers and what drives them, from Debian's packages where they are missing
+BROWSERS := chromium chromium-driver firefox-esr python3-selenium python3-websocket nodejs
+browsers:
+	@dpkg --status $(BROWSERS) > /dev/null 2>&1 || { apt-get update && apt-get install -y $(BROWSERS); }
 
 # Python 3 and a C compiler, from Debian's packages where they are missing
 tools:

@@ -43,7 +43,7 @@ OUTSIDE = set("""
 # Files that the commands of a document write, and parts that are not built yet.
 WRITTEN = (
     "logs/*", "ordered/*", "try.c", "./try", "jobs.log", "run.trace", "run.schedule", "*.example",
-    "*lockreplay.html", "crates/lk_page*", "crates/lk_trace*", "crates/locktrace*", "*/out/*",
+    "crates/lk_trace*", "crates/locktrace*", "*/out/*",
     "record/locktrace.h", "/dev/*", "{}*", "examples/fault-too-*", "*.c",
 )
 

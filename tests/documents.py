@@ -32,8 +32,7 @@ DOCUMENTS = ("*.md", "docs/*.md", "[!d]*/README.md", "examples/recording/README.
 # Programs that a document may call besides `lockreplay`.
 OTHERS = {"locktrace": TOP / "crates/locktrace/out/locktrace"}
 # Documents with indented commands that are not looked at yet.
-NOT_YET = {"docs/BENCHMARKS.md", "docs/LOCKTRACE.md", "docs/MODULE.md",
-           "page/README.md", "examples/recording/README.md"}
+NOT_YET = {"docs/BENCHMARKS.md", "docs/LOCKTRACE.md", "examples/recording/README.md"}
 SHELLS = {"bash", "shell", "zsh", "fish", "shell-session"}
 INDENTED = re.compile(r" {4,}(\$ |(make|rt|gcc|git|awk|sed|node|parallel|python3) \S|"
                       r"lockreplay (replay|batch) |(tests|fuzz|bench)/\w+\.(py|sh)\b)")
