@@ -5,10 +5,13 @@ import re
 import subprocess
 import tempfile
 import threading
+import time
 
 import websocket
 
 PATIENCE = 120
+# How long one question waits for its answer while a page is being opened.
+ASKED_AGAIN = 3
 LISTENS = re.compile(rb"WebDriver BiDi listening on (ws://\S+)")
 
 
@@ -38,13 +41,30 @@ class Firefox:
                 return answer["result"]
 
     def open(self, url):
+        """The page anew, not merely with another fragment."""
+        self.go("about:blank")
+        self.go(url)
+
+    def go(self, url):
+        """Goes to a page and waits for it. The browser's own word that it is there can be lost
+        where another process takes the tab over, so the page itself is asked."""
         self.ask(
-            "browsingContext.navigate",
-            {"context": self.context, "url": "about:blank", "wait": "complete"},
+            "browsingContext.navigate", {"context": self.context, "url": url, "wait": "none"}
         )
-        self.ask(
-            "browsingContext.navigate", {"context": self.context, "url": url, "wait": "complete"}
-        )
+        self.socket.settimeout(ASKED_AGAIN)
+        late = time.monotonic() + PATIENCE
+        while not self.is_at(url.partition("#")[0]):
+            assert time.monotonic() < late, f"{url} did not load"
+            time.sleep(0.02)
+        self.socket.settimeout(PATIENCE)
+
+    def is_at(self, url):
+        """Whether the tab shows this page, loaded. While it is on its way nobody may answer."""
+        try:
+            place, state = self.run("return [document.location.href, document.readyState]")
+        except (AssertionError, websocket.WebSocketTimeoutException):
+            return False
+        return place.partition("#")[0] == url and state == "complete"
 
     def run(self, script, value=None):
         """What the script gives, as JSON; `value` is its first argument."""
