@@ -18,6 +18,8 @@ const RECORD = { narrowest: 130, widest: 156, height: 108, gap: 52, top: 96, row
 // So many records beside one another are not broken into rows for a larger picture's sake.
 const BESIDE = 4;
 const MOST_NAMED = 8;
+// So many letters of a name leave room beside them for the thread's standing.
+const MOST_LETTERS = 5;
 
 function valueText(word, value, names) {
   if (isLocked(word)) return String(value);
@@ -75,6 +77,12 @@ function ownVariable(view, state, thread, width) {
   </g>`;
 }
 
+function headName(names, thread) {
+  const letters = [...names.short(thread)];
+  const fits = letters.length <= MOST_LETTERS;
+  return fits ? letters.join('') : `${letters.slice(0, MOST_LETTERS - 1).join('')}…`;
+}
+
 function record(view, state, thread, place, width) {
   const standing = standingOf(view.run, view.move, thread);
   const label = texts.standing[standing];
@@ -83,7 +91,7 @@ function record(view, state, thread, place, width) {
     <path class="head" d="M0 10a10 10 0 0 1 10 -10h${width - 20}a10 10 0 0 1 10 10v22h-${width}z"/>
     ${standing === 'line' && html`<rect class="plate" x="6" y="4" width="${width - 12}"
       height="23" rx="6"/>`}
-    <text class="name" x="14" y="21">${view.names.of(thread)}</text>
+    <text class="name" x="14" y="21">${headName(view.names, thread)}</text>
     <text class="standing" x="${width - 13}" y="21" text-anchor="end">${label}</text>
     ${recordField(view, 40, 'next', nextOf(thread), state, width)}
     ${recordField(view, 73, 'locked', lockedOf(thread), state, width)}

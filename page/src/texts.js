@@ -372,8 +372,8 @@ export const texts = {
 // Puts values into a text.
 export const fill = (text, values) => text.replace(/\{(\w+)\}/g, (_, name) => values[name]);
 
-// The same as a sentence: it begins with a capital letter.
-export function say(text, values) {
-  const line = fill(text, values);
-  return line.charAt(0).toUpperCase() + line.slice(1);
-}
+const capital = (line) => line.charAt(0).toUpperCase() + line.slice(1);
+
+// The same as sentences: each begins with a capital letter.
+export const say = (text, values) => capital(text.replace(/([.?!] )?\{(\w+)\}/g,
+  (_, end, name) => (end ? end + capital(String(values[name])) : values[name])));

@@ -114,4 +114,34 @@ def labels(driver, _):
     )
 
 
-CHECKS = [themes, motion, without_colour, labels]
+HEADS = """
+const { page } = window.lockreplay;
+page.openOwn(new TextEncoder().encode(arguments[0]));
+page.go(page.session.run.count);
+return [...document.querySelectorAll('.record')].map((one) => {
+  const [name, standing] = ['.name', '.standing'].map((part) => one.querySelector(part));
+  return name.getBoundingClientRect().right <= standing.getBoundingClientRect().left;
+});
+"""
+MOVES = "0 acquire\n0 write\n0 swap\n1 acquire\n1 write\n1 swap\n"
+
+
+def heads_have_room(driver, _):
+    """A thread's name in the head of its record does not run into its standing."""
+    open_page(driver)
+    for names in ["", "#! name 0 Wilhelmina\n#! name 1 Montgomery\n"]:
+        shown = run(driver, HEADS, f"{names}lock mcs threads 2\n{MOVES}")
+        assert shown == [True, True], (names, shown)
+
+
+def sentences_begin_so(driver, _):
+    """Each sentence on a move begins with a capital letter, also with a thread that has no name."""
+    open_page(driver)
+    run(driver, HEADS, f"lock mcs threads 2\n{MOVES}0 release\n0 read\n0 cas\n0 read\n")
+    said = run(driver, "return document.querySelector('#now .say').textContent")
+    assert said == (
+        "Thread 0 looks again: thread 0’s next is still nil. Thread 0 has to wait for the link."
+    ), said
+
+
+CHECKS = [themes, motion, without_colour, labels, heads_have_room, sentences_begin_so]
