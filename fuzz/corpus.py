@@ -43,7 +43,7 @@ def is_named_rightly(name, report):
 
 
 def mistakes(texts):
-    """What is wrong with the stored texts themselves: a wrong name, or what none of them reaches."""
+    """What is wrong with the stored texts: a wrong name, or an answer that none of them reaches."""
     for name, text in texts.items():
         if not is_named_rightly(name, oracle.report_of(text)):
             yield f"{name}: the oracle's report is another"

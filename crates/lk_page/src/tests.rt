@@ -45,6 +45,13 @@ fn a_late_link_is_seen(rt: HostRuntime) {
     );
     // the tail names record 2, and no record has a next
     assert_eq!(rt; (state[1216], state[1224], state[1240]), (2, 0, 0));
+}
+
+#[test]
+fn moves_up_to_a_late_link_have_their_records(rt: HostRuntime) {
+    let mut records = [9u8; 560];
+    let mut state = [0u8; 2304];
+    assert_eq!(rt; play(LATE_LINK, 99, &mut records, &mut state), 1);
     // the third move, on line 5: thread 0 swaps the tail and enters, holds and is in the queue; word 0 was 0 and is 1
     assert_eq!(rt;
         (
