@@ -47,21 +47,24 @@ check: $(PROGRAM) tools
 	$(MAKE) --no-print-directory tried FUZZ_SECONDS=$(SHORT_FUZZ_SECONDS)
 endif
 
-# The built program, and the rows by themselves. Nothing is proved here.
-.PHONY: tried
+# The built program, and the rows by themselves, side by side. Nothing is proved here.
+TRIED := rows oracle process refusals writes short_memory memory documents documents_fail layout fuzz
+.PHONY: tried $(addprefix tried-,$(TRIED))
 tried:
 	tests/rattle_rows.py --check
+	$(MAKE) --no-print-directory --jobs=$(shell nproc) --output-sync=target $(addprefix tried-,$(TRIED)) \
+	    FUZZ_SECONDS=$(FUZZ_SECONDS)
+
+tried-oracle:
 	tests/rows.py
-	tests/rows.py $(PROGRAM)
-	tests/process.py $(PROGRAM)
-	tests/short_memory.py $(PROGRAM)
-	tests/memory.py $(PROGRAM)
-	tests/documents.py $(PROGRAM)
-	tests/documents_fail.py $(PROGRAM)
+tried-layout:
 	tests/locks_code.py
 	tests/definitions.py
 	tests/style.py
+tried-fuzz:
 	fuzz/fuzz.py $(PROGRAM) --seconds $(FUZZ_SECONDS)
+$(addprefix tried-,$(filter-out oracle layout fuzz,$(TRIED))): tried-%:
+	tests/$*.py $(PROGRAM)
 
 gate:
 	rt ci

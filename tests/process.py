@@ -205,8 +205,14 @@ def standard_output(words, stdin, report):
 
 
 def cut_output(what, words, stdin, report):
-    """Where standard output takes a beginning of the report and no more."""
-    size = 1000
+    """Where standard output takes no more than a beginning."""
+    for size in (1, 1_000, 65_536, 65_537, len(report) - 1):
+        full_file(what, words, stdin, report, size)
+    reader_leaves(what, words, stdin, report)
+
+
+def full_file(what, words, stdin, report, size):
+    """Where standard output is a file that is full after so many bytes."""
     with tempfile.TemporaryFile() as short:
         def before():
             signal.signal(signal.SIGXFSZ, signal.SIG_IGN)
@@ -216,11 +222,15 @@ def cut_output(what, words, stdin, report):
         short.seek(0)
         check(f"{what}: a file that is full after {size} bytes", output=(short.read(), report[:size]),
               error=(error, OUTPUT), status=(status, 3))
+
+
+def reader_leaves(what, words, stdin, report):
+    """Where the reader of standard output takes 1,000 bytes and leaves."""
     reader, writer = os.pipe()
     taken = []
 
     def leave():
-        taken.append(os.read(reader, size))
+        taken.append(os.read(reader, 1_000))
         os.close(reader)
 
     leaver = threading.Thread(target=leave)
@@ -263,8 +273,19 @@ def command_line():
         case(f"{workers} workers", ["batch", "--workers", workers, "empty"], 2, error=is_refusal)
     case("no number of workers", ["batch", "empty"], 2, error=is_usage)
     case("no file", ["batch", "--workers", "2"], 2, error=is_usage)
-    case("help", ["--help"], 0, is_help)
+    for words in (["batch", "--workers", "x", "empty"], ["batch"], ["--version"]):
+        case(f"words {words}", words, 2, error=is_refusal)
+    for words in (["--workers=8", "empty"], ["empty", "--workers", "3"],
+                  ["--workers", "2", "--", "--workers"]):
+        case(f"words {words}", ["batch", *words], 0, batch_text([EMPTY_REPORT]))
+    case("words on either side", ["batch", "empty", "--workers", "3", "handed_on", "--", "empty"], 0,
+         batch_text([EMPTY_REPORT, HANDED_ON_REPORT, EMPTY_REPORT]))
+    for words in (["--help"], ["-h"]):
+        case(f"words {words}", words, 0, is_help)
+    case("help on batches", ["batch", "--help"], 0, lambda text: b"lockreplay batch" in text)
     case("error closed", ["play"], 2, before=closing(2))
+    case("too many, error closed", ["batch", "--workers", "2"] + ["x"] * 65_537, 2, before=closing(2))
+    case("error closed, input closed", ["replay"], 3, stdin=subprocess.DEVNULL, before=closing(0, 2))
     writer = left_pipe()
     case("error that nobody reads", ["play"], 2, stderr=writer)
     os.close(writer)
@@ -276,6 +297,9 @@ def batches():
     for workers in range(1, 9):
         case(f"a batch of {workers} workers", ["batch", "--workers", str(workers), *names], 1,
              batch_text(reports))
+    for names, status in ((["handed_on"], 0), (["refused"], 1), (["none", "handed_on"], 1)):
+        case(f"a batch of {names}", ["batch", "--workers", "2", *names], status,
+             lambda text: text.startswith(b"file 1\n"))
     case("a batch that is accepted", ["batch", "--workers", "2", "empty", "handed_on"], 0,
          batch_text([EMPTY_REPORT, HANDED_ON_REPORT]))
     case("a batch with input closed", ["batch", "--workers", "2", "empty", "handed_on"], 0,
@@ -343,7 +367,7 @@ def memory():
 
 def make_files():
     for name, text in (("empty", EMPTY), ("handed_on", HANDED_ON), ("refused", REFUSED), ("none", b""),
-                       ("spinning", SPINNING)):
+                       ("spinning", SPINNING), ("--workers", EMPTY)):
         Path(name).write_bytes(text)
     os.mkdir("folder")
     os.symlink("nowhere", "dangling")

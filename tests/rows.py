@@ -11,7 +11,7 @@ import pathlib
 import subprocess
 import sys
 
-from worked_rows import rows
+from worked_rows import rows, short_rows
 
 sys.path.append(str(pathlib.Path(__file__).parent.parent / "fuzz"))
 import oracle
@@ -32,7 +32,7 @@ def by_oracle(text):
 
 def main(replayed):
     passed = failed = 0
-    for row in rows():
+    for row in [*rows(), *short_rows()]:
         report, status, error = replayed(row.text)
         if row.is_met_by(report) and status == row.status() and error == b"":
             passed += 1

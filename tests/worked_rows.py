@@ -79,12 +79,12 @@ def table(name):
 
 
 def narrowest(row):
-    """The row in the narrowest words, if it is accepted and names no width.
+    """The row in the narrowest words, if it is a schedule that names no width.
 
     With fewer threads than a word has values no width shows in a report.
     """
     header = re.search(rb"^lock \S+ threads (\d+)$", row.text, re.MULTILINE)
-    if header is None or row.status() != 0:
+    if header is None or row.report.splitlines()[-1].startswith(b"fault "):
         return None
     bits = max(2, int(header[1]).bit_length())
     text = row.text[:header.end()] + b" bits %d" % bits + row.text[header.end():]
@@ -127,3 +127,42 @@ def rows():
         yield from table(name)
     yield mcs_queue_of_64()
     yield most_moves()
+
+
+def cuts():
+    """The schedule of a hand-over, cut after each byte. No move's word is the front of another."""
+    text = (EXAMPLES / "ticket-hand-over.schedule").read_bytes()
+    report = (EXAMPLES / "ticket-hand-over.report").read_bytes().splitlines(keepends=True)
+    lines = [line for line in text.splitlines(keepends=True) if line[:1] != b"#"]
+    text, header = b"".join(lines), len(lines[0])
+    for k in range(len(text) + 1):
+        _, _, rest = text[:k].rpartition(b"\n")
+        moves = text[:k].count(b"\n") - 1
+        if k == 0:
+            due = b"fault line 1 NoHeader\n"
+        elif k < header - 1:
+            due = b"fault line 1 BadThreads\n" if k == header - 2 else b"fault line 1 BadHeader\n"
+        elif k == header - 1:
+            due = b"end 0\n"
+        elif rest not in (b"", lines[moves + 1].rstrip() if moves + 1 < len(lines) else b""):
+            due = b"fault line %d BadLine\n" % (moves + 2)
+        else:
+            moves += rest != b""
+            due = b"".join(report[:moves]) + b"end %d\n" % moves
+        yield Row(f"a hand-over cut after {k} bytes", [(text[:k], 1)], due)
+
+
+def last_bytes():
+    """A move and one byte behind it, which ends the line or makes another word of it."""
+    for byte in range(256):
+        due = b"fault line 2 BadLine\n"
+        if byte == 10:
+            due = b"1 0 acquire called hold - queue -\nend 1\n"
+        text = b"lock ticket threads 1\n0 acquire" + bytes([byte])
+        yield Row(f"a move and the byte {byte}", [(text, 1)], due)
+
+
+def short_rows():
+    """Rows in which nothing but the text's end differs."""
+    yield from cuts()
+    yield from last_bytes()

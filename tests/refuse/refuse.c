@@ -31,14 +31,20 @@
  * REFUSE_LOG names. A library that could not be preloaded leaves no line, and the loader only warns:
  * so whoever runs the tests looks for the lines (run.sh does).
  *
+ * A program that does not speak to it is armed by REFUSE_NTH=N: of all requests since its start the Nth is
+ * refused. When the program ends, the line of that round is appended, and a line `requests K` with how
+ * many it made. refusals.py runs the built program so.
+ *
  * Not held to: a product that asks for exactly one of these sizes. No test here leads to such a request.
  */
+#define _GNU_SOURCE
 #include <errno.h>
 #include <fcntl.h>
 #include <stddef.h>
 #include <stdio.h>
 #include <stdlib.h>
 #include <string.h>
+#include <sys/syscall.h>
 #include <unistd.h>
 
 enum { HERE = 99999998, ASK = 99999999, ARM = 100000000, MOST = 999999 };
@@ -50,16 +56,23 @@ void *__libc_memalign(size_t, size_t);
 static long left;    /* requests up to the one that is refused, 0 where disarmed or past it */
 static long armed;   /* the N of the last arming */
 static int refused;  /* since then */
+static long count;   /* of requests since the start, where one of those is to be refused */
+static int is_armed_at_start;
+static const char *log_name;
+
+static _Noreturn void leave(int status) {
+    for (;;) syscall(SYS_exit_group, status);
+}
 
 /* Appends to the log without asking for memory. */
 static void note(void) {
-    const char *name = getenv("REFUSE_LOG");
     char line[64];
     int size = snprintf(line, sizeof line, "request %ld %s\n", armed,
                         refused ? "refused" : "not reached");
-    int log = name ? open(name, O_WRONLY | O_CREAT | O_APPEND | O_CLOEXEC, 0600) : -1;
+    if (count > 0) size += snprintf(line + size, sizeof line - size, "requests %ld\n", count);
+    int log = log_name ? open(log_name, O_WRONLY | O_CREAT | O_APPEND | O_CLOEXEC, 0600) : -1;
     if (log < 0) return;
-    if (write(log, line, size) != size) _exit(99);
+    if (write(log, line, size) != size) leave(99);
     close(log);
 }
 
@@ -83,6 +96,7 @@ static int answer(size_t size) {
 
 /* Whether a request of any other size is granted: each is one of those left, in one atomic step. */
 static int is_granted(void) {
+    if (is_armed_at_start) __atomic_add_fetch(&count, 1, __ATOMIC_SEQ_CST);
     long now = __atomic_load_n(&left, __ATOMIC_SEQ_CST);
     while (now > 0)
         if (__atomic_compare_exchange_n(&left, &now, now - 1, 0, __ATOMIC_SEQ_CST, __ATOMIC_SEQ_CST)) {
@@ -115,4 +129,22 @@ int posix_memalign(void **block, size_t alignment, size_t size) {
     if (!got) return ENOMEM;
     *block = got;
     return 0;
+}
+
+__attribute__((constructor)) static void start(void) {
+    const char *number = getenv("REFUSE_NTH");
+    log_name = getenv("REFUSE_LOG");
+    if (!number) return;
+    is_armed_at_start = 1;
+    armed = left = atol(number);
+}
+
+/* How a program in Rattle ends. */
+void _exit(int status) {
+    if (is_armed_at_start) {
+        is_armed_at_start = 0;
+        __atomic_store_n(&left, 0, __ATOMIC_SEQ_CST);
+        note();
+    }
+    leave(status);
 }
