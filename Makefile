@@ -1,12 +1,12 @@
 # make test     the one test command: proves every crate and its tests, tries each wrong body, runs every test, and tries the built
-#               program on rows, failing devices, short and refused memory and random schedules, and what is installed and packaged
-# make check    the quick door: builds the program, and tries it on rows, devices, short memory and random schedules
-# make check CRATE=NAME                proves one crate and its tests, and runs them
+#               program on rows, failing devices, short and refused memory and random schedules, the page in browsers, and what is
+#               installed and packaged
+# make check    the quick door: builds the program, and tries it on rows, devices, short and refused memory and random schedules
+# make check CRATE=NAME                proves one crate; CRATE=lk_tests also runs the tests
 # make edits CRATE=NAME [EDIT=NAME]    tries a crate's wrong bodies and their right twins, or one of each
 # make twins    shows that the right twin of each wrong body that has one is proved
 # make page     builds the page's module and page/lockreplay.html
 # make test-page                       fails where the page is not what its sources build to, and tests it in browsers
-# make rows     writes the worked rows down for the tests in Rattle
 # make demo     builds the program where it is missing or older than a source, and replays a schedule of two threads on a ticket lock
 # make bench    measures the built program beside `cat`, a hand-written replayer and plain reading
 # make install, make uninstall         [PREFIX=/usr/local] [DESTDIR=]: what packaging/contents.txt lists
@@ -23,25 +23,24 @@ MODULE  := crates/lk_page/out/lockreplay.wasm
 # what the module is made of
 MODULE_SOURCES := $(shell find $(addprefix crates/,lk_words lk_locks lk_replay lk_page) -name out -prune \
 	-o \( -name '*.rt' -o -name '*.antt' \) -print)
-# crates with tests in which each request for memory is refused in turn
-REFUSING := lk_locks lk_replay lk_workers lockreplay
+# the crate with the tests, in some of which each request for memory is refused in turn
+TESTS := lk_tests
 FUZZ_SECONDS := 60
 SHORT_FUZZ_SECONDS := 5
 SOAK_SECONDS := 3600
 EDIT := *
 
-.PHONY: test check edits twins rows demo bench gate soak tools
+.PHONY: test check edits twins demo bench gate soak tools
 
 test: gate tools
 	$(MAKE) --no-print-directory tried release-checks FUZZ_SECONDS=$(FUZZ_SECONDS)
-	tests/refuse/run.sh request $(foreach crate,$(REFUSING),crates/$(crate)/out/$(crate)_tests)
+	tests/refuse/run.sh request crates/$(TESTS)/out/$(TESTS)_tests
 	$(MAKE) --no-print-directory test-page
 
 ifdef CRATE
 check: tools
-	tests/rattle_rows.py --check
 	cd crates/$(CRATE) && rt check && rt test
-	$(if $(filter $(CRATE),$(REFUSING)),tests/refuse/run.sh request crates/$(CRATE)/out/$(CRATE)_tests)
+	$(if $(filter $(CRATE),$(TESTS)),tests/refuse/run.sh request crates/$(CRATE)/out/$(CRATE)_tests)
 else
 check: $(PROGRAM) tools
 	$(MAKE) --no-print-directory tried FUZZ_SECONDS=$(SHORT_FUZZ_SECONDS)
@@ -51,7 +50,6 @@ endif
 TRIED := rows oracle process refusals writes short_memory memory documents documents_fail layout fuzz
 .PHONY: tried $(addprefix tried-,$(TRIED))
 tried:
-	tests/rattle_rows.py --check
 	$(MAKE) --no-print-directory --jobs=$(shell nproc) --output-sync=target $(addprefix tried-,$(TRIED)) \
 	    FUZZ_SECONDS=$(FUZZ_SECONDS)
 
@@ -84,9 +82,6 @@ edits: tools
 
 twins: tools
 	tests/edits.py $(wildcard crates/*/twins/*.edit)
-
-rows: tools
-	tests/rattle_rows.py
 
 demo: $(PROGRAM)
 	$(PROGRAM) replay < $(LESSON)

@@ -37,7 +37,6 @@ NOT_YET = [
     ("fuzz/fuzz.py", "columns"),
     ("tests/edits.py", "columns"),
     ("tests/process.py", "columns"),
-    ("tests/rattle_rows.py", "columns"),
     ("tests/refuse/*", "columns"),
     ("tests/rows.py", "columns"),
     ("tests/short_memory.py", "columns"),

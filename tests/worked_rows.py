@@ -8,8 +8,8 @@ They stand in three places, and nowhere else:
                                              says how they are written
 
 The two texts of examples/ that are too large to lie there are printed by examples/limits.sh. Two rows
-more are made by a rule, below. `rows.py` replays all of them, and `rattle_rows.py` hands those of
-files to the tests of the crate `lk_replay`.
+more are made by a rule, below. `rows.py` replays all of them, and `refusals.py` does so with each
+request for memory refused. What stands in no file, since it is made by a rule, is below.
 """
 import pathlib
 import re

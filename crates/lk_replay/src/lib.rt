@@ -10,8 +10,6 @@ mod output_buffer;
 mod played;
 mod report;
 mod schedule;
-#[cfg(test)]
-mod tests;
 mod theorems;
 mod vocabulary;
 

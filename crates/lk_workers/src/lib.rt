@@ -10,8 +10,6 @@ mod draws;
 mod gate;
 mod live;
 mod many;
-#[cfg(test)]
-mod tests;
 
 pub use batch::batch_text;
 pub use draws::{DrawSeat, Draws, each_number_once};

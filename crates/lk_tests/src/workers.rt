@@ -1,0 +1,8 @@
+//! What no clause says: worked rows, and that threads really run side by side.
+
+mod batches;
+mod drawn;
+mod eight;
+mod gates;
+mod refused_memory;
+mod running;

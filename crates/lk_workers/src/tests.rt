@@ -1,9 +1,0 @@
-//! What no clause says: worked rows, and that threads really run side by side.
-
-mod batches;
-mod drawn;
-mod eight;
-mod gates;
-mod refused_memory;
-mod refusing;
-mod running;
