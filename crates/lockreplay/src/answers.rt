@@ -7,9 +7,6 @@ ghost use Rattle.lockreplay.specs.Answers.{EndsProgram, TellsOf};
 ghost use Rattle.lockreplay.specs.Faults.{fault_line, fault_status};
 ghost use Rattle.lockreplay.specs.Jobs.{FitsJob};
 
-#[cfg(test)]
-mod tests;
-
 use crate::command_line::{Job, ParseFault};
 use crate::faults::ProgramFault;
 use crate::jobs::perform;

@@ -13,11 +13,6 @@ ghost use Rattle.lockreplay.specs.Commands.{batch_app, batch_rows, program_app};
 ghost use Rattle.lockreplay.specs.Jobs.{FitsJob};
 ghost use Rattle.lockreplay.specs.declared.command_line.ParseFault.TheVariants.{OutOfMemory};
 
-#[cfg(test)]
-mod refused_memory;
-#[cfg(test)]
-mod tests;
-
 use clap::error::ErrorKind;
 use clap::{Arg, ArgAction, ArgMatches, Command, value_parser};
 use std::alloc::{AllocError, AllocFailed, Global};

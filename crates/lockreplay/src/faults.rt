@@ -3,9 +3,6 @@
 ghost use Rattle.std.specs.Prelude.{◌≡◌};
 ghost use Rattle.lockreplay.specs.Faults.{fault_from, fault_status};
 
-#[cfg(test)]
-mod tests;
-
 use lk_replay::RunFault;
 use std::fmt;
 

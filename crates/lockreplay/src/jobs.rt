@@ -5,9 +5,6 @@ ghost use Rattle.lockreplay.specs.Batches.{EndsBatch, IsFileFault};
 ghost use Rattle.lockreplay.specs.Replays.{EndsReplay};
 ghost use Rattle.lockreplay.specs.Jobs.{EndsJob, IsFitJob};
 
-#[cfg(test)]
-mod tests;
-
 use crate::command_line::Job;
 use crate::faults::ProgramFault;
 use crate::sending::send_reports;

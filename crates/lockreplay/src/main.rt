@@ -12,8 +12,6 @@ mod answers;
 mod command_line;
 mod faults;
 mod jobs;
-#[cfg(test)]
-mod refusing;
 mod sending;
 mod status;
 

@@ -9,9 +9,6 @@ ghost use Rattle.std.specs.Io.KnownBytes.{Appends, Keeps};
 ghost use Rattle.lk_replay.specs.Devices.{AppendsPrefix, IfErrOf, Passes};
 ghost use Rattle.lk_workers.specs.Batch.{batch_text_of, file_line};
 
-#[cfg(test)]
-mod tests;
-
 use itoa::Buffer;
 use lk_replay::{OutputBuffer, RunFault};
 use std::alloc::Global;

@@ -3,9 +3,6 @@
 ghost use Rattle.std.specs.Prelude.{◌≡◌, map};
 ghost use Rattle.lockreplay.specs.Batches.{status_of_reports};
 
-#[cfg(test)]
-mod tests;
-
 use lk_replay::{Ending, ending_of};
 
 /// The status of a batch with these reports: 0 where every move of every schedule was accepted, as
