@@ -1,6 +1,6 @@
 //! How a test has a request for memory refused. The refusals are real under the allocator of
-//! tests/refuse, which the test command preloads in a second run; its head says how a test speaks to
-//! it. With ample memory the same tests meet none.
+//! tests/refuse, which the test command preloads in a second run; its head says how a test speaks
+//! to it. With ample memory the same tests meet none.
 //!
 //! tests/refusals.py refuses the requests of the built program, which says nothing to it.
 

@@ -93,7 +93,8 @@ fn refusals(rt: HostRuntime) {
     refused(&rt, rt.alloc(), &rows);
 }
 
-// Of each two that can meet, the one that is answered. tests/rows/refusals.txt has each pair on each lock.
+// Of each two that can meet, the one that is answered. tests/rows/refusals.txt has each pair on
+// each lock.
 #[test]
 fn first_of_two_refusals(rt: HostRuntime) {
     let leaving = [(0, ACQUIRE), (0, ADD), (0, READ), (0, RELEASE)];
