@@ -75,7 +75,8 @@ def main(program):
     around = [of_length(length) for length in (65_510, WAITING, WAITING + 1, 200_000, 65_520)]
     tried = [
         is_tried(program, "reports around what waits",
-                 [NO_MOVES, *around[:2], NO_MOVES, *around[2:4], NO_MOVES, around[4], NO_MOVES], 12),
+                 [NO_MOVES, *around[:2], NO_MOVES, *around[2:4], NO_MOVES, around[4], NO_MOVES],
+                 12),
         # 13 to 16 bytes each, 31,000 in all
         is_tried(program, "2,000 short reports", [NO_MOVES] * 2_000, 1),
         is_tried(program, "300 reports of 1,000 bytes", [of_length(1_000)] * 300, 5),
