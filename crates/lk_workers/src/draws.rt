@@ -1,7 +1,8 @@
 //! A counter whose numbers threads draw, each once.
 //!
-//! A draw is a fetch-and-add on one shared word. What a contract sees of a seat is the list of the numbers that it drew, which no
-//! run keeps. The rule counts: each number stands as often in the lists of all seats as it is below the word.
+//! A draw is a fetch-and-add on one shared word. What a contract sees of a seat is the list of the
+//! numbers that it drew, which no run keeps. The rule counts: each number stands as often in the
+//! lists of all seats as it is below the word.
 
 ghost use Rattle.std.specs.Prelude.{◌≡◌, ℕ, ◌+◌, ◌-◌, ◌^◌, ◌<◌, ◌≤◌, [], ◌∷◌, ◌++◌, length, All, IfOk};
 ghost use Rattle.lk_workers.specs.Counting.{IsEachBelow};
@@ -175,7 +176,8 @@ impl Draws {
         seat.left += left;
     }
 
-    /// The word at the end. A seat to which all draws came back has drawn each number below it, once.
+    /// The word at the end. A seat to which all draws came back has drawn each number below it,
+    /// once.
     pub fn close(self, seat: DrawSeat) -> u64
         requires own { IsSeatOf self seat }
         // it is the word of the last state, in which the seat is as it was
@@ -191,8 +193,9 @@ impl Draws {
     }
 }
 
-/// Between any two steps, the lists of all seats, those dropped or joined among them, hold the numbers below the word, each once; and
-/// each draw is greater than all that its seat drew before, and no other seat has it.
+/// Between any two steps, the lists of all seats, those dropped or joined among them, hold the
+/// numbers below the word, each once; and each draw is greater than all that its seat drew before,
+/// and no other seat has it.
 pub fn each_number_once()
     ensures { EachNumberOnce }
 {}

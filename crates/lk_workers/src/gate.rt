@@ -21,8 +21,8 @@ impl Gate for OpenGate {
     fn end(&self, _number: u32) {}
 }
 
-/// A gate between its two calls for one text. No value of it can be dropped, and only `end` takes it away: a body that
-/// leaves a gate open, as by a `?` in between, does not build.
+/// A gate between its two calls for one text. No value of it can be dropped, and only `end` takes
+/// it away: a body that leaves a gate open, as by a `?` in between, does not build.
 pub struct Opened<'a, G: Gate> {
     gate: &'a G,
     number: u32,

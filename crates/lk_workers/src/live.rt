@@ -1,9 +1,12 @@
-//! The ticket lock of Mellor-Crummey and Scott, "Algorithms for Scalable Synchronization on Shared-Memory Multiprocessors", ACM TOCS
-//! 9(1), 1991, section 2.2, on two shared words, stepped by the caller's own threads.
+//! The ticket lock of Mellor-Crummey and Scott, "Algorithms for Scalable Synchronization on
+//! Shared-Memory Multiprocessors", ACM TOCS 9(1), 1991, section 2.2, on two shared words, stepped
+//! by the caller's own threads.
 //!
-//! Different here: an acquire is `take` and then `look` until it answers true, and a release is `read_serving` and `pass`, so that a
-//! call is one atomic operation, nothing spins, and a caller can do what it likes between two steps. A `LiveSeat` is a thread of the
-//! lock, which `split` makes and `join` takes away. A waiting seat that is dropped keeps its ticket: no later one is served.
+//! Different here: an acquire is `take` and then `look` until it answers true, and a release is
+//! `read_serving` and `pass`, so that a call is one atomic operation, nothing spins, and a caller
+//! can do what it likes between two steps. A `LiveSeat` is a thread of the lock, which `split`
+//! makes and `join` takes away. A waiting seat that is dropped keeps its ticket: no later one is
+//! served.
 
 ghost use Rattle.std.specs.Prelude.{◌≡◌, ℕ, ◌+◌, ◌-◌, ◌%◌, ◌^◌, ◌<◌, ◌≤◌, ◌==◌, max, if◌then◌else◌, [], ◌∷◌, ◌++◌, Option, IfOk};
 ghost use Rattle.lk_locks.specs.declared.kinds.Outcome.TheVariants.{Moved, Waits, Entered, Left};
@@ -259,7 +262,8 @@ impl LiveTicket {
         seat.seen = seat.seen.max(seen);
     }
 
-    /// Compares two seats, and gives the second one back: not both hold the lock, and their tickets differ.
+    /// Compares two seats, and gives the second one back: not both hold the lock, and their tickets
+    /// differ.
     pub fn apart(&self, seat: &mut LiveSeat, other: LiveSeat) -> LiveSeat
         requires own { (seat.old.table ≡ self.now) × (other.table ≡ self.now) }
         ensures own { (seat.new.table ≡ self.now) × (result.table ≡ self.now) }

@@ -1,8 +1,9 @@
 //! The reports of many texts, by workers that draw the texts' numbers from a shared counter.
 //!
-//! Each worker draws until its number is not below the count of texts. Its numbers rise, so it draws once more at most than there
-//! are texts, and one such share for each worker is all the draws there are. When all seats are joined again, the numbers below the
-//! word were drawn once each. So each report has one place, and no place stays empty.
+//! Each worker draws until its number is not below the count of texts. Its numbers rise, so it
+//! draws once more at most than there are texts, and one such share for each worker is all the
+//! draws there are. When all seats are joined again, the numbers below the word were drawn once
+//! each. So each report has one place, and no place stays empty.
 
 ghost use Rattle.std.specs.Prelude.{◌≡◌, ℕ, ◌+◌, ◌-◌, ◌*◌, ◌<◌, ◌≤◌, ◌++◌, length, map, All, IsSome, None, Some, option_map, replicate, IfOk};
 ghost use Rattle.std.specs.Thread.{IsSync};
@@ -69,7 +70,8 @@ impl<'a, G: Gate> Batch<'a, G> {
         unreachable!()
     }
 
-    // Leaves the seat with the draws of `half` of its workers, and gives those of the others to another one.
+    // Leaves the seat with the draws of `half` of its workers, and gives those of the others to
+    // another one.
     fn deal(&self, seat: &mut DrawSeat, workers: u8, half: u8) -> DrawSeat
         requires own { MayWork self.now.draws.now self.now.texts.now workers seat.old }
         requires half { (1 ≤ half) × (half < workers) }
@@ -189,11 +191,13 @@ fn take_all(alloc: Global, places: Vec<Option<Vec<u8>>>) -> Result<Vec<Vec<u8>>,
 
 /// The reports of the texts, in the order of the texts, by this many workers side by side.
 ///
-/// Before and after each text its worker calls the gate. Which worker replays which text is left open.
+/// Before and after each text its worker calls the gate. Which worker replays which text is left
+/// open.
 ///
 /// # Errors
 ///
-/// Memory was refused. The other workers go on to their end, all are joined, and their reports are dropped.
+/// Memory was refused. The other workers go on to their end, all are joined, and their reports are
+/// dropped.
 pub fn replay_many<G: Gate, R: Threads + Sync>(
     rt: &R,
     alloc: Global,

@@ -1,4 +1,5 @@
-//! What the program leaves once it knows what it is asked for: a status, and a text on one of its two outputs.
+//! What the program leaves once it knows what it is asked for: a status, and a text on one of its
+//! two outputs.
 
 ghost use Rattle.std.specs.Prelude.{◌≡◌, IfErr, IfOk, true};
 ghost use Rattle.std.specs.Io.KnownBytes.{Appends};
@@ -24,7 +25,8 @@ const USAGE_STATUS: u8 = 2;
 pub struct Ended {
     /// The status that it ends with.
     pub status: u8,
-    /// Whether standard error took all that was to be told there. Where it did not, the status alone tells.
+    /// Whether standard error took all that was to be told there. Where it did not, the status
+    /// alone tells.
     pub told: bool,
 }
 

@@ -1,8 +1,8 @@
 //! The words after the program's name, and the job that they ask for.
 //!
 //! `clap` reads the words; what it refuses, and in which words, is its own. The limit on the number
-//! of files is tried after it. What the plain lines ask for, `replay` and `batch --workers N FILE...`
-//! with no option among the files, is proved; every other line is read as `clap` reads it.
+//! of files is tried after it. What the plain lines ask for, `replay` and `batch --workers N
+//! FILE...` with no option among the files, is proved; every other line is read as `clap` reads it.
 
 ghost use Rattle.std.specs.Prelude.{◌≡◌, ℕ, ◌<◌, ◌≤◌, List, length, map, false, true, string_bytes, IfOk, Result};
 ghost use Rattle.std.specs.List.{list_all};
@@ -149,8 +149,9 @@ fn fault_told(alloc: Global, error: &clap::Error) -> ParseFault
     }
 }
 
-/// The job that the words after the program's name ask for: `replay`, or `batch --workers N FILE...`
-/// with N from 1 to 8 and from one to 65,536 files. The grammar is `clap`'s, with its texts.
+/// The job that the words after the program's name ask for: `replay`, or `batch --workers N
+/// FILE...` with N from 1 to 8 and from one to 65,536 files. The grammar is `clap`'s, with its
+/// texts.
 ///
 /// Of several faults the parser's come first, and `TooManyFiles` last; want of memory may come in
 /// place of any answer.

@@ -36,7 +36,8 @@ impl ProgramFault {
     }
 }
 
-/// The line for standard error, without its end. Written by hand, since what a derive writes has no contract.
+/// The line for standard error, without its end. Written by hand, since what a derive writes has no
+/// contract.
 impl fmt::Display for ProgramFault {
     ghost use Rattle.std.specs.Prelude.{Some};
     ghost use Rattle.lockreplay.specs.Faults.{fault_text};

@@ -1,9 +1,9 @@
 //! `lockreplay`, the command line: one schedule from standard input, or many from files.
 //!
 //! Reports and help go to standard output, every other line to standard error. `main` hands its
-//! devices to `answer`, whose contract says what goes where, and hands back the status that it gives:
-//! by `?` out of `main` a fault would be printed in Rust's form, and end the program with the status
-//! of a refused schedule.
+//! devices to `answer`, whose contract says what goes where, and hands back the status that it
+//! gives: by `?` out of `main` a fault would be printed in Rust's form, and end the program with
+//! the status of a refused schedule.
 #![tactic(auto)]
 
 ghost use Rattle.lockreplay.specs.Jobs.{FitsJob};

@@ -1,8 +1,9 @@
 //! The reports of a batch on their way out, each behind the line with its number.
 //!
-//! The bytes are those of `batch_text`, which gives them as one text and copies all reports for it. Of 24 long reports by two
-//! workers that copy was half of the time, on one thread, and half of the memory. Here a long report goes out as it stands.
-//! Short texts wait in an `OutputBuffer` until a write is worth while.
+//! The bytes are those of `batch_text`, which gives them as one text and copies all reports for it.
+//! Of 24 long reports by two workers that copy was half of the time, on one thread, and half of the
+//! memory. Here a long report goes out as it stands. Short texts wait in an `OutputBuffer` until a
+//! write is worth while.
 
 ghost use Rattle.std.specs.Prelude.{◌≡◌, ◌≢◌, ◌++◌, map, IfErr, IfOk, OnErr, OnOk};
 ghost use Rattle.std.specs.Io.KnownBytes.{Appends, Keeps};
@@ -34,8 +35,8 @@ fn push_file_line<W: Write>(
 ///
 /// # Errors
 ///
-/// `OutOfMemory` where a request for memory was refused; it is made before the first byte goes out. `Write` where the output
-/// failed or took nothing: what was written is a prefix of it all.
+/// `OutOfMemory` where a request for memory was refused; it is made before the first byte goes out.
+/// `Write` where the output failed or took nothing: what was written is a prefix of it all.
 pub fn send_reports<W: Write>(
     alloc: Global,
     output: &mut W,

@@ -1,4 +1,5 @@
-//! Eight seats in four threads. Half of them are dropped while they wait, and the others are joined again.
+//! Eight seats in four threads. Half of them are dropped while they wait, and the others are joined
+//! again.
 
 ghost use Rattle.std.specs.Prelude.{◌≡◌, ◌+◌, ◌*◌, IfSome};
 ghost use Rattle.std.specs.Thread.{IsSync};
@@ -139,7 +140,8 @@ fn eight_seats_in_four_threads(rt: HostRuntime) -> Result<(), Fail> {
     // four seats came back with 100 tickets each taken, and three left
     assert_eq!(rt; all.taken(), 400);
     assert_eq!(rt; all.left(), 12);
-    // the four that were dropped took 101 each, and the first of their last tickets is served for ever
+    // the four that were dropped took 101 each, and the first of their last tickets is served for
+    // ever
     assert!(rt; lock.close(all) == (804, 800));
     Ok(())
 }

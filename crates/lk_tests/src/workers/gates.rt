@@ -55,7 +55,8 @@ impl Gate for Gathering {
     fn end(&self, _number: u32) {}
 }
 
-// Whether as many texts as workers all begin before any of them goes on. A worker that waits draws no other text.
+// Whether as many texts as workers all begin before any of them goes on. A worker that waits draws
+// no other text.
 fn all_meet<R: Threads + Sync>(rt: &R, alloc: Global, workers: u8) -> Result<bool, Fail>
     requires { (1 ≤ workers) × (workers ≤ 8) }
 {

@@ -5,7 +5,8 @@ ghost use Rattle.lk_workers.specs.declared.live.LivePhase.TheVariants.{Idle, Wai
 ghost use Rattle.lk_workers.specs.SeatSteps.{take_step, look_step, read_step, pass_step};
 ghost use Rattle.lk_workers.specs.LockState.{RuleIsTheLock, OthersStay, IsEvent};
 
-/// Between any two atomic steps the words and the seats are a state of the ticket lock, and a dropped seat's view stays in it.
+/// Between any two atomic steps the words and the seats are a state of the ticket lock, and a
+/// dropped seat's view stays in it.
 pub fn rule_is_the_lock()
     ensures state { RuleIsTheLock }
     ensures dropped { OthersStay }

@@ -1,6 +1,7 @@
 //! The rule of the running ticket lock, and its steps as a table sees them.
 //!
-//! A view is a list of what is known of seats, one as a rule. Nothing of it is kept when the lock runs.
+//! A view is a list of what is known of seats, one as a rule. Nothing of it is kept when the lock
+//! runs.
 
 ghost use Rattle.std.specs.Prelude.{ℕ};
 
