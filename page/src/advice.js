@@ -101,7 +101,7 @@ function moveFault(words, ownWords) {
   }
   const thread = numberPart(words, 0, [0, LAST_THREAD_NUMBER], T.badThread, T.threadRange);
   if (thread) return thread;
-  const meant = nearest(words[1], WORDS);
+  const meant = nearest(words[1], ownWords);
   const own = say(T.ownMoves, { moves: ownWords.join(', ') });
   return {
     say: [say(T.unknownMove, { found: words[1] }), meant ? say(T.meant, { meant }) : own],

@@ -17,7 +17,7 @@ const LONGEST = 20;
 
 // Near is: at most one change in three letters, when upper case and `_` for `-` are no change.
 export function nearest(found, words) {
-  if (!found || found.length > LONGEST) return null;
+  if (!found || found.length > LONGEST || !words.length) return null;
   const plain = found.toLowerCase().replaceAll('_', '-');
   const ranked = words.map((word) => ({ word, far: distance(plain, word) }))
     .sort((one, other) => one.far - other.far);

@@ -73,6 +73,12 @@ FAULTS = [
     (HEADER + "256 acquire\n", 2, ["“256” is no thread’s number", "from 0 to 255"], 0),
     (HEADER + "acquire\n", 2, ["This is no move"], 0),
     (
+        "lock mcs threads 2\n0 lock\n",
+        2,
+        ["Unknown move “lock”", "acquire, write, swap, read, release, cas"],
+        0,
+    ),
+    (
         HEADER + "0 acquire\n0 go\n",
         3,
         ["Unknown move “go”", "acquire, add, read, release, write"],
