@@ -1,7 +1,9 @@
-//! A schedule in a page: its text is read and played by the proved machine, and written out move by move for a page to draw.
+//! A schedule in a page: its text is read and played by the proved machine, and written out move
+//! by move for a page to draw. This project's own.
 //!
-//! It is built to a WebAssembly module that imports nothing. An exported function takes no memory there, so text, records and state
-//! are slices that the page lends. docs/MODULE.md lists their bytes.
+//! It is built to a WebAssembly module that imports nothing. An exported function takes no memory
+//! there, so text, records and state are slices that the page lends. docs/MODULE.md lists their
+//! bytes.
 #![tactic(auto)]
 
 ghost use Rattle.std.specs.Prelude.{◌≡◌, ◌<◌, ◌≤◌, length};
@@ -20,13 +22,18 @@ mod told;
 
 use playing::play_text;
 
-/// Reads a schedule text, plays at most `most` of its moves up to the first refused one, writes a record of each, as many as fit,
-/// and the state after the last. It answers 0 where all moves asked for were accepted, 1 where the next is refused, 2 where the text
-/// has a fault, and 3, with nothing done, where `state` is too short.
+/// Reads a schedule text, plays at most `most` of its moves up to the first refused one, writes a
+/// record of 56 bytes of each, as many as fit, and the state after the last into the first 2,304
+/// bytes of `state`.
+///
+/// It answers 0 where all moves asked for were accepted, 1 where the next is refused, 2 where the
+/// text has a fault, which the state names, and 3, with nothing done, where `state` is too short.
 #[unsafe(no_mangle)]
 pub extern "C" fn play(text: &[u8], most: u64, records: &mut [u8], state: &mut [u8]) -> u64
-    ensures short { length state.old < 2304 → (result ≡ 3) × (records.new ≡ records.old) × (state.new ≡ state.old) }
-    ensures told { 2304 ≤ length state.old → IsTold (plan_of text.now) most result records.old records.new state.old state.new }
+    ensures short { length state.old < 2304
+        → (result ≡ 3) × (records.new ≡ records.old) × (state.new ≡ state.old) }
+    ensures told { 2304 ≤ length state.old
+        → IsTold (plan_of text.now) most result records.old records.new state.old state.new }
 {
     play_text(text, most, records, state)
 }

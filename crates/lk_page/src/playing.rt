@@ -82,8 +82,10 @@ fn new_lock(reader: &ScheduleReader) -> Tracker<RecordingWords<WordArray>>
 
 /// What `play` does.
 pub fn play_text(text: &[u8], most: u64, records: &mut [u8], state: &mut [u8]) -> u64
-    ensures short { length state.old < 2304 → (result ≡ 3) × (records.new ≡ records.old) × (state.new ≡ state.old) }
-    ensures told { 2304 ≤ length state.old → IsTold (plan_of text.now) most result records.old records.new state.old state.new }
+    ensures short { length state.old < 2304
+        → (result ≡ 3) × (records.new ≡ records.old) × (state.new ≡ state.old) }
+    ensures told { 2304 ≤ length state.old
+        → IsTold (plan_of text.now) most result records.old records.new state.old state.new }
 {
     if state.len() < STATE_BYTES {
         return 3;

@@ -23,9 +23,8 @@ const LATE_LINK: &[u8] =
 
 #[test]
 fn a_late_link_is_seen(rt: HostRuntime) {
-    let mut records = [9u8; 560];
     let mut state = [0u8; 2304];
-    assert_eq!(rt; play(LATE_LINK, 99, &mut records, &mut state), 1);
+    assert_eq!(rt; play(LATE_LINK, 99, &mut [], &mut state), 1);
     // the refused move: its number, its line, and the due step
     assert_eq!(rt; (state[4], state[8], state[12]), (7, 13, 2));
     // ten of eleven moves, five words; held by thread 0, with 0 and 1 in line
@@ -48,11 +47,11 @@ fn a_late_link_is_seen(rt: HostRuntime) {
 }
 
 #[test]
-fn moves_up_to_a_late_link_have_their_records(rt: HostRuntime) {
+fn a_swap_and_a_failed_compare_and_swap_are_recorded(rt: HostRuntime) {
     let mut records = [9u8; 560];
-    let mut state = [0u8; 2304];
-    assert_eq!(rt; play(LATE_LINK, 99, &mut records, &mut state), 1);
-    // the third move, on line 5: thread 0 swaps the tail and enters, holds and is in the queue; word 0 was 0 and is 1
+    assert_eq!(rt; play(LATE_LINK, 99, &mut records, &mut [0u8; 2304]), 1);
+    // the third move, on line 5: thread 0 swaps the tail and enters, holds and is in the queue;
+    // word 0 was 0 and is 1
     assert_eq!(rt;
         (
             records[112],
