@@ -58,4 +58,4 @@ grep -v '^#' "$LIST" | while read -r kind source target needed; do
     [ -n "$kind" ] || continue
     "$work" "$kind" "$source" "$target" "$needed"
 done
-[ $work = place_all ] || rm -rf "${folder:?}/$DOCUMENTS"
+[ "$work" = place_all ] || rm -rf "${folder:?}/$DOCUMENTS"

@@ -1,3 +1,4 @@
+# shellcheck shell=sh disable=SC2034
 # What the scripts that package share: name, version and time of the release, and a folder to fill.
 # Read by `. packaging/release.sh` in the top folder; not run by itself.
 #
