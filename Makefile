@@ -90,7 +90,7 @@ bench: $(PROGRAM) tools
 	bench/run.py $(PROGRAM)
 	bench/batch.py $(PROGRAM)
 
-soak: $(PROGRAM) tools
+soak: $(PROGRAM) tools browsers
 	tests/soak.sh $(PROGRAM) $(SOAK_SECONDS)
 
 include packaging/targets.mk

@@ -2,8 +2,8 @@
 # Looks for mistakes for a long time: tests/soak.sh PROGRAM SECONDS
 #
 # First each of the long runs below that this tree has what it needs for, once; then the fuzzer, for
-# what is left of the time, a minute at least. Each says how many cases it had and how long it took;
-# the first that fails ends the run.
+# what is left of the time, a minute at least. The page is given other texts each time, by a seed.
+# Each run says how many cases it had and how long it took; the first that fails ends the whole.
 set -euo pipefail
 cd "$(dirname "$0")/.."
 program=$(realpath "${1:?usage: tests/soak.sh PROGRAM SECONDS}")
@@ -30,7 +30,7 @@ run_with() {
 run tests/rows.py "$program"
 run tests/memory.py "$program"
 run_with tests/refusals.py tests/refusals.py "$program"
-run_with page/lockreplay.html tests/page/run.py "$program" random_texts
+run_with page/lockreplay.html env PAGE_SEED=$RANDOM tests/page/run.py "$program" random_texts
 run_with $locktrace tests/recording.py $locktrace "$program"
 run_with $locktrace tests/order_search.py $locktrace
 left=$((seconds - (SECONDS - begun)))

@@ -1,5 +1,6 @@
 """The page's report of random schedules and texts is the program's, byte for byte."""
 import base64
+import os
 import random
 import sys
 
@@ -9,7 +10,7 @@ from reports import reports_of
 sys.path.insert(0, str(TOP / "fuzz"))
 import schedules  # noqa: E402
 
-SEED = 20260719
+SEED = int(os.environ.get("PAGE_SEED", "20260719"))
 TEXTS = 2000
 LONGEST = 300
 IN_BATCH = 100
