@@ -27,11 +27,16 @@ run_with() {
     if [ -e "$1" ]; then run "${@:2}"; else echo "${*:2} | left out: no $1"; fi
 }
 
-run tests/rows.py "$program"
-run tests/memory.py "$program"
-run_with tests/refusals.py tests/refusals.py "$program"
-run_with page/lockreplay.html env PAGE_SEED=$RANDOM tests/page/run.py "$program" random_texts
-run_with $locktrace tests/recording.py $locktrace "$program"
-run_with $locktrace tests/order_search.py $locktrace
-left=$((seconds - (SECONDS - begun)))
-run fuzz/fuzz.py "$program" --seconds $((left > 60 ? left : 60))
+# Read as a whole before it runs, so that an edit of this file does not reach a run.
+soak() {
+    run tests/rows.py "$program"
+    run tests/memory.py "$program"
+    run_with tests/refusals.py tests/refusals.py "$program"
+    run_with page/lockreplay.html env PAGE_SEED=$RANDOM tests/page/run.py "$program" random_texts
+    run_with $locktrace tests/recording.py $locktrace "$program"
+    run_with $locktrace tests/order_search.py $locktrace
+    left=$((seconds - (SECONDS - begun)))
+    run fuzz/fuzz.py "$program" --seconds $((left > 60 ? left : 60))
+}
+
+soak; exit
