@@ -1,4 +1,4 @@
--- Invariants. What the rounds of this crate's tests carry from call to call.
+-- Invariants. What the rounds of the tests carry from call to call.
 use Rattle.std.specs.Prelude.{◌≡◌, ℕ, ◌≤◌}
 use Rattle.atomic_table.specs.Seated.{TableId}
 use Rattle.lk_workers.specs.declared.live.LivePhase.TheVariants.{Idle}
