@@ -4,25 +4,25 @@ use Rattle.std.specs.List.{slice_split, All}
 use Rattle.std.proofs.lemmas.List.Splits.{slice_split_none, slice_split_at, length-slice_split}
 use Rattle.std.proofs.lemmas.List.{take_rest, get_or_default}
 use Rattle.std.proofs.lemmas.Bool.{false_from_ne_true, eqb-true}
-use Rattle.memchr.specs.Find.{Nowhere, Passes, NoneBefore, is_byte}
-use Rattle.lk_replay.specs.Lines.{lines_of, without_empty_end, is_line_feed, is_space}
+use Rattle.lk_replay.specs.Lines.{lines_of, without_empty_end, is_line_feed}
 
-pub cut_nowhere : (byte : ℕ) (text : List ℕ) → Nowhere (Passes (is_byte byte) text) 0 (length text) → slice_split (λ b. b == byte) text ≡ text ∷ []
+pub cut_nowhere : (byte : ℕ) (text : List ℕ) → ((k : ℕ) → k < length text → get_or text k 0 ≡ byte → ⊥)
+    → slice_split (λ b. b == byte) text ≡ text ∷ []
 cut_nowhere byte text none = slice_split_none (λ b. b == byte) text
-    (λ k d h. ap (λ x. x == byte) (get_or_default text k d 0 h) ∙ false_from_ne_true _ (none k (omega arith) h))
+    (λ k d h. ap (λ x. x == byte) (get_or_default text k d 0 h) ∙ false_from_ne_true _ (λ here. none k h (eqb-true _ _ here)))
 
-pub cut_first : (byte : ℕ) (text : List ℕ) (at : ℕ) → NoneBefore (Passes (is_byte byte) text) 0 (length text) at → Passes (is_byte byte) text at
+pub cut_first : (byte : ℕ) (text : List ℕ) (at : ℕ) → ((k : ℕ) → k < at → get_or text k 0 ≡ byte → ⊥) → at < length text → get_or text at 0 ≡ byte
     → slice_split (λ b. b == byte) text ≡ take at text ∷ slice_split (λ b. b == byte) (take (length text - (at + 1)) (drop (at + 1) text))
-cut_first byte text at none here =
+cut_first byte text at none within here =
     let p : ℕ → Bool = λ b. b == byte in
-    let size : length (take at text) ≡ at = length-take-le at text (omega (arith, none.high)) in
+    let size : length (take at text) ≡ at = length-take-le at text (omega arith) in
     let clear : All (λ x. p x ≡ false) (take at text) =
     λ k d h. let below : k < at = omega (arith, size, h) in
-    ap p (get_or-take at text k d below ∙ get_or_default text k d 0 (omega (arith, none.high)))
-    ∙ false_from_ne_true _ (none.before k (omega arith) below) in
+    ap p (get_or-take at text k d below ∙ get_or_default text k d 0 (omega arith))
+    ∙ false_from_ne_true _ (λ same. none k below (eqb-true _ _ same)) in
     let whole : text ≡ take at text ++ (get_or text at 0 ∷ drop (at + 1) text) =
-    sym (take-append-drop at text) ∙ ap (λ l. take at text ++ l) (drop-cons text at 0 none.high ∙ rw add-one refl) in
-    ap (slice_split p) whole ∙ slice_split_at p (take at text) (get_or text at 0) (drop (at + 1) text) clear here
+    sym (take-append-drop at text) ∙ ap (λ l. take at text ++ l) (drop-cons text at 0 within ∙ rw add-one refl) in
+    ap (slice_split p) whole ∙ slice_split_at p (take at text) (get_or text at 0) (drop (at + 1) text) clear (eq-eqb _ _ here)
     ∙ ap (λ l. take at text ∷ slice_split p l) (sym (take_rest text (at + 1)))
 
 -- a text has at least one piece
@@ -41,10 +41,3 @@ pub line_last : (text : List ℕ) → 0 < length text → slice_split is_line_fe
 unfolding lines_of
 line_last [] h cut = absurd (omega arith)
 line_last (b ∷ bs) h cut = ap without_empty_end cut
-
-pub word_whole : (line : List ℕ) → ((k : ℕ) → k < length line → get_or line k 0 ≡ 32 → ⊥) → slice_split is_space line ≡ line ∷ []
-word_whole line none = cut_nowhere 32 line (λ k low high here. none k high (eqb-true _ _ here))
-
-pub word_first : (line : List ℕ) (at : ℕ) → ((k : ℕ) → k < at → get_or line k 0 ≡ 32 → ⊥) → at < length line → get_or line at 0 ≡ 32
-    → slice_split is_space line ≡ take at line ∷ slice_split is_space (take (length line - (at + 1)) (drop (at + 1) line))
-word_first line at none within here = cut_first 32 line at (record { low = omega arith; high = within; before = λ k low high same. none k high (eqb-true _ _ same) }) (eq-eqb _ _ here)

@@ -1,5 +1,5 @@
 -- The text of a list of threads that one joins or leaves.
-use Rattle.std.proofs.Common.{◌≡◌, ℕ, ◌+◌, ◌-◌, ◌*◌, ◌<◌, ◌≤◌, List, [], ◌∷◌, ◌++◌, length, take, drop, decimal, eqb, nat_lt, Bool, true, false, ◌&&◌, refl, sym, ap, ◌∙◌, subst, arith, append_assoc, append-nil, length-append, inl, inr}
+use Rattle.std.proofs.Common.{◌≡◌, ℕ, ◌+◌, ◌-◌, ◌*◌, ◌<◌, ◌≤◌, List, [], ◌∷◌, ◌++◌, length, take, drop, decimal, eqb, nat_lt, Bool, true, false, ◌&&◌, refl, sym, ap, ◌∙◌, subst, arith, append_assoc, append-nil, length-append, codes, IsTrue, ◌↔◌, None, inl, inr}
 use Rattle.std.specs.List.{AllByRecursion}
 use Rattle.std.proofs.Math.Seq.{drop-append_seam, take-append_seam}
 use Rattle.std.proofs.lemmas.Bool.{cases_Bool, eqb-true, le-ltb, lt-ltb}
@@ -11,7 +11,8 @@ use Rattle.lk_locks.specs.declared.kinds.LockKind.{LockKind}
 use Rattle.lk_locks.specs.declared.kinds.LockKind.TheVariants.{Ticket, Mcs, RwSimple, RwFifo}
 use Rattle.lk_replay.proofs.Lists.{later_append}
 use Rattle.lk_replay.specs.Following.{above, up_to, AreListed}
-use Rattle.lk_replay.specs.Report.{later_numbers}
+use Rattle.lk_locks.specs.Holding.{shared_by}
+use Rattle.lk_replay.specs.Report.{holding_text, later_numbers, queue_text}
 
 abbrev pub AreBytes : List ℕ → Type 0
 AreBytes xs = AllByRecursion (λ t. t < 256) xs
@@ -202,3 +203,21 @@ reader_left q r requests readers new t l same leaves is = record {
   requests_fit = subst AreBytes (sym same) l.requests_fit;
   readers_fit = subst AreBytes (sym leaves) (all_left q.readers t l.readers_fit);
 }
+
+-- ---- the lists as they are shown
+
+pub none_listed : (xs text : List ℕ) → text ≡ later_numbers xs → length text ≡ 0 → xs ≡ []
+none_listed [] text is none = refl
+none_listed (x ∷ xs) text is none = absurd (omega (arith, ap length is))
+
+pub some_listed : (empty : Bool) (text : List ℕ) → (IsTrue empty ↔ (length text ≡ 0)) → empty ≡ false → 0 < length text
+some_listed empty [] tells not_so = let so : empty ≡ true = tells.1 refl in absurd (cc)
+some_listed empty (b ∷ bs) tells not_so = omega arith
+
+pub queue_shown : (xs text : List ℕ) → text ≡ later_numbers xs → 0 < length text → drop 1 text ≡ queue_text xs
+queue_shown [] text is some = absurd (omega (arith, ap length is))
+queue_shown (x ∷ xs) text is some = ap (drop 1) is
+
+pub readers_shown : (xs text : List ℕ) → text ≡ later_numbers xs → 0 < length text → codes "r" ++ drop 1 text ≡ holding_text (shared_by xs None)
+readers_shown [] text is some = absurd (omega (arith, ap length is))
+readers_shown (x ∷ xs) text is some = ap (λ (ys : List ℕ). codes "r" ++ drop 1 ys) is

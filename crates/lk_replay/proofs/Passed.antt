@@ -12,6 +12,10 @@ use Rattle.lk_replay.specs.Devices.{AppendsPrefix, Passes}
 pub passes_kept : (waited bytes : List ℕ) (c : Option (List ℕ)) → Passes waited c bytes (waited ++ bytes) c
 passes_kept waited bytes c = ([], Appends-nil c, refl)
 
+-- no bytes go on
+pub passes_none : (waited : List ℕ) (c : Option (List ℕ)) → Passes waited c [] waited c
+passes_none waited c = ([], Appends-nil c, sym (append-nil waited))
+
 -- what waited went out
 pub passes_sent : (waited : List ℕ) (old new : Option (List ℕ)) → Appends old new waited → Passes waited old [] [] new
 passes_sent waited old new appended = (waited, appended, refl)
@@ -82,3 +86,9 @@ whole_passed whole waits old mid new (sent, appended, parts) appends = subst (Ap
 pub prefix_of_rest : (whole waits : List ℕ) (old mid new : Option (List ℕ)) → Passes [] old whole waits mid → AppendsPrefix mid new waits → AppendsPrefix old new whole
 prefix_of_rest whole waits old mid new passed prefix =
     prefix_of_whole whole whole waits [] [] old mid new passed (subst (AppendsPrefix mid new) (sym (append-nil waits)) prefix) (append-nil whole)
+
+-- a part of it went on its way, and then a prefix of what waited went out
+pub prefix_of_waiting : (whole done waits rest : List ℕ) (old mid new : Option (List ℕ)) → Passes [] old done waits mid
+    → AppendsPrefix mid new waits → done ++ rest ≡ whole → AppendsPrefix old new whole
+prefix_of_waiting whole done waits rest old mid new passed prefix parts =
+    prefix_of_whole whole done waits [] rest old mid new passed (subst (AppendsPrefix mid new) (sym (append-nil waits)) prefix) parts

@@ -132,12 +132,18 @@ behind_lines f count (m ∷ ms) text some =
     ∙ behind_line (prefix ++ shown) (rest ++ text) (omega (arith, length-append rest text))
     ∙ behind_lines g (count + 1) ms text some
 
--- ---- lines that are written
+-- ---- the words of a line
 
-pub line_gone : (out prefix end lines last whole : List ℕ) → out ++ (((prefix ++ end) ++ lines) ++ last) ≡ whole → ((out ++ prefix) ++ end) ++ (lines ++ last) ≡ whole
-line_gone out prefix end lines last whole is =
-    append_assoc (out ++ prefix) end (lines ++ last) ∙ append_assoc out prefix (end ++ (lines ++ last))
-    ∙ ap (λ (ys : List ℕ). out ++ ys) (sym (append_assoc (prefix ++ end) lines last ∙ append_assoc prefix end (lines ++ last))) ∙ is
+-- each word with the spaces around it
+pub words_joined : (count thread word outcome : List ℕ)
+    → ((count ++ 32 ∷ thread) ++ (codes " " ++ word ++ codes " ")) ++ (outcome ++ codes " hold ")
+    ≡ count ++ codes " " ++ thread ++ codes " " ++ word ++ codes " " ++ outcome ++ codes " hold "
+words_joined count thread word outcome = simp append_assoc
+
+-- the parts of a line's end, behind what stands before
+pub end_joined : (before holding waiting : List ℕ)
+    → (((before ++ holding) ++ codes " queue ") ++ waiting) ++ codes "\n" ≡ before ++ (holding ++ codes " queue " ++ waiting ++ codes "\n")
+end_joined before holding waiting = simp append_assoc
 
 -- ---- one step of the printer
 
@@ -172,11 +178,11 @@ printing_next f g count next i j n moves added entries p within size is counted 
 pub may_be_next : (q : Sequential) (entries : List Entry) (j n : ℕ) → AreEnabled q (drop j entries) → AreEnabled q (take (j + n - j) (drop j entries))
 may_be_next q entries j n a = subst (λ (k : ℕ). AreEnabled q (take k (drop j entries))) (omega arith) (next_enabled q entries j n a).next
 
--- the next line's parts, one after another
-pub next_parts : (whole done lines rest prefix end a b last same : List ℕ) → lines ≡ (a ++ b) ++ rest → same ≡ last → prefix ≡ a → end ≡ b → done ++ (lines ++ last) ≡ whole
-    → done ++ (prefix ++ (end ++ (rest ++ same))) ≡ whole
-next_parts whole done lines rest prefix end a b last same is kept first second parts =
-    rw (kept, first, second) (sym (ap (λ (ys : List ℕ). done ++ ys) (ap (λ (ys : List ℕ). ys ++ last) is ∙ append_assoc (a ++ b) rest last ∙ append_assoc a b (rest ++ last))) ∙ parts)
+-- the next line, and then the rest
+pub next_parts : (whole done lines line rest last same : List ℕ) → lines ≡ line ++ rest → same ≡ last → done ++ (lines ++ last) ≡ whole
+    → done ++ (line ++ (rest ++ same)) ≡ whole
+next_parts whole done lines line rest last same is kept parts =
+    rw kept (sym (ap (λ (ys : List ℕ). done ++ ys) (ap (λ (ys : List ℕ). ys ++ last) is ∙ append_assoc line rest last)) ∙ parts)
 
 -- no line is left but the last
 pub last_part : (whole done lines last : List ℕ) → lines ≡ [] → done ++ (lines ++ last) ≡ whole → done ++ (last ++ []) ≡ whole

@@ -5,14 +5,32 @@ use Rattle.std.proofs.lemmas.List.{drop-take, drop_at, take-append-le, take-take
 use lib.Seq.{paste, take-paste, length-paste}
 use borrow.Rule.Slice.PartMut.{put_mid, post_of, Post-is}
 
--- a block behind it
-pub block_pushed : (xs now block : List ℕ) (at len : ℕ) → now ≡ block → length block ≡ 16 → len ≤ 16 → at ≤ length xs
-    → take (at + len) (put_mid at (at + 16 - at) xs now) ≡ take at xs ++ take len block
-block_pushed xs now block at len is size fits within =
+-- the first bytes of what was written, behind those before it
+pub written_behind : (xs now post : List ℕ) (at len : ℕ) → at ≤ length xs → len ≤ length now
+    → take (at + len) (take at xs ++ (now ++ post)) ≡ take at xs ++ take len now
+written_behind xs now post at len within fits =
     let prefix : length (take at xs) ≡ at = length-take-le at xs within in
-    let post : List ℕ = post_of at (at + 16 - at) xs in
     ap (λ (k : ℕ). take (k + len) (take at xs ++ (now ++ post))) (sym prefix) ∙ take-append-add (take at xs) (now ++ post) len
-    ∙ ap (λ (ys : List ℕ). take at xs ++ ys) (take-append-le len now post (omega (arith, ap length is)) ∙ ap (take len) is)
+    ∙ ap (λ (ys : List ℕ). take at xs ++ ys) (take-append-le len now post fits)
+
+-- the same in a `Vec`, which is filled up to its length
+pub written_in : (xs now post tail : List ℕ) (at len cap : ℕ) → at ≤ length xs → len ≤ length now → at + len ≤ cap
+    → take (at + len) (take cap ((take at xs ++ (now ++ post)) ++ tail)) ≡ take at xs ++ take len now
+written_in xs now post tail at len cap within fits room =
+    take-take (at + len) cap _ room
+    ∙ ap (take (at + len)) (append_assoc (take at xs) (now ++ post) tail ∙ ap (λ (ys : List ℕ). take at xs ++ ys) (append_assoc now post tail))
+    ∙ written_behind xs now (post ++ tail) at len within fits
+
+-- the same of a block that is copied whole
+pub block_pushed : (xs now block : List ℕ) (at len wide : ℕ) → now ≡ block → length block ≡ wide → len ≤ wide → at ≤ length xs
+    → take (at + len) (put_mid at (at + wide - at) xs now) ≡ take at xs ++ take len block
+block_pushed xs now block at len wide is size fits within =
+    written_behind xs now (post_of at (at + wide - at) xs) at len within (omega (arith, ap length is))
+    ∙ ap (λ (ys : List ℕ). take at xs ++ take len ys) is
+
+-- the first bytes of a text without its first
+pub rest_taken : (xs : List ℕ) (len wide : ℕ) → len ≤ wide → take len (take wide (drop 1 xs)) ≡ drop 1 (take (1 + len) xs)
+rest_taken xs len wide fits = take-take len wide (drop 1 xs) fits ∙ sym (drop-take 1 len xs)
 
 -- bytes taken out
 pub removed : (xs now : List ℕ) (at count len : ℕ) → at + count ≤ len → len ≤ length xs → now ≡ paste xs at (drop (at + count) xs) (len - (at + count))

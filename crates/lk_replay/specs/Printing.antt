@@ -29,18 +29,14 @@ abbrev pub prepared_text : Option Replayed → List ℕ → List ℕ
 prepared_text None last = last
 prepared_text (Some r) last = played_lines r ++ last
 
--- the two parts of the line that was printed last, the lines that are left, how many, and the last line
+-- the lines that are left, how many, and the last line
 pub record Printing : Type 0 where
-  pub prefix : List ℕ
-  pub end : List ℕ
   pub lines : List ℕ
   pub left : ℕ
   pub last : List ℕ
 
-abbrev pub printing : List ℕ → Following → ℕ → List Accepted → List ℕ → List Entry → List ℕ → Printing
-printing prefix line count moves added entries last = record {
-  prefix = prefix;
-  end = followed_text line;
+abbrev pub printing : Following → ℕ → List Accepted → List ℕ → List Entry → List ℕ → Printing
+printing line count moves added entries last = record {
   lines = lines_from line count (made_from moves added entries);
   left = length moves;
   last = last;

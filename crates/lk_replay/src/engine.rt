@@ -26,9 +26,7 @@ fn print<W: Write>(
     ensures fault { IfErr result (λ e. e ≡ RunFault.Write) }
 {
     while printer.left() > 0 {
-        printer.next();
-        buffer.push(output, printer.prefix())?;
-        buffer.push(output, printer.end())?;
+        buffer.print(output, printer)?;
     }
     buffer.push(output, printer.last())?;
     buffer.send_whole(output)

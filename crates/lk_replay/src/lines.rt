@@ -4,16 +4,18 @@ ghost use Rattle.std.specs.Prelude.{◌≡◌, [], ◌==◌, ◌∷◌, ◌<◌,
 ghost use Rattle.std.specs.List.{slice_split};
 ghost use Rattle.lk_replay.specs.Lines.{lines_of, words_of, is_skipped};
 
-use memchr::memchr;
-
-// The text before the first such byte, and the text after it.
+// The text before the first such byte, and the text after it. Lines and words are short, so one byte after another is looked at.
 fn cut_at(text: &[u8], byte: u8) -> Option<(&[u8], &[u8])>
     ensures pieces { MatchOption result (slice_split (λ b. b == byte) text.now ≡ text.now ∷ [])
         (λ cut. slice_split (λ b. b == byte) text.now ≡ cut.0.now ∷ slice_split (λ b. b == byte) cut.1.now) }
     ensures shorter { IfSome result (λ cut. length cut.1.now < length text.now) }
 {
-    let at = memchr(byte, text)?;
-    Some((&text[..at], &text[at + 1..]))
+    for (at, found) in text.iter().enumerate() {
+        if *found == byte {
+            return Some((&text[..at], &text[at + 1..]));
+        }
+    }
+    None
 }
 
 /// The first line of a text that is not empty, and the text after it.
@@ -28,17 +30,12 @@ pub fn cut_line(text: &[u8]) -> (&[u8], &[u8])
     }
 }
 
-/// The first word of a line, and the line after its space. Words are short, so one byte after another is looked at.
+/// The first word of a line, and the line after its space.
 pub fn cut_word(line: &[u8]) -> Option<(&[u8], &[u8])>
     ensures { MatchOption result (words_of line.now ≡ line.now ∷ [])
         (λ cut. words_of line.now ≡ cut.0.now ∷ words_of cut.1.now) }
 {
-    for (at, byte) in line.iter().enumerate() {
-        if *byte == b' ' {
-            return Some((&line[..at], &line[at + 1..]));
-        }
-    }
-    None
+    cut_at(line, b' ')
 }
 
 /// Whether a line is empty or a comment.

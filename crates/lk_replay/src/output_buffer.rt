@@ -2,11 +2,12 @@
 //!
 //! It is std's `BufWriter` with a contract that says what was written where a write fails.
 
-ghost use Rattle.std.specs.Prelude.{◌≡◌, ◌+◌, ◌++◌, ◌≤◌, [], length, IfErr, IfOk, OnErr, OnOk};
+ghost use Rattle.std.specs.Prelude.{◌≡◌, ℕ, List, ◌+◌, ◌++◌, ◌<◌, ◌≤◌, [], length, IfErr, IfOk, OnErr, OnOk};
 ghost use Rattle.std.specs.Io.KnownBytes.{Appends};
 ghost use Rattle.lk_replay.specs.Devices.{AppendsPrefix, Passes};
 
 use crate::devices::{RunFault, send, write_whole};
+use crate::report::{LINE_ROOM, Printer};
 use std::alloc::{AllocError, Global};
 use std::io::Write;
 use std::marker::Model;
@@ -18,16 +19,18 @@ const MOST_WAITING: usize = 65_536;
 #[derive(Drop)]
 pub struct OutputBuffer {
     bytes: Vec<u8>,
+    // How many of them wait.
+    len: usize,
 }
 
 impl Model for OutputBuffer {
-    ghost use Rattle.std.specs.Prelude.{ℕ, ◌≤◌, List, length, vec_capacity};
+    ghost use Rattle.std.specs.Prelude.{ℕ, ◌≡◌, ◌≤◌, List, length, take};
 
     ghost Value = { List ℕ };
 
-    ghost view = { λ a. a.bytes.items };
+    ghost view = { λ a. take a.len a.bytes.items };
 
-    ghost invariant = { λ a. (65536 ≤ vec_capacity a.bytes) × (length a.bytes.items ≤ 65536) };
+    ghost invariant = { λ a. (length a.bytes.items ≡ 65536) × (a.len ≤ 65536) };
 }
 
 impl OutputBuffer {
@@ -40,7 +43,8 @@ impl OutputBuffer {
         ensures { IfOk result (λ waiting. waiting ≡ []) }
     {
         Ok(OutputBuffer {
-            bytes: Vec::with_capacity(alloc, MOST_WAITING)?,
+            bytes: vec![in alloc; 0; MOST_WAITING]?,
+            len: 0,
         })
     }
 
@@ -48,9 +52,9 @@ impl OutputBuffer {
         requires { length self.now + length bytes.now ≤ 65536 }
         ensures { self.new ≡ self.old ++ bytes.now }
     {
-        let Ok(()) = self.bytes.extend_from_slice(bytes) else {
-            unreachable!()
-        };
+        let end = self.len + bytes.len();
+        self.bytes[self.len..end].copy_from_slice(bytes);
+        self.len = end;
     }
 
     /// Puts bytes behind what waits, and writes first what has no room. It asks for no memory.
@@ -63,16 +67,62 @@ impl OutputBuffer {
         ensures prefix { OnErr result (AppendsPrefix (W.contents output.old) (W.contents output.new) (self.old ++ bytes.now)) }
         ensures fault { IfErr result (λ e. e ≡ RunFault.Write) }
     {
-        if bytes.len() <= MOST_WAITING - self.bytes.len() {
+        if bytes.len() <= MOST_WAITING - self.len {
             self.keep(bytes);
             return Ok(());
         }
-        write_whole(output, &self.bytes)?;
-        self.bytes.clear();
+        write_whole(output, &self.bytes[..self.len])?;
+        self.len = 0;
         if bytes.len() > MOST_WAITING {
             return write_whole(output, bytes);
         }
         self.keep(bytes);
+        Ok(())
+    }
+
+    // Prints the next line behind what waits.
+    fn keep_line(&mut self, printer: &mut Printer<'_>)
+        requires some { 0 < printer.old.left }
+        requires room { length self.old + 448 ≤ 65536 }
+        ensures kept { (line : List ℕ) × (self.new ≡ self.old ++ line) × (printer.old.lines ≡ line ++ printer.new.lines) }
+        ensures left { printer.new.left + 1 ≡ printer.old.left }
+        ensures last { printer.new.last ≡ printer.old.last }
+    {
+        let len = printer.next(&mut self.bytes[self.len..]);
+        self.len += len;
+    }
+
+    // Writes what waits, where a line might have no room behind it.
+    fn make_room<W: Write>(&mut self, output: &mut W) -> Result<(), RunFault>
+        ensures passed { OnOk result (Passes self.old (W.contents output.old) [] self.new (W.contents output.new)) }
+        ensures room { OnOk result (length self.new + 448 ≤ 65536) }
+        ensures prefix { OnErr result (AppendsPrefix (W.contents output.old) (W.contents output.new) self.old) }
+        ensures fault { IfErr result (λ e. e ≡ RunFault.Write) }
+    {
+        if MOST_WAITING - self.len >= LINE_ROOM {
+            return Ok(());
+        }
+        write_whole(output, &self.bytes[..self.len])?;
+        self.len = 0;
+        Ok(())
+    }
+
+    // Prints the next line, which goes behind what waits.
+    pub(crate) fn print<W: Write>(
+        &mut self,
+        output: &mut W,
+        printer: &mut Printer<'_>,
+    ) -> Result<(), RunFault>
+        requires { 0 < printer.old.left }
+        ensures passed { OnOk result ((line : List ℕ) × Passes self.old (W.contents output.old) line self.new (W.contents output.new)
+            × (printer.old.lines ≡ line ++ printer.new.lines)) }
+        ensures left { OnOk result (printer.new.left + 1 ≡ printer.old.left) }
+        ensures last { printer.new.last ≡ printer.old.last }
+        ensures prefix { OnErr result (AppendsPrefix (W.contents output.old) (W.contents output.new) self.old) }
+        ensures fault { IfErr result (λ e. e ≡ RunFault.Write) }
+    {
+        self.make_room(output)?;
+        self.keep_line(printer);
         Ok(())
     }
 
@@ -87,8 +137,8 @@ impl OutputBuffer {
         ensures prefix { OnErr result (AppendsPrefix (W.contents output.old) (W.contents output.new) self.old) }
         ensures fault { IfErr result (λ e. e ≡ RunFault.Write) }
     {
-        send(output, &self.bytes)?;
-        self.bytes.clear();
+        send(output, &self.bytes[..self.len])?;
+        self.len = 0;
         Ok(())
     }
 }

@@ -8,7 +8,6 @@ ghost use Rattle.lk_replay.specs.Report.{report_text};
 
 mod closings;
 mod followed;
-mod line;
 mod numerals;
 mod printer;
 mod text;
@@ -17,7 +16,7 @@ mod words;
 use crate::played::{Played, replay};
 use crate::{ReadFault, read_schedule};
 use closings::{fault_text, last_line};
-pub use printer::Printer;
+pub use printer::{LINE_ROOM, Printer};
 use std::alloc::{AllocError, Global};
 use std::marker::Model;
 use text::Text;
@@ -100,10 +99,10 @@ pub fn prepare(alloc: Global, bytes: &[u8]) -> Result<Prepared, AllocError>
 fn print_into(out: &mut Vec<u8>, printer: &mut Printer<'_>) -> Result<(), AllocError>
     ensures { OnOk result (out.new.items ≡ out.old.items ++ (printer.old.lines ++ printer.old.last)) }
 {
+    let mut line = [0; LINE_ROOM];
     while printer.left() > 0 {
-        printer.next();
-        out.extend_from_slice(printer.prefix())?;
-        out.extend_from_slice(printer.end())?;
+        let len = printer.next(&mut line);
+        out.extend_from_slice(&line[..len])?;
     }
     out.extend_from_slice(printer.last())
 }

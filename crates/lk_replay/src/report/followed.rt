@@ -2,14 +2,15 @@
 //!
 //! An entry names the thread that joins a list or leaves it, so its number is put into the list's text or taken out of it.
 
-ghost use Rattle.std.specs.Prelude.{◌≡◌, ◌++◌, ◌∷◌, ◌<◌, ◌≤◌, [], IsTrue, drop, length};
+ghost use Rattle.std.specs.Prelude.{◌≡◌, ◌+◌, ◌++◌, ◌∷◌, ◌<◌, ◌≤◌, [], IsTrue, drop, length, take};
 ghost use Rattle.std.specs.List.{AllByRecursion};
 ghost use Rattle.lk_locks.specs.Sequential.{IsAscending, has, is_head, joined, left_by};
 ghost use Rattle.lk_replay.specs.Following.{up_to};
-ghost use Rattle.lk_replay.specs.Report.{later_numbers};
+ghost use Rattle.lk_locks.specs.Holding.{held_by_one, one_or_none};
+ghost use Rattle.lk_replay.specs.Report.{holding_text, later_numbers, queue_text};
 
-use crate::report::numerals::{thread_block, width};
-use crate::report::text::Text;
+use crate::report::numerals::{number_block, thread_block, width};
+use crate::report::text::{Text, put_block};
 use lk_locks::{Act, Entry, LockKind, Op, SeqLock};
 use std::marker::Model;
 
@@ -94,11 +95,28 @@ fn remove_reader(text: &mut Text, readers: &[u8], thread: u8)
     text.remove(at, gone);
 }
 
+// Writes a thread's number, or that there is none.
+fn write_one(line: &mut [u8], at: usize, thread: Option<u8>) -> usize
+    requires { at + 4 ≤ length line.old }
+    ensures held { take result line.new ≡ take at line.old ++ holding_text (held_by_one thread) }
+    ensures waits { take result line.new ≡ take at line.old ++ queue_text (one_or_none thread) }
+    ensures most { result ≤ at + 4 }
+{
+    match thread {
+        Some(thread) => {
+            let (block, len) = number_block(thread);
+            put_block(line, at, &block, len)
+        }
+        None => put_block(line, at, b"-", 1),
+    }
+}
+
 impl Followed {
-    ghost use Rattle.std.specs.Prelude.{◌≡◌, ◌≤◌, ◌==◌, [], ◌∷◌, length, not};
-    ghost use Rattle.lk_locks.specs.Legal.{IsEnabled};
-    ghost use Rattle.lk_replay.specs.Following.{followed_by, following};
-    ghost use Rattle.lk_replay.specs.Report.{numbers_text, queue_text};
+    ghost use Rattle.std.specs.Prelude.{◌≡◌, ◌+◌, ◌≤◌, ◌++◌, [], ◌∷◌, length, take};
+    ghost use Rattle.lk_locks.specs.Holding.{shared_by};
+    ghost use Rattle.lk_locks.specs.Legal.{AreEnabled, IsEnabled};
+    ghost use Rattle.lk_replay.specs.Following.{followed_by, followed_text, following};
+    ghost use Rattle.lk_replay.specs.Report.{holding_text, queue_text};
 
     /// Of a lock with no history yet.
     pub fn new(kind: LockKind) -> Followed
@@ -113,8 +131,8 @@ impl Followed {
         }
     }
 
-    /// Goes along with an entry that may come.
-    pub fn note(&mut self, entry: Entry)
+    // Goes along with an entry that may come.
+    fn note(&mut self, entry: Entry)
         requires { IsEnabled self.old.sequential entry }
         ensures { self.new ≡ followed_by self.old (entry ∷ []) }
     {
@@ -148,64 +166,70 @@ impl Followed {
         }
     }
 
-    /// The lock.
-    pub fn kind(&self) -> LockKind
-        ensures { result ≡ self.now.kind }
+    /// Goes along with the next entries of a legal history.
+    pub fn follow(&mut self, entries: &[Entry])
+        requires { AreEnabled self.old.sequential entries.now }
+        ensures { self.new ≡ followed_by self.old entries.now }
     {
-        self.kind
-    }
-
-    /// Who holds a queue lock.
-    pub fn holder(&self) -> Option<u8>
-        ensures { result ≡ self.now.holder }
-    {
-        self.holder
-    }
-
-    /// Who writes, of a read-write lock.
-    pub fn writer(&self) -> Option<u8>
-        ensures { result ≡ self.now.sequential.writer }
-    {
-        self.sequential.writer()
-    }
-
-    /// Who announced itself to a FIFO lock.
-    pub fn announced(&self) -> Option<u8>
-        ensures { result ≡ self.now.sequential.announced }
-    {
-        self.sequential.announced()
-    }
-
-    /// The requests of a queue lock as text.
-    pub fn queue_text(&self) -> &[u8]
-        ensures text { result.now ≡ queue_text self.now.sequential.queue }
-        ensures few { length result.now ≤ 256 }
-    {
-        let few = self.sequential.queue().len() <= 64;
-        prove!(few);
-        match self.requests.as_slice().split_first() {
-            Some((_, text)) => text,
-            None => b"-",
+        for entry in entries {
+            self.note(*entry);
         }
     }
 
-    /// Whether somebody reads.
-    pub fn is_read(&self) -> bool
-        ensures { result ≡ not (length self.now.sequential.readers == 0) }
+    // Writes who waits for a queue lock.
+    fn write_queue(&self, line: &mut [u8], at: usize) -> usize
+        requires { at + 320 ≤ length line.old }
+        ensures text { take result line.new ≡ take at line.old ++ queue_text self.now.sequential.queue }
+        ensures most { result ≤ at + 320 }
     {
-        !self.sequential.readers().is_empty()
+        if self.requests.is_empty() {
+            put_block(line, at, b"-", 1)
+        } else {
+            self.requests.put_rest(line, at)
+        }
     }
 
-    /// The readers of a read-write lock as text.
-    pub fn readers_text(&self) -> &[u8]
-        ensures text { result.now ≡ numbers_text self.now.sequential.readers }
-        ensures few { length result.now ≤ 256 }
+    // Writes who holds a read-write lock.
+    fn write_sharers(&self, line: &mut [u8], at: usize) -> usize
+        requires { at + 321 ≤ length line.old }
+        ensures text { take result line.new ≡ take at line.old
+            ++ holding_text (shared_by self.now.sequential.readers self.now.sequential.writer) }
+        ensures most { result ≤ at + 321 }
     {
-        let few = self.sequential.readers().len() <= 64;
-        prove!(few);
-        match self.readers.as_slice().split_first() {
-            Some((_, text)) => text,
-            None => &[],
+        if let Some(thread) = self.sequential.writer() {
+            let (block, len) = thread_block(b'w', thread);
+            put_block(line, at, &block, len)
+        } else if self.readers.is_empty() {
+            put_block(line, at, b"-", 1)
+        } else {
+            let at = put_block(line, at, b"r", 1);
+            self.readers.put_rest(line, at)
+        }
+    }
+
+    /// Writes who holds and who waits, up to the line's end, and answers where that is.
+    pub fn write(&self, line: &mut [u8], at: usize) -> usize
+        requires { at + 384 ≤ length line.old }
+        ensures text { take result line.new ≡ take at line.old ++ followed_text self.now }
+        ensures fits { result ≤ length line.new }
+    {
+        match self.kind {
+            LockKind::Ticket | LockKind::Mcs => {
+                let at = write_one(line, at, self.holder);
+                let at = put_block(line, at, b" queue ", 7);
+                let at = self.write_queue(line, at);
+                put_block(line, at, b"\n", 1)
+            }
+            LockKind::RwSimple => {
+                let at = self.write_sharers(line, at);
+                put_block(line, at, b" queue -\n", 9)
+            }
+            LockKind::RwFifo => {
+                let at = self.write_sharers(line, at);
+                let at = put_block(line, at, b" queue ", 7);
+                let at = write_one(line, at, self.sequential.announced());
+                put_block(line, at, b"\n", 1)
+            }
         }
     }
 }

@@ -2,9 +2,11 @@
 
 ghost use Rattle.std.specs.Prelude.{◌≡◌, ◌+◌, ◌≤◌, ◌++◌, ◌∷◌, [], decimal, length, take};
 
-use crate::report::text::BLOCK;
 use itoa::Buffer;
 use std::marker::Model;
+
+// The bytes of a block of digits: one store.
+const BLOCK: usize = 16;
 
 /// A number, and its digits at the front of a block.
 #[derive(Drop)]
@@ -73,30 +75,30 @@ impl Numeral {
     }
 }
 
-/// A byte, the digits of a thread's number and a space, and how long that is without the space.
-pub fn thread_block(lead: u8, thread: u8) -> ([u8; BLOCK], usize)
-    ensures text { take result.1 result.0 ≡ lead ∷ decimal thread }
-    ensures spaced { take (result.1 + 1) result.0 ≡ lead ∷ (decimal thread ++ 32 ∷ []) }
-    ensures fits { result.1 ≤ 4 }
-    ensures width { result.1 ≡ length (decimal thread) + 1 }
+/// The digits of a thread's number, and how many they are.
+pub fn number_block(thread: u8) -> ([u8; 3], usize)
+    ensures text { take result.1 result.0 ≡ decimal thread }
+    ensures size { length result.0 ≡ 3 }
+    ensures few { result.1 ≤ 3 }
 {
+    if thread < 10 {
+        return ([b'0' + thread, b' ', b' '], 1);
+    }
     let tens = b'0' + thread / 10 % 10;
     let ones = b'0' + thread % 10;
-    let mut block = [b' '; BLOCK];
-    block[0] = lead;
-    if thread >= 100 {
-        block[1] = b'0' + thread / 100;
-        block[2] = tens;
-        block[3] = ones;
-        (block, 4)
-    } else if thread >= 10 {
-        block[1] = tens;
-        block[2] = ones;
-        (block, 3)
-    } else {
-        block[1] = ones;
-        (block, 2)
+    if thread < 100 {
+        return ([tens, ones, b' '], 2);
     }
+    ([b'0' + thread / 100, tens, ones], 3)
+}
+
+/// A byte and the digits of a thread's number, and how long that is.
+pub fn thread_block(lead: u8, thread: u8) -> ([u8; 4], usize)
+    ensures text { take result.1 result.0 ≡ lead ∷ decimal thread }
+    ensures fits { result.1 ≤ 4 }
+{
+    let (block, len) = number_block(thread);
+    ([lead, block[0], block[1], block[2]], len + 1)
 }
 
 /// How many digits a thread's number has.

@@ -1,17 +1,20 @@
 //! The lines of a report, printed one after another from what was played. No line asks for memory.
 
-ghost use Rattle.std.specs.Prelude.{◌≡◌};
+ghost use Rattle.std.specs.Prelude.{◌≡◌, ◌≤◌, length, take};
 ghost use Rattle.lk_replay.specs.Report.{move_text};
 
 use crate::played::{Accepted, Played};
-use crate::report::line::KeptLine;
+use crate::report::followed::Followed;
 use crate::report::numerals::{Numeral, thread_block};
-use crate::report::text::Text;
+use crate::report::text::put_block;
 use crate::report::words::{move_block, outcome_block};
 use lk_locks::{Entry, LockKind};
 use std::marker::Model;
 
-/// What was played, and how far it is printed. A line has a prefix, which tells of the move, and an end, who holds and who waits.
+/// The bytes of a place that has room for any line: 64 for what tells of the move, and 384 for who holds and who waits.
+pub const LINE_ROOM: usize = 448;
+
+/// What was played, and how far it is printed.
 #[derive(Drop)]
 pub struct Printer<'a> {
     moves: &'a [Accepted],
@@ -20,8 +23,7 @@ pub struct Printer<'a> {
     printed: usize,
     followed: usize,
     count: Numeral,
-    prefix: Text,
-    line: KeptLine,
+    line: Followed,
     last: &'a [u8],
 }
 
@@ -31,29 +33,30 @@ impl<'a> Model for Printer<'a> {
 
     ghost Value = { Printing };
 
-    ghost view = { λ a. printing a.prefix a.line a.printed (drop a.printed a.moves.now) (drop a.printed a.added.now) (drop a.followed a.entries.now) a.last.now };
+    ghost view = { λ a. printing a.line a.printed (drop a.printed a.moves.now) (drop a.printed a.added.now) (drop a.followed a.entries.now) a.last.now };
 
     ghost invariant = { λ a. IsPrinting a.line a.count a.printed a.followed a.moves.now a.added.now a.entries.now };
 }
 
-// Writes `K T WORD OUTCOME hold ` of an accepted move.
+// Writes `K T WORD OUTCOME hold ` of an accepted move, and answers where it ends.
 #[tactic(auto, unfolding(crate::specs::Report::move_text))]
-fn write_prefix(prefix: &mut Text, count: &Numeral, accepted: &Accepted)
-    ensures { prefix.new ≡ move_text count.now accepted.now }
+fn write_prefix(line: &mut [u8], count: &Numeral, accepted: &Accepted) -> usize
+    requires { 80 ≤ length line.old }
+    ensures text { take result line.new ≡ move_text count.now accepted.now }
+    ensures short { result ≤ 64 }
 {
-    prefix.clear();
     let (block, len) = count.block();
-    prefix.push_block(block, len);
+    let count_end = put_block(line, 0, block, len);
     let (block, len) = thread_block(b' ', accepted.thread);
-    prefix.push_block(&block, len + 1);
+    let thread_end = put_block(line, count_end, &block, len);
     let (block, len) = move_block(accepted.action);
-    prefix.push_block(block, len);
+    let move_end = put_block(line, thread_end, block, len);
     let (block, len) = outcome_block(accepted.outcome);
-    prefix.push_block(block, len);
+    put_block(line, move_end, block, len)
 }
 
 impl<'a> Printer<'a> {
-    ghost use Rattle.std.specs.Prelude.{◌≡◌, ◌+◌, ◌<◌, ◌++◌, []};
+    ghost use Rattle.std.specs.Prelude.{◌≡◌, ◌+◌, ◌<◌, ◌≤◌, ◌++◌, [], length, take};
     ghost use Rattle.lk_replay.specs.Printing.{played_lines};
 
     /// A printer of what was played, and of the last line.
@@ -68,8 +71,7 @@ impl<'a> Printer<'a> {
             printed: 0,
             followed: 0,
             count: Numeral::of(0),
-            prefix: Text::new(),
-            line: KeptLine::new(played.kind()),
+            line: Followed::new(played.kind()),
             last,
         }
     }
@@ -86,8 +88,7 @@ impl<'a> Printer<'a> {
             printed: 0,
             followed: 0,
             count: Numeral::of(0),
-            prefix: Text::new(),
-            line: KeptLine::new(LockKind::Ticket),
+            line: Followed::new(LockKind::Ticket),
             last,
         }
     }
@@ -100,34 +101,23 @@ impl<'a> Printer<'a> {
         self.moves.len() - self.printed
     }
 
-    /// Prints the next line.
-    pub fn next(&mut self)
-        requires { 0 < self.old.left }
-        ensures lines { self.old.lines ≡ (self.new.prefix ++ self.new.end) ++ self.new.lines }
+    /// Prints the next line at the front of a place, and answers how long it is.
+    pub fn next(&mut self, line: &mut [u8]) -> usize
+        requires some { 0 < self.old.left }
+        requires room { 448 ≤ length line.old }
+        ensures lines { self.old.lines ≡ take result line.new ++ self.new.lines }
+        ensures fits { result ≤ length line.new }
         ensures left { self.new.left + 1 ≡ self.old.left }
         ensures last { self.new.last ≡ self.old.last }
     {
         let accepted = self.moves[self.printed];
-        let end = self.followed + usize::from(self.added[self.printed]);
-        self.line.follow(&self.entries[self.followed..end]);
-        self.followed = end;
+        let followed = self.followed + usize::from(self.added[self.printed]);
+        self.line.follow(&self.entries[self.followed..followed]);
+        self.followed = followed;
         self.printed += 1;
         self.count.count_on();
-        write_prefix(&mut self.prefix, &self.count, &accepted);
-    }
-
-    /// The prefix of the line that was printed last.
-    pub fn prefix(&self) -> &[u8]
-        ensures { result.now ≡ self.now.prefix }
-    {
-        self.prefix.as_slice()
-    }
-
-    /// The end of the line that was printed last.
-    pub fn end(&self) -> &[u8]
-        ensures { result.now ≡ self.now.end }
-    {
-        self.line.end()
+        let at = write_prefix(line, &self.count, &accepted);
+        self.line.write(line, at)
     }
 
     /// The last line of the report.

@@ -1,13 +1,27 @@
 //! A short text in a fixed array, which takes no memory as it grows.
 
+ghost use Rattle.std.specs.Prelude.{◌≡◌, ◌+◌, ◌≤◌, ◌++◌, length, take};
+
 use std::marker::Model;
 
-/// The bytes of a block. A block is copied whole, and what is too much of it is overwritten by the next: a short text costs
-/// one store, whatever its length.
-pub const BLOCK: usize = 16;
-
-// Enough for the end of a line: 64 numbers of at most 3 digits, each behind a comma, 12 bytes more, and a block's rest.
+// Enough for 64 numbers of at most 3 digits, each behind a comma, and for a block's rest.
 const MOST: usize = 320;
+
+// The bytes of a text that are copied at once, where it has no more: two stores, whatever its length.
+const SHORT: usize = 32;
+
+/// Puts the first `len` bytes of a block into a place, from `at` on, and answers where they end. The block is copied whole, and
+/// what is too much of it is overwritten by the next: a short text costs one store, whatever its length.
+pub fn put_block<const N: usize>(place: &mut [u8], at: usize, block: &[u8; N], len: usize) -> usize
+    requires room { at + N ≤ length place.old }
+    requires fits { len ≤ N }
+    ensures text { take result place.new ≡ take at place.old ++ take len block.now }
+    ensures end { result ≡ at + len }
+{
+    let bytes = *block;
+    place[at..at + N].copy_from_slice(&bytes);
+    at + len
+}
 
 /// A text of at most 320 bytes.
 #[derive(Drop)]
@@ -27,7 +41,7 @@ impl Model for Text {
 }
 
 impl Text {
-    ghost use Rattle.std.specs.Prelude.{◌≡◌, ◌+◌, ◌≤◌, ◌++◌, [], drop, length, take};
+    ghost use Rattle.std.specs.Prelude.{◌≡◌, ◌+◌, ◌<◌, ◌≤◌, ◌↔◌, ◌++◌, [], IsTrue, drop, length, take};
 
     /// An empty text.
     pub fn new() -> Text
@@ -46,11 +60,11 @@ impl Text {
         &self.bytes[..self.len]
     }
 
-    /// Takes all bytes off.
-    pub fn clear(&mut self)
-        ensures { self.new ≡ [] }
+    /// Whether there is no byte.
+    pub fn is_empty(&self) -> bool
+        ensures { IsTrue result ↔ length self.now ≡ 0 }
     {
-        self.len = 0;
+        self.len == 0
     }
 
     /// Appends bytes.
@@ -64,14 +78,28 @@ impl Text {
     }
 
     /// Appends the first `len` bytes of a block.
-    pub fn push_block(&mut self, block: &[u8; BLOCK], len: usize)
-        requires room { length self.old + 16 ≤ 320 }
-        requires fits { len ≤ 16 }
+    pub fn push_block(&mut self, block: &[u8; 4], len: usize)
+        requires room { length self.old + 4 ≤ 320 }
+        requires fits { len ≤ 4 }
         ensures { self.new ≡ self.old ++ take len block.now }
     {
-        let bytes = *block;
-        self.bytes[self.len..self.len + BLOCK].copy_from_slice(&bytes);
-        self.len += len;
+        self.len = put_block(&mut self.bytes, self.len, block, len);
+    }
+
+    /// Puts all but the first byte into a place, from `at` on, and answers where that ends.
+    pub fn put_rest(&self, place: &mut [u8], at: usize) -> usize
+        requires some { 0 < length self.now }
+        requires room { at + 320 ≤ length place.old }
+        ensures text { take result place.new ≡ take at place.old ++ drop 1 self.now }
+        ensures most { result ≤ at + 320 }
+    {
+        let len = self.len - 1;
+        if len <= SHORT {
+            place[at..at + SHORT].copy_from_slice(&self.bytes[1..1 + SHORT]);
+            return at + len;
+        }
+        place[at..at + len].copy_from_slice(&self.bytes[1..self.len]);
+        at + len
     }
 
     /// Takes `count` bytes out, from the place `at` on.
@@ -84,10 +112,10 @@ impl Text {
     }
 
     /// Puts the first `len` bytes of a block in, at the place `at`.
-    pub fn insert(&mut self, at: usize, block: &[u8; BLOCK], len: usize)
+    pub fn insert(&mut self, at: usize, block: &[u8; 4], len: usize)
         requires place { at ≤ length self.old }
-        requires room { length self.old + 16 ≤ 320 }
-        requires fits { len ≤ 16 }
+        requires room { length self.old + 4 ≤ 320 }
+        requires fits { len ≤ 4 }
         ensures { self.new ≡ (take at self.old ++ take len block.now) ++ drop at self.old }
     {
         self.bytes.copy_within(at..self.len, at + len);

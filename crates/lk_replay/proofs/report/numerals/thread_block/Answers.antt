@@ -1,31 +1,14 @@
--- A thread's number has one to three digits.
-use Rattle.std.proofs.Common.{List, ℕ, ◌+◌, ◌∷◌, ◌++◌, [], length, arith, ap, sym}
-use Rattle.lk_replay.proofs.Digits.{one_digit, both_digits, three_digits}
+-- The digits stand behind the byte.
+use Rattle.std.proofs.Common.{◌≡◌, List, ℕ, ◌+◌, ◌∷◌, add-one, ap, refl, take, ◌∙◌}
+use Rattle.lk_replay.proofs.Digits.{three_bytes}
 use Rattle.lk_replay.proofs.report.numerals.thread_block.Goals as goal
 
-pub returns-then-thread-ge100-clause-text : goal.returns-then-thread-ge100-clause-text
-returns-then-thread-ge100-clause-text c = ap (λ (ds : List ℕ). c.args.lead ∷ ds) (sym (three_digits c.args.thread c.if-thread-ge100.true (omega (arith, c.ranges.thread.fits))))
-
-pub returns-then-thread-ge100-clause-spaced : goal.returns-then-thread-ge100-clause-spaced
-returns-then-thread-ge100-clause-spaced c = ap (λ (ds : List ℕ). c.args.lead ∷ (ds ++ 32 ∷ [])) (sym (three_digits c.args.thread c.if-thread-ge100.true (omega (arith, c.ranges.thread.fits))))
-
-pub returns-then-thread-ge100-clause-width : goal.returns-then-thread-ge100-clause-width
-returns-then-thread-ge100-clause-width c = ap (λ (ds : List ℕ). length ds + 1) (sym (three_digits c.args.thread c.if-thread-ge100.true (omega (arith, c.ranges.thread.fits))))
-
-pub returns-then-thread-ge10-clause-text : goal.returns-then-thread-ge10-clause-text
-returns-then-thread-ge10-clause-text c = ap (λ (ds : List ℕ). c.args.lead ∷ ds) (sym (both_digits c.args.thread c.if-thread-ge10.true (omega (arith, c.if-thread-ge100.false))))
-
-pub returns-then-thread-ge10-clause-spaced : goal.returns-then-thread-ge10-clause-spaced
-returns-then-thread-ge10-clause-spaced c = ap (λ (ds : List ℕ). c.args.lead ∷ (ds ++ 32 ∷ [])) (sym (both_digits c.args.thread c.if-thread-ge10.true (omega (arith, c.if-thread-ge100.false))))
-
-pub returns-then-thread-ge10-clause-width : goal.returns-then-thread-ge10-clause-width
-returns-then-thread-ge10-clause-width c = ap (λ (ds : List ℕ). length ds + 1) (sym (both_digits c.args.thread c.if-thread-ge10.true (omega (arith, c.if-thread-ge100.false))))
-
-pub returns-else-thread-ge10-clause-text : goal.returns-else-thread-ge10-clause-text
-returns-else-thread-ge10-clause-text c = ap (λ (ds : List ℕ). c.args.lead ∷ ds) (sym (one_digit c.args.thread (omega (arith, c.if-thread-ge10.false))))
-
-pub returns-else-thread-ge10-clause-spaced : goal.returns-else-thread-ge10-clause-spaced
-returns-else-thread-ge10-clause-spaced c = ap (λ (ds : List ℕ). c.args.lead ∷ (ds ++ 32 ∷ [])) (sym (one_digit c.args.thread (omega (arith, c.if-thread-ge10.false))))
-
-pub returns-else-thread-ge10-clause-width : goal.returns-else-thread-ge10-clause-width
-returns-else-thread-ge10-clause-width c = ap (λ (ds : List ℕ). length ds + 1) (sym (one_digit c.args.thread (omega (arith, c.if-thread-ge10.false))))
+pub returns-clause-text : goal.returns-clause-text
+returns-clause-text c =
+    let lead : ℕ = c.args.lead in
+    let block : List ℕ = c.number_block-len.result.0 in
+    let len : ℕ = c.number_block-len.result.1 in
+    let behind : take (len + 1) (lead ∷ block) ≡ lead ∷ take len block = rw add-one refl in
+    ap (λ (xs : List ℕ). take (len + 1) (lead ∷ xs))
+    (three_bytes block c.number_block-len.ensures.size)
+    ∙ behind ∙ ap (λ (xs : List ℕ). lead ∷ xs) c.number_block-len.ensures.text

@@ -9,12 +9,12 @@ follow-requires c = may_be_next _ c.self.inside.entries.now c.self.inside.follow
 
 pub invariant_of-self : goal.invariant_of-self
 invariant_of-self c =
-    let within : c.self.inside.printed < length c.self.inside.moves.now = omega (arith, c.requires, ap (λ (p : Printing). p.left) c.self.view_is, length-drop c.self.inside.printed c.self.inside.moves.now) in
+    let within : c.self.inside.printed < length c.self.inside.moves.now = omega (arith, c.requires.some, ap (λ (p : Printing). p.left) c.self.view_is, length-drop c.self.inside.printed c.self.inside.moves.now) in
     printing_next c.self.inside.line _ c.self.inside.count _ c.self.inside.printed c.self.inside.followed c.from.result c.self.inside.moves.now c.self.inside.added.now c.self.inside.entries.now
     c.self.invariant within c.from.ensures c.follow.ensures c.count_on.ensures
 
 pub returns-clause-lines : goal.returns-clause-lines
 returns-clause-lines c =
-    let within : c.self.inside.printed < length c.self.inside.moves.now = omega (arith, c.requires, ap (λ (p : Printing). p.left) c.self.view_is, length-drop c.self.inside.printed c.self.inside.moves.now) in
-    line_printed _ _ c.self.inside.line c.follow.new.self c.self.inside.moves.now c.self.inside.added.now c.self.inside.entries.now c.self.inside.printed c.self.inside.followed c.from.result _ _
-    within (omega (arith, within, c.self.invariant.each)) c.from.ensures c.follow.ensures (c.count_on.ensures ∙ ap (λ (k : ℕ). k + 1) c.self.invariant.counted) c.write_prefix.ensures (sym (ap (λ (p : Printing). p.lines) c.self.view_is))
+    let within : c.self.inside.printed < length c.self.inside.moves.now = omega (arith, c.requires.some, ap (λ (p : Printing). p.left) c.self.view_is, length-drop c.self.inside.printed c.self.inside.moves.now) in
+    rw c.write.ensures.text (line_printed _ _ c.self.inside.line c.follow.new.self c.self.inside.moves.now c.self.inside.added.now c.self.inside.entries.now c.self.inside.printed c.self.inside.followed c.from.result _ _
+    within (omega (arith, within, c.self.invariant.each)) c.from.ensures c.follow.ensures (c.count_on.ensures ∙ ap (λ (k : ℕ). k + 1) c.self.invariant.counted) c.write_prefix-at.ensures.text (sym (ap (λ (p : Printing). p.lines) c.self.view_is)))

@@ -2,7 +2,7 @@
 use Rattle.std.proofs.Common.{◌≡◌, drop}
 use Rattle.lk_locks.specs.Legal.{AreEnabled}
 use Rattle.lk_replay.specs.Following.{followed_by}
-use Rattle.lk_replay.proofs.report.line.KeptLine.follow.Given as goal
+use Rattle.lk_replay.proofs.report.followed.Followed.follow.Given as goal
 
 abbrev pub invariant-loop-entry : goal.invariant-loop-entry
 invariant-loop-entry l = record {
