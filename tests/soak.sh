@@ -31,7 +31,7 @@ run_with() {
 soak() {
     run tests/rows.py "$program"
     run tests/memory.py "$program"
-    run_with tests/refusals.py tests/refusals.py "$program"
+    run tests/refusals.py "$program"
     run_with page/lockreplay.html env PAGE_SEED=$RANDOM tests/page/run.py "$program" random_texts
     run_with $locktrace tests/recording.py $locktrace "$program"
     run_with $locktrace tests/order_search.py $locktrace
