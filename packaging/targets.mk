@@ -18,8 +18,15 @@ dist: $(PROGRAM)
 deb: $(PROGRAM)
 	packaging/deb.sh
 
-# Debian packages that these need are installed by them where they are missing.
+# Side by side. Debian packages that these need are installed by them where they are missing.
 release-checks: $(PROGRAM) tools
+	$(MAKE) --no-print-directory --jobs=$(shell nproc) --output-sync=target \
+	    release-packages release-installed release-hosts
+
+.PHONY: release-packages release-installed release-hosts
+release-packages:
 	tests/packages.py
+release-installed:
 	tests/installed.py
+release-hosts:
 	tests/parallel_ssh.py $(PROGRAM)

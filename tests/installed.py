@@ -48,7 +48,7 @@ def output(*words, **how):
 
 def make(target, folder):
     return output("make", "--no-print-directory", "--silent", target, "PREFIX=/usr/local",
-                  f"DESTDIR={folder}", cwd=TOP)
+                  f"DESTDIR={folder}", cwd=TOP, env=wanted.environment())
 
 
 def files(folder):

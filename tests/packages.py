@@ -35,6 +35,7 @@ def output(*words, **how):
 
 def made(target, **how):
     """The file that a target of the Makefile writes: the last line that it prints."""
+    how.setdefault("env", wanted.environment())
     words = ["make", "--no-print-directory", "--silent", target]
     made = subprocess.run(words, cwd=TOP, stdout=subprocess.PIPE, text=True, check=True, **how)
     return TOP / made.stdout.splitlines()[-1]
@@ -119,7 +120,7 @@ def try_again(tally, target, first):
     """The same bytes from another folder, under another umask, a second later."""
     before = first.read_bytes()
     with tempfile.TemporaryDirectory() as other:
-        how = {"umask": 0o077, "env": {**os.environ, "TMPDIR": other, "TZ": "Asia/Tokyo"}}
+        how = {"umask": 0o077, "env": {**wanted.environment(), "TMPDIR": other, "TZ": "Asia/Tokyo"}}
         tally.check(f"{target}: made again", made(target, **how).read_bytes() == before, True)
 
 

@@ -1,5 +1,13 @@
-"""Debian packages that a test needs, installed where they are missing."""
+"""What a test needs of the machine: Debian packages, and an environment to run `make` in."""
+import os
 import subprocess
+
+OF_MAKE = {"MAKELEVEL", "MAKEFLAGS", "MFLAGS"}
+
+
+def environment():
+    """The environment without what a `make` that runs this test tells another `make`."""
+    return {name: value for name, value in os.environ.items() if name not in OF_MAKE}
 
 
 def is_missing(package):
