@@ -14,7 +14,7 @@ use Rattle.lk_locks.specs.declared.kinds.LockKind.TheVariants.{Ticket, Mcs, RwSi
 use Rattle.lk_locks.specs.declared.kinds.Move.TheVariants.{Call, Step}
 use Rattle.lk_locks.specs.declared.kinds.Outcome.TheVariants.{Moved, Entered, Left}
 use Rattle.lk_locks.specs.declared.kinds.Phase.{Phase}
-use Rattle.lk_locks.specs.declared.kinds.Phase.TheVariants.{TakeTicket, AwaitTurn, PassOn, SwapTail, AwaitGrant, CasTail, Grant, TryRead, LeaveRead, TryWrite, AwaitReaders, LeaveWrite, TryDowngrade}
+use Rattle.lk_locks.specs.declared.kinds.Phase.TheVariants.{TakeTicket, AwaitTurn, PassOn, SwapTail, AwaitGrant, TryRead, LeaveRead, TryWrite, AwaitReaders, LeaveWrite, TryDowngrade}
 use Rattle.lk_locks.specs.Play.{RecordedLock, after_play, IsPlayAnswer}
 use Rattle.lk_locks.specs.declared.kinds.Entry.{Entry}
 use Rattle.lk_locks.specs.declared.kinds.LockKind.{LockKind}

@@ -1,5 +1,5 @@
 -- Each line goes on its way, and then the last one.
-use Rattle.std.proofs.Common.{ℕ, List, [], ◌≡◌, ◌++◌, ◌∙◌, ap, append-nil, append_assoc, arith, refl, subst, sym}
+use Rattle.std.proofs.Common.{ℕ, List, [], ◌≡◌, ◌++◌, ◌∙◌, ap, append-nil, append_assoc, arith, subst, sym}
 use Rattle.std.proofs.lemmas.Result.{on_err_weaker}
 use Rattle.lk_replay.proofs.Passed.{prefix_of_rest, prefix_of_waiting, prefix_of_whole, passes_on, told}
 use Rattle.lk_replay.proofs.Printed.{last_part, next_parts}

@@ -1,5 +1,5 @@
 -- What is copied begins with the rest.
-use Rattle.std.proofs.Common.{◌≡◌, ◌≤◌, ◌+◌, ◌-◌, ◌++◌, ◌∙◌, List, ℕ, ap, arith, drop, length, length-drop, length-take-le, take}
+use Rattle.std.proofs.Common.{◌≡◌, ◌+◌, ◌-◌, ◌++◌, ◌∙◌, List, ℕ, ap, arith, drop, length, length-drop, length-take-le, take}
 use Rattle.lk_replay.proofs.Texts.{block_pushed, rest_taken}
 use Rattle.lk_replay.proofs.report.text.Text.put_rest.Goals as goal
 
