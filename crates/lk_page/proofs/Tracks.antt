@@ -7,8 +7,7 @@ use Rattle.lk_locks.specs.Sequential.{nobody}
 use Rattle.lk_locks.specs.Legal.{after_entries}
 use Rattle.lk_locks.specs.Holding.{holder_after, holding_of, waiting_of}
 use Rattle.lk_locks.specs.Tracked.{tracked, followed, after_tracked, held_as, waits_as, holding_in, waiting_in}
-use Rattle.lk_locks.proofs.Histories.{after_append}
-use Rattle.lk_locks.proofs.invariants.Inside.{holder_append}
+use Rattle.lk_locks.proofs.Histories.{after_append, holder_append}
 use Rattle.lk_locks.specs.declared.kinds.LockKind.{LockKind}
 use Rattle.lk_locks.specs.declared.kinds.LockKind.TheVariants.{Ticket, Mcs, RwSimple, RwFifo}
 use Rattle.lk_locks.specs.declared.kinds.Move.{Move}
