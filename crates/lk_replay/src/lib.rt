@@ -7,6 +7,7 @@ mod engine;
 mod header;
 mod lines;
 mod output_buffer;
+pub mod parts;
 mod played;
 mod report;
 mod schedule;

@@ -1,0 +1,4 @@
+mod Large
+mod HeaderFaults
+mod Agreeing
+mod Made

@@ -1,0 +1,34 @@
+-- Definitions. What it is that a line of a trace agrees with the lock, part by part. This project's
+-- own; the difference that is answered is the first part that does not.
+use Rattle.std.specs.Prelude.{◌≡◌, ℕ, ◌<◌, ◌==◌, Option, Some, None, Bool, not, IfSome}
+use Rattle.lk_locks.specs.State.{State}
+use Rattle.lk_locks.specs.Steps.{refusal_of, change_of}
+use Rattle.lk_locks.specs.declared.kinds.Move.{Move}
+use Rattle.lk_locks.specs.declared.kinds.Outcome.{Outcome}
+use Rattle.lk_trace.specs.Checks.{Checked, word_of, stands, will_stand}
+use Rattle.lk_trace.specs.declared.names.WordName.{WordName}
+use Rattle.lk_trace.specs.declared.line.Seen.{Seen}
+use Rattle.lk_trace.specs.declared.line.Seen.TheVariants.{Nothing, OnWord, InSection}
+use Rattle.lk_trace.specs.declared.line.TraceLine.{TraceLine}
+
+-- the machine's step is on this word, and found and leaves in it what is given
+pub record AgreesOnWord (s : State) (t : ℕ) (m : Move) (word : WordName) (found left : Option ℕ) (wrote : Option Bool) : Type 0 where
+  pub on_word : word_of s t m ≡ Some word
+  pub found_is : IfSome found (λ v. stands s word ≡ v)
+  pub left_is : IfSome left (λ v. will_stand s t m word ≡ v)
+  pub wrote_is : IfSome wrote (λ w. not (stands s word == will_stand s t m word) ≡ w)
+
+-- the section's count is above those before, and this comes of it
+pub record AgreesOnSection (c : Checked) (t : ℕ) (m : Move) (count : Option ℕ) (outcome : Option Outcome) : Type 0 where
+  pub count_is : IfSome count (λ n. c.sections < n)
+  pub outcome_is : IfSome outcome (λ o. (change_of c.lock.state t m).outcome ≡ o)
+
+abbrev pub AgreesOn : Checked → ℕ → Move → Seen → Type 0
+AgreesOn c t m Nothing = Unit {0}
+AgreesOn c t m (OnWord word found left wrote) = AgreesOnWord c.lock.state t m word found left wrote
+AgreesOn c t m (InSection count outcome) = AgreesOnSection c t m count outcome
+
+-- the machine accepts the move, and each part that the line gives is the machine's
+pub record Agrees (c : Checked) (l : TraceLine) : Type 0 where
+  pub accepted : refusal_of c.lock.state l.thread l.action ≡ None
+  pub seen : AgreesOn c l.thread l.action l.seen

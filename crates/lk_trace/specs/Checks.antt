@@ -1,0 +1,145 @@
+-- Definitions. The check of a move with what its thread saw: where they differ first. This
+-- project's own; what a move does is said by the definitions of the locks alone.
+use Rattle.std.specs.Prelude.{ℕ, ◌==◌, List, [], replicate, slice_index, Option, Some, None, Result, Ok, Err, Bool}
+use Rattle.std.specs.Prelude.{true, false, not, nat_lt, if◌then◌else◌}
+use Rattle.lk_locks.specs.State.{State, start, word_count, phase_at}
+use Rattle.lk_locks.specs.Steps.{refusal_of, change_of, next_state}
+use Rattle.lk_locks.specs.Entries.{entries_of}
+use Rattle.lk_locks.specs.Tracked.{Tracked, tracked, followed}
+use Rattle.lk_locks.specs.declared.kinds.LockKind.{LockKind}
+use Rattle.lk_locks.specs.declared.kinds.Move.{Move}
+use Rattle.lk_locks.specs.declared.kinds.Move.TheVariants.{Call, Step}
+use Rattle.lk_locks.specs.declared.kinds.Outcome.{Outcome}
+use Rattle.lk_locks.specs.declared.kinds.Outcome.TheVariants as outcome
+use Rattle.lk_locks.specs.declared.kinds.Refusal.{Refusal}
+use Rattle.lk_trace.specs.Names.{touched, place_of, same_word}
+use Rattle.lk_trace.specs.declared.names.WordName.{WordName}
+use Rattle.lk_trace.specs.declared.line.Seen.{Seen}
+use Rattle.lk_trace.specs.declared.line.Seen.TheVariants.{Nothing, OnWord, InSection}
+use Rattle.lk_trace.specs.declared.line.TraceLine.{TraceLine}
+use Rattle.lk_trace.specs.declared.difference.Difference.{Difference}
+use Rattle.lk_trace.specs.declared.difference.Difference.TheVariants.{Refused, OtherWord}
+use Rattle.lk_trace.specs.declared.difference.Difference.TheVariants.{FoundOther, LeftOther}
+use Rattle.lk_trace.specs.declared.difference.Difference.TheVariants.{WroteOther, CountNotAbove}
+use Rattle.lk_trace.specs.declared.difference.Difference.TheVariants.{OtherOutcome}
+
+-- a lock, and the greatest count of a section that was given so far
+pub record Checked : Type 0 where
+  pub lock : Tracked
+  pub sections : ℕ
+
+-- a lock with so many threads on words of so many bits, on which nothing was done
+abbrev pub new_lock : LockKind → ℕ → ℕ → Checked
+new_lock kind threads bits = record {
+  lock = tracked (start kind bits (replicate (word_count kind threads) 0) threads) [];
+  sections = 0;
+}
+
+-- the first difference of two checks, one after the other
+abbrev pub or_then : Option Difference → Option Difference → Option Difference
+or_then (Some difference) rest = Some difference
+or_then None rest = rest
+
+abbrev pub refused : Option Refusal → Option Difference
+refused (Some refusal) = Some (Refused refusal)
+refused None = None
+
+abbrev pub is_word : Option WordName → WordName → Bool
+is_word (Some word) given = same_word word given
+is_word None given = false
+
+abbrev pub other_word : Option WordName → WordName → Option Difference
+other_word word given = if is_word word given then None else Some (OtherWord word given)
+
+abbrev pub found_other : WordName → ℕ → Option ℕ → Option Difference
+found_other word found None = None
+found_other word found (Some given) = if found == given then None else Some (FoundOther word found given)
+
+abbrev pub left_other : WordName → ℕ → Option ℕ → Option Difference
+left_other word left None = None
+left_other word left (Some given) = if left == given then None else Some (LeftOther word left given)
+
+abbrev pub same_answer : Bool → Bool → Bool
+same_answer true given = given
+same_answer false given = not given
+
+abbrev pub wrote_other : Bool → Option Bool → Option Difference
+wrote_other wrote None = None
+wrote_other wrote (Some given) = if same_answer wrote given then None else Some (WroteOther wrote)
+
+abbrev pub count_other : ℕ → Option ℕ → Option Difference
+count_other last None = None
+count_other last (Some given) = if nat_lt last given then None else Some (CountNotAbove last given)
+
+abbrev pub same_outcome : Outcome → Outcome → Bool
+same_outcome outcome.Called outcome.Called = true
+same_outcome outcome.Moved outcome.Moved = true
+same_outcome outcome.Waits outcome.Waits = true
+same_outcome outcome.Entered outcome.Entered = true
+same_outcome outcome.Left outcome.Left = true
+same_outcome a b = false
+
+abbrev pub outcome_other : Outcome → Option Outcome → Option Difference
+outcome_other outcome None = None
+outcome_other outcome (Some given) = if same_outcome outcome given then None else Some (OtherOutcome outcome given)
+
+-- what stands in a word, and what stands in it after a move
+abbrev pub stands : State → WordName → ℕ
+stands s word = slice_index s.words (place_of s.kind word)
+
+abbrev pub will_stand : State → ℕ → Move → WordName → ℕ
+will_stand s t m word = slice_index (change_of s t m).words (place_of s.kind word)
+
+-- the word that a move of thread t is on: a call is on none
+abbrev pub word_of : State → ℕ → Move → Option WordName
+word_of s t (Call op) = None
+word_of s t (Step kind) = touched s.kind t (phase_at s.phases t)
+
+-- the values of a word before and after
+abbrev pub values_other : WordName → ℕ → ℕ → Option ℕ → Option ℕ → Option Bool → Option Difference
+values_other word found left given_found given_left given_wrote =
+    or_then (found_other word found given_found) (or_then (left_other word left given_left) (wrote_other (not (found == left)) given_wrote))
+
+-- what an accepted move differs in
+abbrev pub seen_other : Checked → ℕ → Move → Seen → Option Difference
+seen_other c t m Nothing = None
+seen_other c t m (OnWord word found left wrote) =
+    or_then (other_word (word_of c.lock.state t m) word)
+    (values_other word (stands c.lock.state word) (will_stand c.lock.state t m word) found left wrote)
+seen_other c t m (InSection count outcome) =
+    or_then (count_other c.sections count) (outcome_other (change_of c.lock.state t m).outcome outcome)
+
+-- where a line of a trace differs from the machine first
+abbrev pub difference_of : Checked → TraceLine → Option Difference
+difference_of c l = or_then (refused (refusal_of c.lock.state l.thread l.action)) (seen_other c l.thread l.action l.seen)
+
+abbrev pub count_given : ℕ → Seen → ℕ
+count_given last (InSection (Some count) outcome) = count
+count_given last seen = last
+
+-- the lock after a move that it accepts
+abbrev pub moved : Tracked → ℕ → Move → Tracked
+moved lock t m = followed lock (next_state lock.state t m) (entries_of lock.state t m)
+
+-- a line without a difference is made
+abbrev pub checked : Checked → TraceLine → Checked
+checked c l = record {
+  lock = moved c.lock l.thread l.action;
+  sections = count_given c.sections l.seen;
+}
+
+abbrev pub unless_other : Option Difference → Checked → Checked → Checked
+unless_other None next c = next
+unless_other (Some difference) next c = c
+
+abbrev pub after_line : Checked → TraceLine → Checked
+after_line c l = unless_other (difference_of c l) (checked c l) c
+
+abbrev pub answer_unless : Option Difference → Outcome → Result Outcome Difference
+answer_unless None outcome = Ok outcome
+answer_unless (Some difference) outcome = Err difference
+
+-- a line is accepted exactly where the machine accepts its move and each part that it gives is the
+-- machine's
+abbrev pub answer_to : Checked → TraceLine → Result Outcome Difference
+answer_to c l = answer_unless (difference_of c l) (change_of c.lock.state l.thread l.action).outcome

@@ -1,0 +1,9 @@
+pub mod ticket
+pub mod mcs
+pub mod rw_simple
+pub mod rw_fifo
+pub mod Names
+pub mod Lines
+pub mod Checks
+pub mod Agreement
+pub mod Traces

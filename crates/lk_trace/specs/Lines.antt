@@ -1,0 +1,182 @@
+-- Definitions. A line of a trace, and a line of a log: a move, and what its thread saw. This
+-- project's own.
+use Rattle.std.specs.Prelude.{ℕ, List, [], ◌∷◌, Option, Some, None, Bool, true, false, is_some}
+use Rattle.std.specs.Prelude.{if◌then◌else◌, ◌&&◌, nat_le, codes, option_map}
+use Rattle.std.specs.Str.{bytes_eq}
+use Rattle.std.specs.Borrow.{Bor}
+use Rattle.lk_locks.specs.declared.kinds.Move.{Move}
+use Rattle.lk_locks.specs.declared.kinds.Move.TheVariants.{Call, Step}
+use Rattle.lk_locks.specs.declared.kinds.StepKind.{StepKind}
+use Rattle.lk_locks.specs.declared.kinds.StepKind.TheVariants.{Cas, Section}
+use Rattle.lk_locks.specs.declared.kinds.Outcome.{Outcome}
+use Rattle.lk_locks.specs.declared.kinds.Outcome.TheVariants.{Called, Moved, Waits, Entered, Left}
+use Rattle.lk_locks.specs.declared.kinds.Refusal.{Refusal}
+use Rattle.lk_locks.specs.declared.kinds.Refusal.TheVariants.{NoSuchThread, WrongLock, Busy}
+use Rattle.lk_locks.specs.declared.kinds.Refusal.TheVariants.{NotHolder, AlreadyHolds, NoCall}
+use Rattle.lk_locks.specs.declared.kinds.Refusal.TheVariants.{WrongStep}
+use Rattle.lk_replay.specs.Lines.{words_of}
+use Rattle.lk_replay.specs.Vocabulary.{is_plain_number, value_from, number_of, move_named}
+use Rattle.lk_trace.specs.declared.names.WordName.{WordName}
+use Rattle.lk_trace.specs.declared.names.WordName.TheVariants.{NextTicket, NowServing, Tail, Next}
+use Rattle.lk_trace.specs.declared.names.WordName.TheVariants.{Locked}
+use Rattle.lk_trace.specs.declared.line.Seen.{Seen}
+use Rattle.lk_trace.specs.declared.line.Seen.TheVariants.{Nothing, OnWord, InSection}
+use Rattle.lk_trace.specs.declared.line.TraceLine.{TraceLine}
+
+abbrev pub Words : Type 0
+Words = List (List ℕ)
+
+-- the number that the text writes, where that is of at most 64 bits
+unfoldable pub whole_number : List ℕ → Option ℕ
+whole_number text = if is_plain_number text && nat_le (value_from 0 text) 18446744073709551615 then Some (value_from 0 text) else None
+
+abbrev pub outcome_word : Outcome → List ℕ
+outcome_word Called = codes "called"
+outcome_word Moved = codes "moved"
+outcome_word Waits = codes "waits"
+outcome_word Entered = codes "entered"
+outcome_word Left = codes "left"
+
+abbrev pub refusal_name : Refusal → List ℕ
+refusal_name NoSuchThread = codes "NoSuchThread"
+refusal_name WrongLock = codes "WrongLock"
+refusal_name Busy = codes "Busy"
+refusal_name NotHolder = codes "NotHolder"
+refusal_name AlreadyHolds = codes "AlreadyHolds"
+refusal_name NoCall = codes "NoCall"
+refusal_name (WrongStep next) = codes "WrongStep"
+
+-- a part that was read, and the words behind it
+abbrev pub Read : Type 0 → Type 0
+Read A = Option (A × Words)
+
+-- `of J`, or else the thread's own record
+abbrev pub owner_of : ℕ → Words → Read ℕ
+owner_of thread (of ∷ number ∷ rest) =
+    if bytes_eq of (codes "of") then option_map (λ j. (j, rest)) (number_of 0 255 number) else Some (thread, of ∷ number ∷ rest)
+owner_of thread (of ∷ []) = if bytes_eq of (codes "of") then None else Some (thread, of ∷ [])
+owner_of thread [] = Some (thread, [])
+
+abbrev pub in_record : (ℕ → WordName) → Read ℕ → Read WordName
+in_record word (Some read) = Some (word read.0, read.1)
+in_record word None = None
+
+-- the word that a step was on
+abbrev pub place_in : ℕ → Words → Read WordName
+place_in thread (name ∷ rest) =
+    if bytes_eq name (codes "next_ticket") then Some (NextTicket, rest)
+    else (if bytes_eq name (codes "now_serving") then Some (NowServing, rest)
+    else (if bytes_eq name (codes "tail") then Some (Tail, rest)
+    else (if bytes_eq name (codes "next") then in_record Next (owner_of thread rest)
+    else (if bytes_eq name (codes "locked") then in_record Locked (owner_of thread rest) else None))))
+place_in thread [] = None
+
+-- a tag and its number, where the tag comes next
+abbrev pub tagged : List ℕ → Words → Read (Option ℕ)
+tagged tag (word ∷ number ∷ rest) =
+    if bytes_eq word tag then option_map (λ n. (Some n, rest)) (whole_number number) else Some (None, word ∷ number ∷ rest)
+tagged tag (word ∷ []) = if bytes_eq word tag then None else Some (None, word ∷ [])
+tagged tag [] = Some (None, [])
+
+abbrev pub wrote : List ℕ → Option Bool
+wrote word = if bytes_eq word (codes "done") then Some true else (if bytes_eq word (codes "failed") then Some false else None)
+
+abbrev pub result_alone : StepKind → List ℕ → Option (Option Bool)
+result_alone Cas word = option_map Some (wrote word)
+result_alone kind word = None
+
+-- whether a compare-and-swap wrote, where that is said, and nothing else
+abbrev pub result_of : StepKind → Words → Option (Option Bool)
+result_of kind [] = Some None
+result_of kind (word ∷ []) = result_alone kind word
+result_of kind (word ∷ next ∷ rest) = None
+
+abbrev pub with_result : WordName → Option ℕ → Option ℕ → Option (Option Bool) → Option Seen
+with_result word found left (Some wrote) = Some (OnWord word found left wrote)
+with_result word found left None = None
+
+abbrev pub with_left : StepKind → WordName → Option ℕ → Read (Option ℕ) → Option Seen
+with_left kind word found (Some left) = with_result word found left.0 (result_of kind left.1)
+with_left kind word found None = None
+
+abbrev pub with_found : StepKind → WordName → Read (Option ℕ) → Option Seen
+with_found kind word (Some found) = with_left kind word found.0 (tagged (codes "left") found.1)
+with_found kind word None = None
+
+abbrev pub with_word : StepKind → Read WordName → Option Seen
+with_word kind (Some word) = with_found kind word.0 (tagged (codes "found") word.1)
+with_word kind None = None
+
+-- what a step saw of its word
+abbrev pub values_of : ℕ → StepKind → Words → Option Seen
+values_of thread kind words = with_word kind (place_in thread words)
+
+abbrev pub outcome_named : List ℕ → Option Outcome
+outcome_named word =
+    if bytes_eq word (codes "moved") then Some Moved
+    else (if bytes_eq word (codes "waits") then Some Waits
+    else (if bytes_eq word (codes "entered") then Some Entered
+    else (if bytes_eq word (codes "left") then Some Left else None)))
+
+abbrev pub with_outcome : Option ℕ → Option Outcome → Option Seen
+with_outcome count (Some outcome) = Some (InSection count (Some outcome))
+with_outcome count None = None
+
+abbrev pub counted : Option ℕ → List ℕ → Option Seen
+counted (Some count) word = Some (InSection (Some count) None)
+counted None word = with_outcome None (outcome_named word)
+
+abbrev pub counted_and : Option ℕ → List ℕ → Option Seen
+counted_and (Some count) word = with_outcome (Some count) (outcome_named word)
+counted_and None word = None
+
+-- the count of a section, or its outcome, or both
+abbrev pub section_of : Words → Option Seen
+section_of [] = None
+section_of (word ∷ []) = counted (whole_number word) word
+section_of (count ∷ word ∷ []) = counted_and (whole_number count) word
+section_of (count ∷ word ∷ next ∷ rest) = None
+
+abbrev pub seen_behind : ℕ → Move → Words → Option Seen
+seen_behind thread (Call op) words = None
+seen_behind thread (Step Section) words = section_of words
+seen_behind thread (Step kind) words = values_of thread kind words
+
+-- what follows a move
+abbrev pub seen_of : ℕ → Move → Words → Option Seen
+seen_of thread action [] = Some Nothing
+seen_of thread action (word ∷ rest) = seen_behind thread action (word ∷ rest)
+
+abbrev pub with_seen : ℕ → Move → Option Seen → Option TraceLine
+with_seen thread action (Some seen) = Some (record { thread = thread; action = action; seen = seen })
+with_seen thread action None = None
+
+abbrev pub with_action : ℕ → Option Move → Words → Option TraceLine
+with_action thread (Some action) rest = with_seen thread action (seen_of thread action rest)
+with_action thread None rest = None
+
+-- a move of this thread
+abbrev pub move_with : ℕ → Words → Option TraceLine
+move_with thread (word ∷ rest) = with_action thread (move_named word) rest
+move_with thread [] = None
+
+abbrev pub with_thread : Option ℕ → Words → Option TraceLine
+with_thread (Some thread) words = move_with thread words
+with_thread None words = None
+
+abbrev pub line_of_words : Words → Option TraceLine
+line_of_words (thread ∷ words) = with_thread (number_of 0 255 thread) words
+line_of_words [] = None
+
+-- the move that a line of a trace is
+unfoldable pub trace_line_of : List ℕ → Option TraceLine
+trace_line_of line = line_of_words (words_of line)
+
+-- the move that a line of this thread's log is
+unfoldable pub log_line_of : ℕ → List ℕ → Option TraceLine
+log_line_of thread line = move_with thread (words_of line)
+
+-- the words of what is left of a line
+abbrev pub words_left : Option (Bor (List ℕ)) → Words
+words_left None = []
+words_left (Some line) = words_of line.now

@@ -1,0 +1,85 @@
+-- Definitions. A trace, line by line: the header, and then the moves, each checked on the header's
+-- lock. This project's own.
+use Rattle.std.specs.Prelude.{ℕ, List, Option, Some, None, Result, Ok, Err, length, nat_lt}
+use Rattle.std.specs.Prelude.{if◌then◌else◌}
+use Rattle.lk_locks.specs.declared.kinds.Outcome.{Outcome}
+use Rattle.lk_replay.specs.Lines.{is_skipped}
+use Rattle.lk_replay.specs.Header as text
+use Rattle.lk_replay.specs.Faults.{Fault}
+use Rattle.lk_replay.specs.Faults as of_text
+use Rattle.lk_replay.specs.declared.schedule.ReadFault.{ReadFault}
+use Rattle.lk_replay.specs.declared.schedule.ReadFault.TheVariants as reading
+use Rattle.lk_replay.specs.declared.header.Header.{Header}
+use Rattle.lk_trace.specs.Lines.{trace_line_of}
+use Rattle.lk_trace.specs.Checks.{Checked, new_lock, answer_to, after_line}
+use Rattle.lk_trace.specs.declared.line.TraceLine.{TraceLine}
+use Rattle.lk_trace.specs.declared.difference.Difference.{Difference}
+use Rattle.lk_trace.specs.declared.trace.Event.{Event}
+use Rattle.lk_trace.specs.declared.trace.Event.TheVariants.{Skipped, Began, Made, Differs}
+use Rattle.lk_trace.specs.declared.trace.Event.TheVariants.{Fault as FaultOf}
+use Rattle.lk_trace.specs.declared.trace.TextFault.{TextFault}
+use Rattle.lk_trace.specs.declared.trace.TextFault.TheVariants.{NoHeader, BadHeader, BadThreads}
+use Rattle.lk_trace.specs.declared.trace.TextFault.TheVariants.{WordsTooNarrow, BadLine}
+
+-- a schedule's fault, without its line
+abbrev pub fault_of : Fault → TextFault
+fault_of (of_text.BadThreads line) = BadThreads
+fault_of (of_text.WordsTooNarrow line) = WordsTooNarrow
+fault_of fault = BadHeader
+
+-- the same of what the program answers
+abbrev pub fault_named : ReadFault → TextFault
+fault_named (reading.BadThreads line) = BadThreads
+fault_named (reading.WordsTooNarrow line) = WordsTooNarrow
+fault_named fault = BadHeader
+
+abbrev pub header_read : Result text.Header Fault → Result Header TextFault
+header_read (Ok header) = Ok (record { kind = header.kind; threads = header.threads; bits = header.bits })
+header_read (Err fault) = Err (fault_of fault)
+
+-- the header that a line of at most 96 bytes is
+abbrev pub read_header_of : List ℕ → Result Header TextFault
+read_header_of line = if nat_lt 96 (length line) then Err BadHeader else header_read (text.header_of 0 line)
+
+-- the move that a line of at most 96 bytes is
+abbrev pub short_line_of : List ℕ → Option TraceLine
+short_line_of line = if nat_lt 96 (length line) then None else trace_line_of line
+
+-- the lock of a header, on which nothing was done
+abbrev pub new_checked : Header → Checked
+new_checked header = new_lock header.kind header.threads header.bits
+
+abbrev pub header_event : Result Header TextFault → Event
+header_event (Ok header) = Began header
+header_event (Err fault) = FaultOf fault
+
+abbrev pub answer_event : TraceLine → Result Outcome Difference → Event
+answer_event line (Ok outcome) = Made line outcome
+answer_event line (Err difference) = Differs line difference
+
+abbrev pub move_event : Checked → Option TraceLine → Event
+move_event c (Some line) = answer_event line (answer_to c line)
+move_event c None = FaultOf BadLine
+
+-- what a line that is not skipped comes to, of a trace of which some lines were read
+abbrev pub unskipped_event : Option Checked → List ℕ → Event
+unskipped_event None line = header_event (read_header_of line)
+unskipped_event (Some c) line = move_event c (short_line_of line)
+
+abbrev pub event_of : Option Checked → List ℕ → Event
+event_of reading line = if is_skipped line then Skipped else unskipped_event reading line
+
+abbrev pub after_header : Result Header TextFault → Option Checked
+after_header (Ok header) = Some (new_checked header)
+after_header (Err fault) = None
+
+abbrev pub after_move_line : Checked → Option TraceLine → Checked
+after_move_line c (Some line) = after_line c line
+after_move_line c None = c
+
+abbrev pub after_unskipped : Option Checked → List ℕ → Option Checked
+after_unskipped None line = after_header (read_header_of line)
+after_unskipped (Some c) line = Some (after_move_line c (short_line_of line))
+
+abbrev pub after_text_line : Option Checked → List ℕ → Option Checked
+after_text_line reading line = if is_skipped line then reading else after_unskipped reading line

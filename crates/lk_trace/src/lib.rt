@@ -1,0 +1,29 @@
+//! Traces: schedules whose lines also say which word a step was on, and what stood in it.
+//!
+//! A trace is read line by line, and each move is made on the lock's machine. It is accepted where
+//! the machine accepts the move and each part that the line gives is the machine's. The memory does
+//! not grow with the run.
+#![tactic(auto)]
+
+mod checker;
+mod difference;
+mod line;
+mod mcs;
+mod names;
+mod numbers;
+mod parts;
+mod rw_fifo;
+mod rw_simple;
+#[cfg(test)]
+mod tests;
+mod ticket;
+mod trace;
+mod vocabulary;
+
+pub use checker::Checker;
+pub use difference::Difference;
+pub use line::{Seen, TraceLine, read_line, read_log_line};
+pub use names::{WordName, name_at, place_of, touched};
+pub use numbers::whole_number;
+pub use trace::{Event, MOST_OF_A_LINE, TextFault, TraceReader, read_header};
+pub use vocabulary::{lock_text, move_text, outcome_text, refusal_text, step_text};

@@ -1,0 +1,253 @@
+//! A line of a trace or of a log, read: a move, and what its thread saw.
+
+ghost use Rattle.std.specs.Prelude.{◌≡◌, MatchOption, None, Some};
+ghost use Rattle.lk_replay.specs.Lines.{words_of};
+ghost use Rattle.lk_trace.specs.Lines.{counted, counted_and, log_line_of, move_with, outcome_named};
+ghost use Rattle.lk_trace.specs.Lines.{owner_of, place_in, result_alone, result_of, seen_of};
+ghost use Rattle.lk_trace.specs.Lines.{section_of, tagged, trace_line_of, values_of, whole_number};
+ghost use Rattle.lk_trace.specs.Lines.{words_left};
+
+use crate::WordName;
+use crate::numbers::whole_number;
+use crate::parts::first_word;
+use lk_locks::{Move, Outcome, StepKind};
+use lk_replay::parts::{move_named, number_of};
+
+/// What a line says of its step besides its kind. A part that is left out is not checked.
+#[derive(Clone, Copy, PartialEq, Eq, Debug)]
+pub enum Seen {
+    Nothing,
+    /// The step was on this word. `found` stood in it, `left` stands in it afterwards; of a
+    /// compare-and-swap, whether it wrote.
+    OnWord {
+        word: WordName,
+        found: Option<u64>,
+        left: Option<u64>,
+        wrote: Option<bool>,
+    },
+    /// Which section of its monitor it was, and what came of it.
+    InSection {
+        count: Option<u64>,
+        outcome: Option<Outcome>,
+    },
+}
+
+/// A move of a trace, with what its thread saw.
+#[derive(Clone, Copy, PartialEq, Eq, Debug)]
+pub struct TraceLine {
+    pub thread: u8,
+    pub action: Move,
+    pub seen: Seen,
+}
+
+/// What is left of a line behind a part of it.
+type Rest<'a> = Option<&'a [u8]>;
+
+// The word that a step of this thread was on, by its name.
+fn place_in(rest: Rest<'_>, thread: u8) -> Option<(WordName, Rest<'_>)>
+    ensures { MatchOption result (place_in thread (words_left rest.entry) ≡ None)
+        (λ read. place_in thread (words_left rest.entry) ≡ Some (read.0, words_left read.1)) }
+{
+    let (name, rest) = first_word(rest)?;
+    if name == b"next_ticket".as_slice() {
+        return Some((WordName::NextTicket, rest));
+    }
+    if name == b"now_serving".as_slice() {
+        return Some((WordName::NowServing, rest));
+    }
+    if name == b"tail".as_slice() {
+        return Some((WordName::Tail, rest));
+    }
+    let is_next = name == b"next".as_slice();
+    if !is_next && name != b"locked".as_slice() {
+        return None;
+    }
+    let (owner, rest) = owner_of(rest, thread)?;
+    if is_next {
+        Some((WordName::Next(owner), rest))
+    } else {
+        Some((WordName::Locked(owner), rest))
+    }
+}
+
+// Whose record it is: `of J`, or else the thread's own.
+fn owner_of(rest: Rest<'_>, thread: u8) -> Option<(u8, Rest<'_>)>
+    ensures { MatchOption result (owner_of thread (words_left rest.entry) ≡ None)
+        (λ read. owner_of thread (words_left rest.entry) ≡ Some (read.0, words_left read.1)) }
+{
+    let Some((of, after)) = first_word(rest) else {
+        return Some((thread, rest));
+    };
+    if of != b"of".as_slice() {
+        return Some((thread, rest));
+    }
+    let (number, after) = first_word(after)?;
+    let owner = number_of(number, 0, 255)?;
+    Some((owner, after))
+}
+
+// The number behind this word, where that is the next word.
+fn tagged<'a>(rest: Rest<'a>, tag: &[u8]) -> Option<(Option<u64>, Rest<'a>)>
+    ensures { MatchOption result (tagged tag.now (words_left rest.entry) ≡ None)
+        (λ read. tagged tag.now (words_left rest.entry) ≡ Some (read.0, words_left read.1)) }
+{
+    let Some((word, after)) = first_word(rest) else {
+        return Some((None, rest));
+    };
+    if word != tag {
+        return Some((None, rest));
+    }
+    let (number, after) = first_word(after)?;
+    let number = whole_number(number)?;
+    Some((Some(number), after))
+}
+
+// Whether a compare-and-swap wrote. No other step says so.
+fn result_alone(kind: StepKind, word: &[u8]) -> Option<Option<bool>>
+    ensures { result ≡ result_alone kind word.now }
+{
+    if !matches!(kind, StepKind::Cas) {
+        None
+    } else if word == b"done".as_slice() {
+        Some(Some(true))
+    } else if word == b"failed".as_slice() {
+        Some(Some(false))
+    } else {
+        None
+    }
+}
+
+// Whether a compare-and-swap wrote, where that is said. Nothing may follow.
+fn result_of(rest: Rest<'_>, kind: StepKind) -> Option<Option<bool>>
+    ensures { result ≡ result_of kind (words_left rest.entry) }
+{
+    let Some((word, rest)) = first_word(rest) else {
+        return Some(None);
+    };
+    if let Some(_) = first_word(rest) {
+        return None;
+    }
+    result_alone(kind, word)
+}
+
+// What a step saw of a word, where something is said.
+fn values_of(rest: Rest<'_>, thread: u8, kind: StepKind) -> Option<Seen>
+    ensures { result ≡ values_of thread kind (words_left rest.entry) }
+{
+    let (word, rest) = place_in(rest, thread)?;
+    let (found, rest) = tagged(rest, b"found")?;
+    let (left, rest) = tagged(rest, b"left")?;
+    let wrote = result_of(rest, kind)?;
+    Some(Seen::OnWord {
+        word,
+        found,
+        left,
+        wrote,
+    })
+}
+
+fn outcome_named(word: &[u8]) -> Option<Outcome>
+    ensures { result ≡ outcome_named word.now }
+{
+    if word == b"moved".as_slice() {
+        Some(Outcome::Moved)
+    } else if word == b"waits".as_slice() {
+        Some(Outcome::Waits)
+    } else if word == b"entered".as_slice() {
+        Some(Outcome::Entered)
+    } else if word == b"left".as_slice() {
+        Some(Outcome::Left)
+    } else {
+        None
+    }
+}
+
+// The count of a section, or else its outcome.
+fn counted(word: &[u8]) -> Option<Seen>
+    ensures { result ≡ counted (whole_number word.now) word.now }
+{
+    if let Some(count) = whole_number(word) {
+        return Some(Seen::InSection {
+            count: Some(count),
+            outcome: None,
+        });
+    }
+    let outcome = outcome_named(word)?;
+    Some(Seen::InSection {
+        count: None,
+        outcome: Some(outcome),
+    })
+}
+
+// The count of a section, and its outcome.
+fn counted_and(count: &[u8], word: &[u8]) -> Option<Seen>
+    ensures { result ≡ counted_and (whole_number count.now) word.now }
+{
+    let count = whole_number(count)?;
+    let outcome = outcome_named(word)?;
+    Some(Seen::InSection {
+        count: Some(count),
+        outcome: Some(outcome),
+    })
+}
+
+// The count and the outcome of a section, where something is said.
+fn section_of(rest: Rest<'_>) -> Option<Seen>
+    ensures { result ≡ section_of (words_left rest.entry) }
+{
+    let (first, rest) = first_word(rest)?;
+    let Some((second, rest)) = first_word(rest) else {
+        return counted(first);
+    };
+    if let Some(_) = first_word(rest) {
+        return None;
+    }
+    counted_and(first, second)
+}
+
+// What follows a move.
+fn seen_of(rest: Rest<'_>, thread: u8, action: Move) -> Option<Seen>
+    ensures { result ≡ seen_of thread action (words_left rest.entry) }
+{
+    let Some(_) = first_word(rest) else {
+        return Some(Seen::Nothing);
+    };
+    match action {
+        Move::Call(_) => None,
+        Move::Step(StepKind::Section) => section_of(rest),
+        Move::Step(kind) => values_of(rest, thread, kind),
+    }
+}
+
+// The move of this thread that the words are.
+fn move_with(rest: Rest<'_>, thread: u8) -> Option<TraceLine>
+    ensures { result ≡ move_with thread (words_left rest.entry) }
+{
+    let (word, rest) = first_word(rest)?;
+    let action = move_named(word)?;
+    let seen = seen_of(rest, thread, action)?;
+    Some(TraceLine {
+        thread,
+        action,
+        seen,
+    })
+}
+
+/// The move that a line of a trace is: a thread's number, a word of a schedule, and what the thread
+/// saw.
+#[tactic(auto, unfolding(crate::specs::Lines::trace_line_of))]
+pub fn read_line(line: &[u8]) -> Option<TraceLine>
+    ensures { result ≡ trace_line_of line.now }
+{
+    let (number, rest) = first_word(Some(line))?;
+    let thread = number_of(number, 0, 255)?;
+    move_with(rest, thread)
+}
+
+/// The move that a line of this thread's log is: a line of a trace without the thread's number.
+#[tactic(auto, unfolding(crate::specs::Lines::log_line_of))]
+pub fn read_log_line(line: &[u8], thread: u8) -> Option<TraceLine>
+    ensures { result ≡ log_line_of thread line.now }
+{
+    move_with(Some(line), thread)
+}

@@ -1,0 +1,47 @@
+//! The words of the MCS lock by name: the tail, and two words in the record of each thread.
+
+ghost use Rattle.std.specs.Prelude.{◌≡◌};
+ghost use Rattle.lk_trace.specs.mcs.{name_at, place_of, touched};
+
+use crate::WordName;
+use lk_locks::Phase;
+
+/// The word that the step of this thread in this phase is on.
+pub fn touched(thread: u8, phase: Phase) -> Option<WordName>
+    ensures { result ≡ touched thread phase }
+{
+    match phase {
+        Phase::ClearNext | Phase::ReadNext | Phase::AwaitLink => Some(WordName::Next(thread)),
+        Phase::SwapTail | Phase::CasTail => Some(WordName::Tail),
+        Phase::SetLocked(_) | Phase::AwaitGrant => Some(WordName::Locked(thread)),
+        Phase::LinkTo(before) => Some(WordName::Next(before)),
+        Phase::Grant(after) => Some(WordName::Locked(after)),
+        _ => None,
+    }
+}
+
+/// Which word it is, counted from 0.
+pub fn place_of(word: WordName) -> usize
+    ensures { result ≡ place_of word }
+{
+    match word {
+        WordName::Next(thread) => 1 + 2 * thread as usize,
+        WordName::Locked(thread) => 2 + 2 * thread as usize,
+        _ => 0,
+    }
+}
+
+/// The name of the word at this place. There are at most 64 threads.
+pub fn name_at(place: usize) -> Option<WordName>
+    ensures { result ≡ name_at place }
+{
+    if place == 0 {
+        Some(WordName::Tail)
+    } else if place > 128 {
+        None
+    } else if place % 2 == 1 {
+        Some(WordName::Next((place / 2) as u8))
+    } else {
+        Some(WordName::Locked((place / 2 - 1) as u8))
+    }
+}

@@ -1,0 +1,77 @@
+//! The words of the locks by name, and which word each step is on. What is a lock's own stands in
+//! its room.
+
+ghost use Rattle.std.specs.Prelude.{◌≡◌};
+ghost use Rattle.lk_trace.specs.Names.{name_at, place_of, same_word, touched};
+
+use crate::{mcs, rw_fifo, rw_simple, ticket};
+use lk_locks::{LockKind, Phase};
+
+/// A word of a lock. `Next` and `Locked` are in the record of the thread that they name.
+#[derive(Clone, Copy, PartialEq, Eq, Debug)]
+pub enum WordName {
+    NextTicket,
+    NowServing,
+    Tail,
+    Next(u8),
+    Locked(u8),
+    Readers,
+    Flag,
+    ReadAcquires,
+    ReadReleases,
+}
+
+/// The word that the step of a thread in this phase is on. There is none where no step is due, and
+/// of a monitor's section, which is on all words of its lock.
+pub fn touched(kind: LockKind, thread: u8, phase: Phase) -> Option<WordName>
+    ensures { result ≡ touched kind thread phase }
+{
+    match kind {
+        LockKind::Ticket => ticket::touched(phase),
+        LockKind::Mcs => mcs::touched(thread, phase),
+        LockKind::RwSimple | LockKind::RwFifo => None,
+    }
+}
+
+/// Which of the lock's words it is, counted from 0. A word of another lock is counted as 0.
+pub fn place_of(kind: LockKind, word: WordName) -> usize
+    ensures { result ≡ place_of kind word }
+{
+    match kind {
+        LockKind::Ticket => ticket::place_of(word),
+        LockKind::Mcs => mcs::place_of(word),
+        LockKind::RwSimple => rw_simple::place_of(word),
+        LockKind::RwFifo => rw_fifo::place_of(word),
+    }
+}
+
+/// The name of the lock's word at this place.
+pub fn name_at(kind: LockKind, place: usize) -> Option<WordName>
+    ensures { result ≡ name_at kind place }
+{
+    match kind {
+        LockKind::Ticket => ticket::name_at(place),
+        LockKind::Mcs => mcs::name_at(place),
+        LockKind::RwSimple => rw_simple::name_at(place),
+        LockKind::RwFifo => rw_fifo::name_at(place),
+    }
+}
+
+/// Whether two names are the same.
+pub(crate) fn same_word(a: WordName, b: WordName) -> bool
+    ensures { result ≡ same_word a b }
+{
+    match (a, b) {
+        (WordName::NextTicket, WordName::NextTicket)
+        | (WordName::NowServing, WordName::NowServing)
+        | (WordName::Tail, WordName::Tail)
+        | (WordName::Readers, WordName::Readers)
+        | (WordName::Flag, WordName::Flag)
+        | (WordName::ReadAcquires, WordName::ReadAcquires)
+        | (WordName::ReadReleases, WordName::ReadReleases) => true,
+        (WordName::Next(i), WordName::Next(j)) | (WordName::Locked(i), WordName::Locked(j)) => {
+            i == j
+        }
+        _ => false,
+    }
+}

@@ -1,0 +1,144 @@
+//! A trace, read line by line: the header, and then the moves, each checked on the header's lock.
+
+ghost use Rattle.std.specs.Prelude.{◌≡◌, ◌<◌, ◌≤◌, ◌^◌, IfOk, None, option_map};
+ghost use Rattle.lk_trace.specs.Traces.{after_text_line, event_of, fault_named, read_header_of};
+ghost use Rattle.lk_trace.specs.Traces.{short_line_of};
+
+use crate::{Checker, Difference, TraceLine, read_line};
+use lk_locks::Outcome;
+use lk_replay::ReadFault;
+use lk_replay::parts::{Header, header_of, is_skipped};
+use std::marker::Model;
+
+/// The most bytes of a header and of a move.
+pub const MOST_OF_A_LINE: usize = 96;
+
+/// Why a text is no trace. They are a schedule's faults, but for its limits.
+#[derive(Clone, Copy, PartialEq, Eq, Debug)]
+pub enum TextFault {
+    /// No line but comments and empty ones.
+    NoHeader,
+    /// The first line that is not skipped is no header.
+    BadHeader,
+    /// The header's number of threads is no number from 1 to 64.
+    BadThreads,
+    /// The header's words have no more values than it has threads.
+    WordsTooNarrow,
+    /// A later line is no move.
+    BadLine,
+}
+
+/// What a line of a trace came to.
+#[derive(Clone, Copy)]
+pub enum Event {
+    /// It is empty or a comment.
+    Skipped,
+    /// It is the header.
+    Began(Header),
+    /// The move was made, and each part that is given is the machine's.
+    Made(TraceLine, Outcome),
+    /// The move differs from the machine's, and was not made.
+    Differs(TraceLine, Difference),
+    /// It is no line of a trace.
+    Fault(TextFault),
+}
+
+/// A trace of which some lines were read. A contract sees the lock, where the header was read.
+#[derive(Drop)]
+pub struct TraceReader {
+    checker: Option<Checker>,
+}
+
+impl Model for TraceReader {
+    ghost use Rattle.std.specs.Prelude.{Option};
+    ghost use Rattle.lk_trace.specs.Checks.{Checked};
+
+    ghost Value = { Option Checked };
+
+    ghost view = { λ a. a.checker };
+}
+
+// What a fault of a header is, without its line.
+fn fault_of(fault: ReadFault) -> TextFault
+    ensures { result ≡ fault_named fault }
+{
+    match fault {
+        ReadFault::BadThreads(_) => TextFault::BadThreads,
+        ReadFault::WordsTooNarrow(_) => TextFault::WordsTooNarrow,
+        _ => TextFault::BadHeader,
+    }
+}
+
+/// The header that a line of at most 96 bytes is.
+///
+/// # Errors
+///
+/// `BadHeader`, `BadThreads` or `WordsTooNarrow`, the first of these that applies.
+pub fn read_header(line: &[u8]) -> Result<Header, TextFault>
+    ensures some { IfOk result (λ header. 0 < header.threads) }
+    ensures few { IfOk result (λ header. header.threads ≤ 64) }
+    ensures narrow { IfOk result (λ header. header.threads < 2 ^ header.bits) }
+    ensures least { IfOk result (λ header. 2 ≤ header.bits) }
+    ensures most { IfOk result (λ header. header.bits ≤ 64) }
+    ensures read { result ≡ read_header_of line.now }
+{
+    if line.len() > MOST_OF_A_LINE {
+        return Err(TextFault::BadHeader);
+    }
+    match header_of(line, 0) {
+        Ok(header) => Ok(header),
+        Err(fault) => Err(fault_of(fault)),
+    }
+}
+
+// The move that a line of at most 96 bytes is.
+fn short_line(line: &[u8]) -> Option<TraceLine>
+    ensures { result ≡ short_line_of line.now }
+{
+    if line.len() > MOST_OF_A_LINE {
+        return None;
+    }
+    read_line(line)
+}
+
+impl TraceReader {
+    /// No line was read yet.
+    pub fn new() -> TraceReader
+        ensures { result ≡ None }
+    {
+        TraceReader { checker: None }
+    }
+
+    /// The lock as it is now, where the header was read.
+    pub fn checker(&self) -> Option<&Checker>
+        ensures { option_map (λ c. c.now) result ≡ self.now }
+    {
+        self.checker.as_ref()
+    }
+
+    /// Reads the next line, without its end. After a difference or a fault nothing has changed.
+    pub fn line(&mut self, line: &[u8]) -> Event
+        ensures event { result ≡ event_of self.old line.now }
+        ensures after { self.new ≡ after_text_line self.old line.now }
+    {
+        if is_skipped(line) {
+            return Event::Skipped;
+        }
+        let Some(checker) = self.checker.as_mut() else {
+            return match read_header(line) {
+                Ok(header) => {
+                    self.checker = Some(Checker::new(header.kind, header.threads, header.bits));
+                    Event::Began(header)
+                }
+                Err(fault) => Event::Fault(fault),
+            };
+        };
+        let Some(line) = short_line(line) else {
+            return Event::Fault(TextFault::BadLine);
+        };
+        match checker.step(line) {
+            Ok(outcome) => Event::Made(line, outcome),
+            Err(difference) => Event::Differs(line, difference),
+        }
+    }
+}
