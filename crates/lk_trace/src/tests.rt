@@ -26,75 +26,51 @@ fn reads_as(rt: &impl Abort, line: &[u8], seen: Option<Seen>) {
 }
 
 #[test]
-fn lines_are_read(rt: HostRuntime) {
+fn moves_and_places_are_read(rt: HostRuntime) {
     let rt = &rt;
     reads_as(rt, b"2 acquire", Some(Seen::Nothing));
     reads_as(rt, b"2 swap", Some(Seen::Nothing));
-    reads_as(rt, b"2 swap tail", on(WordName::Tail, None, None, None));
-    reads_as(
-        rt,
-        b"2 swap tail found 1",
-        on(WordName::Tail, Some(1), None, None),
-    );
-    reads_as(
-        rt,
-        b"2 write next of 0 left 3",
-        on(WordName::Next(0), None, Some(3), None),
-    );
-    reads_as(
-        rt,
-        b"2 write next left 0",
-        on(WordName::Next(2), None, Some(0), None),
-    );
-    reads_as(
-        rt,
-        b"2 read locked found 1 left 1",
-        on(WordName::Locked(2), Some(1), Some(1), None),
-    );
-    reads_as(
-        rt,
-        b"2 cas tail failed",
-        on(WordName::Tail, None, None, Some(false)),
-    );
-    reads_as(
-        rt,
-        b"2 cas tail found 3 left 0 done",
-        on(WordName::Tail, Some(3), Some(0), Some(true)),
-    );
+    let tail = on(WordName::Tail, None, None, None);
+    reads_as(rt, b"2 swap tail", tail);
+    let serving = on(WordName::NowServing, None, None, None);
+    reads_as(rt, b"2 read now_serving", serving);
+    let own = on(WordName::Next(2), None, Some(0), None);
+    reads_as(rt, b"2 write next left 0", own);
+    let other = on(WordName::Next(0), None, Some(3), None);
+    reads_as(rt, b"2 write next of 0 left 3", other);
+}
+
+#[test]
+fn values_are_read(rt: HostRuntime) {
+    let rt = &rt;
+    let found = on(WordName::Tail, Some(1), None, None);
+    reads_as(rt, b"2 swap tail found 1", found);
+    let both = on(WordName::Locked(2), Some(1), Some(1), None);
+    reads_as(rt, b"2 read locked found 1 left 1", both);
+    let failed = on(WordName::Tail, None, None, Some(false));
+    reads_as(rt, b"2 cas tail failed", failed);
+    let done = on(WordName::Tail, Some(3), Some(0), Some(true));
+    reads_as(rt, b"2 cas tail found 3 left 0 done", done);
+    let greatest = on(WordName::NextTicket, Some(u64::MAX), None, None);
     reads_as(
         rt,
         b"2 add next_ticket found 18446744073709551615",
-        on(WordName::NextTicket, Some(u64::MAX), None, None),
+        greatest,
     );
-    reads_as(
-        rt,
-        b"2 read now_serving",
-        on(WordName::NowServing, None, None, None),
-    );
-    reads_as(
-        rt,
-        b"2 section 17 entered",
-        Some(Seen::InSection {
-            count: Some(17),
-            outcome: Some(Outcome::Entered),
-        }),
-    );
-    reads_as(
-        rt,
-        b"2 section 17",
-        Some(Seen::InSection {
-            count: Some(17),
-            outcome: None,
-        }),
-    );
-    reads_as(
-        rt,
-        b"2 section waits",
-        Some(Seen::InSection {
-            count: None,
-            outcome: Some(Outcome::Waits),
-        }),
-    );
+}
+
+// What a line of a section says.
+fn section(count: Option<u64>, outcome: Option<Outcome>) -> Option<Seen> {
+    Some(Seen::InSection { count, outcome })
+}
+
+#[test]
+fn sections_are_read(rt: HostRuntime) {
+    let rt = &rt;
+    let both = section(Some(17), Some(Outcome::Entered));
+    reads_as(rt, b"2 section 17 entered", both);
+    reads_as(rt, b"2 section 17", section(Some(17), None));
+    reads_as(rt, b"2 section waits", section(None, Some(Outcome::Waits)));
 }
 
 #[test]
@@ -196,27 +172,33 @@ fn a_run_with_a_late_link(rt: HostRuntime) {
     assert_eq!(rt; checker.lock().queue().as_slice(), [1u8].as_slice());
 }
 
+// A lock of two threads, of which thread 0 has made the first two moves of its acquire.
+fn before_a_swap(rt: &impl Abort) -> Checker {
+    let mut checker = Checker::new(LockKind::Mcs, 2, 64);
+    assert!(rt; made(rt, &mut checker, b"0 acquire").is_ok());
+    assert!(rt; made(rt, &mut checker, b"0 write next left 0").is_ok());
+    checker
+}
+
 #[test]
-fn differences_are_named(rt: HostRuntime) {
+fn another_move_or_word_is_a_difference(rt: HostRuntime) {
     let rt = &rt;
     let mut checker = Checker::new(LockKind::Mcs, 2, 64);
-    assert_eq!(rt;
-        made(rt, &mut checker, b"0 write"),
-        Err(Difference::Refused(Refusal::NoCall))
-    );
+    let no_call = Difference::Refused(Refusal::NoCall);
+    assert_eq!(rt; made(rt, &mut checker, b"0 write"), Err(no_call));
     assert_eq!(rt; made(rt, &mut checker, b"0 acquire"), Ok(Outcome::Called));
     let other = Difference::OtherWord {
         word: Some(WordName::Next(0)),
         given: WordName::Locked(0),
     };
-    assert_eq!(rt;
-        made(rt, &mut checker, b"0 write locked left 1"),
-        Err(other)
-    );
-    assert_eq!(rt;
-        made(rt, &mut checker, b"0 write next left 0"),
-        Ok(Outcome::Moved)
-    );
+    let answer = made(rt, &mut checker, b"0 write locked left 1");
+    assert_eq!(rt; answer, Err(other));
+}
+
+#[test]
+fn another_value_is_a_difference(rt: HostRuntime) {
+    let rt = &rt;
+    let mut checker = before_a_swap(rt);
     let found = Difference::FoundOther {
         word: WordName::Tail,
         found: 0,
@@ -228,25 +210,23 @@ fn differences_are_named(rt: HostRuntime) {
         left: 1,
         given: 2,
     };
-    assert_eq!(rt;
-        made(rt, &mut checker, b"0 swap tail found 0 left 2"),
-        Err(left)
-    );
-    assert_eq!(rt;
-        made(rt, &mut checker, b"0 swap tail found 0 left 1"),
-        Ok(Outcome::Entered)
-    );
+    let answer = made(rt, &mut checker, b"0 swap tail found 0 left 2");
+    assert_eq!(rt; answer, Err(left));
+}
+
+#[test]
+fn another_end_of_a_compare_and_swap_is_a_difference(rt: HostRuntime) {
+    let rt = &rt;
+    let mut checker = before_a_swap(rt);
+    let entered = made(rt, &mut checker, b"0 swap tail found 0 left 1");
+    assert_eq!(rt; entered, Ok(Outcome::Entered));
     assert_eq!(rt; made(rt, &mut checker, b"0 release"), Ok(Outcome::Called));
-    assert_eq!(rt;
-        made(rt, &mut checker, b"0 read next found 0"),
-        Ok(Outcome::Moved)
-    );
+    let looked = made(rt, &mut checker, b"0 read next found 0");
+    assert_eq!(rt; looked, Ok(Outcome::Moved));
     let wrote = Difference::WroteOther { wrote: true };
     assert_eq!(rt; made(rt, &mut checker, b"0 cas tail failed"), Err(wrote));
-    assert_eq!(rt;
-        made(rt, &mut checker, b"0 cas tail found 1 left 0 done"),
-        Ok(Outcome::Left)
-    );
+    let left = made(rt, &mut checker, b"0 cas tail found 1 left 0 done");
+    assert_eq!(rt; left, Ok(Outcome::Left));
 }
 
 #[test]
@@ -296,6 +276,7 @@ fn words_are_those_of_the_operations(rt: HostRuntime) {
     let words = [0, 1, 0, 0, 3, 0, 4, 1, 4, 0, 1, 4];
     for i in 0..12 {
         let (thread, action) = moves[i];
+        assert!(rt; thread < machine.threads());
         let word = touched(LockKind::Mcs, thread, machine.phase(thread));
         assert!(rt; machine.apply(thread, action).is_ok());
         if let (Move::Step(_), Some(word)) = (action, word) {
@@ -313,7 +294,7 @@ fn words_are_those_of_the_operations(rt: HostRuntime) {
     assert_eq!(rt; machine.words().last(), Some(granted));
 }
 
-// What the line of a new trace comes to: the number of its fault, and 0 where it has none.
+// The fault of a new trace's first line, where it has one.
 fn first_line(line: &[u8]) -> Option<TextFault> {
     match TraceReader::new().line(line) {
         Event::Fault(fault) => Some(fault),
