@@ -23,8 +23,7 @@ status_of_reports reports = if list_all (λ r. is_accepted (ending_of r)) report
 -- so many texts were replayed: their reports went out as one text, and the status is theirs
 abbrev pub IsBatchOf : ℕ → Option (List ℕ) → Option (List ℕ) → ℕ → Type 0
 IsBatchOf count old new status = (texts : List (List ℕ)) × (length texts ≡ count)
-    × Appends old new (batch_text_of (map report_text texts))
-    × (status ≡ status_of_reports (map report_text texts))
+    × Appends old new (batch_text_of (map report_text texts)) × (status ≡ status_of_reports (map report_text texts))
 
 -- where a fault ends a batch of so many files, a prefix of its text went out if the output failed,
 -- and else nothing

@@ -22,6 +22,5 @@ IsCutReplay input old new (File k) = ⊥
 IsCutReplay input old new TooManyFiles = ⊥
 
 -- what the replay of an input leaves
-abbrev pub EndsReplay : Option (List ℕ) → Option (List ℕ) → Option (List
-    ℕ) → Result ℕ ProgramFault → Type 0
+abbrev pub EndsReplay : Option (List ℕ) → Option (List ℕ) → Option (List ℕ) → Result ℕ ProgramFault → Type 0
 EndsReplay input old new r = MatchResult r (IsReplayOf input old new) (IsCutReplay input old new)
