@@ -41,7 +41,8 @@ Fits kind n c = IsPhaseOf kind n c.phase
 abbrev pub AreOf : ℕ → List Entry → Type 0
 AreOf t es = AllByRecursion (λ e. thread_of e ≡ t) es
 
--- What a move of thread t leaves, with the entries that it adds: they may come, and the sequential object goes along.
+-- What a move of thread t leaves, with the entries that it adds: they may come, and the sequential
+-- object goes along.
 pub record IsAgreed (kind : LockKind) (agree : Sequential → Type 0) (q : Sequential) (es : List Entry) : Type 0 where
   pub allowed : AreEnabled q es
   pub kind_is : (after_entries q es).kind ≡ kind

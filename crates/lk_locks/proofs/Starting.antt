@@ -52,7 +52,12 @@ agree_start Mcs bits ws n h z = record {
   others = λ t m. rw (all_idle n t) tt;
 }
 agree_start RwSimple bits ws n h z =
-    record { narrow = rw (length-replicate n Idle) h; count = z 0; flag_is = z 1; holders = no_holders RwSimple n }
+    record {
+      narrow = rw (length-replicate n Idle) h;
+      count = z 0;
+      flag_is = z 1;
+      holders = no_holders RwSimple n;
+    }
 agree_start RwFifo bits ws n h z = record {
   narrow = rw (length-replicate n Idle) h;
   left = rw (z 1) (pow_pos bits);

@@ -20,7 +20,10 @@ not_eqb t u h = elim (eqb_tells u t) [ inl e ↦ absurd (h (sym e.1)) | inr e �
 
 pub has_tells : (q : List ℕ) (u t : ℕ) → has (u ∷ q) t ≡ true → (t ≡ u) ⊎ (has q t ≡ true)
 has_tells q u t h =
-    elim (eqb_tells t u) [ inl e ↦ inl e.1 | inr e ↦ inr (let g : has (u ∷ q) t ≡ true = h in rw e.0 at g) ]
+    elim (eqb_tells t u) [
+      | inl e ↦ inl e.1
+      | inr e ↦ inr (let g : has (u ∷ q) t ≡ true = h in rw e.0 at g)
+    ]
 
 pub once_more : (q : List ℕ) (t : ℕ) → EachOnce q → has q t ≡ false → EachOnce (q ++ t ∷ [])
 once_more [] t o h = (refl, tt)

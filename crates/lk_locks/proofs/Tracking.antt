@@ -1,4 +1,5 @@
--- A history that is known to be there, without being kept, grows by the entries of each accepted move.
+-- A history that is known to be there, without being kept, grows by the entries of each accepted
+-- move.
 use Rattle.std.proofs.Common.{◌≡◌, ℕ, List, ◌++◌, None, sym, ap, ◌∙◌}
 use Rattle.lk_locks.specs.State.{State}
 use Rattle.lk_locks.specs.Steps.{next_state, refusal_of}

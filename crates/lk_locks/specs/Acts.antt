@@ -1,5 +1,5 @@
--- Definitions. The entries in which a call takes effect: that of a FIFO writer's announcement, and those of a
--- call that acts and returns in one step. This project's own.
+-- Definitions. The entries in which a call takes effect: that of a FIFO writer's announcement, and
+-- those of a call that acts and returns in one step. This project's own.
 use Rattle.std.specs.Prelude.{ℕ, List, [], ◌∷◌}
 use Rattle.lk_locks.specs.declared.kinds.LockKind.{LockKind}
 use Rattle.lk_locks.specs.declared.kinds.LockKind.TheVariants.{RwFifo}

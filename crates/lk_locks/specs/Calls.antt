@@ -1,5 +1,5 @@
--- Definitions. Each finished call acted exactly once, between its call and its return: laws of every legal
--- history. This project's own.
+-- Definitions. Each finished call acted exactly once, between its call and its return: laws of
+-- every legal history. This project's own.
 use Rattle.std.specs.Prelude.{◌≡◌, ℕ, List, [], ◌∷◌, ◌++◌}
 use Rattle.lk_locks.specs.Acts.{announcement}
 use Rattle.lk_locks.specs.Legal.{Legal, subhistory}
@@ -29,7 +29,8 @@ abbrev pub ReturnsNext : ℕ → Op → List Entry → Type 0
 ReturnsNext t op [] = Unit {0}
 ReturnsNext t op (e ∷ es) = e ≡ Returned t op
 
--- an act stands in a call: its thread called, did nothing since then but announce itself, and returns next
+-- an act stands in a call: its thread called, did nothing since then but announce itself, and
+-- returns next
 abbrev pub ActsInCalls : LockKind → List Entry → Type 0
 ActsInCalls kind es =
     (t : ℕ) (op : Op) (before after : List Entry) → es ≡ before ++ Acted t op ∷ after

@@ -15,9 +15,11 @@ IsQueueLock Ticket = Unit {0}
 IsQueueLock Mcs = Unit {0}
 IsQueueLock kind = ⊥
 
--- Queue locks. What is said of acquires holds of the histories of all locks: a read-write lock has none.
+-- Queue locks. What is said of acquires holds of the histories of all locks: a read-write lock has
+-- none.
 
--- between the return of an acquire and the return of a later one stands the act of the first one's release
+-- between the return of an acquire and the return of a later one stands the act of the first one's
+-- release
 abbrev pub HasOneHolder : List Entry → Type 0
 HasOneHolder es =
     (t u : ℕ) → Between (Returned t Acquire) (Returned u Acquire) (λ e. e ≡ Acted t Release) es
@@ -63,9 +65,9 @@ HasOneWriter es =
 abbrev pub NeverTwoWriters : Type 0
 NeverTwoWriters = (kind : LockKind) (n : ℕ) (es : List Entry) → Legal kind n es → HasOneWriter es
 
--- A reader enters only after the writer before it stopped writing, and a writer only after each reader before
--- it left, and each writer that became a reader. After whatever beginning of the history: where there is a
--- writer, there is no reader.
+-- A reader enters only after the writer before it stopped writing, and a writer only after each
+-- reader before it left, and each writer that became a reader. After whatever beginning of the
+-- history: where there is a writer, there is no reader.
 pub record IsNeverBesideReader (kind : LockKind) (es : List Entry) : Type 0 where
   pub then_reader : (t u : ℕ)
       → Between (Acted t WriteLock) (Acted u ReadLock) (StopsWriting t) es
@@ -81,8 +83,8 @@ abbrev pub NeverAWriterBesideAReader : Type 0
 NeverAWriterBesideAReader =
     (kind : LockKind) (n : ℕ) (es : List Entry) → Legal kind n es → IsNeverBesideReader kind es
 
--- between the announcement of a FIFO writer and a later reader's entering, or another's announcement, stands
--- that writer's entering
+-- between the announcement of a FIFO writer and a later reader's entering, or another's
+-- announcement, stands that writer's entering
 pub record IsAnnouncedFirst (es : List Entry) : Type 0 where
   pub then_reader : (t u : ℕ)
       → Between (Announced t) (Acted u ReadLock) (λ e. e ≡ Acted t WriteLock) es

@@ -1,5 +1,5 @@
--- Definitions. The theorem of this project, for every list of moves on a new lock: the history is legal, and so
--- exclusive and in order.
+-- Definitions. The theorem of this project, for every list of moves on a new lock: the history is
+-- legal, and so exclusive and in order.
 use Rattle.std.specs.Prelude.{ℕ, List}
 use Rattle.lk_locks.specs.Legal.{Legal}
 use Rattle.lk_locks.specs.Runs.{OfEveryRun}
@@ -8,8 +8,9 @@ use Rattle.lk_locks.specs.Order.{IsInOrder}
 use Rattle.lk_locks.specs.declared.kinds.LockKind.{LockKind}
 use Rattle.lk_locks.specs.declared.kinds.Entry.{Entry}
 
--- A history of n threads on a lock of this kind is legal. So a queue lock has one holder at a time and is
--- entered in the order of its tickets or swaps, and there are never two writers, nor a writer beside a reader.
+-- A history of n threads on a lock of this kind is legal. So a queue lock has one holder at a time
+-- and is entered in the order of its tickets or swaps, and there are never two writers, nor a
+-- writer beside a reader.
 pub record IsAsPromised (kind : LockKind) (n : ℕ) (es : List Entry) : Type 0 where
   pub legal : Legal kind n es
   pub one_holder : HasOneHolder es

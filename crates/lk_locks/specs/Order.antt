@@ -1,4 +1,5 @@
--- Definitions. The order in which a queue lock is entered: a law of every legal history. This project's own.
+-- Definitions. The order in which a queue lock is entered: a law of every legal history. This
+-- project's own.
 use Rattle.std.specs.Prelude.{◌≡◌, ℕ, List, [], ◌∷◌, ◌++◌}
 use Rattle.lk_locks.specs.Legal.{Legal}
 use Rattle.lk_locks.specs.declared.kinds.LockKind.{LockKind}

@@ -1,4 +1,5 @@
--- Definitions. The state of a lock: its kind, its words, and what each thread does. This project's own.
+-- Definitions. The state of a lock: its kind, its words, and what each thread does. This project's
+-- own.
 use Rattle.std.specs.Prelude.{ℕ, ◌+◌, ◌*◌, List, get_or, replicate}
 use Rattle.lk_locks.specs.declared.kinds.LockKind.{LockKind}
 use Rattle.lk_locks.specs.declared.kinds.LockKind.TheVariants.{Ticket, Mcs, RwSimple, RwFifo}

@@ -1,5 +1,6 @@
--- Definitions. Which moves are accepted, and what an accepted move does. The rooms say what is each lock's own; this file knows none
--- of their phases or words. This project's own: the seven refusals and their order.
+-- Definitions. Which moves are accepted, and what an accepted move does. The rooms say what is each
+-- lock's own; this file knows none of their phases or words. This project's own: the seven refusals
+-- and their order.
 use Rattle.std.specs.Prelude.{ℕ, List, [], ◌∷◌, length, set, Option, None, Some, is_some, is_none, unwrap_or, Bool, true, false, not, nat_lt, if◌then◌else◌, Result, Ok, Err}
 use Rattle.std.specs.List.{list_any}
 use Rattle.lk_locks.specs.Change.{Change, to}
@@ -75,8 +76,8 @@ abbrev pub belongs : LockKind → Move → Bool
 belongs kind (Call op) = has_op kind op
 belongs kind (Step step) = list_any (same_step step) (steps_of kind)
 
--- Why a move of a thread in this phase is refused, by the step that it is due to take. What an idle thread may
--- call acquires; a thread that is not idle and has no pending call holds the lock.
+-- Why a move of a thread in this phase is refused, by the step that it is due to take. What an idle
+-- thread may call acquires; a thread that is not idle and has no pending call holds the lock.
 abbrev pub refusal_at : LockKind → Phase → Option StepKind → Move → Option Refusal
 refusal_at kind p None (Call op) =
     if is_some (after_call kind p op)

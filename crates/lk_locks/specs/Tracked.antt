@@ -1,5 +1,5 @@
--- Definitions. A lock that goes along with its own history and keeps none of it: the state, the sequential object, and who holds a
--- queue lock. This project's own.
+-- Definitions. A lock that goes along with its own history and keeps none of it: the state, the
+-- sequential object, and who holds a queue lock. This project's own.
 use Rattle.std.specs.Prelude.{ℕ, List, [], Option, None, Some}
 use Rattle.lk_locks.specs.State.{State}
 use Rattle.lk_locks.specs.Steps.{refusal_of, next_state}

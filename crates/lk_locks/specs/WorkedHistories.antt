@@ -1,5 +1,6 @@
--- Definitions. Histories written out, and moves that lead to some of them. On these the laws are evaluated:
--- each holds of histories that are as they should be, and fails of one that is not. This project's own.
+-- Definitions. Histories written out, and moves that lead to some of them. On these the laws are
+-- evaluated: each holds of histories that are as they should be, and fails of one that is not. This
+-- project's own.
 use Rattle.std.specs.Prelude.{ℕ, List, [], ◌∷◌, ◌++◌}
 use Rattle.lk_locks.specs.declared.kinds.Op.TheVariants.{Acquire, Release, ReadLock, ReadUnlock, WriteLock, WriteUnlock, Downgrade}
 use Rattle.lk_locks.specs.declared.kinds.StepKind.TheVariants.{Read, Write, Swap, Add, Section}

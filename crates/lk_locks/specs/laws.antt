@@ -1,10 +1,13 @@
--- Definitions. The events of the ticket lock: what one atomic step does to the word that it reads or writes, and to its thread.
+-- Definitions. The events of the ticket lock: what one atomic step does to the word that it reads
+-- or writes, and to its thread.
 --
--- From Mellor-Crummey and Scott, "Algorithms for Scalable Synchronization on Shared-Memory Multiprocessors", ACM TOCS 9(1), 1991,
--- section 2.2. Here words have B bits, the pause between two reads of `now_serving` is no step, and a release is two steps: a read of
--- `now_serving` and a write of the value read plus one.
+-- From Mellor-Crummey and Scott, "Algorithms for Scalable Synchronization on Shared-Memory
+-- Multiprocessors", ACM TOCS 9(1), 1991, section 2.2. Here words have B bits, the pause between two
+-- reads of `now_serving` is no step, and a release is two steps: a read of `now_serving` and a
+-- write of the value read plus one.
 --
--- Both the machine that replays schedules and the lock that runs on shared words are stated by these events.
+-- Both the machine that replays schedules and the lock that runs on shared words are stated by
+-- these events.
 use Rattle.std.specs.Prelude.{ℕ, ◌+◌, ◌%◌, ◌^◌, ◌==◌, if◌then◌else◌}
 use Rattle.lk_locks.specs.declared.kinds.Phase.{Phase}
 use Rattle.lk_locks.specs.declared.kinds.Phase.TheVariants.{Idle, AwaitTurn, TicketInside, PassOn}

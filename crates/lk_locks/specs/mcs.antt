@@ -1,8 +1,10 @@
--- Definitions. The room of the MCS queue lock: its words, its calls, its steps, and the entries of its steps.
+-- Definitions. The room of the MCS queue lock: its words, its calls, its steps, and the entries of
+-- its steps.
 --
--- Mellor-Crummey and Scott, "Algorithms for Scalable Synchronization on Shared-Memory Multiprocessors", ACM TOCS 9(1), 1991,
--- section 2.4, with the release that has compare-and-swap. Different here: each thread has one record, and thread i's is record i + 1,
--- so that 0 is nil; the last write of a release uses the successor that was read last, without reading it again.
+-- Mellor-Crummey and Scott, "Algorithms for Scalable Synchronization on Shared-Memory
+-- Multiprocessors", ACM TOCS 9(1), 1991, section 2.4, with the release that has compare-and-swap.
+-- Different here: each thread has one record, and thread i's is record i + 1, so that 0 is nil; the
+-- last write of a release uses the successor that was read last, without reading it again.
 use Rattle.std.specs.Prelude.{ℕ, ◌+◌, ◌-◌, ◌*◌, ◌==◌, List, [], ◌∷◌, slice_index, set, Option, None, Some, if◌then◌else◌}
 use Rattle.lk_locks.specs.Change.{Change, to}
 use Rattle.lk_locks.specs.Acts.{acts}
@@ -71,8 +73,8 @@ step bits i ws AwaitLink = grant_next_or i ws (to ws AwaitLink Waits)
 step bits i ws (Grant j) = to (set ws (locked j) 0) Idle Left
 step bits i ws p = to ws p Waits
 
--- The entries of such a step. An acquire acts where it swaps the tail, and returns where the lock is granted; a
--- release acts where it leaves.
+-- The entries of such a step. An acquire acts where it swaps the tail, and returns where the lock
+-- is granted; a release acts where it leaves.
 abbrev pub entries : ℕ → Phase → Outcome → List Entry
 entries i SwapTail Moved = Acted i Acquire ∷ []
 entries i SwapTail Entered = acts i Acquire

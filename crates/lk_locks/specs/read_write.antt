@@ -1,8 +1,8 @@
--- Definitions. What the two read-write locks share: their calls, their one kind of step, and the entries of
--- their sections.
+-- Definitions. What the two read-write locks share: their calls, their one kind of step, and the
+-- entries of their sections.
 --
--- After Herlihy and Shavit, The Art of Multiprocessor Programming, chapter 8. `Downgrade`, by which a
--- writer becomes a reader in one section, is this project's own.
+-- After Herlihy and Shavit, The Art of Multiprocessor Programming, chapter 8. `Downgrade`, by which
+-- a writer becomes a reader in one section, is this project's own.
 use Rattle.std.specs.Prelude.{ℕ, List, [], ◌∷◌, ◌++◌, Option, None, Some}
 use Rattle.lk_locks.specs.Acts.{acts, announcement}
 use Rattle.lk_locks.specs.declared.kinds.LockKind.{LockKind}
@@ -33,8 +33,8 @@ step_due Reading = None
 step_due Writing = None
 step_due p = Some Section
 
--- The entries of a section. A FIFO writer announces itself where it sets the flag; a call acts where it
--- succeeds.
+-- The entries of a section. A FIFO writer announces itself where it sets the flag; a call acts
+-- where it succeeds.
 abbrev pub entries : LockKind → ℕ → Phase → Outcome → List Entry
 entries kind i TryRead Entered = acts i ReadLock
 entries kind i LeaveRead Left = acts i ReadUnlock

@@ -1,8 +1,10 @@
 -- Definitions. The room of the simple read-write lock: its words and its steps.
 --
--- After Herlihy and Shavit, The Art of Multiprocessor Programming, chapter 8, "SimpleReadWriteLock". Each try is one section under
--- the lock's monitor. Different here: a writer waits while the reader count is not 0 or the flag is set, and then sets the flag;
--- signals are not modelled, and a waiting thread may look again at any step; the count has B bits; a writer may downgrade.
+-- After Herlihy and Shavit, The Art of Multiprocessor Programming, chapter 8,
+-- "SimpleReadWriteLock". Each try is one section under the lock's monitor. Different here: a writer
+-- waits while the reader count is not 0 or the flag is set, and then sets the flag; signals are not
+-- modelled, and a waiting thread may look again at any step; the count has B bits; a writer may
+-- downgrade.
 use Rattle.std.specs.Prelude.{ℕ, ◌==◌, ◌&&◌, List, slice_index, set, if◌then◌else◌}
 use Rattle.lk_locks.specs.Change.{Change, to, raised, less_one}
 use Rattle.lk_locks.specs.declared.kinds.Phase.{Phase}

@@ -1,8 +1,10 @@
--- Definitions. The room of the ticket lock: its words, its calls, its steps, and the entries of its steps.
+-- Definitions. The room of the ticket lock: its words, its calls, its steps, and the entries of its
+-- steps.
 --
--- Mellor-Crummey and Scott, "Algorithms for Scalable Synchronization on Shared-Memory Multiprocessors", ACM TOCS 9(1), 1991,
--- section 2.2. Different here: words have B bits, so tickets go round; the pause between two reads of `now_serving` is no step; a
--- release is two steps, a read of `now_serving` and a write of the value read plus one.
+-- Mellor-Crummey and Scott, "Algorithms for Scalable Synchronization on Shared-Memory
+-- Multiprocessors", ACM TOCS 9(1), 1991, section 2.2. Different here: words have B bits, so tickets
+-- go round; the pause between two reads of `now_serving` is no step; a release is two steps, a read
+-- of `now_serving` and a write of the value read plus one.
 --
 -- Each step is one of the four events of `laws`, on the word that it reads or writes.
 use Rattle.std.specs.Prelude.{ℕ, List, [], ◌∷◌, slice_index, set, Option, None, Some}
@@ -56,7 +58,8 @@ step bits i ws (ReadServing t) = reads ws (read_event (slice_index ws now_servin
 step bits i ws (PassOn v) = writes ws now_serving (pass_event bits v)
 step bits i ws p = to ws p Waits
 
--- The entries of such a step. An acquire acts where it takes its ticket, and returns where that is served.
+-- The entries of such a step. An acquire acts where it takes its ticket, and returns where that is
+-- served.
 abbrev pub entries : ℕ → Phase → Outcome → List Entry
 entries i TakeTicket Moved = Acted i Acquire ∷ []
 entries i (AwaitTurn t) Entered = Returned i Acquire ∷ []

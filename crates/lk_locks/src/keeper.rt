@@ -1,4 +1,5 @@
-//! A lock with its sequential object and its history: the machine steps, and what it does is recorded and is legal.
+//! A lock with its sequential object and its history: the machine steps, and what it does is
+//! recorded and is legal.
 
 use crate::entries::Added;
 use crate::{Entry, History, Holders, LockKind, Move, Outcome, PlayFault, StepKind, Tracker};
@@ -36,8 +37,8 @@ impl<W: Words> Keeper<W> {
     ghost use Rattle.lk_locks.specs.Play.{after_play, IsPlayAnswer};
     ghost use Rattle.lk_locks.specs.Holding.{holding, holding_of, waiting_of, IsListed};
 
-    /// A new lock with 1 to 64 threads, fewer than 2^B for words of B bits, which are all 0. It keeps the allocator and takes no
-    /// memory yet.
+    /// A new lock with 1 to 64 threads, fewer than 2^B for words of B bits, which are all 0. It
+    /// keeps the allocator and takes no memory yet.
     pub fn new(alloc: Global, kind: LockKind, threads: u8, words: W) -> Keeper<W>
         requires some { 0 < threads }
         requires few { threads ≤ 64 }
@@ -52,10 +53,11 @@ impl<W: Words> Keeper<W> {
         }
     }
 
-    /// Plays a move, in this order: the refusal is decided, room for three entries is made, the move is made and recorded.
+    /// Plays a move, in this order: the refusal is decided, room for three entries is made, the
+    /// move is made and recorded.
     ///
-    /// After either fault nothing has changed. `OutOfMemory` is answered only where a growth of the history was refused; a refused
-    /// move asks for no memory.
+    /// After either fault nothing has changed. `OutOfMemory` is answered only where a growth of the
+    /// history was refused; a refused move asks for no memory.
     pub fn play(&mut self, t: u8, m: Move) -> Result<Outcome, PlayFault>
         ensures answer { IsPlayAnswer (refusal_of self.old.state t m) (change_of self.old.state t m).outcome result }
         ensures played { OnOk result (self.new ≡ after_play self.old t m) }
@@ -73,8 +75,9 @@ impl<W: Words> Keeper<W> {
         Ok(outcome)
     }
 
-    /// What happened, oldest first. Whatever was played, it is a legal history of the lock's sequential object, a queue lock has one
-    /// holder at a time and is entered in the order of its requests, and a writer is alone.
+    /// What happened, oldest first. Whatever was played, it is a legal history of the lock's
+    /// sequential object, a queue lock has one holder at a time and is entered in the order of its
+    /// requests, and a writer is alone.
     pub fn entries(&self) -> &[Entry]
         ensures entries { result.now ≡ self.now.entries }
         ensures promised { IsAsPromised self.now.state.kind (length self.now.state.phases) result.now }
@@ -90,7 +93,8 @@ impl<W: Words> Keeper<W> {
         self.lock.machine().next_step(t)
     }
 
-    /// Who holds now, by the history. A pending release of a queue lock still holds. This does not depend on how long the history is.
+    /// Who holds now, by the history. A pending release of a queue lock still holds. This does not
+    /// depend on how long the history is.
     pub fn holders(&self) -> Holders
         ensures holding { holding result ≡ holding_of self.now.state.kind self.now.entries }
         ensures listed { IsListed (holding result) }
@@ -98,8 +102,8 @@ impl<W: Words> Keeper<W> {
         self.lock.holders()
     }
 
-    /// Who is in line, by the history: the requests of a queue lock, oldest first, the holder's too; the announced writer of a FIFO
-    /// lock; nobody of a simple lock.
+    /// Who is in line, by the history: the requests of a queue lock, oldest first, the holder's
+    /// too; the announced writer of a FIFO lock; nobody of a simple lock.
     pub fn queue(&self) -> ArrayVec<u8, 64>
         ensures { result.items ≡ waiting_of self.now.state.kind self.now.entries }
     {

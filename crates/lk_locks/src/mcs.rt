@@ -1,8 +1,9 @@
 //! The room of the MCS queue lock: one step of a thread, on the tail and the threads' records.
 //!
-//! Mellor-Crummey and Scott, "Algorithms for Scalable Synchronization on Shared-Memory Multiprocessors", ACM TOCS 9(1), 1991,
-//! section 2.4, with the release that has compare-and-swap. Different here: each thread has one record, and thread `i`'s is record
-//! `i + 1`, so that 0 is nil; the last write of a release uses the successor that was read last.
+//! Mellor-Crummey and Scott, "Algorithms for Scalable Synchronization on Shared-Memory
+//! Multiprocessors", ACM TOCS 9(1), 1991, section 2.4, with the release that has compare-and-swap.
+//! Different here: each thread has one record, and thread `i`'s is record `i + 1`, so that 0 is
+//! nil; the last write of a release uses the successor that was read last.
 
 ghost use Rattle.std.specs.Prelude.{◌≡◌, ◌+◌, [], false, true};
 ghost use Rattle.lk_locks.specs.mcs.{next, locked, after_call, step_due, step, entries};

@@ -1,6 +1,8 @@
-//! What the two read-write locks share: their calls, their one kind of step, and the entries of their sections.
+//! What the two read-write locks share: their calls, their one kind of step, and the entries of
+//! their sections.
 //!
-//! After Herlihy and Shavit, The Art of Multiprocessor Programming, chapter 8. `Downgrade` is this project's own.
+//! After Herlihy and Shavit, The Art of Multiprocessor Programming, chapter 8. `Downgrade` is this
+//! project's own.
 
 ghost use Rattle.std.specs.Prelude.{◌≡◌, []};
 ghost use Rattle.lk_locks.specs.read_write.{after_call, step_due, entries};

@@ -1,8 +1,10 @@
-//! The room of the FIFO read-write lock: one section of a thread, on the counts of the readers that came and left and the writer's flag.
+//! The room of the FIFO read-write lock: one section of a thread, on the counts of the readers that
+//! came and left and the writer's flag.
 //!
-//! After Herlihy and Shavit, The Art of Multiprocessor Programming, chapter 8, "FifoReadWriteLock". Each try is one section under the
-//! lock's monitor. Different here: a reader waits while the flag is set, and adds one to `readAcquires` only afterwards; a writer
-//! waits while the flag is set before it sets it; signals are not modelled; a writer may downgrade.
+//! After Herlihy and Shavit, The Art of Multiprocessor Programming, chapter 8, "FifoReadWriteLock".
+//! Each try is one section under the lock's monitor. Different here: a reader waits while the flag
+//! is set, and adds one to `readAcquires` only afterwards; a writer waits while the flag is set
+//! before it sets it; signals are not modelled; a writer may downgrade.
 
 ghost use Rattle.std.specs.Prelude.{◌≡◌, ◌^◌, ◌<◌, ◌≤◌, length};
 ghost use Rattle.lk_locks.specs.rw_fifo.{step};

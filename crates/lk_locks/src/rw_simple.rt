@@ -1,8 +1,10 @@
-//! The room of the simple read-write lock: one section of a thread, on the count of the readers and the writer's flag.
+//! The room of the simple read-write lock: one section of a thread, on the count of the readers and
+//! the writer's flag.
 //!
-//! After Herlihy and Shavit, The Art of Multiprocessor Programming, chapter 8, "SimpleReadWriteLock". Each try is one section under
-//! the lock's monitor. Different here: a writer waits while the reader count is not 0 or the flag is set, and then sets the flag;
-//! signals are not modelled; a writer may downgrade.
+//! After Herlihy and Shavit, The Art of Multiprocessor Programming, chapter 8,
+//! "SimpleReadWriteLock". Each try is one section under the lock's monitor. Different here: a
+//! writer waits while the reader count is not 0 or the flag is set, and then sets the flag; signals
+//! are not modelled; a writer may downgrade.
 
 ghost use Rattle.std.specs.Prelude.{◌≡◌, ◌^◌, ◌<◌, ◌≤◌, length};
 ghost use Rattle.lk_locks.specs.rw_simple.{step};

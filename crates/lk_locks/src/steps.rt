@@ -1,4 +1,5 @@
-//! Which moves are accepted, and what an accepted move does. The rooms know their lock; this file knows none of their phases or words.
+//! Which moves are accepted, and what an accepted move does. The rooms know their lock; this file
+//! knows none of their phases or words.
 
 ghost use Rattle.std.specs.Prelude.{◌≡◌, Option, None, Some};
 ghost use Rattle.lk_locks.specs.Steps.{has_op, steps_of, same_step, after_call, step_due, refusal_at, refusal_in, belongs, move_change, step_of};
@@ -67,7 +68,8 @@ fn after_call(kind: LockKind, phase: Phase, op: Op) -> Option<Phase>
     }
 }
 
-// Why a call of a thread with no pending call is refused. What an idle thread may call acquires, and a thread that is not idle holds.
+// Why a call of a thread with no pending call is refused. What an idle thread may call acquires,
+// and a thread that is not idle holds.
 fn refusal_of_call(kind: LockKind, phase: Phase, op: Op) -> Option<Refusal>
     ensures { result ≡ refusal_at kind phase None (Call op) }
 {

@@ -1,7 +1,9 @@
-//! Laws of every legal history, and of every list of moves: each function's contract is one law, and its body is empty.
+//! Laws of every legal history, and of every list of moves: each function's contract is one law,
+//! and its body is empty.
 //!
-//! `Keeper::entries` ensures that what a keeper recorded is legal, so each law holds of every keeper's entries. The events of the
-//! ticket lock, by which both `Machine` and a lock on shared words are stated, are the definitions `specs/laws.antt`.
+//! `Keeper::entries` ensures that what a keeper recorded is legal, so each law holds of every
+//! keeper's entries. The events of the ticket lock, by which both `Machine` and a lock on shared
+//! words are stated, are the definitions `specs/laws.antt`.
 
 ghost use Rattle.lk_locks.specs.Runs.{EveryHistoryIsLegal};
 ghost use Rattle.lk_locks.specs.MainTheorem.{EveryRunIsAsPromised};
@@ -14,8 +16,9 @@ pub fn every_history_is_legal()
     ensures { EveryHistoryIsLegal }
 {}
 
-/// Whatever moves are played, the history of a new lock is legal, and so there are never two holders or writers, nor a writer beside
-/// a reader, and a queue lock is entered in the order of its tickets or swaps.
+/// Whatever moves are played, the history of a new lock is legal, and so there are never two
+/// holders or writers, nor a writer beside a reader, and a queue lock is entered in the order of
+/// its tickets or swaps.
 pub fn every_run_is_as_promised()
     ensures { EveryRunIsAsPromised }
 {}
@@ -45,12 +48,14 @@ pub fn never_two_writers()
     ensures { NeverTwoWriters }
 {}
 
-/// Between the acts of a writer and a reader the first stops writing or reading, and at no moment there are both.
+/// Between the acts of a writer and a reader the first stops writing or reading, and at no moment
+/// there are both.
 pub fn never_a_writer_beside_a_reader()
     ensures { NeverAWriterBesideAReader }
 {}
 
-/// No reader enters between a FIFO writer's announcement and its entering, and no other writer announces itself.
+/// No reader enters between a FIFO writer's announcement and its entering, and no other writer
+/// announces itself.
 pub fn announced_writer_goes_first()
     ensures { AnnouncedWriterGoesFirst }
 {}

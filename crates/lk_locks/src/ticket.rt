@@ -1,8 +1,9 @@
 //! The room of the ticket lock: one step of a thread, on two words.
 //!
-//! Mellor-Crummey and Scott, "Algorithms for Scalable Synchronization on Shared-Memory Multiprocessors", ACM TOCS 9(1), 1991,
-//! section 2.2. Different here: the pause between two reads of `now_serving` is no step, and a release is two steps, a read of
-//! `now_serving` and a write of the value read plus one.
+//! Mellor-Crummey and Scott, "Algorithms for Scalable Synchronization on Shared-Memory
+//! Multiprocessors", ACM TOCS 9(1), 1991, section 2.2. Different here: the pause between two reads
+//! of `now_serving` is no step, and a release is two steps, a read of `now_serving` and a write of
+//! the value read plus one.
 
 ghost use Rattle.std.specs.Prelude.{◌≡◌, []};
 ghost use Rattle.lk_locks.specs.ticket.{after_call, step_due, step, entries};

@@ -11,7 +11,8 @@ use arrayvec::ArrayVec;
 use lk_words::Words;
 use std::marker::Model;
 
-/// Machine and sequential lock together and, of a queue lock, the thread whose acquire returned last, up to its release.
+/// Machine and sequential lock together and, of a queue lock, the thread whose acquire returned
+/// last, up to its release.
 #[derive(Drop)]
 pub struct Tracker<W: Words> {
     machine: Machine<W>,
@@ -124,8 +125,8 @@ impl<W: Words> Tracker<W> {
         }
     }
 
-    /// Who is in line: the requests of a queue lock, oldest first, the holder's too; the announced writer of a FIFO lock; nobody of a
-    /// simple lock.
+    /// Who is in line: the requests of a queue lock, oldest first, the holder's too; the announced
+    /// writer of a FIFO lock; nobody of a simple lock.
     pub fn queue(&self) -> ArrayVec<u8, 64>
         ensures { result.items ≡ waiting_in self.now }
     {

@@ -1,6 +1,8 @@
-//! What the laws say of histories that are written out. A law that came to say nothing would hold of all of them, or of none.
+//! What the laws say of histories that are written out. A law that came to say nothing would hold
+//! of all of them, or of none.
 //!
-//! Each function's contract evaluates the definitions of one file on worked histories, and its body is empty.
+//! Each function's contract evaluates the definitions of one file on worked histories, and its body
+//! is empty.
 
 ghost use Rattle.std.specs.Prelude.{◌≡◌, ◌++◌, [], ◌∷◌, None, Some, Any};
 ghost use Rattle.lk_locks.specs.WorkedHistories.{one_inside, left_free, handed_on, two_inside, overtaken, released_by_another, unasked, asked_twice, uncalled, reads, writes, two_readers, writers_in_turn, two_writers, reader_beside_writer, writer_beside_reader, writer_beside_downgraded, announced, announced_entered, reader_passes, writer_passes, ticket_moves, mcs_moves, simple_moves, fifo_moves};
@@ -15,8 +17,8 @@ ghost use Rattle.lk_locks.specs.declared.kinds.LockKind.TheVariants.{Ticket, Mcs
 ghost use Rattle.lk_locks.specs.declared.kinds.Op.TheVariants.{Acquire, Release, WriteLock, WriteUnlock, Downgrade};
 ghost use Rattle.lk_locks.specs.declared.kinds.Entry.TheVariants.{Called, Acted, Returned};
 
-/// Hand-overs are legal. No thread enters before its turn, releases what another holds, or acts in no call; and no thread is above
-/// the lock's.
+/// Hand-overs are legal. No thread enters before its turn, releases what another holds, or acts in
+/// no call; and no thread is above the lock's.
 pub fn legal_histories()
     ensures ticket { Legal Ticket 2 handed_on }
     ensures mcs { Legal Mcs 2 handed_on }
@@ -52,7 +54,8 @@ pub fn holders_of_histories()
     ensures no_reader { IsListed (ReadBy []) → ⊥ }
 {}
 
-/// Two of the locks are queue locks. One thread is inside such a lock, the head of its queue, and it alone releases.
+/// Two of the locks are queue locks. One thread is inside such a lock, the head of its queue, and
+/// it alone releases.
 pub fn holders_of_queue_locks()
     ensures ticket { IsQueueLock Ticket }
     ensures mcs { IsQueueLock Mcs }
@@ -93,7 +96,8 @@ pub fn order_of_entering()
     ensures not_asked { IsInOrder unasked → ⊥ }
 {}
 
-/// A call acts once before it returns. Before its act stands a call, and what follows is the return.
+/// A call acts once before it returns. Before its act stands a call, and what follows is the
+/// return.
 pub fn acts_of_calls()
     ensures once { ActsOnce Mcs handed_on }
     ensures never { ActsOnce Mcs unasked → ⊥ }
@@ -105,7 +109,8 @@ pub fn acts_of_calls()
     ensures acts_next { ActsInCalls Mcs asked_twice → ⊥ }
 {}
 
-/// Moves lead to the entries that they are due, and refused ones to none. What they lead to is as promised.
+/// Moves lead to the entries that they are due, and refused ones to none. What they lead to is as
+/// promised.
 pub fn runs_of_moves()
     ensures ticket { (after_moves (new_lock Ticket 2 (0 ∷ 0 ∷ []) 2) ticket_moves).entries ≡ handed_on }
     ensures mcs { (after_moves (new_lock Mcs 2 (0 ∷ 0 ∷ 0 ∷ 0 ∷ 0 ∷ []) 2) mcs_moves).entries ≡ handed_on }

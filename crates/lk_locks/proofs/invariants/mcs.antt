@@ -1,4 +1,5 @@
--- The room of the MCS queue lock: each step goes on with its call, and each move keeps the queue of the swaps.
+-- The room of the MCS queue lock: each step goes on with its call, and each move keeps the queue of
+-- the swaps.
 use Rattle.std.proofs.Common.{List, None, [], ap, arith, drop, false, inl, inr, length, refl, rules, set, slice_index, sym, true, unwrap_or, ℕ, ◌*◌, ◌++◌, ◌+◌, ◌-◌, ◌<◌, ◌==◌, ◌∙◌, ◌∷◌, ◌≡◌, ◌≢◌, ◌≤◌}
 use Rattle.std.proofs.lemmas.Bool.{cases_lt, eq-eqb, false≢true, lt-ltb}
 use Rattle.std.proofs.lemmas.Bool.Decides.{eqb_tells}
@@ -204,11 +205,19 @@ pub keeps : (bits : ℕ) (ws : List ℕ) (ps : List Phase) (q : Sequential) (t :
 keeps bits ws ps q t Idle (Call Acquire) k h n w e f b r a =
     let o : has q.queue t ≡ false =
     not_member ws ps q.queue t a (λ r x. rw e at x) (λ v x. rw e at x) in
-    record { allowed = (tt, tt); kind_is = k; agrees = mcs_out ws ws ps q.queue t ClearNext h o refl (λ v d. refl) (λ v. refl) tt a }
+    record {
+      allowed = (tt, tt);
+      kind_is = k;
+      agrees = mcs_out ws ws ps q.queue t ClearNext h o refl (λ v d. refl) (λ v. refl) tt a;
+    }
 keeps bits ws ps q t McsInside (Call Release) k h n w e f b r a =
     let i : IsHeadOf ws ps q.queue t =
     first_of_head ws ps q.queue t McsInside e (λ x. x) (λ v x. x) a in
-    record { allowed = (tt, tt); kind_is = k; agrees = goes_inside ws ps q.queue t ReadNext i h tt a }
+    record {
+      allowed = (tt, tt);
+      kind_is = k;
+      agrees = goes_inside ws ps q.queue t ReadNext i h tt a;
+    }
 keeps bits ws ps q t ClearNext (Step s) k h n w e f b r a =
     let o : has q.queue t ≡ false =
     not_member ws ps q.queue t a (λ r x. rw e at x) (λ v x. rw e at x) in
@@ -281,7 +290,11 @@ keeps bits ws ps q t (LinkTo j) (Step s) k h n w e f b r a =
 keeps bits ws ps q t AwaitGrant (Step s) k h n w e f b r a = elim (eqb_tells (locked_of ws t) 0) [
   | inl d ↦ rw d.0 (elim (place ws ps q.queue t a.line (member_of ws ps q.queue t a (λ x. rw e at x))) [
     | inl i ↦
-        record { allowed = (head_is q.queue t i.rest i.is, tt); kind_is = k; agrees = goes_inside ws ps q.queue t McsInside i h tt a }
+        record {
+          allowed = (head_is q.queue t i.rest i.is, tt);
+          kind_is = k;
+          agrees = goes_inside ws ps q.queue t McsInside i h tt a;
+        }
     | inr i ↦
         let g : IsBehind ws i.1.0 t AwaitGrant = rw e at i.1.1 in absurd (omega (arith, g.1, d.1))
   ])
@@ -293,10 +306,18 @@ keeps bits ws ps q t ReadNext (Step s) k h n w e f b r a =
     elim (eqb_tells (next_of ws t) 0) [
       | inl d ↦
           rw d.0
-          (record { allowed = tt; kind_is = k; agrees = goes_inside ws ps q.queue t CasTail i h tt a })
+          (record {
+            allowed = tt;
+            kind_is = k;
+            agrees = goes_inside ws ps q.queue t CasTail i h tt a;
+          })
       | inr d ↦
           rw d.0
-          (record { allowed = tt; kind_is = k; agrees = goes_inside ws ps q.queue t (Grant (next_of ws t - 1)) i h (second ws ps t i.rest i.later d.1, omega (arith, d.1)) a })
+          (record {
+            allowed = tt;
+            kind_is = k;
+            agrees = goes_inside ws ps q.queue t (Grant (next_of ws t - 1)) i h (second ws ps t i.rest i.later d.1, omega (arith, d.1)) a;
+          })
     ]
 keeps bits ws ps q t CasTail (Step s) k h n w e f b r a =
     let i : IsHeadOf ws ps q.queue t =
@@ -314,7 +335,11 @@ keeps bits ws ps q t CasTail (Step s) k h n w e f b r a =
           })
       | inr d ↦
           rw d.0
-          (record { allowed = tt; kind_is = k; agrees = goes_inside ws ps q.queue t AwaitLink i h (not_alone ws ps q.queue t i.rest i.is a d.1) a })
+          (record {
+            allowed = tt;
+            kind_is = k;
+            agrees = goes_inside ws ps q.queue t AwaitLink i h (not_alone ws ps q.queue t i.rest i.is a d.1) a;
+          })
     ]
 keeps bits ws ps q t AwaitLink (Step s) k h n w e f b r a =
     let i : IsHeadOf ws ps q.queue t =
@@ -323,7 +348,11 @@ keeps bits ws ps q t AwaitLink (Step s) k h n w e f b r a =
       | inl d ↦ rw d.0 (record { allowed = tt; kind_is = k; agrees = rw (sym e) (rw set-get_or a) })
       | inr d ↦
           rw d.0
-          (record { allowed = tt; kind_is = k; agrees = goes_inside ws ps q.queue t (Grant (next_of ws t - 1)) i h (second ws ps t i.rest i.later d.1, omega (arith, d.1)) a })
+          (record {
+            allowed = tt;
+            kind_is = k;
+            agrees = goes_inside ws ps q.queue t (Grant (next_of ws t - 1)) i h (second ws ps t i.rest i.later d.1, omega (arith, d.1)) a;
+          })
     ]
 keeps bits ws ps q t (Grant j) (Step s) k h n w e f b r a =
     let i : IsHeadOf ws ps q.queue t =

@@ -1,4 +1,5 @@
--- The room of the simple read-write lock: each section goes on with its call, and each move keeps the count and the flag.
+-- The room of the simple read-write lock: each section goes on with its call, and each move keeps
+-- the count and the flag.
 use Rattle.std.proofs.Common.{IsTrue, List, None, [], ap, arith, false, inl, inr, length, refl, rules, set, slice_index, sym, true, unwrap_or, ℕ, ◌%◌, ◌&&◌, ◌+◌, ◌-◌, ◌<◌, ◌==◌, ◌^◌, ◌∙◌, ◌≡◌, ◌≤◌}
 use Rattle.std.proofs.Math.Nat.{add-mod_right, mod-eq_of_lt}
 use Rattle.std.proofs.lemmas.Bool.{lt-ltb}
@@ -107,15 +108,35 @@ pub keeps : (bits : ℕ) (ws : List ℕ) (ps : List Phase) (q : Sequential) (t :
     → let c : Change =
     move_change RwSimple bits ws t p m in IsAgreed RwSimple (λ r. AgreesWith bits c.words (set ps t c.phase) r) q (move_entries RwSimple t p m c.outcome)
 keeps bits ws ps q t Idle (Call ReadLock) k h n w e f b r a =
-    record { allowed = (tt, tt); kind_is = k; agrees = still bits ws ps q t Idle TryRead h e refl refl refl a }
+    record {
+      allowed = (tt, tt);
+      kind_is = k;
+      agrees = still bits ws ps q t Idle TryRead h e refl refl refl a;
+    }
 keeps bits ws ps q t Idle (Call WriteLock) k h n w e f b r a =
-    record { allowed = (tt, tt); kind_is = k; agrees = still bits ws ps q t Idle TryWrite h e refl refl refl a }
+    record {
+      allowed = (tt, tt);
+      kind_is = k;
+      agrees = still bits ws ps q t Idle TryWrite h e refl refl refl a;
+    }
 keeps bits ws ps q t Reading (Call ReadUnlock) k h n w e f b r a =
-    record { allowed = (tt, tt); kind_is = k; agrees = still bits ws ps q t Reading LeaveRead h e refl refl refl a }
+    record {
+      allowed = (tt, tt);
+      kind_is = k;
+      agrees = still bits ws ps q t Reading LeaveRead h e refl refl refl a;
+    }
 keeps bits ws ps q t Writing (Call WriteUnlock) k h n w e f b r a =
-    record { allowed = (tt, tt); kind_is = k; agrees = still bits ws ps q t Writing LeaveWrite h e refl refl refl a }
+    record {
+      allowed = (tt, tt);
+      kind_is = k;
+      agrees = still bits ws ps q t Writing LeaveWrite h e refl refl refl a;
+    }
 keeps bits ws ps q t Writing (Call Downgrade) k h n w e f b r a =
-    record { allowed = (tt, tt); kind_is = k; agrees = still bits ws ps q t Writing TryDowngrade h e refl refl refl a }
+    record {
+      allowed = (tt, tt);
+      kind_is = k;
+      agrees = still bits ws ps q t Writing TryDowngrade h e refl refl refl a;
+    }
 keeps bits ws ps q t TryRead (Step s) k h n w e f b r a = elim (eqb_tells (slice_index ws 1) 0) [
   | inl d ↦
       let o : (q.writer ≡ None) × (q.announced ≡ None) =

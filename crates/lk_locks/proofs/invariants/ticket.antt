@@ -1,4 +1,5 @@
--- The room of the ticket lock: each step goes on with its call, and each move keeps the queue of the tickets.
+-- The room of the ticket lock: each step goes on with its call, and each move keeps the queue of
+-- the tickets.
 use Rattle.std.proofs.Common.{IsTrue, List, None, Some, [], ap, arith, drop, eqb, false, inl, inr, length, refl, rules, set, slice_index, sym, true, unwrap_or, ℕ, ◌<◌, ◌==◌, ◌∙◌, ◌∷◌, ◌≡◌, ◌≤◌}
 use Rattle.std.proofs.lemmas.Bool.{false≢true, lt-ltb}
 use Rattle.std.proofs.lemmas.Bool.Decides.{eqb_tells}

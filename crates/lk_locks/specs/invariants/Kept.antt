@@ -1,4 +1,5 @@
--- Invariants. What holds of a lock, its sequential object and its history after every list of moves.
+-- Invariants. What holds of a lock, its sequential object and its history after every list of
+-- moves.
 use Rattle.std.specs.Prelude.{◌≡◌, ℕ, ◌<◌, ◌≤◌, List, length, None}
 use Rattle.std.specs.List.{AllByRecursion}
 use Rattle.lk_locks.specs.State.{State, phase_at}

@@ -1,5 +1,6 @@
--- Invariants. The MCS lock's: its phases, what a pending call still owes the history, who is inside, and how its words agree with the
--- queue of its sequential object, which is only partly linked at most moments.
+-- Invariants. The MCS lock's: its phases, what a pending call still owes the history, who is
+-- inside, and how its words agree with the queue of its sequential object, which is only partly
+-- linked at most moments.
 use Rattle.std.specs.Prelude.{◌≡◌, ◌≢◌, ℕ, ◌+◌, ◌<◌, ◌≤◌, List, [], ◌∷◌, length, slice_index, Bool, true, false, IsTrue}
 use Rattle.lk_locks.specs.State.{phase_at}
 use Rattle.lk_locks.specs.Acts.{acts}
@@ -70,7 +71,8 @@ abbrev pub tail_of : List ℕ → ℕ
 tail_of [] = 0
 tail_of (t ∷ q) = last_of t q + 1
 
--- Thread t, in this phase, comes after u. Before it links itself it knows u, whose next is nil; once it has, it is u's next.
+-- Thread t, in this phase, comes after u. Before it links itself it knows u, whose next is nil;
+-- once it has, it is u's next.
 abbrev pub IsBehind : List ℕ → ℕ → ℕ → Phase → Type 0
 IsBehind ws u t (SetLocked j) = (j ≡ u) × (next_of ws u ≡ 0)
 IsBehind ws u t (LinkTo j) = (j ≡ u) × (next_of ws u ≡ 0) × (locked_of ws t ≡ 1)
@@ -82,8 +84,8 @@ abbrev pub IsLater : List ℕ → List Phase → ℕ → List ℕ → Type 0
 IsLater ws ps u [] = next_of ws u ≡ 0
 IsLater ws ps u (t ∷ q) = IsBehind ws u t (phase_at ps t) × IsLater ws ps t q
 
--- The head t, in this phase, before the others. Where it still waits it is granted; where it waits for a link there is a second;
--- where it grants, the second is its next.
+-- The head t, in this phase, before the others. Where it still waits it is granted; where it waits
+-- for a link there is a second; where it grants, the second is its next.
 abbrev pub IsFirst : List ℕ → ℕ → List ℕ → Phase → Type 0
 IsFirst ws t q AwaitGrant = locked_of ws t ≡ 0
 IsFirst ws t q McsInside = Unit {0}

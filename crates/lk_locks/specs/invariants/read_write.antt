@@ -1,4 +1,5 @@
--- Invariants. What the two read-write locks share: who reads, who writes and who has announced itself.
+-- Invariants. What the two read-write locks share: who reads, who writes and who has announced
+-- itself.
 use Rattle.std.specs.Prelude.{◌≡◌, ℕ, List, [], Option, None, Some, Bool, true, false}
 use Rattle.lk_locks.specs.State.{phase_at}
 use Rattle.lk_locks.specs.Sequential.{Sequential, has}

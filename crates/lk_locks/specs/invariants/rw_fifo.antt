@@ -1,5 +1,5 @@
--- Invariants. The FIFO read-write lock's: its phases, what a pending call still owes the history, and how its words agree with the
--- holders of its sequential object.
+-- Invariants. The FIFO read-write lock's: its phases, what a pending call still owes the history,
+-- and how its words agree with the holders of its sequential object.
 use Rattle.std.specs.Prelude.{◌≡◌, ℕ, ◌+◌, ◌%◌, ◌^◌, ◌<◌, List, [], ◌∷◌, length, slice_index, Bool, true, false}
 use Rattle.lk_locks.specs.Acts.{acts}
 use Rattle.lk_locks.specs.Sequential.{Sequential}
@@ -33,8 +33,8 @@ owed i LeaveWrite = acts i WriteUnlock
 owed i TryDowngrade = acts i Downgrade
 owed i p = []
 
--- The lock counts who came and who left, and its flag is for the writer or the announced one. There are fewer readers than words, so
--- the counts are equal exactly where there is no reader.
+-- The lock counts who came and who left, and its flag is for the writer or the announced one. There
+-- are fewer readers than words, so the counts are equal exactly where there is no reader.
 pub record AgreesWith (bits : ℕ) (ws : List ℕ) (ps : List Phase) (q : Sequential) : Type 0 where
   pub narrow : length ps < 2 ^ bits
   pub left : slice_index ws read_releases < 2 ^ bits

@@ -1,5 +1,5 @@
--- Invariants. The simple read-write lock's: its phases, what a pending call still owes the history, and how its words agree with the
--- holders of its sequential object.
+-- Invariants. The simple read-write lock's: its phases, what a pending call still owes the history,
+-- and how its words agree with the holders of its sequential object.
 use Rattle.std.specs.Prelude.{◌≡◌, ℕ, ◌^◌, ◌<◌, List, [], length, slice_index, Bool, true, false}
 use Rattle.lk_locks.specs.Acts.{acts}
 use Rattle.lk_locks.specs.Sequential.{Sequential}

@@ -1,5 +1,5 @@
--- Invariants. The ticket lock's: its phases, what a pending call still owes the history, and how its words agree with the
--- queue of its sequential object.
+-- Invariants. The ticket lock's: its phases, what a pending call still owes the history, and how
+-- its words agree with the queue of its sequential object.
 use Rattle.std.specs.Prelude.{◌≡◌, ℕ, ◌+◌, ◌%◌, ◌^◌, ◌<◌, List, [], ◌∷◌, length, slice_index, Option, None, Some, Bool, true, false}
 use Rattle.lk_locks.specs.State.{phase_at}
 use Rattle.lk_locks.specs.Change.{plus_one}
@@ -50,7 +50,8 @@ IsLine bits ps x [] = Unit {0}
 IsLine bits ps x (t ∷ ts) =
     (ticket_of (phase_at ps t) ≡ Some x) × WaitInLine bits ps (plus_one bits x) ts
 
--- The queue is the threads with a ticket, in the order of the tickets. A word has more values than there are threads, so tickets differ.
+-- The queue is the threads with a ticket, in the order of the tickets. A word has more values than
+-- there are threads, so tickets differ.
 pub record IsQueue (bits : ℕ) (ws : List ℕ) (ps : List Phase) (queue : List ℕ) : Type 0 where
   pub narrow : length ps < 2 ^ bits
   pub serving : slice_index ws now_serving < 2 ^ bits
