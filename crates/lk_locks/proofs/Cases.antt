@@ -1,16 +1,19 @@
 -- What the rooms prove of each step of their lock, and how a choice inside a step is taken apart.
-use Rattle.std.proofs.Common.{Bool, List, [], false, if◌then◌else◌, length, true, unwrap_or, ℕ, ◌++◌, ◌∷◌, ◌≡◌}
+use Rattle.std.proofs.Common.{Bool, List, [], false, if◌then◌else◌, length, true, unwrap_or, ℕ, ◌++◌, ◌∷◌, ◌≡◌, ◌<◌, ◌≤◌, None}
 use Rattle.std.specs.List.{AllByRecursion}
 use Rattle.lk_locks.specs.Change.{Change}
 use Rattle.lk_locks.specs.Entries.{step_entries}
 use Rattle.lk_locks.specs.Legal.{AreEnabled, after_entries, whole_call}
 use Rattle.lk_locks.specs.Sequential.{Sequential, thread_of}
-use Rattle.lk_locks.specs.Steps.{after_call}
+use Rattle.lk_locks.specs.State.{phase_at, word_count}
+use Rattle.lk_locks.specs.Steps.{after_call, belongs, refusal_in}
+use Rattle.lk_locks.specs.invariants.Kept.{AgreeAs}
 use Rattle.lk_locks.specs.invariants.Owed.{owed_of}
 use Rattle.lk_locks.specs.invariants.WellFormed.{IsPhaseOf}
 use Rattle.lk_locks.specs.declared.kinds.Entry.{Entry}
 use Rattle.lk_locks.specs.declared.kinds.Entry.TheVariants.{Called}
 use Rattle.lk_locks.specs.declared.kinds.LockKind.{LockKind}
+use Rattle.lk_locks.specs.declared.kinds.Move.{Move}
 use Rattle.lk_locks.specs.declared.kinds.Op.{Op}
 use Rattle.lk_locks.specs.declared.kinds.Phase.{Phase}
 
@@ -40,6 +43,19 @@ Fits kind n c = IsPhaseOf kind n c.phase
 -- entries of one thread alone
 abbrev pub AreOf : ℕ → List Entry → Type 0
 AreOf t es = AllByRecursion (λ e. thread_of e ≡ t) es
+
+-- what a room may rest on, where thread t makes the move m in phase p
+pub record IsTaken (kind : LockKind) (bits : ℕ) (ws : List ℕ) (ps : List Phase) (q : Sequential)
+    (t : ℕ) (p : Phase) (m : Move) : Type 0 where
+  pub kind_is : q.kind ≡ kind
+  pub thread : t < length ps
+  pub few : length ps ≤ 64
+  pub enough : word_count kind (length ps) ≤ length ws
+  pub phase_is : phase_at ps t ≡ p
+  pub fits : IsPhaseOf kind (length ps) p
+  pub own : belongs kind m ≡ true
+  pub not_refused : refusal_in kind p m ≡ None
+  pub agrees : AgreeAs kind (record { kind = kind; bits = bits; words = ws; phases = ps }) q
 
 -- What a move of thread t leaves, with the entries that it adds: they may come, and the sequential
 -- object goes along.

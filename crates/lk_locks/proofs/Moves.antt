@@ -3,14 +3,14 @@ use Rattle.std.proofs.Common.{Bool, List, None, Option, Some, arith, false, if�
 use Rattle.std.proofs.lemmas.Bool.{ltb-true}
 use Rattle.std.proofs.lemmas.List.{length-set}
 use Rattle.lk_locks.specs.Change.{Change}
-use Rattle.lk_locks.specs.Entries.{entries_of}
+use Rattle.lk_locks.specs.Entries.{entries_of, move_entries}
 use Rattle.lk_locks.specs.Sequential.{Sequential}
 use Rattle.lk_locks.specs.State.{State, phase_at}
 use Rattle.lk_locks.specs.Steps.{after_call, belongs, change_of, has_op, move_change, next_state, refusal_in, refusal_of, step_of}
 use Rattle.lk_locks.specs.invariants.Kept.{AgreeAs}
 use Rattle.lk_locks.specs.invariants.Owed.{owed_of}
 use Rattle.lk_locks.specs.invariants.WellFormed.{AreLinks, IsPhaseOf, WellFormed}
-use Rattle.lk_locks.proofs.Cases.{AreOf, Begins, GoesOn, IsAgreed}
+use Rattle.lk_locks.proofs.Cases.{AreOf, Begins, GoesOn, IsAgreed, IsTaken}
 use Rattle.lk_locks.proofs.Threads.{each_phase}
 use Rattle.lk_locks.specs.declared.kinds.LockKind.{LockKind}
 use Rattle.lk_locks.specs.declared.kinds.LockKind.TheVariants.{Mcs, RwFifo, RwSimple, Ticket}
@@ -111,20 +111,32 @@ accepted_of s t m h =
     gate (nat_lt t (length s.phases)) (belongs s.kind m) (refusal_in s.kind (phase_at s.phases t) m) h in
     record { thread = ltb-true t (length s.phases) g.0; own = g.1; fits = g.2 }
 
+taken : (kind : LockKind) (bits : ℕ) (ws : List ℕ) (ps : List Phase) (q : Sequential) (t : ℕ)
+    (p : Phase) (m : Move) → IsTaken kind bits ws ps q t p m
+    → let c : Change = move_change kind bits ws t p m in
+    let next : State = record { kind = kind; bits = bits; words = c.words; phases = set ps t c.phase } in
+    IsAgreed kind (AgreeAs kind next) q (move_entries kind t p m c.outcome)
+taken Ticket bits ws ps q t p m given = ticket.keeps bits ws ps q t p m given
+taken Mcs bits ws ps q t p m given = mcs.keeps bits ws ps q t p m given
+taken RwSimple bits ws ps q t p m given = rw_simple.keeps bits ws ps q t p m given
+taken RwFifo bits ws ps q t p m given = rw_fifo.keeps bits ws ps q t p m given
+
 pub agreed : (kind : LockKind) (bits : ℕ) (ws : List ℕ) (ps : List Phase) (q : Sequential) (t : ℕ)
     (m : Move)
     → let s : State = record { kind = kind; bits = bits; words = ws; phases = ps } in WellFormed s
     → length ps ≤ 64 → q.kind ≡ kind → Accepted s t m → AgreeAs kind s q
     → IsAgreed kind (AgreeAs kind (next_state s t m)) q (entries_of s t m)
-agreed Ticket bits ws ps q t m w n k a g =
-    ticket.keeps bits ws ps q t (phase_at ps t) m k a.thread n w.enough refl
-    (w.phases_fit t a.thread) a.own a.fits g
-agreed Mcs bits ws ps q t m w n k a g =
-    mcs.keeps bits ws ps q t (phase_at ps t) m k a.thread n w.enough refl (w.phases_fit t a.thread)
-    a.own a.fits g
-agreed RwSimple bits ws ps q t m w n k a g =
-    rw_simple.keeps bits ws ps q t (phase_at ps t) m k a.thread n w.enough refl
-    (w.phases_fit t a.thread) a.own a.fits g
-agreed RwFifo bits ws ps q t m w n k a g =
-    rw_fifo.keeps bits ws ps q t (phase_at ps t) m k a.thread n w.enough refl
-    (w.phases_fit t a.thread) a.own a.fits g
+agreed kind bits ws ps q t m w n k a g =
+    let p : Phase = phase_at ps t in
+    let given : IsTaken kind bits ws ps q t p m = record {
+      kind_is = k;
+      thread = a.thread;
+      few = n;
+      enough = w.enough;
+      phase_is = refl;
+      fits = w.phases_fit t a.thread;
+      own = a.own;
+      not_refused = a.fits;
+      agrees = g;
+    } in
+    taken kind bits ws ps q t p m given

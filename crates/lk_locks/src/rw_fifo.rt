@@ -8,7 +8,7 @@
 
 ghost use Rattle.std.specs.Prelude.{◌≡◌, ◌^◌, ◌<◌, ◌≤◌, length};
 ghost use Rattle.lk_locks.specs.rw_fifo.{step};
-ghost use Rattle.lk_locks.specs.declared.kinds.Phase.TheVariants.{TryWrite};
+ghost use Rattle.lk_locks.specs.declared.kinds.Phase.TheVariants.{TryWrite, AwaitReaders};
 
 use crate::{Outcome, Phase};
 use lk_words::Words;
@@ -42,6 +42,21 @@ fn try_write<W: Words>(words: &mut W) -> (Phase, Outcome)
     }
 }
 
+// The section in which an announced writer comes in, where as many readers left as came.
+fn await_readers<W: Words>(words: &mut W) -> (Phase, Outcome)
+    requires { 3 ≤ length (W.list words.old) }
+    ensures words { W.list words.new ≡ (step (W.width words.old) (W.list words.old) AwaitReaders).words }
+    ensures phase { result.0 ≡ (step (W.width words.old) (W.list words.old) AwaitReaders).phase }
+    ensures outcome { result.1 ≡ (step (W.width words.old) (W.list words.old) AwaitReaders).outcome }
+    ensures width { W.width words.new ≡ W.width words.old }
+{
+    if words.read(READ_ACQUIRES) == words.read(READ_RELEASES) {
+        (Phase::Writing, Outcome::Entered)
+    } else {
+        (Phase::AwaitReaders, Outcome::Waits)
+    }
+}
+
 /// One section of a thread in this phase, with its new phase.
 pub fn step<W: Words>(words: &mut W, phase: Phase) -> (Phase, Outcome)
     requires words { 3 ≤ length (W.list words.old) }
@@ -65,13 +80,7 @@ pub fn step<W: Words>(words: &mut W, phase: Phase) -> (Phase, Outcome)
             (Phase::Idle, Outcome::Left)
         }
         Phase::TryWrite => try_write(words),
-        Phase::AwaitReaders => {
-            if words.read(READ_ACQUIRES) == words.read(READ_RELEASES) {
-                (Phase::Writing, Outcome::Entered)
-            } else {
-                (phase, Outcome::Waits)
-            }
-        }
+        Phase::AwaitReaders => await_readers(words),
         Phase::LeaveWrite => {
             words.write(FLAG, 0);
             (Phase::Idle, Outcome::Left)

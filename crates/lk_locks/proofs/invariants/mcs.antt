@@ -12,7 +12,7 @@ use Rattle.lk_locks.specs.Steps.{belongs, has_op, move_change, refusal_in}
 use Rattle.lk_locks.specs.invariants.Threads.{EachOnce}
 use Rattle.lk_locks.specs.invariants.mcs.{AreLinks, IsBehind, IsFirst, IsOutside, IsPhase, IsQueue, last_of, locked_of, next_of, owed, tail_of}
 use Rattle.lk_locks.specs.mcs.{after_call, locked, next, step}
-use Rattle.lk_locks.proofs.Cases.{AreOf, Begins, Fits, GoesOn, IsAgreed, KeepsLength, either_way}
+use Rattle.lk_locks.proofs.Cases.{AreOf, Begins, Fits, GoesOn, IsAgreed, IsTaken, KeepsLength, either_way}
 use Rattle.lk_locks.proofs.invariants.McsLine.{IsHeadOf, first_frame, head_of, last_member, locked_after_locked, locked_after_next, mcs_first, mcs_grant, mcs_head, mcs_last, mcs_later, mcs_more, mcs_out, member_of, next_after_locked, next_after_next, not_member, place, second, tail_after}
 use Rattle.lk_locks.specs.declared.kinds.LockKind.TheVariants.{Mcs}
 use Rattle.lk_locks.specs.declared.kinds.Move.{Move}
@@ -197,63 +197,81 @@ first_of_head ws ps q t p e o b k =
 
 -- each move keeps the queue, and its entries may come
 pub keeps : (bits : ℕ) (ws : List ℕ) (ps : List Phase) (q : Sequential) (t : ℕ) (p : Phase)
-    (m : Move) → q.kind ≡ Mcs → t < length ps → length ps ≤ 64 → 1 + 2 * length ps ≤ length ws
-    → phase_at ps t ≡ p → IsPhase (length ps) p → belongs Mcs m ≡ true → refusal_in Mcs p m ≡ None
-    → IsQueue ws ps q.queue
+    (m : Move) → IsTaken Mcs bits ws ps q t p m
     → let c : Change =
     move_change Mcs bits ws t p m in IsAgreed Mcs (λ r. IsQueue c.words (set ps t c.phase) r.queue) q (move_entries Mcs t p m c.outcome)
-keeps bits ws ps q t Idle (Call Acquire) k h n w e f b r a =
+keeps bits ws ps q t Idle (Call Acquire) given =
+    let h : t < length ps = given.thread in
+    let e : phase_at ps t ≡ Idle = given.phase_is in
+    let a : IsQueue ws ps q.queue = given.agrees in
     let o : has q.queue t ≡ false =
     not_member ws ps q.queue t a (λ r x. rw e at x) (λ v x. rw e at x) in
     record {
       allowed = (tt, tt);
-      kind_is = k;
+      kind_is = given.kind_is;
       agrees = mcs_out ws ws ps q.queue t ClearNext h o refl (λ v d. refl) (λ v. refl) tt a;
     }
-keeps bits ws ps q t McsInside (Call Release) k h n w e f b r a =
+keeps bits ws ps q t McsInside (Call Release) given =
+    let h : t < length ps = given.thread in
+    let e : phase_at ps t ≡ McsInside = given.phase_is in
+    let a : IsQueue ws ps q.queue = given.agrees in
     let i : IsHeadOf ws ps q.queue t =
     first_of_head ws ps q.queue t McsInside e (λ x. x) (λ v x. x) a in
     record {
       allowed = (tt, tt);
-      kind_is = k;
+      kind_is = given.kind_is;
       agrees = goes_inside ws ps q.queue t ReadNext i h tt a;
     }
-keeps bits ws ps q t ClearNext (Step s) k h n w e f b r a =
+keeps bits ws ps q t ClearNext (Step s) given =
+    let h : t < length ps = given.thread in
+    let w : 1 + 2 * length ps ≤ length ws = given.enough in
+    let e : phase_at ps t ≡ ClearNext = given.phase_is in
+    let a : IsQueue ws ps q.queue = given.agrees in
     let o : has q.queue t ≡ false =
     not_member ws ps q.queue t a (λ r x. rw e at x) (λ v x. rw e at x) in
     record {
       allowed = tt;
-      kind_is = k;
+      kind_is = given.kind_is;
       agrees =
           mcs_out ws (set ws (next t) 0) ps q.queue t SwapTail h o
           (tail_after ws (next t) 0 (omega arith)) (λ v d. next_after_next ws t v 0 d)
           (λ v. locked_after_next ws t v 0) (get_or-set_same ws (next t) 0 0 (omega arith)) a;
     }
-keeps bits ws ps q t SwapTail (Step s) k h n w e f b r a =
+keeps bits ws ps q t SwapTail (Step s) given =
+    let h : t < length ps = given.thread in
+    let n : length ps ≤ 64 = given.few in
+    let w : 1 + 2 * length ps ≤ length ws = given.enough in
+    let e : phase_at ps t ≡ SwapTail = given.phase_is in
+    let a : IsQueue ws ps q.queue = given.agrees in
     let o : has q.queue t ≡ false =
     not_member ws ps q.queue t a (λ r x. rw e at x) (λ v x. rw e at x) in
-    let y : is_allowed q (Acted t Acquire) ≡ true = allows_acquire q t k (omega arith) o in
+    let y : is_allowed q (Acted t Acquire) ≡ true = allows_acquire q t given.kind_is (omega arith) o in
     let z : next_of ws t ≡ 0 = rw e at (a.others t o) in
     elim (eqb_tells (slice_index ws 0) 0) [
       | inl d ↦
           let g : q.queue ≡ [] = empty_of ws ps q.queue d.1 a in
           rw d.0 (record {
             allowed = (y, (rw g (eq-eqb t t refl), tt));
-            kind_is = k;
+            kind_is = given.kind_is;
             agrees = rw g (mcs_first ws ps t h (omega arith) z (rw g at a));
           })
       | inr d ↦ rw d.0 (record {
         allowed = (y, tt);
-        kind_is = k;
+        kind_is = given.kind_is;
         agrees = swapped ws ps q.queue t h (omega arith) o z d.1 a;
       })
     ]
-keeps bits ws ps q t (SetLocked j) (Step s) k h n w e f b r a =
+keeps bits ws ps q t (SetLocked j) (Step s) given =
+    let h : t < length ps = given.thread in
+    let w : 1 + 2 * length ps ≤ length ws = given.enough in
+    let e : phase_at ps t ≡ SetLocked j = given.phase_is in
+    let f : j < length ps = given.fits in
+    let a : IsQueue ws ps q.queue = given.agrees in
     elim (place ws ps q.queue t a.line (member_of ws ps q.queue t a (λ x. rw e at x))) [
       | inl i ↦ absurd (let x : IsFirst ws t i.rest (SetLocked j) = rw e at i.first in x)
       | inr i ↦ record {
         allowed = tt;
-        kind_is = k;
+        kind_is = given.kind_is;
         agrees =
             mcs_later ws (set ws (locked t) 1) ps q.queue t j (LinkTo j) h i.0
             (tail_after ws (locked t) 1 (omega arith))
@@ -263,7 +281,12 @@ keeps bits ws ps q t (SetLocked j) (Step s) k h n w e f b r a =
             a;
       }
     ]
-keeps bits ws ps q t (LinkTo j) (Step s) k h n w e f b r a =
+keeps bits ws ps q t (LinkTo j) (Step s) given =
+    let h : t < length ps = given.thread in
+    let w : 1 + 2 * length ps ≤ length ws = given.enough in
+    let e : phase_at ps t ≡ LinkTo j = given.phase_is in
+    let f : j < length ps = given.fits in
+    let a : IsQueue ws ps q.queue = given.agrees in
     elim (place ws ps q.queue t a.line (member_of ws ps q.queue t a (λ x. rw e at x))) [
       | inl i ↦ absurd (let x : IsFirst ws t i.rest (LinkTo j) = rw e at i.first in x)
       | inr i ↦
@@ -271,7 +294,7 @@ keeps bits ws ps q t (LinkTo j) (Step s) k h n w e f b r a =
           let zero : next_of ws j ≡ 0 = ap (next_of ws) c.0 ∙ c.1 in
           record {
             allowed = tt;
-            kind_is = k;
+            kind_is = given.kind_is;
             agrees =
                 mcs_later ws (set ws (next j) (t + 1)) ps q.queue t j AwaitGrant h i.0
                 (tail_after ws (next j) (t + 1) (omega arith))
@@ -287,20 +310,29 @@ keeps bits ws ps q t (LinkTo j) (Step s) k h n w e f b r a =
                 ]) a;
           }
     ]
-keeps bits ws ps q t AwaitGrant (Step s) k h n w e f b r a = elim (eqb_tells (locked_of ws t) 0) [
-  | inl d ↦ rw d.0 (elim (place ws ps q.queue t a.line (member_of ws ps q.queue t a (λ x. rw e at x))) [
-    | inl i ↦
-        record {
-          allowed = (head_is q.queue t i.rest i.is, tt);
-          kind_is = k;
-          agrees = goes_inside ws ps q.queue t McsInside i h tt a;
-        }
-    | inr i ↦
-        let g : IsBehind ws i.1.0 t AwaitGrant = rw e at i.1.1 in absurd (omega (arith, g.1, d.1))
-  ])
-  | inr d ↦ rw d.0 (record { allowed = tt; kind_is = k; agrees = rw (sym e) (rw set-get_or a) })
-]
-keeps bits ws ps q t ReadNext (Step s) k h n w e f b r a =
+keeps bits ws ps q t AwaitGrant (Step s) given =
+    let h : t < length ps = given.thread in
+    let w : 1 + 2 * length ps ≤ length ws = given.enough in
+    let e : phase_at ps t ≡ AwaitGrant = given.phase_is in
+    let a : IsQueue ws ps q.queue = given.agrees in
+    elim (eqb_tells (locked_of ws t) 0) [
+      | inl d ↦ rw d.0 (elim (place ws ps q.queue t a.line (member_of ws ps q.queue t a (λ x. rw e at x))) [
+        | inl i ↦
+            record {
+              allowed = (head_is q.queue t i.rest i.is, tt);
+              kind_is = given.kind_is;
+              agrees = goes_inside ws ps q.queue t McsInside i h tt a;
+            }
+        | inr i ↦
+            let g : IsBehind ws i.1.0 t AwaitGrant = rw e at i.1.1 in absurd (omega (arith, g.1, d.1))
+      ])
+      | inr d ↦ rw d.0 (record { allowed = tt; kind_is = given.kind_is; agrees = rw (sym e) (rw set-get_or a) })
+    ]
+keeps bits ws ps q t ReadNext (Step s) given =
+    let h : t < length ps = given.thread in
+    let w : 1 + 2 * length ps ≤ length ws = given.enough in
+    let e : phase_at ps t ≡ ReadNext = given.phase_is in
+    let a : IsQueue ws ps q.queue = given.agrees in
     let i : IsHeadOf ws ps q.queue t =
     first_of_head ws ps q.queue t ReadNext e (λ x. x) (λ v x. x) a in
     elim (eqb_tells (next_of ws t) 0) [
@@ -308,60 +340,76 @@ keeps bits ws ps q t ReadNext (Step s) k h n w e f b r a =
           rw d.0
           (record {
             allowed = tt;
-            kind_is = k;
+            kind_is = given.kind_is;
             agrees = goes_inside ws ps q.queue t CasTail i h tt a;
           })
       | inr d ↦
           rw d.0
           (record {
             allowed = tt;
-            kind_is = k;
+            kind_is = given.kind_is;
             agrees = goes_inside ws ps q.queue t (Grant (next_of ws t - 1)) i h (second ws ps t i.rest i.later d.1, omega (arith, d.1)) a;
           })
     ]
-keeps bits ws ps q t CasTail (Step s) k h n w e f b r a =
+keeps bits ws ps q t CasTail (Step s) given =
+    let h : t < length ps = given.thread in
+    let n : length ps ≤ 64 = given.few in
+    let w : 1 + 2 * length ps ≤ length ws = given.enough in
+    let e : phase_at ps t ≡ CasTail = given.phase_is in
+    let a : IsQueue ws ps q.queue = given.agrees in
     let i : IsHeadOf ws ps q.queue t =
     first_of_head ws ps q.queue t CasTail e (λ x. x) (λ v x. x) a in
     let y : is_allowed q (Acted t Release) ≡ true =
-    allows_release q t k (omega arith) (head_is q.queue t i.rest i.is) in
+    allows_release q t given.kind_is (omega arith) (head_is q.queue t i.rest i.is) in
     elim (eqb_tells (slice_index ws 0) (t + 1)) [
       | inl d ↦
           let g : i.rest ≡ [] = alone ws ps q.queue t i.rest i.is a d.1 in
           let x : q.queue ≡ t ∷ [] = i.is ∙ ap (λ z. t ∷ z) g in
           rw d.0 (record {
             allowed = (y, (tt, tt));
-            kind_is = k;
+            kind_is = given.kind_is;
             agrees = rw x (mcs_last ws ps t h (omega arith) (rw x at a));
           })
       | inr d ↦
           rw d.0
           (record {
             allowed = tt;
-            kind_is = k;
+            kind_is = given.kind_is;
             agrees = goes_inside ws ps q.queue t AwaitLink i h (not_alone ws ps q.queue t i.rest i.is a d.1) a;
           })
     ]
-keeps bits ws ps q t AwaitLink (Step s) k h n w e f b r a =
+keeps bits ws ps q t AwaitLink (Step s) given =
+    let h : t < length ps = given.thread in
+    let w : 1 + 2 * length ps ≤ length ws = given.enough in
+    let e : phase_at ps t ≡ AwaitLink = given.phase_is in
+    let a : IsQueue ws ps q.queue = given.agrees in
     let i : IsHeadOf ws ps q.queue t =
     first_of_head ws ps q.queue t AwaitLink e (λ x. x) (λ v x. x) a in
     elim (eqb_tells (next_of ws t) 0) [
-      | inl d ↦ rw d.0 (record { allowed = tt; kind_is = k; agrees = rw (sym e) (rw set-get_or a) })
+      | inl d ↦ rw d.0 (record { allowed = tt; kind_is = given.kind_is; agrees = rw (sym e) (rw set-get_or a) })
       | inr d ↦
           rw d.0
           (record {
             allowed = tt;
-            kind_is = k;
+            kind_is = given.kind_is;
             agrees = goes_inside ws ps q.queue t (Grant (next_of ws t - 1)) i h (second ws ps t i.rest i.later d.1, omega (arith, d.1)) a;
           })
     ]
-keeps bits ws ps q t (Grant j) (Step s) k h n w e f b r a =
+keeps bits ws ps q t (Grant j) (Step s) given =
+    let h : t < length ps = given.thread in
+    let n : length ps ≤ 64 = given.few in
+    let w : 1 + 2 * length ps ≤ length ws = given.enough in
+    let e : phase_at ps t ≡ Grant j = given.phase_is in
+    let f : j < length ps = given.fits in
+    let a : IsQueue ws ps q.queue = given.agrees in
     let i : IsHeadOf ws ps q.queue t =
     first_of_head ws ps q.queue t (Grant j) e (λ x. x) (λ v x. x) a in
     let y : is_allowed q (Acted t Release) ≡ true =
-    allows_release q t k (omega arith) (head_is q.queue t i.rest i.is) in
+    allows_release q t given.kind_is (omega arith) (head_is q.queue t i.rest i.is) in
     record {
       allowed = (y, (tt, tt));
-      kind_is = k;
+      kind_is = given.kind_is;
       agrees = rw i.is (mcs_grant ws ps i.rest t j h (omega arith) e (rw i.is at a));
     }
-keeps bits ws ps q t p m k h n w e f b r a = cc
+keeps bits ws ps q t p m given =
+    let fits = given.fits in let own = given.own in let not_refused = given.not_refused in cc

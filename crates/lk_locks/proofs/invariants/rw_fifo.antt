@@ -15,7 +15,7 @@ use Rattle.lk_locks.specs.invariants.WellFormed.{IsPhaseOf}
 use Rattle.lk_locks.specs.invariants.read_write.{AreHolders, is_announced, is_reading, is_writing}
 use Rattle.lk_locks.specs.invariants.rw_fifo.{AgreesWith, is_phase, owed}
 use Rattle.lk_locks.specs.rw_fifo.{step}
-use Rattle.lk_locks.proofs.Cases.{AreOf, Begins, Fits, GoesOn, IsAgreed, KeepsLength, either_way}
+use Rattle.lk_locks.proofs.Cases.{AreOf, Begins, Fits, GoesOn, IsAgreed, IsTaken, KeepsLength, either_way}
 use Rattle.lk_locks.proofs.invariants.HolderLists.{announced_is, empty_of_length, flag_none, flag_some, holders_announce, holders_downgrade, holders_frame, holders_join, holders_leave, holders_unwrite, holders_write, length_joined, length_left, no_writer, no_writer_beside, none_announced, not_same, readers_few}
 use Rattle.lk_locks.proofs.Requests.{eqb-same}
 use Rattle.lk_locks.proofs.Words.{no_round, plus_one-lt, plus_one_plus}
@@ -126,71 +126,95 @@ written ps q t a = a
 
 -- each move keeps the words and the holders, and its entries may come
 pub keeps : (bits : ℕ) (ws : List ℕ) (ps : List Phase) (q : Sequential) (t : ℕ) (p : Phase)
-    (m : Move) → q.kind ≡ RwFifo → t < length ps → length ps ≤ 64 → 3 ≤ length ws
-    → phase_at ps t ≡ p → IsPhaseOf RwFifo (length ps) p → belongs RwFifo m ≡ true
-    → refusal_in RwFifo p m ≡ None → AgreesWith bits ws ps q
+    (m : Move) → IsTaken RwFifo bits ws ps q t p m
     → let c : Change =
     move_change RwFifo bits ws t p m in IsAgreed RwFifo (λ r. AgreesWith bits c.words (set ps t c.phase) r) q (move_entries RwFifo t p m c.outcome)
-keeps bits ws ps q t Idle (Call ReadLock) k h n w e f b r a =
+keeps bits ws ps q t Idle (Call ReadLock) given =
+    let h : t < length ps = given.thread in
+    let e : phase_at ps t ≡ Idle = given.phase_is in
+    let a : AgreesWith bits ws ps q = given.agrees in
     record {
       allowed = (tt, tt);
-      kind_is = k;
+      kind_is = given.kind_is;
       agrees = still bits ws ps q t Idle TryRead h e refl refl refl a;
     }
-keeps bits ws ps q t Idle (Call WriteLock) k h n w e f b r a =
+keeps bits ws ps q t Idle (Call WriteLock) given =
+    let h : t < length ps = given.thread in
+    let e : phase_at ps t ≡ Idle = given.phase_is in
+    let a : AgreesWith bits ws ps q = given.agrees in
     record {
       allowed = (tt, tt);
-      kind_is = k;
+      kind_is = given.kind_is;
       agrees = still bits ws ps q t Idle TryWrite h e refl refl refl a;
     }
-keeps bits ws ps q t Reading (Call ReadUnlock) k h n w e f b r a =
+keeps bits ws ps q t Reading (Call ReadUnlock) given =
+    let h : t < length ps = given.thread in
+    let e : phase_at ps t ≡ Reading = given.phase_is in
+    let a : AgreesWith bits ws ps q = given.agrees in
     record {
       allowed = (tt, tt);
-      kind_is = k;
+      kind_is = given.kind_is;
       agrees = still bits ws ps q t Reading LeaveRead h e refl refl refl a;
     }
-keeps bits ws ps q t Writing (Call WriteUnlock) k h n w e f b r a =
+keeps bits ws ps q t Writing (Call WriteUnlock) given =
+    let h : t < length ps = given.thread in
+    let e : phase_at ps t ≡ Writing = given.phase_is in
+    let a : AgreesWith bits ws ps q = given.agrees in
     record {
       allowed = (tt, tt);
-      kind_is = k;
+      kind_is = given.kind_is;
       agrees = still bits ws ps q t Writing LeaveWrite h e refl refl refl a;
     }
-keeps bits ws ps q t Writing (Call Downgrade) k h n w e f b r a =
+keeps bits ws ps q t Writing (Call Downgrade) given =
+    let h : t < length ps = given.thread in
+    let e : phase_at ps t ≡ Writing = given.phase_is in
+    let a : AgreesWith bits ws ps q = given.agrees in
     record {
       allowed = (tt, tt);
-      kind_is = k;
+      kind_is = given.kind_is;
       agrees = still bits ws ps q t Writing TryDowngrade h e refl refl refl a;
     }
-keeps bits ws ps q t TryRead (Step s) k h n w e f b r a = elim (eqb_tells (slice_index ws 2) 0) [
-  | inl d ↦
-      let o : (q.writer ≡ None) × (q.announced ≡ None) =
-      flag_none q.writer q.announced (sym a.flag_is ∙ d.1) in
-      let x : has q.readers t ≡ false = a.holders.reading t ∙ ap is_reading e in
-      let y : is_allowed q (Acted t ReadLock) ≡ true =
-      rw (lt-ltb t 64 (omega arith), k, o.0, o.1, x) refl in
-      let vs : List ℕ = set ws 0 (plus_one bits (slice_index ws 0)) in
-      let one : slice_index vs 1 ≡ slice_index ws 1 =
-      get_or-set_other ws 0 1 _ 0 (λ (c : 1 ≡ 0). omega (arith, c)) in
-      let two : slice_index vs 2 ≡ slice_index ws 2 =
-      get_or-set_other ws 0 2 _ 0 (λ (c : 2 ≡ 0). omega (arith, c)) in
-      let g : AgreesWith bits vs (set ps t Reading) (after_entry q (Acted t ReadLock)) = record {
-        narrow = rw (length-set ps t Reading) a.narrow;
-        left = rw one a.left;
-        came =
-            get_or-set_same ws 0 _ 0 (omega arith) ∙ ap (plus_one bits) a.came
-            ∙ mod-add-mod (slice_index ws 1 + length q.readers) (2 ^ bits) 1
-            ∙ ap (λ y. y % 2 ^ bits) (omega (arith, one, length_joined q.readers t));
-        flag_is = two ∙ a.flag_is;
-        holders =
-            holders_join ps q t h (ap is_reading e) (ap is_writing e) (ap is_announced e) o.0
-            a.holders;
-      } in
-      rw d.0 (record { allowed = (y, (tt, tt)); kind_is = k; agrees = g })
-  | inr d ↦ rw d.0 (record { allowed = tt; kind_is = k; agrees = rw (sym e) (rw set-get_or a) })
-]
-keeps bits ws ps q t LeaveRead (Step s) k h n w e f b r a =
+keeps bits ws ps q t TryRead (Step s) given =
+    let h : t < length ps = given.thread in
+    let n : length ps ≤ 64 = given.few in
+    let w : 3 ≤ length ws = given.enough in
+    let e : phase_at ps t ≡ TryRead = given.phase_is in
+    let a : AgreesWith bits ws ps q = given.agrees in
+    elim (eqb_tells (slice_index ws 2) 0) [
+      | inl d ↦
+          let o : (q.writer ≡ None) × (q.announced ≡ None) =
+          flag_none q.writer q.announced (sym a.flag_is ∙ d.1) in
+          let x : has q.readers t ≡ false = a.holders.reading t ∙ ap is_reading e in
+          let y : is_allowed q (Acted t ReadLock) ≡ true =
+          rw (lt-ltb t 64 (omega arith), given.kind_is, o.0, o.1, x) refl in
+          let vs : List ℕ = set ws 0 (plus_one bits (slice_index ws 0)) in
+          let one : slice_index vs 1 ≡ slice_index ws 1 =
+          get_or-set_other ws 0 1 _ 0 (λ (c : 1 ≡ 0). omega (arith, c)) in
+          let two : slice_index vs 2 ≡ slice_index ws 2 =
+          get_or-set_other ws 0 2 _ 0 (λ (c : 2 ≡ 0). omega (arith, c)) in
+          let g : AgreesWith bits vs (set ps t Reading) (after_entry q (Acted t ReadLock)) = record {
+            narrow = rw (length-set ps t Reading) a.narrow;
+            left = rw one a.left;
+            came =
+                get_or-set_same ws 0 _ 0 (omega arith) ∙ ap (plus_one bits) a.came
+                ∙ mod-add-mod (slice_index ws 1 + length q.readers) (2 ^ bits) 1
+                ∙ ap (λ y. y % 2 ^ bits) (omega (arith, one, length_joined q.readers t));
+            flag_is = two ∙ a.flag_is;
+            holders =
+                holders_join ps q t h (ap is_reading e) (ap is_writing e) (ap is_announced e) o.0
+                a.holders;
+          } in
+          rw d.0 (record { allowed = (y, (tt, tt)); kind_is = given.kind_is; agrees = g })
+      | inr d ↦ rw d.0 (record { allowed = tt; kind_is = given.kind_is; agrees = rw (sym e) (rw set-get_or a) })
+    ]
+keeps bits ws ps q t LeaveRead (Step s) given =
+    let h : t < length ps = given.thread in
+    let n : length ps ≤ 64 = given.few in
+    let w : 3 ≤ length ws = given.enough in
+    let e : phase_at ps t ≡ LeaveRead = given.phase_is in
+    let a : AgreesWith bits ws ps q = given.agrees in
     let x : has q.readers t ≡ true = a.holders.reading t ∙ ap is_reading e in
-    let y : is_allowed q (Acted t ReadUnlock) ≡ true = rw (lt-ltb t 64 (omega arith), k, x) refl in
+    let y : is_allowed q (Acted t ReadUnlock) ≡ true = rw (lt-ltb t 64 (omega arith), given.kind_is, x) refl in
     let l : length (left_by q.readers t) + 1 ≡ length q.readers = length_left q.readers t x in
     let vs : List ℕ = set ws 1 (plus_one bits (slice_index ws 1)) in
     let zero : slice_index vs 0 ≡ slice_index ws 0 =
@@ -211,74 +235,90 @@ keeps bits ws ps q t LeaveRead (Step s) k h n w e f b r a =
           holders_leave ps q t h (ap is_writing e) (ap is_announced e)
           (no_writer q.writer q.readers q.announced t a.holders.alone x) a.holders;
     } in
-    record { allowed = (y, (tt, tt)); kind_is = k; agrees = g }
-keeps bits ws ps q t TryWrite (Step s) k h n w e f b r a = elim (eqb_tells (slice_index ws 2) 0) [
-  | inr d ↦ rw d.0 (record { allowed = tt; kind_is = k; agrees = rw (sym e) (rw set-get_or a) })
-  | inl d ↦
-      let o : (q.writer ≡ None) × (q.announced ≡ None) =
-      flag_none q.writer q.announced (sym a.flag_is ∙ d.1) in
-      let x : has q.readers t ≡ false = a.holders.reading t ∙ ap is_reading e in
-      let y : is_allowed q (Announced t) ≡ true =
-      rw (lt-ltb t 64 (omega arith), k, o.0, o.1, x) refl in
-      let vs : List ℕ = set ws 2 1 in
-      let zero : slice_index vs 0 ≡ slice_index ws 0 =
-      get_or-set_other ws 2 0 1 0 (λ (c : 0 ≡ 2). omega (arith, c)) in
-      let one : slice_index vs 1 ≡ slice_index ws 1 =
-      get_or-set_other ws 2 1 1 0 (λ (c : 1 ≡ 2). omega (arith, c)) in
-      elim (eqb_tells (slice_index ws 0) (slice_index ws 1)) [
-        | inr c ↦
-            let g : AgreesWith bits vs (set ps t AwaitReaders) (after_entry q (Announced t)) = record {
-              narrow = rw (length-set ps t AwaitReaders) a.narrow;
-              left = rw one a.left;
-              came = zero ∙ a.came ∙ ap (λ y. (y + length q.readers) % 2 ^ bits) (sym one);
-              flag_is = get_or-set_same ws 2 1 0 (omega arith) ∙ sym (flag_some q.writer t);
-              holders =
-                  holders_announce ps q t h (ap is_reading e) (ap is_writing e) o.0 o.1 a.holders;
-            } in
-            rw (d.0, c.0) (record { allowed = (y, tt); kind_is = k; agrees = g })
-        | inl c ↦
-            let z : q.readers ≡ [] = none_read bits ws ps q a c.1 in
-            let u : Sequential = after_entry q (Announced t) in
-            let v : is_allowed u (Acted t WriteLock) ≡ true =
-            rw (lt-ltb t 64 (omega arith), k, z, same_thread t) refl in
-            let g : AgreesWith bits vs (set ps t Writing) (after_entry u (Acted t WriteLock)) = record {
-              narrow = rw (length-set ps t Writing) a.narrow;
-              left = rw one a.left;
-              came = zero ∙ a.came ∙ ap (λ y. (y + length q.readers) % 2 ^ bits) (sym one);
-              flag_is = get_or-set_same ws 2 1 0 (omega arith);
-              holders =
-                  written ps q t (holders_write ps q t h z o.0 (λ u v. rw o.1 refl) a.holders);
-            } in
-            rw (d.0, c.0)
-            (record { allowed = (y, (v, (tt, tt))); kind_is = k; agrees = g })
-      ]
-]
-keeps bits ws ps q t AwaitReaders (Step s) k h n w e f b r a = elim (eqb_tells (slice_index ws 0) (slice_index ws 1)) [
-  | inr c ↦ rw c.0 (record { allowed = tt; kind_is = k; agrees = rw (sym e) (rw set-get_or a) })
-  | inl c ↦
-      let i : is_this q.announced t ≡ true = a.holders.awaiting t ∙ ap is_announced e in
-      let x : q.readers ≡ [] = none_read bits ws ps q a c.1 in
-      let o : q.writer ≡ None =
-      no_writer_beside q.writer q.readers q.announced t a.holders.alone i in
-      let y : is_allowed q (Acted t WriteLock) ≡ true =
-      rw (lt-ltb t 64 (omega arith), k, i, x) refl in
-      let g : AgreesWith bits ws (set ps t Writing) (after_entry q (Acted t WriteLock)) = record {
-        narrow = rw (length-set ps t Writing) a.narrow;
-        left = a.left;
-        came = a.came;
-        flag_is =
-            a.flag_is
-            ∙
-            (let u : q.announced ≡ Some t = announced_is q.announced t i in rw u (flag_some q.writer t));
-        holders =
-            holders_write ps q t h x o (λ u v. rw (announced_is q.announced t i) (not_same u t v))
-            a.holders;
-      } in
-      rw c.0 (record { allowed = (y, (tt, tt)); kind_is = k; agrees = g })
-]
-keeps bits ws ps q t LeaveWrite (Step s) k h n w e f b r a =
+    record { allowed = (y, (tt, tt)); kind_is = given.kind_is; agrees = g }
+keeps bits ws ps q t TryWrite (Step s) given =
+    let h : t < length ps = given.thread in
+    let n : length ps ≤ 64 = given.few in
+    let w : 3 ≤ length ws = given.enough in
+    let e : phase_at ps t ≡ TryWrite = given.phase_is in
+    let a : AgreesWith bits ws ps q = given.agrees in
+    elim (eqb_tells (slice_index ws 2) 0) [
+      | inr d ↦ rw d.0 (record { allowed = tt; kind_is = given.kind_is; agrees = rw (sym e) (rw set-get_or a) })
+      | inl d ↦
+          let o : (q.writer ≡ None) × (q.announced ≡ None) =
+          flag_none q.writer q.announced (sym a.flag_is ∙ d.1) in
+          let x : has q.readers t ≡ false = a.holders.reading t ∙ ap is_reading e in
+          let y : is_allowed q (Announced t) ≡ true =
+          rw (lt-ltb t 64 (omega arith), given.kind_is, o.0, o.1, x) refl in
+          let vs : List ℕ = set ws 2 1 in
+          let zero : slice_index vs 0 ≡ slice_index ws 0 =
+          get_or-set_other ws 2 0 1 0 (λ (c : 0 ≡ 2). omega (arith, c)) in
+          let one : slice_index vs 1 ≡ slice_index ws 1 =
+          get_or-set_other ws 2 1 1 0 (λ (c : 1 ≡ 2). omega (arith, c)) in
+          elim (eqb_tells (slice_index ws 0) (slice_index ws 1)) [
+            | inr c ↦
+                let g : AgreesWith bits vs (set ps t AwaitReaders) (after_entry q (Announced t)) = record {
+                  narrow = rw (length-set ps t AwaitReaders) a.narrow;
+                  left = rw one a.left;
+                  came = zero ∙ a.came ∙ ap (λ y. (y + length q.readers) % 2 ^ bits) (sym one);
+                  flag_is = get_or-set_same ws 2 1 0 (omega arith) ∙ sym (flag_some q.writer t);
+                  holders =
+                      holders_announce ps q t h (ap is_reading e) (ap is_writing e) o.0 o.1 a.holders;
+                } in
+                rw (d.0, c.0) (record { allowed = (y, tt); kind_is = given.kind_is; agrees = g })
+            | inl c ↦
+                let z : q.readers ≡ [] = none_read bits ws ps q a c.1 in
+                let u : Sequential = after_entry q (Announced t) in
+                let v : is_allowed u (Acted t WriteLock) ≡ true =
+                rw (lt-ltb t 64 (omega arith), given.kind_is, z, same_thread t) refl in
+                let g : AgreesWith bits vs (set ps t Writing) (after_entry u (Acted t WriteLock)) = record {
+                  narrow = rw (length-set ps t Writing) a.narrow;
+                  left = rw one a.left;
+                  came = zero ∙ a.came ∙ ap (λ y. (y + length q.readers) % 2 ^ bits) (sym one);
+                  flag_is = get_or-set_same ws 2 1 0 (omega arith);
+                  holders =
+                      written ps q t (holders_write ps q t h z o.0 (λ u v. rw o.1 refl) a.holders);
+                } in
+                rw (d.0, c.0)
+                (record { allowed = (y, (v, (tt, tt))); kind_is = given.kind_is; agrees = g })
+          ]
+    ]
+keeps bits ws ps q t AwaitReaders (Step s) given =
+    let h : t < length ps = given.thread in
+    let n : length ps ≤ 64 = given.few in
+    let e : phase_at ps t ≡ AwaitReaders = given.phase_is in
+    let a : AgreesWith bits ws ps q = given.agrees in
+    elim (eqb_tells (slice_index ws 0) (slice_index ws 1)) [
+      | inr c ↦ rw c.0 (record { allowed = tt; kind_is = given.kind_is; agrees = rw (sym e) (rw set-get_or a) })
+      | inl c ↦
+          let i : is_this q.announced t ≡ true = a.holders.awaiting t ∙ ap is_announced e in
+          let x : q.readers ≡ [] = none_read bits ws ps q a c.1 in
+          let o : q.writer ≡ None =
+          no_writer_beside q.writer q.readers q.announced t a.holders.alone i in
+          let y : is_allowed q (Acted t WriteLock) ≡ true =
+          rw (lt-ltb t 64 (omega arith), given.kind_is, i, x) refl in
+          let g : AgreesWith bits ws (set ps t Writing) (after_entry q (Acted t WriteLock)) = record {
+            narrow = rw (length-set ps t Writing) a.narrow;
+            left = a.left;
+            came = a.came;
+            flag_is =
+                a.flag_is
+                ∙
+                (let u : q.announced ≡ Some t = announced_is q.announced t i in rw u (flag_some q.writer t));
+            holders =
+                holders_write ps q t h x o (λ u v. rw (announced_is q.announced t i) (not_same u t v))
+                a.holders;
+          } in
+          rw c.0 (record { allowed = (y, (tt, tt)); kind_is = given.kind_is; agrees = g })
+    ]
+keeps bits ws ps q t LeaveWrite (Step s) given =
+    let h : t < length ps = given.thread in
+    let n : length ps ≤ 64 = given.few in
+    let w : 3 ≤ length ws = given.enough in
+    let e : phase_at ps t ≡ LeaveWrite = given.phase_is in
+    let a : AgreesWith bits ws ps q = given.agrees in
     let x : is_this q.writer t ≡ true = a.holders.writing t ∙ ap is_writing e in
-    let y : is_allowed q (Acted t WriteUnlock) ≡ true = rw (lt-ltb t 64 (omega arith), k, x) refl in
+    let y : is_allowed q (Acted t WriteUnlock) ≡ true = rw (lt-ltb t 64 (omega arith), given.kind_is, x) refl in
     let vs : List ℕ = set ws 2 0 in
     let zero : slice_index vs 0 ≡ slice_index ws 0 =
     get_or-set_other ws 2 0 0 0 (λ (c : 0 ≡ 2). omega (arith, c)) in
@@ -294,10 +334,15 @@ keeps bits ws ps q t LeaveWrite (Step s) k h n w e f b r a =
           (let o : q.announced ≡ None = none_announced q.writer q.readers q.announced t a.holders.alone x in rw o refl);
       holders = holders_unwrite ps q t h (ap is_reading e) (ap is_announced e) x a.holders;
     } in
-    record { allowed = (y, (tt, tt)); kind_is = k; agrees = g }
-keeps bits ws ps q t TryDowngrade (Step s) k h n w e f b r a =
+    record { allowed = (y, (tt, tt)); kind_is = given.kind_is; agrees = g }
+keeps bits ws ps q t TryDowngrade (Step s) given =
+    let h : t < length ps = given.thread in
+    let n : length ps ≤ 64 = given.few in
+    let w : 3 ≤ length ws = given.enough in
+    let e : phase_at ps t ≡ TryDowngrade = given.phase_is in
+    let a : AgreesWith bits ws ps q = given.agrees in
     let x : is_this q.writer t ≡ true = a.holders.writing t ∙ ap is_writing e in
-    let y : is_allowed q (Acted t Downgrade) ≡ true = rw (lt-ltb t 64 (omega arith), k, x) refl in
+    let y : is_allowed q (Acted t Downgrade) ≡ true = rw (lt-ltb t 64 (omega arith), given.kind_is, x) refl in
     let z : has q.readers t ≡ false = a.holders.reading t ∙ ap is_reading e in
     let o : q.announced ≡ None =
     none_announced q.writer q.readers q.announced t a.holders.alone x in
@@ -320,5 +365,6 @@ keeps bits ws ps q t TryDowngrade (Step s) k h n w e f b r a =
       flag_is = get_or-set_same us 2 0 0 (omega arith) ∙ rw o refl;
       holders = holders_downgrade ps q t h (ap is_reading e) (ap is_announced e) x a.holders;
     } in
-    record { allowed = (y, (tt, tt)); kind_is = k; agrees = g }
-keeps bits ws ps q t p m k h n w e f b r a = cc
+    record { allowed = (y, (tt, tt)); kind_is = given.kind_is; agrees = g }
+keeps bits ws ps q t p m given =
+    let fits = given.fits in let own = given.own in let not_refused = given.not_refused in cc

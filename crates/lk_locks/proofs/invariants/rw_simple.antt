@@ -15,7 +15,7 @@ use Rattle.lk_locks.specs.invariants.WellFormed.{IsPhaseOf}
 use Rattle.lk_locks.specs.invariants.read_write.{is_announced, is_reading, is_writing}
 use Rattle.lk_locks.specs.invariants.rw_simple.{AgreesWith, is_phase, owed}
 use Rattle.lk_locks.specs.rw_simple.{step}
-use Rattle.lk_locks.proofs.Cases.{AreOf, Begins, Fits, GoesOn, IsAgreed, KeepsLength, either_way}
+use Rattle.lk_locks.proofs.Cases.{AreOf, Begins, Fits, GoesOn, IsAgreed, IsTaken, KeepsLength, either_way}
 use Rattle.lk_locks.proofs.invariants.HolderLists.{empty_of_length, flag_none, holders_downgrade, holders_frame, holders_join, holders_leave, holders_unwrite, holders_write, length_joined, length_left, no_writer, none_announced, readers_few, readers_fit}
 use Rattle.lk_locks.specs.declared.kinds.LockKind.TheVariants.{RwSimple}
 use Rattle.lk_locks.specs.declared.kinds.Move.{Move}
@@ -102,68 +102,92 @@ still bits ws ps q t p r h e x y z a = record {
 
 -- each move keeps the words and the holders, and its entries may come
 pub keeps : (bits : ℕ) (ws : List ℕ) (ps : List Phase) (q : Sequential) (t : ℕ) (p : Phase)
-    (m : Move) → q.kind ≡ RwSimple → t < length ps → length ps ≤ 64 → 2 ≤ length ws
-    → phase_at ps t ≡ p → IsPhaseOf RwSimple (length ps) p → belongs RwSimple m ≡ true
-    → refusal_in RwSimple p m ≡ None → AgreesWith bits ws ps q
+    (m : Move) → IsTaken RwSimple bits ws ps q t p m
     → let c : Change =
     move_change RwSimple bits ws t p m in IsAgreed RwSimple (λ r. AgreesWith bits c.words (set ps t c.phase) r) q (move_entries RwSimple t p m c.outcome)
-keeps bits ws ps q t Idle (Call ReadLock) k h n w e f b r a =
+keeps bits ws ps q t Idle (Call ReadLock) given =
+    let h : t < length ps = given.thread in
+    let e : phase_at ps t ≡ Idle = given.phase_is in
+    let a : AgreesWith bits ws ps q = given.agrees in
     record {
       allowed = (tt, tt);
-      kind_is = k;
+      kind_is = given.kind_is;
       agrees = still bits ws ps q t Idle TryRead h e refl refl refl a;
     }
-keeps bits ws ps q t Idle (Call WriteLock) k h n w e f b r a =
+keeps bits ws ps q t Idle (Call WriteLock) given =
+    let h : t < length ps = given.thread in
+    let e : phase_at ps t ≡ Idle = given.phase_is in
+    let a : AgreesWith bits ws ps q = given.agrees in
     record {
       allowed = (tt, tt);
-      kind_is = k;
+      kind_is = given.kind_is;
       agrees = still bits ws ps q t Idle TryWrite h e refl refl refl a;
     }
-keeps bits ws ps q t Reading (Call ReadUnlock) k h n w e f b r a =
+keeps bits ws ps q t Reading (Call ReadUnlock) given =
+    let h : t < length ps = given.thread in
+    let e : phase_at ps t ≡ Reading = given.phase_is in
+    let a : AgreesWith bits ws ps q = given.agrees in
     record {
       allowed = (tt, tt);
-      kind_is = k;
+      kind_is = given.kind_is;
       agrees = still bits ws ps q t Reading LeaveRead h e refl refl refl a;
     }
-keeps bits ws ps q t Writing (Call WriteUnlock) k h n w e f b r a =
+keeps bits ws ps q t Writing (Call WriteUnlock) given =
+    let h : t < length ps = given.thread in
+    let e : phase_at ps t ≡ Writing = given.phase_is in
+    let a : AgreesWith bits ws ps q = given.agrees in
     record {
       allowed = (tt, tt);
-      kind_is = k;
+      kind_is = given.kind_is;
       agrees = still bits ws ps q t Writing LeaveWrite h e refl refl refl a;
     }
-keeps bits ws ps q t Writing (Call Downgrade) k h n w e f b r a =
+keeps bits ws ps q t Writing (Call Downgrade) given =
+    let h : t < length ps = given.thread in
+    let e : phase_at ps t ≡ Writing = given.phase_is in
+    let a : AgreesWith bits ws ps q = given.agrees in
     record {
       allowed = (tt, tt);
-      kind_is = k;
+      kind_is = given.kind_is;
       agrees = still bits ws ps q t Writing TryDowngrade h e refl refl refl a;
     }
-keeps bits ws ps q t TryRead (Step s) k h n w e f b r a = elim (eqb_tells (slice_index ws 1) 0) [
-  | inl d ↦
-      let o : (q.writer ≡ None) × (q.announced ≡ None) =
-      flag_none q.writer q.announced (sym a.flag_is ∙ d.1) in
-      let x : has q.readers t ≡ false = a.holders.reading t ∙ ap is_reading e in
-      let y : is_allowed q (Acted t ReadLock) ≡ true =
-      rw (lt-ltb t 64 (omega arith), k, o.0, x) refl in
-      let l : length q.readers < length ps = readers_fit ps q t a.holders h x in
-      let one : slice_index (set ws 0 (plus_one bits (slice_index ws 0))) 1 ≡ slice_index ws 1 =
-      get_or-set_other ws 0 1 _ 0 (λ (c : 1 ≡ 0). omega (arith, c)) in
-      let g : AgreesWith bits (set ws 0 (plus_one bits (slice_index ws 0))) (set ps t Reading) (after_entry q (Acted t ReadLock)) = record {
-        narrow = rw (length-set ps t Reading) a.narrow;
-        count =
-            get_or-set_same ws 0 _ 0 (omega arith) ∙ ap (plus_one bits) a.count
-            ∙ mod-eq_of_lt (let u : length ps < 2 ^ bits = a.narrow in omega arith)
-            ∙ sym (length_joined q.readers t);
-        flag_is = one ∙ a.flag_is;
-        holders =
-            holders_join ps q t h (ap is_reading e) (ap is_writing e) (ap is_announced e) o.0
-            a.holders;
-      } in
-      rw d.0 (record { allowed = (y, (tt, tt)); kind_is = k; agrees = g })
-  | inr d ↦ rw d.0 (record { allowed = tt; kind_is = k; agrees = rw (sym e) (rw set-get_or a) })
-]
-keeps bits ws ps q t LeaveRead (Step s) k h n w e f b r a =
+keeps bits ws ps q t TryRead (Step s) given =
+    let h : t < length ps = given.thread in
+    let n : length ps ≤ 64 = given.few in
+    let w : 2 ≤ length ws = given.enough in
+    let e : phase_at ps t ≡ TryRead = given.phase_is in
+    let a : AgreesWith bits ws ps q = given.agrees in
+    elim (eqb_tells (slice_index ws 1) 0) [
+      | inl d ↦
+          let o : (q.writer ≡ None) × (q.announced ≡ None) =
+          flag_none q.writer q.announced (sym a.flag_is ∙ d.1) in
+          let x : has q.readers t ≡ false = a.holders.reading t ∙ ap is_reading e in
+          let y : is_allowed q (Acted t ReadLock) ≡ true =
+          rw (lt-ltb t 64 (omega arith), given.kind_is, o.0, x) refl in
+          let l : length q.readers < length ps = readers_fit ps q t a.holders h x in
+          let one : slice_index (set ws 0 (plus_one bits (slice_index ws 0))) 1 ≡ slice_index ws 1 =
+          get_or-set_other ws 0 1 _ 0 (λ (c : 1 ≡ 0). omega (arith, c)) in
+          let g : AgreesWith bits (set ws 0 (plus_one bits (slice_index ws 0))) (set ps t Reading) (after_entry q (Acted t ReadLock)) = record {
+            narrow = rw (length-set ps t Reading) a.narrow;
+            count =
+                get_or-set_same ws 0 _ 0 (omega arith) ∙ ap (plus_one bits) a.count
+                ∙ mod-eq_of_lt (let u : length ps < 2 ^ bits = a.narrow in omega arith)
+                ∙ sym (length_joined q.readers t);
+            flag_is = one ∙ a.flag_is;
+            holders =
+                holders_join ps q t h (ap is_reading e) (ap is_writing e) (ap is_announced e) o.0
+                a.holders;
+          } in
+          rw d.0 (record { allowed = (y, (tt, tt)); kind_is = given.kind_is; agrees = g })
+      | inr d ↦ rw d.0 (record { allowed = tt; kind_is = given.kind_is; agrees = rw (sym e) (rw set-get_or a) })
+    ]
+keeps bits ws ps q t LeaveRead (Step s) given =
+    let h : t < length ps = given.thread in
+    let n : length ps ≤ 64 = given.few in
+    let w : 2 ≤ length ws = given.enough in
+    let e : phase_at ps t ≡ LeaveRead = given.phase_is in
+    let a : AgreesWith bits ws ps q = given.agrees in
     let x : has q.readers t ≡ true = a.holders.reading t ∙ ap is_reading e in
-    let y : is_allowed q (Acted t ReadUnlock) ≡ true = rw (lt-ltb t 64 (omega arith), k, x) refl in
+    let y : is_allowed q (Acted t ReadUnlock) ≡ true = rw (lt-ltb t 64 (omega arith), given.kind_is, x) refl in
     let l : length (left_by q.readers t) + 1 ≡ length q.readers = length_left q.readers t x in
     let one : slice_index (set ws 0 (less_one bits (slice_index ws 0))) 1 ≡ slice_index ws 1 =
     get_or-set_other ws 0 1 _ 0 (λ (c : 1 ≡ 0). omega (arith, c)) in
@@ -178,32 +202,43 @@ keeps bits ws ps q t LeaveRead (Step s) k h n w e f b r a =
           holders_leave ps q t h (ap is_writing e) (ap is_announced e)
           (no_writer q.writer q.readers q.announced t a.holders.alone x) a.holders;
     } in
-    record { allowed = (y, (tt, tt)); kind_is = k; agrees = g }
-keeps bits ws ps q t TryWrite (Step s) k h n w e f b r a = elim (eqb_tells (slice_index ws 0) 0) [
-  | inr c ↦ rw c.0 (record { allowed = tt; kind_is = k; agrees = rw (sym e) (rw set-get_or a) })
-  | inl c ↦ elim (eqb_tells (slice_index ws 1) 0) [
-    | inr d ↦
-        rw (c.0, d.0) (record { allowed = tt; kind_is = k; agrees = rw (sym e) (rw set-get_or a) })
-    | inl d ↦
-        let o : (q.writer ≡ None) × (q.announced ≡ None) =
-        flag_none q.writer q.announced (sym a.flag_is ∙ d.1) in
-        let x : q.readers ≡ [] = empty_of_length q.readers (sym a.count ∙ c.1) in
-        let y : is_allowed q (Acted t WriteLock) ≡ true =
-        rw (lt-ltb t 64 (omega arith), k, o.0, x) refl in
-        let zero : slice_index (set ws 1 1) 0 ≡ slice_index ws 0 =
-        get_or-set_other ws 1 0 1 0 (λ (c : 0 ≡ 1). omega (arith, c)) in
-        let g : AgreesWith bits (set ws 1 1) (set ps t Writing) (after_entry q (Acted t WriteLock)) = record {
-          narrow = rw (length-set ps t Writing) a.narrow;
-          count = zero ∙ a.count;
-          flag_is = get_or-set_same ws 1 1 0 (omega arith);
-          holders = holders_write ps q t h x o.0 (λ u v. rw o.1 refl) a.holders;
-        } in
-        rw (c.0, d.0) (record { allowed = (y, (tt, tt)); kind_is = k; agrees = g })
-  ]
-]
-keeps bits ws ps q t LeaveWrite (Step s) k h n w e f b r a =
+    record { allowed = (y, (tt, tt)); kind_is = given.kind_is; agrees = g }
+keeps bits ws ps q t TryWrite (Step s) given =
+    let h : t < length ps = given.thread in
+    let n : length ps ≤ 64 = given.few in
+    let w : 2 ≤ length ws = given.enough in
+    let e : phase_at ps t ≡ TryWrite = given.phase_is in
+    let a : AgreesWith bits ws ps q = given.agrees in
+    elim (eqb_tells (slice_index ws 0) 0) [
+      | inr c ↦ rw c.0 (record { allowed = tt; kind_is = given.kind_is; agrees = rw (sym e) (rw set-get_or a) })
+      | inl c ↦ elim (eqb_tells (slice_index ws 1) 0) [
+        | inr d ↦
+            rw (c.0, d.0) (record { allowed = tt; kind_is = given.kind_is; agrees = rw (sym e) (rw set-get_or a) })
+        | inl d ↦
+            let o : (q.writer ≡ None) × (q.announced ≡ None) =
+            flag_none q.writer q.announced (sym a.flag_is ∙ d.1) in
+            let x : q.readers ≡ [] = empty_of_length q.readers (sym a.count ∙ c.1) in
+            let y : is_allowed q (Acted t WriteLock) ≡ true =
+            rw (lt-ltb t 64 (omega arith), given.kind_is, o.0, x) refl in
+            let zero : slice_index (set ws 1 1) 0 ≡ slice_index ws 0 =
+            get_or-set_other ws 1 0 1 0 (λ (c : 0 ≡ 1). omega (arith, c)) in
+            let g : AgreesWith bits (set ws 1 1) (set ps t Writing) (after_entry q (Acted t WriteLock)) = record {
+              narrow = rw (length-set ps t Writing) a.narrow;
+              count = zero ∙ a.count;
+              flag_is = get_or-set_same ws 1 1 0 (omega arith);
+              holders = holders_write ps q t h x o.0 (λ u v. rw o.1 refl) a.holders;
+            } in
+            rw (c.0, d.0) (record { allowed = (y, (tt, tt)); kind_is = given.kind_is; agrees = g })
+      ]
+    ]
+keeps bits ws ps q t LeaveWrite (Step s) given =
+    let h : t < length ps = given.thread in
+    let n : length ps ≤ 64 = given.few in
+    let w : 2 ≤ length ws = given.enough in
+    let e : phase_at ps t ≡ LeaveWrite = given.phase_is in
+    let a : AgreesWith bits ws ps q = given.agrees in
     let x : is_this q.writer t ≡ true = a.holders.writing t ∙ ap is_writing e in
-    let y : is_allowed q (Acted t WriteUnlock) ≡ true = rw (lt-ltb t 64 (omega arith), k, x) refl in
+    let y : is_allowed q (Acted t WriteUnlock) ≡ true = rw (lt-ltb t 64 (omega arith), given.kind_is, x) refl in
     let zero : slice_index (set ws 1 0) 0 ≡ slice_index ws 0 =
     get_or-set_other ws 1 0 0 0 (λ (c : 0 ≡ 1). omega (arith, c)) in
     let g : AgreesWith bits (set ws 1 0) (set ps t Idle) (after_entry q (Acted t WriteUnlock)) = record {
@@ -215,10 +250,15 @@ keeps bits ws ps q t LeaveWrite (Step s) k h n w e f b r a =
           (let o : q.announced ≡ None = none_announced q.writer q.readers q.announced t a.holders.alone x in rw o refl);
       holders = holders_unwrite ps q t h (ap is_reading e) (ap is_announced e) x a.holders;
     } in
-    record { allowed = (y, (tt, tt)); kind_is = k; agrees = g }
-keeps bits ws ps q t TryDowngrade (Step s) k h n w e f b r a =
+    record { allowed = (y, (tt, tt)); kind_is = given.kind_is; agrees = g }
+keeps bits ws ps q t TryDowngrade (Step s) given =
+    let h : t < length ps = given.thread in
+    let n : length ps ≤ 64 = given.few in
+    let w : 2 ≤ length ws = given.enough in
+    let e : phase_at ps t ≡ TryDowngrade = given.phase_is in
+    let a : AgreesWith bits ws ps q = given.agrees in
     let x : is_this q.writer t ≡ true = a.holders.writing t ∙ ap is_writing e in
-    let y : is_allowed q (Acted t Downgrade) ≡ true = rw (lt-ltb t 64 (omega arith), k, x) refl in
+    let y : is_allowed q (Acted t Downgrade) ≡ true = rw (lt-ltb t 64 (omega arith), given.kind_is, x) refl in
     let z : has q.readers t ≡ false = a.holders.reading t ∙ ap is_reading e in
     let o : q.announced ≡ None =
     none_announced q.writer q.readers q.announced t a.holders.alone x in
@@ -238,5 +278,6 @@ keeps bits ws ps q t TryDowngrade (Step s) k h n w e f b r a =
       flag_is = get_or-set_same us 1 0 0 (omega arith) ∙ rw o refl;
       holders = holders_downgrade ps q t h (ap is_reading e) (ap is_announced e) x a.holders;
     } in
-    record { allowed = (y, (tt, tt)); kind_is = k; agrees = g }
-keeps bits ws ps q t p m k h n w e f b r a = cc
+    record { allowed = (y, (tt, tt)); kind_is = given.kind_is; agrees = g }
+keeps bits ws ps q t p m given =
+    let fits = given.fits in let own = given.own in let not_refused = given.not_refused in cc

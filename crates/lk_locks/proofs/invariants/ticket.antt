@@ -13,7 +13,7 @@ use Rattle.lk_locks.specs.invariants.WellFormed.{IsPhaseOf}
 use Rattle.lk_locks.specs.invariants.ticket.{IsQueue, is_phase, owed, ticket_of}
 use Rattle.lk_locks.specs.laws.{Event}
 use Rattle.lk_locks.specs.ticket.{after_call, now_serving, reads, step}
-use Rattle.lk_locks.proofs.Cases.{AreOf, Begins, Fits, GoesOn, IsAgreed, KeepsLength, either_way}
+use Rattle.lk_locks.proofs.Cases.{AreOf, Begins, Fits, GoesOn, IsAgreed, IsTaken, KeepsLength, either_way}
 use Rattle.lk_locks.proofs.Threads.{bool_tells}
 use Rattle.lk_locks.proofs.invariants.TicketLine.{IsHead, inside_is_head, no_member, queue_frame, queue_pass, queue_take, served_is_head}
 use Rattle.lk_locks.specs.declared.kinds.LockKind.TheVariants.{Ticket}
@@ -88,66 +88,90 @@ rest_false (u ∷ q) t h = elim (bool_tells (has q t)) [
 
 -- each move keeps the queue, and its entries may come
 pub keeps : (bits : ℕ) (ws : List ℕ) (ps : List Phase) (q : Sequential) (t : ℕ) (p : Phase)
-    (m : Move) → q.kind ≡ Ticket → t < length ps → length ps ≤ 64 → 2 ≤ length ws
-    → phase_at ps t ≡ p → IsTrue (is_phase p) → belongs Ticket m ≡ true
-    → refusal_in Ticket p m ≡ None → IsQueue bits ws ps q.queue
+    (m : Move) → IsTaken Ticket bits ws ps q t p m
     → let c : Change =
     move_change Ticket bits ws t p m in IsAgreed Ticket (λ r. IsQueue bits c.words (set ps t c.phase) r.queue) q (move_entries Ticket t p m c.outcome)
-keeps bits ws ps q t Idle (Call Acquire) k h n w e f b r a = record {
-  allowed = (tt, tt);
-  kind_is = k;
-  agrees =
-      queue_frame bits ws ps q.queue t TakeTicket h (sym (ap ticket_of e))
-      (rest_false q.queue t (no_member bits ws ps q.queue t a (ap ticket_of e))) a;
-}
-keeps bits ws ps q t (TicketInside x) (Call Release) k h n w e f b r a = record {
-  allowed = (tt, tt);
-  kind_is = k;
-  agrees = queue_frame bits ws ps q.queue t (ReadServing x) h (sym (ap ticket_of e))
-      (inside_is_head bits ws ps q.queue t x a (ap ticket_of e) (λ y d. let g : TicketInside x ≡ AwaitTurn y = sym e ∙ d in cc)).alone
-      a;
-}
-keeps bits ws ps q t TakeTicket (Step s) k h n w e f b r a =
+keeps bits ws ps q t Idle (Call Acquire) given =
+    let h : t < length ps = given.thread in
+    let e : phase_at ps t ≡ Idle = given.phase_is in
+    let a : IsQueue bits ws ps q.queue = given.agrees in
+    record {
+      allowed = (tt, tt);
+      kind_is = given.kind_is;
+      agrees =
+          queue_frame bits ws ps q.queue t TakeTicket h (sym (ap ticket_of e))
+          (rest_false q.queue t (no_member bits ws ps q.queue t a (ap ticket_of e))) a;
+    }
+keeps bits ws ps q t (TicketInside x) (Call Release) given =
+    let h : t < length ps = given.thread in
+    let e : phase_at ps t ≡ TicketInside x = given.phase_is in
+    let a : IsQueue bits ws ps q.queue = given.agrees in
+    record {
+      allowed = (tt, tt);
+      kind_is = given.kind_is;
+      agrees = queue_frame bits ws ps q.queue t (ReadServing x) h (sym (ap ticket_of e))
+          (inside_is_head bits ws ps q.queue t x a (ap ticket_of e) (λ y d. let g : TicketInside x ≡ AwaitTurn y = sym e ∙ d in cc)).alone
+          a;
+    }
+keeps bits ws ps q t TakeTicket (Step s) given =
+    let h : t < length ps = given.thread in
+    let n : length ps ≤ 64 = given.few in
+    let w : 2 ≤ length ws = given.enough in
+    let e : phase_at ps t ≡ TakeTicket = given.phase_is in
+    let a : IsQueue bits ws ps q.queue = given.agrees in
     let o : has q.queue t ≡ false = no_member bits ws ps q.queue t a (ap ticket_of e) in
-    let y : is_allowed q (Acted t Acquire) ≡ true = allows_acquire q t k (omega arith) o in
+    let y : is_allowed q (Acted t Acquire) ≡ true = allows_acquire q t given.kind_is (omega arith) o in
     record {
       allowed = (y, tt);
-      kind_is = k;
+      kind_is = given.kind_is;
       agrees = queue_take bits ws ps q.queue t h w (ap ticket_of e) a;
     }
-keeps bits ws ps q t (AwaitTurn x) (Step s) k h n w e f b r a = elim (eqb_tells (slice_index ws 1) x) [
-  | inl d ↦
-      let i : IsHead ws ps q.queue t (slice_index ws 1) =
-      served_is_head bits ws ps q.queue t a (e ∙ ap (λ y. AwaitTurn y) (sym d.1)) in
-      rw d.0 (record {
-        allowed = (i.head, tt);
-        kind_is = k;
-        agrees =
-            queue_frame bits ws ps q.queue t (TicketInside x) h (sym (ap ticket_of e)) i.alone a;
+keeps bits ws ps q t (AwaitTurn x) (Step s) given =
+    let h : t < length ps = given.thread in
+    let e : phase_at ps t ≡ AwaitTurn x = given.phase_is in
+    let a : IsQueue bits ws ps q.queue = given.agrees in
+    elim (eqb_tells (slice_index ws 1) x) [
+      | inl d ↦
+          let i : IsHead ws ps q.queue t (slice_index ws 1) =
+          served_is_head bits ws ps q.queue t a (e ∙ ap (λ y. AwaitTurn y) (sym d.1)) in
+          rw d.0 (record {
+            allowed = (i.head, tt);
+            kind_is = given.kind_is;
+            agrees =
+                queue_frame bits ws ps q.queue t (TicketInside x) h (sym (ap ticket_of e)) i.alone a;
+          })
+      | inr d ↦ rw d.0 (record {
+        allowed = tt;
+        kind_is = given.kind_is;
+        agrees = rw (sym e) (rw set-get_or a);
       })
-  | inr d ↦ rw d.0 (record {
-    allowed = tt;
-    kind_is = k;
-    agrees = rw (sym e) (rw set-get_or a);
-  })
-]
-keeps bits ws ps q t (ReadServing x) (Step s) k h n w e f b r a =
+    ]
+keeps bits ws ps q t (ReadServing x) (Step s) given =
+    let h : t < length ps = given.thread in
+    let e : phase_at ps t ≡ ReadServing x = given.phase_is in
+    let a : IsQueue bits ws ps q.queue = given.agrees in
     let i : IsHead ws ps q.queue t x =
     inside_is_head bits ws ps q.queue t x a (ap ticket_of e) (λ y d. let g : ReadServing x ≡ AwaitTurn y = sym e ∙ d in cc) in
     record {
       allowed = tt;
-      kind_is = k;
+      kind_is = given.kind_is;
       agrees =
           queue_frame bits ws ps q.queue t (PassOn (slice_index ws 1)) h
           (ap (λ y. Some y) (sym i.ticket) ∙ sym (ap ticket_of e)) i.alone a;
     }
-keeps bits ws ps q t (PassOn x) (Step s) k h n w e f b r a =
+keeps bits ws ps q t (PassOn x) (Step s) given =
+    let h : t < length ps = given.thread in
+    let n : length ps ≤ 64 = given.few in
+    let w : 2 ≤ length ws = given.enough in
+    let e : phase_at ps t ≡ PassOn x = given.phase_is in
+    let a : IsQueue bits ws ps q.queue = given.agrees in
     let i : IsHead ws ps q.queue t x =
     inside_is_head bits ws ps q.queue t x a (ap ticket_of e) (λ y d. let g : PassOn x ≡ AwaitTurn y = sym e ∙ d in cc) in
-    let y : is_allowed q (Acted t Release) ≡ true = allows_release q t k (omega arith) i.head in
+    let y : is_allowed q (Acted t Release) ≡ true = allows_release q t given.kind_is (omega arith) i.head in
     record {
       allowed = (y, (tt, tt));
-      kind_is = k;
+      kind_is = given.kind_is;
       agrees = rw i.ticket (queue_pass bits ws ps q.queue t h w i.head i.alone a);
     }
-keeps bits ws ps q t p m k h n w e f b r a = cc
+keeps bits ws ps q t p m given =
+    let fits = given.fits in let own = given.own in let not_refused = given.not_refused in cc
