@@ -59,7 +59,8 @@ pub record IsTaken (kind : LockKind) (bits : ℕ) (ws : List ℕ) (ps : List Pha
 
 -- What a move of thread t leaves, with the entries that it adds: they may come, and the sequential
 -- object goes along.
-pub record IsAgreed (kind : LockKind) (agree : Sequential → Type 0) (q : Sequential) (es : List Entry) : Type 0 where
+pub record IsAgreed (kind : LockKind) (agree : Sequential → Type 0) (q : Sequential)
+    (es : List Entry) : Type 0 where
   pub allowed : AreEnabled q es
   pub kind_is : (after_entries q es).kind ≡ kind
   pub agrees : agree (after_entries q es)

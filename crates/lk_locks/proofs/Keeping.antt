@@ -31,14 +31,16 @@ entries_are_own kind bits ws t p (Step k) =
     let c : Change = move_change kind bits ws t p (Step k) in
     all_prefix (λ e. thread_of e ≡ t) (move_entries kind t p (Step k) c.outcome)
     (owed_of kind t c.phase)
-    (let g : AreOf t (owed_of kind t p) = owed_is_own kind t p in rw (step_goes_on kind bits t ws p) at g)
+    (let g : AreOf t
+    (owed_of kind t p) = owed_is_own kind t p in rw (step_goes_on kind bits t ws p) at g)
 
 -- the thread of a move is in its turn afterwards
 pub turn_kept : (kind : LockKind) (n bits : ℕ) (ws : List ℕ) (es : List Entry) (t : ℕ) (p : Phase)
     (m : Move) → IsPhaseOf kind n p → belongs kind m ≡ true → refusal_in kind p m ≡ None
     → IsInTurn kind es t p
     → let c : Change =
-    move_change kind bits ws t p m in IsInTurn kind (es ++ move_entries kind t p m c.outcome) t c.phase
+    move_change kind bits ws t p m in IsInTurn kind (es
+    ++ move_entries kind t p m c.outcome) t c.phase
 turn_kept kind n bits ws es t p (Call op) f b r i =
     let g = call_begins kind n t p op f b r in turn_of_call kind es t p _ op g.0 g.1 i
 turn_kept kind n bits ws es t p (Step k) f b r i =
@@ -63,11 +65,13 @@ keeps s q es t m k a =
       now = after_append _ es new ∙ ap (λ x. after_entries x new) k.now;
       allowed = allowed_append _ es new k.allowed (rw k.now g.allowed);
       turns = λ u h. each_phase (λ v r. IsInTurn s.kind (es ++ new) v r) s.phases t c.phase a.thread
-          (turn_kept s.kind (length s.phases) s.bits s.words es t p m (k.well.phases_fit t a.thread) a.own a.fits (k.turns t a.thread))
+          (turn_kept s.kind (length s.phases) s.bits s.words es t p m
+          (k.well.phases_fit t a.thread) a.own a.fits (k.turns t a.thread))
           (λ v d h. turn_of_other s.kind es new t v _ d of (k.turns v h)) u h;
       no_others =
           rw n
-          (all_append (λ e. thread_of e < length s.phases) es new k.no_others (all_map _ (λ e. thread_of e < length s.phases) (λ e h. rw h a.thread) new of));
+          (all_append (λ e. thread_of e < length s.phases) es new k.no_others
+          (all_map _ (λ e. thread_of e < length s.phases) (λ e h. rw h a.thread) new of));
       agree = g.agrees;
     }
 
@@ -98,7 +102,8 @@ made_entries s t m k kind p o added slice d i e f g h = h ∙ g ∙ rw (f, i, e,
 -- a lock and its history go on by an accepted move
 pub recorded_on : (k : Tracked) (es : List Entry) (t : ℕ) (m : Move) → IsRecorded k es
     → refusal_of k.state t m ≡ None
-    → IsRecorded (followed k (next_state k.state t m) (entries_of k.state t m)) (es ++ entries_of k.state t m)
+    → IsRecorded (followed k (next_state k.state t m) (entries_of k.state t m)) (es
+    ++ entries_of k.state t m)
 recorded_on k es t m r a =
     let new : List Entry = entries_of k.state t m in
     record {

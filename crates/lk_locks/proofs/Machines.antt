@@ -55,7 +55,9 @@ machine_new kind bits n ws h b w z = record {
   well = record {
     enough = rw (length-replicate n Idle) w;
     phases_fit =
-        λ t k. rw (get_or-replicate n t Idle Idle (let e : length (replicate n Idle) ≡ n = length-replicate n Idle in omega arith)) (idle_fits kind (length (replicate n Idle)));
+        λ t k. rw (get_or-replicate n t Idle Idle
+        (let e : length (replicate n Idle) ≡ n = length-replicate n Idle in omega arith))
+        (idle_fits kind (length (replicate n Idle)));
     links_fit =
         clear_links kind _ ws
         (λ i. elim (cases_lt i (length ws)) [ inl k ↦ z i k | inr k ↦ get_or_past ws i 0 k ]);
@@ -88,7 +90,8 @@ pub applied : (kind : LockKind) (bits n : ℕ) (ws vs : List ℕ) (ps : List Pha
     → IsMachine n (seen kind bits n ws ps) → Applied kind bits n vs ps t r now m
 applied kind bits n ws vs ps t p r m now v h e f g k =
     subst
-    (λ (x : State). refusal_of x t m ≡ None → p ≡ phase_at x.phases t → Applied kind bits n vs ps t r x m)
+    (λ (x : State). refusal_of x t m ≡ None → p ≡ phase_at x.phases t
+    → Applied kind bits n vs ps t r x m)
     v (λ h e. applied_here kind bits n ws vs ps t p r m h e f g k) h e
 
 pub seen_start : (kind : LockKind) (bits n : ℕ) (ws : List ℕ) → n ≤ 64

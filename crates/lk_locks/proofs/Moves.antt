@@ -90,12 +90,15 @@ well_kept s t m w a =
     let n : length (set s.phases t c.phase) ≡ length s.phases = length-set s.phases t c.phase in
     record {
       enough = rw n (rw (same_length s.kind s.bits s.words t (phase_at s.phases t) m) w.enough);
-      phases_fit = rw n (λ u k. each_phase (λ u p. IsPhaseOf s.kind (length s.phases) p) s.phases t c.phase a.thread
-          (new_phase_fits s.kind (length s.phases) s.bits s.words t (phase_at s.phases t) m a.thread (w.phases_fit t a.thread) w.links_fit)
+      phases_fit = rw n (λ u k. each_phase
+          (λ u p. IsPhaseOf s.kind (length s.phases) p) s.phases t c.phase a.thread
+          (new_phase_fits s.kind (length s.phases) s.bits s.words t (phase_at s.phases t) m a.thread
+          (w.phases_fit t a.thread) w.links_fit)
           (λ v _ h. w.phases_fit v h) u (omega (arith, n)));
       links_fit =
           rw n
-          (new_links_fit s.kind (length s.phases) s.bits s.words t (phase_at s.phases t) m a.thread w.links_fit);
+          (new_links_fit s.kind (length s.phases) s.bits s.words t
+          (phase_at s.phases t) m a.thread w.links_fit);
     }
 
 gate : (a b : Bool) (r : Option Refusal)
@@ -108,13 +111,19 @@ gate false b r h = cc
 pub accepted_of : (s : State) (t : ℕ) (m : Move) → refusal_of s t m ≡ None → Accepted s t m
 accepted_of s t m h =
     let g =
-    gate (nat_lt t (length s.phases)) (belongs s.kind m) (refusal_in s.kind (phase_at s.phases t) m) h in
+    gate (nat_lt t (length s.phases)) (belongs s.kind m) (refusal_in s.kind
+    (phase_at s.phases t) m) h in
     record { thread = ltb-true t (length s.phases) g.0; own = g.1; fits = g.2 }
 
 taken : (kind : LockKind) (bits : ℕ) (ws : List ℕ) (ps : List Phase) (q : Sequential) (t : ℕ)
     (p : Phase) (m : Move) → IsTaken kind bits ws ps q t p m
     → let c : Change = move_change kind bits ws t p m in
-    let next : State = record { kind = kind; bits = bits; words = c.words; phases = set ps t c.phase } in
+    let next : State = record {
+      kind = kind;
+      bits = bits;
+      words = c.words;
+      phases = set ps t c.phase;
+    } in
     IsAgreed kind (AgreeAs kind next) q (move_entries kind t p m c.outcome)
 taken Ticket bits ws ps q t p m given = ticket.keeps bits ws ps q t p m given
 taken Mcs bits ws ps q t p m given = mcs.keeps bits ws ps q t p m given

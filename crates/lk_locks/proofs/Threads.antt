@@ -29,8 +29,10 @@ pub once_more : (q : List ℕ) (t : ℕ) → EachOnce q → has q t ≡ false �
 once_more [] t o h = (refl, tt)
 once_more (u ∷ q) t o h = elim (eqb_tells t u) [
   | inl e ↦ let g : has (u ∷ q) t ≡ false = h in absurd (false≢true (sym (rw e.0 at g)))
-  | inr e ↦
-      (list_any-append (eqb u) q (t ∷ []) ∙ rw (o.0, not_eqb t u e.1) refl, once_more q t o.1 (let g : has (u ∷ q) t ≡ false = h in rw e.0 at g))
+  | inr e ↦ (
+    list_any-append (eqb u) q (t ∷ []) ∙ rw (o.0, not_eqb t u e.1) refl,
+    once_more q t o.1 (let g : has (u ∷ q) t ≡ false = h in rw e.0 at g),
+  )
 ]
 
 -- the tests of a member, once more at the end

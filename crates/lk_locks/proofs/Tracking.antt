@@ -14,16 +14,25 @@ use Rattle.lk_locks.specs.declared.kinds.Move.TheVariants.{Call}
 use Rattle.lk_locks.specs.declared.kinds.Op.{Op}
 use Rattle.lk_locks.specs.declared.kinds.Entry.{Entry}
 
-pub entries_may_come : (s : State) (q : Sequential) (t : ℕ) (m : Move) → IsTracked s q → refusal_of s t m ≡ None → AreEnabled q (entries_of s t m)
+pub entries_may_come : (s : State) (q : Sequential) (t : ℕ) (m : Move) → IsTracked s q
+    → refusal_of s t m ≡ None → AreEnabled q (entries_of s t m)
 entries_may_come s q t m k a = may_come s q k.0 t m k.1 (accepted_of s t m a)
 
-pub tracked_on : (s r : State) (q u : Sequential) (es : List Entry) (t : ℕ) (m : Move) → IsTracked s q → refusal_of s t m ≡ None → es ≡ entries_of s t m → r ≡ next_state s t m → u ≡ after_entries q es → IsTracked r u
+pub tracked_on : (s r : State) (q u : Sequential) (es : List Entry) (t : ℕ) (m : Move)
+    → IsTracked s q → refusal_of s t m ≡ None → es ≡ entries_of s t m → r ≡ next_state s t m
+    → u ≡ after_entries q es → IsTracked r u
 tracked_on s r q u es t m k a d e f =
     rw (f, e, d) ((k.0 ++ entries_of s t m, keeps s q k.0 t m k.1 (accepted_of s t m a)))
 
 -- a call adds one entry, which is no act
-tracked_by_call : (s : State) (q : Sequential) (t : ℕ) (op : Op) → IsTracked s q → refusal_of s t (Call op) ≡ None → IsTracked (next_state s t (Call op)) q
-tracked_by_call s q t op k a = (k.0 ++ entries_of s t (Call op), keeps s q k.0 t (Call op) k.1 (accepted_of s t (Call op) a))
+tracked_by_call : (s : State) (q : Sequential) (t : ℕ) (op : Op) → IsTracked s q
+    → refusal_of s t (Call op) ≡ None → IsTracked (next_state s t (Call op)) q
+tracked_by_call s q t op k a = (
+  k.0 ++ entries_of s t (Call op),
+  keeps s q k.0 t (Call op) k.1 (accepted_of s t (Call op) a),
+)
 
-pub tracked_call : (s r : State) (q : Sequential) (t : ℕ) (m : Move) (op : Op) → IsTracked s q → refusal_of s t m ≡ None → m ≡ Call op → r ≡ next_state s t m → IsTracked r q
-tracked_call s r q t m op k a c e = rw (e, c) (tracked_by_call s q t op k (sym (ap (refusal_of s t) c) ∙ a))
+pub tracked_call : (s r : State) (q : Sequential) (t : ℕ) (m : Move) (op : Op) → IsTracked s q
+    → refusal_of s t m ≡ None → m ≡ Call op → r ≡ next_state s t m → IsTracked r q
+tracked_call s r q t m op k a c e = rw (e, c) (tracked_by_call s q t op k
+    (sym (ap (refusal_of s t) c) ∙ a))

@@ -25,4 +25,5 @@ pub left_of_sum : (bits x greatest : ℕ) → bits ≤ 64 → greatest ≡ 2 ^ b
 left_of_sum bits x greatest h g =
     ap (bit_and (x % 2 ^ 64)) g ∙ and_mask (x % 2 ^ 64) bits
     ∙
-    (let e : 64 - bits + bits ≡ 64 = omega arith in ap (λ k. x % 2 ^ k % 2 ^ bits) (sym e) ∙ mod-mod-pow x (64 - bits) bits)
+    (let e : 64 - bits + bits ≡ 64 = omega arith in ap (λ k. x % 2 ^ k % 2 ^ bits) (sym e)
+    ∙ mod-mod-pow x (64 - bits) bits)

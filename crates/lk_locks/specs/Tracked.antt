@@ -20,11 +20,19 @@ pub record Tracked : Type 0 where
 
 -- a lock in this state, with these entries behind it
 abbrev pub tracked : State → List Entry → Tracked
-tracked s es = record { state = s; sequential = after_entries (nobody s.kind) es; holder = holder_after None es }
+tracked s es = record {
+  state = s;
+  sequential = after_entries (nobody s.kind) es;
+  holder = holder_after None es;
+}
 
 -- after these entries more, which lead to this state
 abbrev pub followed : Tracked → State → List Entry → Tracked
-followed k next es = record { state = next; sequential = after_entries k.sequential es; holder = holder_after k.holder es }
+followed k next es = record {
+  state = next;
+  sequential = after_entries k.sequential es;
+  holder = holder_after k.holder es;
+}
 
 -- a refused move changes nothing
 abbrev pub followed_unless : Option Refusal → Tracked → State → List Entry → Tracked
@@ -32,7 +40,8 @@ followed_unless None k next es = followed k next es
 followed_unless (Some r) k next es = k
 
 abbrev pub after_tracked : Tracked → ℕ → Move → Tracked
-after_tracked k t m = followed_unless (refusal_of k.state t m) k (next_state k.state t m) (entries_of k.state t m)
+after_tracked k t m =
+    followed_unless (refusal_of k.state t m) k (next_state k.state t m) (entries_of k.state t m)
 
 -- who holds, and who waits in line; `holding_of` and `waiting_of` say the same of the entries
 abbrev pub held_as : LockKind → Tracked → Holding

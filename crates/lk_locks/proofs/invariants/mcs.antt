@@ -199,7 +199,8 @@ first_of_head ws ps q t p e o b k =
 pub keeps : (bits : ℕ) (ws : List ℕ) (ps : List Phase) (q : Sequential) (t : ℕ) (p : Phase)
     (m : Move) → IsTaken Mcs bits ws ps q t p m
     → let c : Change =
-    move_change Mcs bits ws t p m in IsAgreed Mcs (λ r. IsQueue c.words (set ps t c.phase) r.queue) q (move_entries Mcs t p m c.outcome)
+    move_change Mcs bits ws t p m in IsAgreed Mcs (λ r. IsQueue c.words
+    (set ps t c.phase) r.queue) q (move_entries Mcs t p m c.outcome)
 keeps bits ws ps q t Idle (Call Acquire) given =
     let h : t < length ps = given.thread in
     let e : phase_at ps t ≡ Idle = given.phase_is in
@@ -245,7 +246,8 @@ keeps bits ws ps q t SwapTail (Step s) given =
     let a : IsQueue ws ps q.queue = given.agrees in
     let o : has q.queue t ≡ false =
     not_member ws ps q.queue t a (λ r x. rw e at x) (λ v x. rw e at x) in
-    let y : is_allowed q (Acted t Acquire) ≡ true = allows_acquire q t given.kind_is (omega arith) o in
+    let y : is_allowed q (Acted t Acquire)
+    ≡ true = allows_acquire q t given.kind_is (omega arith) o in
     let z : next_of ws t ≡ 0 = rw e at (a.others t o) in
     elim (eqb_tells (slice_index ws 0) 0) [
       | inl d ↦
@@ -275,9 +277,19 @@ keeps bits ws ps q t (SetLocked j) (Step s) given =
         agrees =
             mcs_later ws (set ws (locked t) 1) ps q.queue t j (LinkTo j) h i.0
             (tail_after ws (locked t) 1 (omega arith))
-            (λ v x. let g : IsBehind ws v t (SetLocked j) = rw e at x in (sym g.0, (g.0, next_after_locked ws t v 1 ∙ g.1, get_or-set_same ws (locked t) 1 0 (omega arith))))
+            (λ v x. let g : IsBehind ws v t
+            (SetLocked j) = rw e at x in (
+              sym g.0,
+              (
+                g.0,
+                next_after_locked ws t v 1 ∙ g.1,
+                get_or-set_same ws (locked t) 1 0
+                    (omega arith),
+              ),
+            ))
             (λ v d. next_after_locked ws t v 1) (λ v d. locked_after_locked ws t v 1 d)
-            (λ x r d g. first_frame ws (set ws (locked t) 1) x r (phase_at ps x) (next_after_locked ws t x 1) (locked_after_locked ws t x 1 d) g)
+            (λ x r d g. first_frame ws (set ws (locked t) 1) x r (phase_at ps x)
+            (next_after_locked ws t x 1) (locked_after_locked ws t x 1 d) g)
             a;
       }
     ]
@@ -298,7 +310,16 @@ keeps bits ws ps q t (LinkTo j) (Step s) given =
             agrees =
                 mcs_later ws (set ws (next j) (t + 1)) ps q.queue t j AwaitGrant h i.0
                 (tail_after ws (next j) (t + 1) (omega arith))
-                (λ v x. let g : IsBehind ws v t (LinkTo j) = rw e at x in (sym g.0, (rw (← g.0) (get_or-set_same ws (next j) (t + 1) 0 (omega arith)), locked_after_next ws j t (t + 1) ∙ g.2)))
+                (λ v x. let g : IsBehind ws v t
+                (LinkTo j) = rw e at x in (
+                  sym g.0,
+                  (
+                    rw (← g.0)
+                        (get_or-set_same ws (next j) (t + 1) 0
+                        (omega arith)),
+                    locked_after_next ws j t (t + 1) ∙ g.2,
+                  ),
+                ))
                 (λ v d. next_after_next ws j v (t + 1) d) (λ v d. locked_after_next ws j v (t + 1))
                 (λ x r d g. elim (eqb_tells x j) [
                   | inl u ↦
@@ -316,17 +337,24 @@ keeps bits ws ps q t AwaitGrant (Step s) given =
     let e : phase_at ps t ≡ AwaitGrant = given.phase_is in
     let a : IsQueue ws ps q.queue = given.agrees in
     elim (eqb_tells (locked_of ws t) 0) [
-      | inl d ↦ rw d.0 (elim (place ws ps q.queue t a.line (member_of ws ps q.queue t a (λ x. rw e at x))) [
-        | inl i ↦
-            record {
-              allowed = (head_is q.queue t i.rest i.is, tt);
-              kind_is = given.kind_is;
-              agrees = goes_inside ws ps q.queue t McsInside i h tt a;
-            }
-        | inr i ↦
-            let g : IsBehind ws i.1.0 t AwaitGrant = rw e at i.1.1 in absurd (omega (arith, g.1, d.1))
-      ])
-      | inr d ↦ rw d.0 (record { allowed = tt; kind_is = given.kind_is; agrees = rw (sym e) (rw set-get_or a) })
+      | inl d ↦ rw d.0 (elim
+          (place ws ps q.queue t a.line (member_of ws ps q.queue t a (λ x. rw e at x))) [
+            | inl i ↦
+                record {
+                  allowed = (head_is q.queue t i.rest i.is, tt);
+                  kind_is = given.kind_is;
+                  agrees = goes_inside ws ps q.queue t McsInside i h tt a;
+                }
+            | inr i ↦
+                let g : IsBehind ws i.1.0 t AwaitGrant = rw e at i.1.1 in absurd (omega
+                (arith, g.1, d.1))
+          ])
+      | inr d ↦ rw d.0 (record {
+        allowed = tt;
+        kind_is = given.kind_is;
+        agrees = rw (sym e)
+            (rw set-get_or a);
+      })
     ]
 keeps bits ws ps q t ReadNext (Step s) given =
     let h : t < length ps = given.thread in
@@ -348,7 +376,8 @@ keeps bits ws ps q t ReadNext (Step s) given =
           (record {
             allowed = tt;
             kind_is = given.kind_is;
-            agrees = goes_inside ws ps q.queue t (Grant (next_of ws t - 1)) i h (second ws ps t i.rest i.later d.1, omega (arith, d.1)) a;
+            agrees = goes_inside ws ps q.queue t (Grant
+                (next_of ws t - 1)) i h (second ws ps t i.rest i.later d.1, omega (arith, d.1)) a;
           })
     ]
 keeps bits ws ps q t CasTail (Step s) given =
@@ -375,7 +404,8 @@ keeps bits ws ps q t CasTail (Step s) given =
           (record {
             allowed = tt;
             kind_is = given.kind_is;
-            agrees = goes_inside ws ps q.queue t AwaitLink i h (not_alone ws ps q.queue t i.rest i.is a d.1) a;
+            agrees = goes_inside ws ps q.queue t AwaitLink i h (not_alone ws ps q.queue t i.rest
+                i.is a d.1) a;
           })
     ]
 keeps bits ws ps q t AwaitLink (Step s) given =
@@ -386,13 +416,19 @@ keeps bits ws ps q t AwaitLink (Step s) given =
     let i : IsHeadOf ws ps q.queue t =
     first_of_head ws ps q.queue t AwaitLink e (λ x. x) (λ v x. x) a in
     elim (eqb_tells (next_of ws t) 0) [
-      | inl d ↦ rw d.0 (record { allowed = tt; kind_is = given.kind_is; agrees = rw (sym e) (rw set-get_or a) })
+      | inl d ↦ rw d.0 (record {
+        allowed = tt;
+        kind_is = given.kind_is;
+        agrees = rw (sym e)
+            (rw set-get_or a);
+      })
       | inr d ↦
           rw d.0
           (record {
             allowed = tt;
             kind_is = given.kind_is;
-            agrees = goes_inside ws ps q.queue t (Grant (next_of ws t - 1)) i h (second ws ps t i.rest i.later d.1, omega (arith, d.1)) a;
+            agrees = goes_inside ws ps q.queue t (Grant
+                (next_of ws t - 1)) i h (second ws ps t i.rest i.later d.1, omega (arith, d.1)) a;
           })
     ]
 keeps bits ws ps q t (Grant j) (Step s) given =

@@ -63,7 +63,8 @@ keeps_length bits t ws TryRead =
 keeps_length bits t ws LeaveRead = length-set _ _ _
 keeps_length bits t ws TryWrite =
     either_way (KeepsLength ws) (slice_index ws 2 == 0) _ _
-    (either_way (KeepsLength ws) (slice_index ws 0 == slice_index ws 1) _ _ (length-set _ _ _) (length-set _ _ _))
+    (either_way (KeepsLength ws) (slice_index ws 0 == slice_index ws 1) _ _ (length-set _ _ _)
+    (length-set _ _ _))
     refl
 keeps_length bits t ws AwaitReaders =
     either_way (KeepsLength ws) (slice_index ws 0 == slice_index ws 1) _ _ refl refl
@@ -98,8 +99,10 @@ pub none_read : (bits : ℕ) (ws : List ℕ) (ps : List Phase) (q : Sequential)
     → AgreesWith bits ws ps q → slice_index ws 0 ≡ slice_index ws 1 → q.readers ≡ []
 none_read bits ws ps q a e = empty_of_length q.readers (elim (eqb_tells (length q.readers) 0) [
   | inl z ↦ z.1
-  | inr z ↦ absurd (no_round (2 ^ bits) (slice_index ws 1) (length q.readers) a.left (omega (arith, z.1))
-      (let u : length q.readers ≤ length ps = readers_few ps q a.holders in let v : length ps < 2 ^ bits = a.narrow in omega arith) (sym a.came ∙ e))
+  | inr z ↦ absurd (no_round (2 ^ bits) (slice_index ws 1) (length q.readers) a.left
+      (omega (arith, z.1))
+      (let u : length q.readers ≤ length ps = readers_few ps q a.holders in let v : length ps < 2 ^
+      bits = a.narrow in omega arith) (sym a.came ∙ e))
 ])
 
 still : (bits : ℕ) (ws : List ℕ) (ps : List Phase) (q : Sequential) (t : ℕ) (p r : Phase)
@@ -128,7 +131,8 @@ written ps q t a = a
 pub keeps : (bits : ℕ) (ws : List ℕ) (ps : List Phase) (q : Sequential) (t : ℕ) (p : Phase)
     (m : Move) → IsTaken RwFifo bits ws ps q t p m
     → let c : Change =
-    move_change RwFifo bits ws t p m in IsAgreed RwFifo (λ r. AgreesWith bits c.words (set ps t c.phase) r) q (move_entries RwFifo t p m c.outcome)
+    move_change RwFifo bits ws t p m in IsAgreed RwFifo (λ r. AgreesWith bits c.words
+    (set ps t c.phase) r) q (move_entries RwFifo t p m c.outcome)
 keeps bits ws ps q t Idle (Call ReadLock) given =
     let h : t < length ps = given.thread in
     let e : phase_at ps t ≡ Idle = given.phase_is in
@@ -192,7 +196,8 @@ keeps bits ws ps q t TryRead (Step s) given =
           get_or-set_other ws 0 1 _ 0 (λ (c : 1 ≡ 0). omega (arith, c)) in
           let two : slice_index vs 2 ≡ slice_index ws 2 =
           get_or-set_other ws 0 2 _ 0 (λ (c : 2 ≡ 0). omega (arith, c)) in
-          let g : AgreesWith bits vs (set ps t Reading) (after_entry q (Acted t ReadLock)) = record {
+          let g : AgreesWith bits vs (set ps t Reading) (after_entry q
+          (Acted t ReadLock)) = record {
             narrow = rw (length-set ps t Reading) a.narrow;
             left = rw one a.left;
             came =
@@ -205,7 +210,12 @@ keeps bits ws ps q t TryRead (Step s) given =
                 a.holders;
           } in
           rw d.0 (record { allowed = (y, (tt, tt)); kind_is = given.kind_is; agrees = g })
-      | inr d ↦ rw d.0 (record { allowed = tt; kind_is = given.kind_is; agrees = rw (sym e) (rw set-get_or a) })
+      | inr d ↦ rw d.0 (record {
+        allowed = tt;
+        kind_is = given.kind_is;
+        agrees = rw (sym e)
+            (rw set-get_or a);
+      })
     ]
 keeps bits ws ps q t LeaveRead (Step s) given =
     let h : t < length ps = given.thread in
@@ -214,7 +224,8 @@ keeps bits ws ps q t LeaveRead (Step s) given =
     let e : phase_at ps t ≡ LeaveRead = given.phase_is in
     let a : AgreesWith bits ws ps q = given.agrees in
     let x : has q.readers t ≡ true = a.holders.reading t ∙ ap is_reading e in
-    let y : is_allowed q (Acted t ReadUnlock) ≡ true = rw (lt-ltb t 64 (omega arith), given.kind_is, x) refl in
+    let y : is_allowed q (Acted t ReadUnlock)
+    ≡ true = rw (lt-ltb t 64 (omega arith), given.kind_is, x) refl in
     let l : length (left_by q.readers t) + 1 ≡ length q.readers = length_left q.readers t x in
     let vs : List ℕ = set ws 1 (plus_one bits (slice_index ws 1)) in
     let zero : slice_index vs 0 ≡ slice_index ws 0 =
@@ -243,7 +254,12 @@ keeps bits ws ps q t TryWrite (Step s) given =
     let e : phase_at ps t ≡ TryWrite = given.phase_is in
     let a : AgreesWith bits ws ps q = given.agrees in
     elim (eqb_tells (slice_index ws 2) 0) [
-      | inr d ↦ rw d.0 (record { allowed = tt; kind_is = given.kind_is; agrees = rw (sym e) (rw set-get_or a) })
+      | inr d ↦ rw d.0 (record {
+        allowed = tt;
+        kind_is = given.kind_is;
+        agrees = rw (sym e)
+            (rw set-get_or a);
+      })
       | inl d ↦
           let o : (q.writer ≡ None) × (q.announced ≡ None) =
           flag_none q.writer q.announced (sym a.flag_is ∙ d.1) in
@@ -257,13 +273,15 @@ keeps bits ws ps q t TryWrite (Step s) given =
           get_or-set_other ws 2 1 1 0 (λ (c : 1 ≡ 2). omega (arith, c)) in
           elim (eqb_tells (slice_index ws 0) (slice_index ws 1)) [
             | inr c ↦
-                let g : AgreesWith bits vs (set ps t AwaitReaders) (after_entry q (Announced t)) = record {
+                let g : AgreesWith bits vs (set ps t AwaitReaders) (after_entry q
+                (Announced t)) = record {
                   narrow = rw (length-set ps t AwaitReaders) a.narrow;
                   left = rw one a.left;
                   came = zero ∙ a.came ∙ ap (λ y. (y + length q.readers) % 2 ^ bits) (sym one);
                   flag_is = get_or-set_same ws 2 1 0 (omega arith) ∙ sym (flag_some q.writer t);
                   holders =
-                      holders_announce ps q t h (ap is_reading e) (ap is_writing e) o.0 o.1 a.holders;
+                      holders_announce ps q t h (ap is_reading e) (ap is_writing
+                      e) o.0 o.1 a.holders;
                 } in
                 rw (d.0, c.0) (record { allowed = (y, tt); kind_is = given.kind_is; agrees = g })
             | inl c ↦
@@ -271,7 +289,8 @@ keeps bits ws ps q t TryWrite (Step s) given =
                 let u : Sequential = after_entry q (Announced t) in
                 let v : is_allowed u (Acted t WriteLock) ≡ true =
                 rw (lt-ltb t 64 (omega arith), given.kind_is, z, same_thread t) refl in
-                let g : AgreesWith bits vs (set ps t Writing) (after_entry u (Acted t WriteLock)) = record {
+                let g : AgreesWith bits vs (set ps t Writing) (after_entry u
+                (Acted t WriteLock)) = record {
                   narrow = rw (length-set ps t Writing) a.narrow;
                   left = rw one a.left;
                   came = zero ∙ a.came ∙ ap (λ y. (y + length q.readers) % 2 ^ bits) (sym one);
@@ -289,7 +308,12 @@ keeps bits ws ps q t AwaitReaders (Step s) given =
     let e : phase_at ps t ≡ AwaitReaders = given.phase_is in
     let a : AgreesWith bits ws ps q = given.agrees in
     elim (eqb_tells (slice_index ws 0) (slice_index ws 1)) [
-      | inr c ↦ rw c.0 (record { allowed = tt; kind_is = given.kind_is; agrees = rw (sym e) (rw set-get_or a) })
+      | inr c ↦ rw c.0 (record {
+        allowed = tt;
+        kind_is = given.kind_is;
+        agrees = rw (sym e)
+            (rw set-get_or a);
+      })
       | inl c ↦
           let i : is_this q.announced t ≡ true = a.holders.awaiting t ∙ ap is_announced e in
           let x : q.readers ≡ [] = none_read bits ws ps q a c.1 in
@@ -297,16 +321,19 @@ keeps bits ws ps q t AwaitReaders (Step s) given =
           no_writer_beside q.writer q.readers q.announced t a.holders.alone i in
           let y : is_allowed q (Acted t WriteLock) ≡ true =
           rw (lt-ltb t 64 (omega arith), given.kind_is, i, x) refl in
-          let g : AgreesWith bits ws (set ps t Writing) (after_entry q (Acted t WriteLock)) = record {
+          let g : AgreesWith bits ws (set ps t Writing) (after_entry q
+          (Acted t WriteLock)) = record {
             narrow = rw (length-set ps t Writing) a.narrow;
             left = a.left;
             came = a.came;
             flag_is =
                 a.flag_is
                 ∙
-                (let u : q.announced ≡ Some t = announced_is q.announced t i in rw u (flag_some q.writer t));
+                (let u : q.announced
+                ≡ Some t = announced_is q.announced t i in rw u (flag_some q.writer t));
             holders =
-                holders_write ps q t h x o (λ u v. rw (announced_is q.announced t i) (not_same u t v))
+                holders_write ps q t h x o (λ u v. rw (announced_is q.announced t i)
+                (not_same u t v))
                 a.holders;
           } in
           rw c.0 (record { allowed = (y, (tt, tt)); kind_is = given.kind_is; agrees = g })
@@ -318,7 +345,8 @@ keeps bits ws ps q t LeaveWrite (Step s) given =
     let e : phase_at ps t ≡ LeaveWrite = given.phase_is in
     let a : AgreesWith bits ws ps q = given.agrees in
     let x : is_this q.writer t ≡ true = a.holders.writing t ∙ ap is_writing e in
-    let y : is_allowed q (Acted t WriteUnlock) ≡ true = rw (lt-ltb t 64 (omega arith), given.kind_is, x) refl in
+    let y : is_allowed q (Acted t WriteUnlock)
+    ≡ true = rw (lt-ltb t 64 (omega arith), given.kind_is, x) refl in
     let vs : List ℕ = set ws 2 0 in
     let zero : slice_index vs 0 ≡ slice_index ws 0 =
     get_or-set_other ws 2 0 0 0 (λ (c : 0 ≡ 2). omega (arith, c)) in
@@ -331,7 +359,8 @@ keeps bits ws ps q t LeaveWrite (Step s) given =
       flag_is =
           get_or-set_same ws 2 0 0 (omega arith)
           ∙
-          (let o : q.announced ≡ None = none_announced q.writer q.readers q.announced t a.holders.alone x in rw o refl);
+          (let o : q.announced
+          ≡ None = none_announced q.writer q.readers q.announced t a.holders.alone x in rw o refl);
       holders = holders_unwrite ps q t h (ap is_reading e) (ap is_announced e) x a.holders;
     } in
     record { allowed = (y, (tt, tt)); kind_is = given.kind_is; agrees = g }
@@ -342,7 +371,8 @@ keeps bits ws ps q t TryDowngrade (Step s) given =
     let e : phase_at ps t ≡ TryDowngrade = given.phase_is in
     let a : AgreesWith bits ws ps q = given.agrees in
     let x : is_this q.writer t ≡ true = a.holders.writing t ∙ ap is_writing e in
-    let y : is_allowed q (Acted t Downgrade) ≡ true = rw (lt-ltb t 64 (omega arith), given.kind_is, x) refl in
+    let y : is_allowed q (Acted t Downgrade)
+    ≡ true = rw (lt-ltb t 64 (omega arith), given.kind_is, x) refl in
     let z : has q.readers t ≡ false = a.holders.reading t ∙ ap is_reading e in
     let o : q.announced ≡ None =
     none_announced q.writer q.readers q.announced t a.holders.alone x in

@@ -104,7 +104,8 @@ still bits ws ps q t p r h e x y z a = record {
 pub keeps : (bits : ℕ) (ws : List ℕ) (ps : List Phase) (q : Sequential) (t : ℕ) (p : Phase)
     (m : Move) → IsTaken RwSimple bits ws ps q t p m
     → let c : Change =
-    move_change RwSimple bits ws t p m in IsAgreed RwSimple (λ r. AgreesWith bits c.words (set ps t c.phase) r) q (move_entries RwSimple t p m c.outcome)
+    move_change RwSimple bits ws t p m in IsAgreed RwSimple (λ r. AgreesWith bits c.words
+    (set ps t c.phase) r) q (move_entries RwSimple t p m c.outcome)
 keeps bits ws ps q t Idle (Call ReadLock) given =
     let h : t < length ps = given.thread in
     let e : phase_at ps t ≡ Idle = given.phase_is in
@@ -166,7 +167,9 @@ keeps bits ws ps q t TryRead (Step s) given =
           let l : length q.readers < length ps = readers_fit ps q t a.holders h x in
           let one : slice_index (set ws 0 (plus_one bits (slice_index ws 0))) 1 ≡ slice_index ws 1 =
           get_or-set_other ws 0 1 _ 0 (λ (c : 1 ≡ 0). omega (arith, c)) in
-          let g : AgreesWith bits (set ws 0 (plus_one bits (slice_index ws 0))) (set ps t Reading) (after_entry q (Acted t ReadLock)) = record {
+          let g : AgreesWith bits (set ws 0
+          (plus_one bits (slice_index ws 0))) (set ps t Reading)
+          (after_entry q (Acted t ReadLock)) = record {
             narrow = rw (length-set ps t Reading) a.narrow;
             count =
                 get_or-set_same ws 0 _ 0 (omega arith) ∙ ap (plus_one bits) a.count
@@ -178,7 +181,12 @@ keeps bits ws ps q t TryRead (Step s) given =
                 a.holders;
           } in
           rw d.0 (record { allowed = (y, (tt, tt)); kind_is = given.kind_is; agrees = g })
-      | inr d ↦ rw d.0 (record { allowed = tt; kind_is = given.kind_is; agrees = rw (sym e) (rw set-get_or a) })
+      | inr d ↦ rw d.0 (record {
+        allowed = tt;
+        kind_is = given.kind_is;
+        agrees = rw (sym e)
+            (rw set-get_or a);
+      })
     ]
 keeps bits ws ps q t LeaveRead (Step s) given =
     let h : t < length ps = given.thread in
@@ -187,16 +195,20 @@ keeps bits ws ps q t LeaveRead (Step s) given =
     let e : phase_at ps t ≡ LeaveRead = given.phase_is in
     let a : AgreesWith bits ws ps q = given.agrees in
     let x : has q.readers t ≡ true = a.holders.reading t ∙ ap is_reading e in
-    let y : is_allowed q (Acted t ReadUnlock) ≡ true = rw (lt-ltb t 64 (omega arith), given.kind_is, x) refl in
+    let y : is_allowed q (Acted t ReadUnlock)
+    ≡ true = rw (lt-ltb t 64 (omega arith), given.kind_is, x) refl in
     let l : length (left_by q.readers t) + 1 ≡ length q.readers = length_left q.readers t x in
     let one : slice_index (set ws 0 (less_one bits (slice_index ws 0))) 1 ≡ slice_index ws 1 =
     get_or-set_other ws 0 1 _ 0 (λ (c : 1 ≡ 0). omega (arith, c)) in
-    let g : AgreesWith bits (set ws 0 (less_one bits (slice_index ws 0))) (set ps t Idle) (after_entry q (Acted t ReadUnlock)) = record {
+    let g : AgreesWith bits (set ws 0
+    (less_one bits (slice_index ws 0))) (set ps t Idle)
+    (after_entry q (Acted t ReadUnlock)) = record {
       narrow = rw (length-set ps t Idle) a.narrow;
       count =
           get_or-set_same ws 0 _ 0 (omega arith) ∙ ap (less_one bits) (a.count ∙ sym l)
           ∙ less bits (length (left_by q.readers t))
-          (let u : length q.readers ≤ length ps = readers_few ps q a.holders in let v : length ps < 2 ^ bits = a.narrow in omega arith);
+          (let u : length q.readers ≤ length ps = readers_few ps q a.holders in let v : length ps <
+          2 ^ bits = a.narrow in omega arith);
       flag_is = one ∙ a.flag_is;
       holders =
           holders_leave ps q t h (ap is_writing e) (ap is_announced e)
@@ -210,10 +222,20 @@ keeps bits ws ps q t TryWrite (Step s) given =
     let e : phase_at ps t ≡ TryWrite = given.phase_is in
     let a : AgreesWith bits ws ps q = given.agrees in
     elim (eqb_tells (slice_index ws 0) 0) [
-      | inr c ↦ rw c.0 (record { allowed = tt; kind_is = given.kind_is; agrees = rw (sym e) (rw set-get_or a) })
+      | inr c ↦ rw c.0 (record {
+        allowed = tt;
+        kind_is = given.kind_is;
+        agrees = rw (sym e)
+            (rw set-get_or a);
+      })
       | inl c ↦ elim (eqb_tells (slice_index ws 1) 0) [
         | inr d ↦
-            rw (c.0, d.0) (record { allowed = tt; kind_is = given.kind_is; agrees = rw (sym e) (rw set-get_or a) })
+            rw (c.0, d.0) (record {
+              allowed = tt;
+              kind_is = given.kind_is;
+              agrees = rw (sym e)
+                  (rw set-get_or a);
+            })
         | inl d ↦
             let o : (q.writer ≡ None) × (q.announced ≡ None) =
             flag_none q.writer q.announced (sym a.flag_is ∙ d.1) in
@@ -222,7 +244,8 @@ keeps bits ws ps q t TryWrite (Step s) given =
             rw (lt-ltb t 64 (omega arith), given.kind_is, o.0, x) refl in
             let zero : slice_index (set ws 1 1) 0 ≡ slice_index ws 0 =
             get_or-set_other ws 1 0 1 0 (λ (c : 0 ≡ 1). omega (arith, c)) in
-            let g : AgreesWith bits (set ws 1 1) (set ps t Writing) (after_entry q (Acted t WriteLock)) = record {
+            let g : AgreesWith bits (set ws 1 1) (set ps t Writing) (after_entry q
+            (Acted t WriteLock)) = record {
               narrow = rw (length-set ps t Writing) a.narrow;
               count = zero ∙ a.count;
               flag_is = get_or-set_same ws 1 1 0 (omega arith);
@@ -238,16 +261,19 @@ keeps bits ws ps q t LeaveWrite (Step s) given =
     let e : phase_at ps t ≡ LeaveWrite = given.phase_is in
     let a : AgreesWith bits ws ps q = given.agrees in
     let x : is_this q.writer t ≡ true = a.holders.writing t ∙ ap is_writing e in
-    let y : is_allowed q (Acted t WriteUnlock) ≡ true = rw (lt-ltb t 64 (omega arith), given.kind_is, x) refl in
+    let y : is_allowed q (Acted t WriteUnlock)
+    ≡ true = rw (lt-ltb t 64 (omega arith), given.kind_is, x) refl in
     let zero : slice_index (set ws 1 0) 0 ≡ slice_index ws 0 =
     get_or-set_other ws 1 0 0 0 (λ (c : 0 ≡ 1). omega (arith, c)) in
-    let g : AgreesWith bits (set ws 1 0) (set ps t Idle) (after_entry q (Acted t WriteUnlock)) = record {
+    let g : AgreesWith bits (set ws 1 0) (set ps t Idle) (after_entry q
+    (Acted t WriteUnlock)) = record {
       narrow = rw (length-set ps t Idle) a.narrow;
       count = zero ∙ a.count;
       flag_is =
           get_or-set_same ws 1 0 0 (omega arith)
           ∙
-          (let o : q.announced ≡ None = none_announced q.writer q.readers q.announced t a.holders.alone x in rw o refl);
+          (let o : q.announced
+          ≡ None = none_announced q.writer q.readers q.announced t a.holders.alone x in rw o refl);
       holders = holders_unwrite ps q t h (ap is_reading e) (ap is_announced e) x a.holders;
     } in
     record { allowed = (y, (tt, tt)); kind_is = given.kind_is; agrees = g }
@@ -258,7 +284,8 @@ keeps bits ws ps q t TryDowngrade (Step s) given =
     let e : phase_at ps t ≡ TryDowngrade = given.phase_is in
     let a : AgreesWith bits ws ps q = given.agrees in
     let x : is_this q.writer t ≡ true = a.holders.writing t ∙ ap is_writing e in
-    let y : is_allowed q (Acted t Downgrade) ≡ true = rw (lt-ltb t 64 (omega arith), given.kind_is, x) refl in
+    let y : is_allowed q (Acted t Downgrade)
+    ≡ true = rw (lt-ltb t 64 (omega arith), given.kind_is, x) refl in
     let z : has q.readers t ≡ false = a.holders.reading t ∙ ap is_reading e in
     let o : q.announced ≡ None =
     none_announced q.writer q.readers q.announced t a.holders.alone x in

@@ -90,7 +90,8 @@ rest_false (u ∷ q) t h = elim (bool_tells (has q t)) [
 pub keeps : (bits : ℕ) (ws : List ℕ) (ps : List Phase) (q : Sequential) (t : ℕ) (p : Phase)
     (m : Move) → IsTaken Ticket bits ws ps q t p m
     → let c : Change =
-    move_change Ticket bits ws t p m in IsAgreed Ticket (λ r. IsQueue bits c.words (set ps t c.phase) r.queue) q (move_entries Ticket t p m c.outcome)
+    move_change Ticket bits ws t p m in IsAgreed Ticket (λ r. IsQueue bits c.words
+    (set ps t c.phase) r.queue) q (move_entries Ticket t p m c.outcome)
 keeps bits ws ps q t Idle (Call Acquire) given =
     let h : t < length ps = given.thread in
     let e : phase_at ps t ≡ Idle = given.phase_is in
@@ -110,7 +111,8 @@ keeps bits ws ps q t (TicketInside x) (Call Release) given =
       allowed = (tt, tt);
       kind_is = given.kind_is;
       agrees = queue_frame bits ws ps q.queue t (ReadServing x) h (sym (ap ticket_of e))
-          (inside_is_head bits ws ps q.queue t x a (ap ticket_of e) (λ y d. let g : TicketInside x ≡ AwaitTurn y = sym e ∙ d in cc)).alone
+          (inside_is_head bits ws ps q.queue t x a (ap ticket_of e)
+          (λ y d. let g : TicketInside x ≡ AwaitTurn y = sym e ∙ d in cc)).alone
           a;
     }
 keeps bits ws ps q t TakeTicket (Step s) given =
@@ -120,7 +122,8 @@ keeps bits ws ps q t TakeTicket (Step s) given =
     let e : phase_at ps t ≡ TakeTicket = given.phase_is in
     let a : IsQueue bits ws ps q.queue = given.agrees in
     let o : has q.queue t ≡ false = no_member bits ws ps q.queue t a (ap ticket_of e) in
-    let y : is_allowed q (Acted t Acquire) ≡ true = allows_acquire q t given.kind_is (omega arith) o in
+    let y : is_allowed q (Acted t Acquire)
+    ≡ true = allows_acquire q t given.kind_is (omega arith) o in
     record {
       allowed = (y, tt);
       kind_is = given.kind_is;
@@ -138,7 +141,8 @@ keeps bits ws ps q t (AwaitTurn x) (Step s) given =
             allowed = (i.head, tt);
             kind_is = given.kind_is;
             agrees =
-                queue_frame bits ws ps q.queue t (TicketInside x) h (sym (ap ticket_of e)) i.alone a;
+                queue_frame bits ws ps q.queue t (TicketInside x) h (sym
+                (ap ticket_of e)) i.alone a;
           })
       | inr d ↦ rw d.0 (record {
         allowed = tt;
@@ -151,7 +155,8 @@ keeps bits ws ps q t (ReadServing x) (Step s) given =
     let e : phase_at ps t ≡ ReadServing x = given.phase_is in
     let a : IsQueue bits ws ps q.queue = given.agrees in
     let i : IsHead ws ps q.queue t x =
-    inside_is_head bits ws ps q.queue t x a (ap ticket_of e) (λ y d. let g : ReadServing x ≡ AwaitTurn y = sym e ∙ d in cc) in
+    inside_is_head bits ws ps q.queue t x a (ap ticket_of e) (λ y d. let g : ReadServing x
+    ≡ AwaitTurn y = sym e ∙ d in cc) in
     record {
       allowed = tt;
       kind_is = given.kind_is;
@@ -166,8 +171,10 @@ keeps bits ws ps q t (PassOn x) (Step s) given =
     let e : phase_at ps t ≡ PassOn x = given.phase_is in
     let a : IsQueue bits ws ps q.queue = given.agrees in
     let i : IsHead ws ps q.queue t x =
-    inside_is_head bits ws ps q.queue t x a (ap ticket_of e) (λ y d. let g : PassOn x ≡ AwaitTurn y = sym e ∙ d in cc) in
-    let y : is_allowed q (Acted t Release) ≡ true = allows_release q t given.kind_is (omega arith) i.head in
+    inside_is_head bits ws ps q.queue t x a (ap ticket_of e) (λ y d. let g : PassOn x
+    ≡ AwaitTurn y = sym e ∙ d in cc) in
+    let y : is_allowed q (Acted t Release)
+    ≡ true = allows_release q t given.kind_is (omega arith) i.head in
     record {
       allowed = (y, (tt, tt));
       kind_is = given.kind_is;

@@ -14,7 +14,8 @@ returns-clause-once c = calls_act_once Mcs 2 handed_on mcs_legal
 pub returns-clause-never : goal.returns-clause-never
 returns-clause-never c = λ h.
     let s : [] ≡ Acted 0 Acquire ∷ [] =
-    since_call 0 Acquire (Acted 0 Acquire ∷ []) [] (λ a. one_of _ [] a) (h 0 Acquire (Called 0 Acquire ∷ []) [] refl) in
+    since_call 0 Acquire (Acted 0 Acquire ∷ []) [] (λ a. one_of _ [] a) (h 0 Acquire
+    (Called 0 Acquire ∷ []) [] refl) in
     cc
 
 pub returns-clause-twice : goal.returns-clause-twice

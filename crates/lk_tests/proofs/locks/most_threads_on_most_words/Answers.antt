@@ -6,4 +6,5 @@ pub new-mcs-requires-clause-clear : goal.new-mcs-requires-clause-clear
 new-mcs-requires-clause-clear g c =
     λ i h. ap (λ (r : List ℕ × ℕ). slice_index r.0 i) c.new.ensures
     ∙ get_or-replicate 129 i 0 0
-    (let k : i < length (replicate {A = ℕ} 129 0) = rw c.new.ensures at h in omega (arith, length-replicate {A = ℕ} 129 0))
+    (let k : i < length (replicate {A = ℕ} 129 0) = rw c.new.ensures at h in omega
+    (arith, length-replicate {A = ℕ} 129 0))
