@@ -9,7 +9,7 @@ use Rattle.lk_locks.specs.Change.{Change, less_one, plus_one}
 use Rattle.lk_locks.specs.Entries.{move_entries}
 use Rattle.lk_locks.specs.Sequential.{Sequential, after_entry, has, is_allowed, left_by}
 use Rattle.lk_locks.specs.State.{phase_at}
-use Rattle.lk_locks.specs.Steps.{belongs, has_op, move_change, refusal_in}
+use Rattle.lk_locks.specs.Steps.{has_op, move_change, refusal_in}
 use Rattle.lk_locks.specs.invariants.Threads.{is_this}
 use Rattle.lk_locks.specs.invariants.WellFormed.{IsPhaseOf}
 use Rattle.lk_locks.specs.invariants.read_write.{is_announced, is_reading, is_writing}

@@ -8,7 +8,7 @@ use Rattle.lk_locks.specs.Change.{Change}
 use Rattle.lk_locks.specs.Entries.{move_entries}
 use Rattle.lk_locks.specs.Sequential.{Sequential, has, is_allowed, is_head}
 use Rattle.lk_locks.specs.State.{phase_at}
-use Rattle.lk_locks.specs.Steps.{belongs, has_op, move_change, refusal_in}
+use Rattle.lk_locks.specs.Steps.{has_op, move_change, refusal_in}
 use Rattle.lk_locks.specs.invariants.WellFormed.{IsPhaseOf}
 use Rattle.lk_locks.specs.invariants.ticket.{IsQueue, is_phase, owed, ticket_of}
 use Rattle.lk_locks.specs.laws.{Event}
