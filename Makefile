@@ -3,6 +3,7 @@
 #               installed and packaged
 # make check    the quick door: builds the program, and tries it on rows, devices, short and refused memory and random schedules
 # make check CRATE=NAME                proves one crate; CRATE=lk_tests also runs the tests
+# make test-library                    tries the static library for traces from C and from Python
 # make edits CRATE=NAME [EDIT=NAME]    tries a crate's wrong bodies and their right twins, or one of each
 # make twins    shows that the right twin of each wrong body that has one is proved
 # make page     builds the page's module and page/lockreplay.html
@@ -23,6 +24,8 @@ MODULE  := crates/lk_page/out/lockreplay.wasm
 # what the module is made of
 MODULE_SOURCES := $(shell find $(addprefix crates/,lk_words lk_locks lk_replay lk_page) -name out -prune \
 	-o \( -name '*.rt' -o -name '*.antt' \) -print)
+# the check of a trace, for C
+LIBRARY := crates/lk_trace_c/out/liblk_trace_c.a
 # the crate with the tests, in some of which each request for memory is refused in turn
 TESTS := lk_tests
 FUZZ_SECONDS := 60
@@ -35,7 +38,7 @@ EDIT := *
 test: gate tools
 	$(MAKE) --no-print-directory tried release-checks FUZZ_SECONDS=$(FUZZ_SECONDS)
 	tests/refuse/run.sh request crates/$(TESTS)/out/$(TESTS)_tests
-	$(MAKE) --no-print-directory test-page
+	$(MAKE) --no-print-directory test-page test-library
 
 ifdef CRATE
 check: tools
@@ -77,6 +80,11 @@ test-page: $(MODULE) $(PROGRAM) browsers
 	tests/page/module.mjs $(MODULE)
 	tests/page/run.py $(PROGRAM)
 
+.PHONY: test-library
+
+test-library: $(LIBRARY) tools
+	tests/trace_library.py $(LIBRARY)
+
 edits: tools
 	tests/edits.py $(wildcard crates/$(CRATE)/must-fail/$(EDIT).edit crates/$(CRATE)/twins/$(EDIT).edit)
 
@@ -100,6 +108,9 @@ $(PROGRAM): $(SOURCES)
 
 $(MODULE): $(MODULE_SOURCES) page/build-module.sh
 	page/build-module.sh
+
+$(LIBRARY): $(SOURCES)
+	cd crates/lk_trace_c && rt lib
 
 # Two browsers and what drives them, from Debian's packages where they are missing
 BROWSERS := chromium chromium-driver firefox-esr python3-selenium python3-websocket nodejs

@@ -1,0 +1,11 @@
+-- What is left has the fault of the text.
+use Rattle.std.proofs.Common.{◌≡◌, length}
+use Rattle.lk_replay.specs.Lines.{lines_of}
+use Rattle.lk_trace_c.specs.Ends.{fault_of_lines, fault_of_text}
+use Rattle.lk_trace_c.proofs.fault_in.Given as goal
+
+abbrev pub invariant-loop-rest : goal.invariant-loop-rest
+invariant-loop-rest l = fault_of_lines l.trace (lines_of l.rest) ≡ fault_of_text l.initial.rest
+
+abbrev pub decreases-loop-rest : goal.decreases-loop-rest
+decreases-loop-rest l = length l.rest

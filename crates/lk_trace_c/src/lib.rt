@@ -1,0 +1,174 @@
+//! The check of a trace for other languages: a text in, a record for each move that was made, and
+//! how it ended. No memory is taken.
+#![tactic(auto)]
+
+mod numbers;
+
+ghost use Rattle.std.specs.Prelude.{◌≡◌};
+ghost use Rattle.lk_trace.specs.Traces.{after_text_line, event_of};
+ghost use Rattle.lk_trace_c.specs.Ends.{end_number, event_number, fault_of_text};
+
+use lk_replay::parts::cut_line;
+use lk_trace::{Event, TextFault, TraceReader, place_of, read_line, touched};
+use lk_words::{WordArray, Words};
+use numbers::{action_number, difference_number, fault_number, fault_text, outcome_number};
+
+/// A move that was made. `word` is the place of its word, or the greatest number where it is on
+/// none; what it found and left is 0 then.
+#[repr(C)]
+#[derive(Clone, Copy)]
+pub struct LtStep {
+    pub line: u64,
+    pub found: u64,
+    pub left: u64,
+    pub thread: u32,
+    pub action: u32,
+    pub outcome: u32,
+    pub word: u32,
+}
+
+/// How a trace ended: the number of its fault, 0 where all is accepted, its line, and how many
+/// moves were made.
+#[repr(C)]
+#[derive(Clone, Copy)]
+pub struct LtAnswer {
+    pub line: u64,
+    pub moves: u64,
+    pub fault: u32,
+    pub threads: u32,
+}
+
+const NO_WORD: u32 = u32::MAX;
+
+// What stands at a place of the words.
+fn value_at(words: &WordArray, place: usize) -> u64 {
+    if place < words.size() {
+        words.get(place)
+    } else {
+        0
+    }
+}
+
+// The place of the word that the move of a line is on, where it is on one.
+fn place_in(trace: &TraceReader, line: &[u8]) -> Option<usize> {
+    let checker = trace.checker()?;
+    let read = read_line(line)?;
+    let phase = checker.phase(read.thread)?;
+    let kind = checker.lock().kind();
+    match read.action {
+        lk_locks::Move::Call(_) => None,
+        lk_locks::Move::Step(_) => {
+            touched(kind, read.thread, phase).map(|word| place_of(kind, word))
+        }
+    }
+}
+
+// What stands in a word of the lock now.
+fn standing(trace: &TraceReader, place: Option<usize>) -> u64 {
+    match (trace.checker(), place) {
+        (Some(checker), Some(place)) => value_at(checker.lock().machine().words(), place),
+        _ => 0,
+    }
+}
+
+// Reads a line. Its number is that of its fault, 0 where it has none.
+fn take_line(
+    trace: &mut TraceReader,
+    line: &[u8],
+    steps: &mut [LtStep],
+    answer: &mut LtAnswer,
+) -> u32
+    ensures fault { result ≡ event_number (event_of trace.old line.now) }
+    ensures after { trace.new ≡ after_text_line trace.old line.now }
+{
+    let place = place_in(trace, line);
+    let found = standing(trace, place);
+    match trace.line(line) {
+        Event::Skipped => 0,
+        Event::Began(header) => {
+            answer.threads = u32::from(header.threads);
+            0
+        }
+        Event::Made(read, outcome) => {
+            let word = match place {
+                Some(place) if place < 129 => place as u32,
+                _ => NO_WORD,
+            };
+            if answer.moves < steps.len() as u64 {
+                steps[answer.moves as usize] = LtStep {
+                    line: answer.line,
+                    found,
+                    left: standing(trace, place),
+                    thread: u32::from(read.thread),
+                    action: action_number(read.action),
+                    outcome: outcome_number(outcome),
+                    word,
+                };
+            }
+            answer.moves = answer.moves.saturating_add(1);
+            0
+        }
+        Event::Differs(_, difference) => difference_number(difference),
+        Event::Fault(fault) => fault_number(fault),
+    }
+}
+
+// What the end of a text is after the lines that were read: a fault, where there was no header.
+fn end_of(trace: &TraceReader) -> u32
+    ensures { result ≡ end_number trace.now }
+{
+    match trace.checker() {
+        Some(_) => 0,
+        None => fault_number(TextFault::NoHeader),
+    }
+}
+
+// The number of a text's first fault, 0 where it has none.
+fn fault_in(text: &[u8], steps: &mut [LtStep], answer: &mut LtAnswer) -> u32
+    ensures { result ≡ fault_of_text text.now }
+{
+    let mut trace = TraceReader::new();
+    let mut rest = text;
+    while !rest.is_empty() {
+        let (line, after) = cut_line(rest);
+        answer.line = answer.line.saturating_add(1);
+        let fault = take_line(&mut trace, line, steps, answer);
+        if fault != 0 {
+            return fault;
+        }
+        rest = after;
+    }
+    let end = end_of(&trace);
+    if end != 0 {
+        answer.line = answer.line.saturating_add(1);
+    }
+    end
+}
+
+/// Checks a trace to its end, or up to the first line that ends it. Writes a record for each move
+/// that is made, as far as there is room.
+#[unsafe(no_mangle)]
+pub extern "C" fn lt_check(text: &[u8], steps: &mut [LtStep], answer: &mut LtAnswer) -> u32
+    ensures fault { result ≡ fault_of_text text.now }
+    ensures told { answer.new.fault ≡ result }
+{
+    *answer = LtAnswer {
+        line: 0,
+        moves: 0,
+        fault: 0,
+        threads: 0,
+    };
+    let fault = fault_in(text, steps, answer);
+    answer.fault = fault;
+    fault
+}
+
+/// Writes the text of a fault's number, without an end, as far as there is room, and answers how
+/// long it is.
+#[unsafe(no_mangle)]
+pub extern "C" fn lt_fault_text(fault: u32, room: &mut [u8]) -> usize {
+    let text = fault_text(fault).as_bytes();
+    let taken = text.len().min(room.len());
+    room[..taken].copy_from_slice(&text[..taken]);
+    text.len()
+}

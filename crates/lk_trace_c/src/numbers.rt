@@ -1,0 +1,111 @@
+//! Moves, outcomes and faults as numbers, and the texts of the faults. `record/locktrace.h` has the
+//! same numbers.
+
+ghost use Rattle.std.specs.Prelude.{◌≡◌};
+ghost use Rattle.lk_trace_c.specs.Numbers.{action_number, difference_number, fault_number};
+ghost use Rattle.lk_trace_c.specs.Numbers.{outcome_number, refusal_number};
+
+use lk_locks::{Move, Op, Outcome, Refusal, StepKind};
+use lk_trace::{Difference, TextFault};
+
+/// Calls from 0, steps from 16.
+pub fn action_number(action: Move) -> u32
+    ensures { result ≡ action_number action }
+{
+    match action {
+        Move::Call(Op::Acquire) => 0,
+        Move::Call(Op::Release) => 1,
+        Move::Call(Op::ReadLock) => 2,
+        Move::Call(Op::ReadUnlock) => 3,
+        Move::Call(Op::WriteLock) => 4,
+        Move::Call(Op::WriteUnlock) => 5,
+        Move::Call(Op::Downgrade) => 6,
+        Move::Step(StepKind::Read) => 16,
+        Move::Step(StepKind::Write) => 17,
+        Move::Step(StepKind::Swap) => 18,
+        Move::Step(StepKind::Cas) => 19,
+        Move::Step(StepKind::Add) => 20,
+        Move::Step(StepKind::Section) => 21,
+    }
+}
+
+/// What came of a move, from 0.
+pub fn outcome_number(outcome: Outcome) -> u32
+    ensures { result ≡ outcome_number outcome }
+{
+    match outcome {
+        Outcome::Called => 0,
+        Outcome::Moved => 1,
+        Outcome::Waits => 2,
+        Outcome::Entered => 3,
+        Outcome::Left => 4,
+    }
+}
+
+fn refusal_number(refusal: Refusal) -> u32
+    ensures { result ≡ refusal_number refusal }
+{
+    match refusal {
+        Refusal::NoSuchThread => 1,
+        Refusal::WrongLock => 2,
+        Refusal::Busy => 3,
+        Refusal::NotHolder => 4,
+        Refusal::AlreadyHolds => 5,
+        Refusal::NoCall => 6,
+        Refusal::WrongStep { .. } => 7,
+    }
+}
+
+/// Refusals from 1, values from 8.
+pub fn difference_number(difference: Difference) -> u32
+    ensures { result ≡ difference_number difference }
+{
+    match difference {
+        Difference::Refused(refusal) => refusal_number(refusal),
+        Difference::OtherWord { .. } => 8,
+        Difference::FoundOther { .. } => 9,
+        Difference::LeftOther { .. } => 10,
+        Difference::WroteOther { .. } => 11,
+        Difference::CountNotAbove { .. } => 12,
+        Difference::OtherOutcome { .. } => 13,
+    }
+}
+
+/// Texts that are no trace, from 16.
+pub fn fault_number(fault: TextFault) -> u32
+    ensures { result ≡ fault_number fault }
+{
+    match fault {
+        TextFault::NoHeader => 16,
+        TextFault::BadHeader => 17,
+        TextFault::BadThreads => 18,
+        TextFault::WordsTooNarrow => 19,
+        TextFault::BadLine => 20,
+    }
+}
+
+/// The text of a number.
+pub fn fault_text(fault: u32) -> &'static str {
+    match fault {
+        0 => "accepted",
+        1 => "NoSuchThread: no such thread",
+        2 => "WrongLock: the lock has no such operation or step",
+        3 => "Busy: the thread has a pending call",
+        4 => "NotHolder: the thread does not hold the lock so",
+        5 => "AlreadyHolds: the thread holds the lock already",
+        6 => "NoCall: the thread has no pending call",
+        7 => "WrongStep: the thread's next step is another",
+        8 => "OtherWord: the lock's step is on another word",
+        9 => "FoundOther: the lock has another value in the word",
+        10 => "LeftOther: the lock leaves another value in the word",
+        11 => "WroteOther: the lock's compare-and-swap ends otherwise",
+        12 => "CountNotAbove: the section's count is not above those before it",
+        13 => "OtherOutcome: something else comes of the lock's section",
+        16 => "NoHeader: there is no header",
+        17 => "BadHeader: not a header",
+        18 => "BadThreads: not a number of threads",
+        19 => "WordsTooNarrow: words too narrow for the threads",
+        20 => "BadLine: not a move",
+        _ => "no fault has this number",
+    }
+}

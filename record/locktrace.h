@@ -1,0 +1,90 @@
+/* locktrace.h: the check of a trace (docs/TRACE.md) from C, C++ and whatever calls C.
+
+   Link with liblk_trace_c.a. No call takes memory; the text and the records are the caller's. A
+   text is opened once, which checks all of it, and then stepped through, a call for each move that
+   was made:
+
+       struct lt_run run;
+       struct lt_step step;
+       lt_open(&run, text, length, steps, room);      // steps: an array of room records
+       while (lt_next(&run, &step)) ..
+       if (run.answer.fault) ..       // lt_fault_text tells what it is, in line answer.line
+
+   Moves for which there is no room are checked too, and are not stepped through. */
+#ifndef LOCKTRACE_H
+#define LOCKTRACE_H
+
+#include <stddef.h>
+#include <stdint.h>
+
+#ifdef __cplusplus
+extern "C" {
+#endif
+
+#define LT_NO_WORD UINT32_MAX
+
+/* The actions of a step: calls, and steps from 16 on. */
+enum {
+    LT_ACQUIRE = 0, LT_RELEASE, LT_RLOCK, LT_RUNLOCK, LT_WLOCK, LT_WUNLOCK, LT_DOWNGRADE,
+    LT_READ = 16, LT_WRITE, LT_SWAP, LT_CAS, LT_ADD, LT_SECTION
+};
+
+/* What came of a step. */
+enum { LT_CALLED = 0, LT_MOVED, LT_WAITS, LT_ENTERED, LT_LEFT };
+
+/* Faults: 0 none; from 1 a move that the lock refuses; from 8 a value that is not the lock's; from
+   16 a text that is no trace. */
+enum {
+    LT_ACCEPTED = 0, LT_NO_SUCH_THREAD, LT_WRONG_LOCK, LT_BUSY, LT_NOT_HOLDER, LT_ALREADY_HOLDS,
+    LT_NO_CALL, LT_WRONG_STEP, LT_OTHER_WORD, LT_FOUND_OTHER, LT_LEFT_OTHER, LT_WROTE_OTHER,
+    LT_COUNT_NOT_ABOVE, LT_OTHER_OUTCOME,
+    LT_NO_HEADER = 16, LT_BAD_HEADER, LT_BAD_THREADS, LT_WORDS_TOO_NARROW, LT_BAD_LINE
+};
+
+/* A move that was made. `word` is which of the lock's words it was on, or LT_NO_WORD. */
+struct lt_step {
+    uint64_t line, found, left;
+    uint32_t thread, action, outcome, word;
+};
+
+struct lt_answer {
+    uint64_t line, moves;
+    uint32_t fault, threads;
+};
+
+/* Checks a text. Answers the fault, and writes a record for each move as far as there is room. */
+uint32_t lt_check(const uint8_t *text, size_t length, struct lt_step *steps, size_t room,
+                  struct lt_answer *answer);
+
+/* Writes the text of a fault, without an end, as far as there is room. Answers how long it is. */
+size_t lt_fault_text(uint32_t fault, uint8_t *text, size_t room);
+
+struct lt_run {
+    struct lt_answer answer;
+    const struct lt_step *steps;
+    uint64_t count, at;
+};
+
+static inline uint32_t lt_open(struct lt_run *run, const char *text, size_t length,
+                               struct lt_step *steps, size_t room)
+{
+    uint32_t fault = lt_check((const uint8_t *)text, length, steps, room, &run->answer);
+    run->steps = steps;
+    run->count = run->answer.moves < room ? run->answer.moves : room;
+    run->at = 0;
+    return fault;
+}
+
+/* The next move that was made: 1, or 0 where there is none. */
+static inline int lt_next(struct lt_run *run, struct lt_step *step)
+{
+    if (run->at == run->count) return 0;
+    *step = run->steps[run->at++];
+    return 1;
+}
+
+#ifdef __cplusplus
+}
+#endif
+
+#endif

@@ -1,0 +1,67 @@
+#!/usr/bin/env python3
+"""The static library of traces, from C and from Python.
+
+    tests/trace_library.py LIBRARY
+
+LIBRARY is crates/lk_trace_c/out/liblk_trace_c.a. Builds tests/locktrace_library.c with it, without
+a warning, and runs it; then makes a shared library of it, and has examples/bindings/locktrace.py
+check a trace that is accepted and one that is refused. The last line counts the cases; the status
+is 1 where one failed.
+"""
+import subprocess
+import sys
+import tempfile
+from pathlib import Path
+
+TOP = Path(__file__).resolve().parent.parent
+WARNINGS = ["-std=c11", "-Wall", "-Wextra", "-pedantic", "-Werror"]
+HEADER = "lock ticket threads 1\n"
+# a trace, what the binding prints of it, and its status
+TRACES = [
+    (HEADER + "0 acquire\n0 add next_ticket found 0\n", "2 moves of 1 threads, 0 waits", 0),
+    (HEADER + "0 add\n", ":2: NoCall: the thread has no pending call", 1),
+]
+
+
+def ran(*words):
+    return subprocess.run([str(word) for word in words], capture_output=True, text=True)
+
+
+def fault_from_c(library, folder):
+    """What is wrong with the library's use from C, or nothing."""
+    program = folder / "library"
+    built = ran("cc", *WARNINGS, TOP / "tests" / "locktrace_library.c", library, "-o", program)
+    if built.returncode:
+        return built.stderr[:500]
+    done = ran(program)
+    return "" if done.returncode == 0 else done.stdout[:500] or f"status {done.returncode}"
+
+
+def fault_from_python(library, folder, trace, due, status):
+    """What is wrong with a trace's check from Python, or nothing."""
+    shared, text = folder / "liblocktrace.so", folder / "run.trace"
+    text.write_text(trace)
+    built = ran("cc", "-shared", "-o", shared, "-Wl,--whole-archive", library,
+                "-Wl,--no-whole-archive")
+    if built.returncode:
+        return built.stderr[:500]
+    done = ran(sys.executable, TOP / "examples" / "bindings" / "locktrace.py", shared, text)
+    is_due = done.returncode == status and due in done.stdout
+    return "" if is_due else f"status {done.returncode} {(done.stdout + done.stderr)[:500]}"
+
+
+def main(library):
+    with tempfile.TemporaryDirectory() as name:
+        folder = Path(name)
+        faults = [fault_from_c(library, folder)]
+        faults += [fault_from_python(library, folder, *case) for case in TRACES]
+    for fault in faults:
+        if fault:
+            print(f"FAILED {fault}")
+    failed = sum(bool(fault) for fault in faults)
+    print(f"{len(faults) - failed} passed, {failed} failed")
+    return 1 if failed else 0
+
+
+if __name__ == "__main__":
+    sys.exit(main(*sys.argv[1:]))
