@@ -12,7 +12,7 @@ fault-too-long)
     printf '%01048555d' 0 | tr 0 '#'
     ;;
 fault-too-many-moves)
-    # A thread draws its ticket behind another that never enters, and looks in vain for ever.
+    # A thread draws its ticket behind another that never enters, and polls for ever.
     printf '%s\n' '# TooManyMoves: the last line is one move too many.' 'lock ticket threads 2'
     printf '%s\n' '0 acquire' '0 add' '1 acquire' '1 add'
     printf '1 read\n%.0s' {1..65533}

@@ -106,7 +106,7 @@ static void looks_in_vain_are_written_once(void)
     LR_WRITE(log, now_serving, 2);
     LR_WRITE(log, now_serving, 2);
     lr_end(log);
-    check_log("looks in vain", run,
+    check_log("failed polls", run,
               "lock ticket threads 1 bits 4 thread 0\n"
               "read now_serving found 1\nread now_serving found 2\nread now_serving found 1\n"
               "write now_serving left 2\nwrite now_serving left 2\ndropped 0\n");

@@ -109,7 +109,7 @@ def mcs_queue_of_64():
 
 
 def most_moves():
-    """65,536 moves: two threads wait behind one another and the second looks in vain."""
+    """65,536 moves: two threads wait behind one another and the second polls."""
     text = b"lock ticket threads 2\n0 acquire\n0 add\n1 acquire\n1 add\n"
     report = ["1 0 acquire called hold - queue -", "2 0 add moved hold - queue 0",
               "3 1 acquire called hold - queue 0", "4 1 add moved hold - queue 0,1"]

@@ -26,7 +26,7 @@ ENTERED = (b"1 0 acquire called hold - queue -\n2 0 add moved hold - queue 0\n"
 
 
 def looking(threads):
-    """A schedule in which these threads look in vain, one after another, and its report."""
+    """A schedule in which the polls of these threads fail, one after another, and its report."""
     text = b"lock ticket threads 11\n" + ENTER + b"".join(b"%d read\n" % t for t in threads)
     lines = (b"%d %d read waits hold - queue 0,1,10\n" % (k, t) for k, t in enumerate(threads, 7))
     return text, ENTERED + b"".join(lines) + b"end %d\n" % (6 + len(threads))

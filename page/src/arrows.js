@@ -1,6 +1,6 @@
 // The write that ended a wait, and the step that found it. A thread waits in the phases whose
 // line of code says `await`: from the move on that put it there where it is in line, else from
-// its first look in vain. The step that goes on had waited for the last change of a word that it
+// its first failed poll. The step that goes on had waited for the last change of a word that it
 // looks at.
 
 import { IN_LINE, NO_WORD, OUTCOME } from './codes.js';

@@ -28,7 +28,7 @@ export function callers(view, state) {
     .filter((thread) => state.dueStep(thread) !== 0);
 }
 
-function lookedInVain(view, thread) {
+function pollFailed(view, thread) {
   const last = view.run.lastMoveOf(thread, view.move);
   return last > 0 && view.run.records.outcome(last) === OUTCOME.waits;
 }
@@ -37,7 +37,7 @@ export function monitor(view, state, x, y) {
   const rows = callers(view, state).map((thread, i) => {
     const at = y + 40 + MONITOR_ROW * i;
     const wants = texts.wants[PHASES[state.phase(thread)]];
-    const vain = lookedInVain(view, thread) ? `; ${texts.lookedInVain}` : '';
+    const vain = pollFailed(view, thread) ? `; ${texts.pollFailed}` : '';
     return html`${token(x + 13, at, view, thread)}
       <text class="wants" x="${x + 36}" y="${at + 5}">${wants}${vain}</text>`;
   });

@@ -28,7 +28,7 @@ export const texts = {
   noMoves: 'No move has been made. Choose a step of a thread.',
   resting: (threads) => `${threads} without a move`,
   legend: {
-    call: 'call', vain: 'looks in vain', enters: 'enters', leaves: 'leaves',
+    call: 'call', vain: 'failed poll', enters: 'enters', leaves: 'leaves',
     fails: 'compare-and-swap fails', inCall: 'in a call', line: 'in line', holds: 'holds',
     reads: 'reads', writes: 'writes', unlinked: 'in line, not linked',
     ended: 'the write that ended a wait',
@@ -66,7 +66,7 @@ export const texts = {
     AwaitReaders: 'announced, waits for the readers', LeaveWrite: 'wants to stop writing',
     TryDowngrade: 'wants to go on as a reader',
   },
-  lookedInVain: 'looked in vain',
+  pollFailed: 'failed poll',
   captions: {
     nobodyInLine: 'Nobody is in line.',
     aloneInLine: '{first} is alone in line.',
@@ -175,7 +175,7 @@ export const texts = {
     last: 'That was the last move.',
     again: 'From the first move',
     outcomes: {
-      called: 'called: a call begins', moved: 'moved: it goes on', waits: 'waits: a look in vain',
+      called: 'called: a call begins', moved: 'moved: it goes on', waits: 'waits: a failed poll',
       entered: 'entered: it holds', left: 'left: it holds no more',
     },
   },
@@ -233,7 +233,7 @@ export const texts = {
           + '{left}.',
       },
       AwaitTurn: {
-        waits: '{who} looks in vain: now_serving is {found}, and {whose} ticket is {number}.',
+        waits: '{who} polls and waits: now_serving is {found}, and {whose} ticket is {number}.',
         entered: '{who} finds {whose} ticket, {found}, in now_serving, and enters.',
       },
       ReadServing: { moved: '{who} reads now_serving, to pass it on: it is {found}.' },
@@ -274,12 +274,12 @@ export const texts = {
     },
     'rw-simple': {
       TryRead: {
-        waits: '{who} looks in vain: the flag is set.',
+        waits: '{who} polls and waits: the flag is set.',
         entered: '{who} finds the flag clear and counts itself: readers is now {left}.',
       },
       LeaveRead: { left: '{who} counts itself out: readers is now {left}. {who} has left.' },
       TryWrite: {
-        waits: '{who} looks in vain: readers is {readers}, and the flag is {flag}. Both have to '
+        waits: '{who} polls and waits: readers is {readers}, and the flag is {flag}. Both have to '
           + 'be 0.',
         entered: '{who} finds no reader and the flag clear, sets the flag, and writes.',
       },
@@ -291,18 +291,18 @@ export const texts = {
     },
     'rw-fifo': {
       TryRead: {
-        waits: '{who} looks in vain: the flag is set.',
+        waits: '{who} polls and waits: the flag is set.',
         entered: '{who} finds the flag clear and counts itself: readAcquires is now {left}.',
       },
       LeaveRead: { left: '{who} counts itself out: readReleases is now {left}. {who} has left.' },
       TryWrite: {
-        waits: '{who} looks in vain: the flag is set. {who} is not in line.',
+        waits: '{who} polls and waits: the flag is set. {who} is not in line.',
         moved: '{who} sets the flag, and so is announced: no reader comes in any more. The '
           + 'counts are {acquires} and {releases}, so {who} waits for the readers.',
         entered: '{who} sets the flag, finds the counts equal, and writes.',
       },
       AwaitReaders: {
-        waits: '{who} looks in vain: the counts are {acquires} and {releases}, so there are '
+        waits: '{who} polls and waits: the counts are {acquires} and {releases}, so there are '
           + 'readers inside.',
         entered: '{who} finds the counts equal, {acquires} and {releases}: no reader is inside, '
           + 'and {who} writes.',
