@@ -91,9 +91,9 @@ def check(edit, folder):
     lines = ran.stdout.splitlines()
     if "logic=proved" not in lines[-1] and "logic=not-proved" not in ran.stdout:
         raise BadEdit(f"it did not reach the prover: {' '.join(lines[-3:])[:300]}")
-    said = [line for line in lines if re.match(r"(note: )?\S+:\d+:\d+:", line)]
-    errors = [line for line in said if ": error" in line]
-    return ran.returncode == 0, "" if ran.returncode == 0 else (errors + said + [""])[0]
+    errors = [line for line in lines if re.match(r"\S+:\d+:\d+: error", line)]
+    unproved = [line for line in lines if re.match(r"\w+ \S+: (no proof|not proved)", line)]
+    return ran.returncode == 0, "" if ran.returncode == 0 else (errors + unproved + [""])[0]
 
 
 def try_edit(edit, folder):
