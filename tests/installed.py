@@ -120,7 +120,7 @@ def try_programs(tally, tree):
 def flags_of(tally, tree, name):
     """What pkg-config says that a user of a header compiles and links with."""
     environment = {"PATH": os.environ["PATH"],
-                   "PKG_CONFIG_PATH": f"{tree}/share/pkgconfig:{tree}/lib/pkgconfig"}
+                   "PKG_CONFIG_PATH": f"{tree}/share/pkgconfig"}
 
     def asked(*words):
         return output("pkg-config", *words, name, env=environment).split()
