@@ -119,4 +119,6 @@ two_touched before after first second a b two ha pre ca next hb mid cb w f l v g
       | inr y ↦ let e : a ≡ i = omega (arith, x, y) in absurd (n (w ∙ e))
     ]
   ];
+  first_changed = λ no i h. absurd (no (λ e. ca (sym l ∙ sym e ∙ f)));
+  second_changed = λ there e. cb (sym m ∙ sym e ∙ g);
 }

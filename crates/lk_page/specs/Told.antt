@@ -1,6 +1,6 @@
 -- Definitions: what a page is told of each move that is made, and of the lock after the last. This project's own; what a move does,
 -- who holds and who waits is said by the definitions of the locks and of the replay alone.
-use Rattle.std.specs.Prelude.{◌≡◌, ℕ, ◌<◌, List, [], ◌∷◌, ◌++◌, length, slice_index, Option, None, Some, Bool, false, eqb}
+use Rattle.std.specs.Prelude.{◌≡◌, ◌≢◌, ℕ, ◌<◌, List, [], ◌∷◌, ◌++◌, length, slice_index, Option, None, Some, Bool, false, eqb}
 use Rattle.lk_locks.specs.State.{State}
 use Rattle.lk_locks.specs.Steps.{refusal_of, change_of, next_state}
 use Rattle.lk_locks.specs.Entries.{entries_of}
@@ -48,11 +48,19 @@ abbrev pub IsWord : Option Touch → ℕ → Type 0
 IsWord None i = ⊥
 IsWord (Some t) i = t.word ≡ i
 
--- The words that a move touched: all others stayed. The first of them stayed only where none changed; a second one changed.
+-- what stood in the word and what stands there differ
+abbrev pub IsChange : Option Touch → Type 0
+IsChange None = ⊥
+IsChange (Some t) = t.found ≢ t.left
+
+-- The words that a move touched: all others stayed. The first of them stayed only where none
+-- changed, and a second one changed.
 pub record AreTouched (before after : List ℕ) (first second : Option Touch) : Type 0 where
   pub first_is : IsTouch before after first
   pub second_is : IsTouch before after second
   pub others : (i : ℕ) → i < length before → (IsWord first i → ⊥) → (IsWord second i → ⊥) → slice_index after i ≡ slice_index before i
+  pub first_changed : (IsChange first → ⊥) → (i : ℕ) → i < length before → slice_index after i ≡ slice_index before i
+  pub second_changed : second ≢ None → IsChange second
 
 -- a call touches no word
 abbrev pub IsUntouched : Move → Option Touch → Type 0
