@@ -143,7 +143,7 @@ def find_failures(program, texts, reports, seed, first):
 
 
 def play_corpus(program):
-    """The stored texts, each by itself and all as a batch; answers how many, and how many failed."""
+    """The stored texts, each by itself and all as a batch; how many, and how many failed."""
     texts = corpus.stored_texts()
     wrong = list(corpus.mistakes(texts))
     wrong += [f"{name}: printed {program.replay(text)[0][-300:]!r}"

@@ -1,13 +1,13 @@
 #!/usr/bin/env python3
-"""Tries edits of crates, each on a copy: wrong bodies are refused, and their right twins are proved.
+"""Tries edits of crates, each on a copy: wrong bodies are refused, and right twins are proved.
 
     edits.py EDIT...
 
 An edit is a file `crates/NAME/must-fail/EDIT.edit`, which the check must refuse, or
-`crates/NAME/twins/EDIT.edit`, which it must prove. It has a line `file: PATH` and then pairs of lines
-`old: TEXT` and `new: TEXT`; TEXT stands once in that file of the crate. A twin is its wrong body with
-a right value in the wrong one's place, and has its name. So the wrong body is refused for its value,
-and not since a loop, a call or a name changed for which no proof stands.
+`crates/NAME/twins/EDIT.edit`, which it must prove. It has a line `file: PATH` and then pairs of
+lines `old: TEXT` and `new: TEXT`; TEXT stands once in that file of the crate. A twin is its wrong
+body with a right value in the wrong one's place, and has its name. So the wrong body is refused for
+its value, and not since a loop, a call or a name changed for which no proof stands.
 
 The copy begins with what earlier checks kept in `out/`, and each edit is tried over what was proved
 for those before it. `rt ci` tries every wrong body from nothing, and is the judge. Prints
@@ -79,7 +79,7 @@ def edited(edit, folder):
 
 
 def check(edit, folder):
-    """Whether the check proves the crate with the edit, and the first of what it says against it."""
+    """Whether the check proves the crate with the edit, and the first that it says against it."""
     texts = edited(edit, folder)
     before = {path: path.read_text() for path in texts}
     for path, text in texts.items():

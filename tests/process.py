@@ -1,6 +1,6 @@
 #!/usr/bin/env python3
-"""The built program as a process: its output, its errors and its status, where devices, words, files
-or memory fail it.
+"""The built program as a process: its output, its errors and its status, where devices, words,
+files or memory fail it.
 
     tests/process.py PROGRAM
 
@@ -39,18 +39,8 @@ HANDED_ON = b"""lock ticket threads 2
 0 write
 1 read
 """
-HANDED_ON_REPORT = b"""1 0 acquire called hold - queue -
-2 0 add moved hold - queue 0
-3 0 read entered hold 0 queue 0
-4 1 acquire called hold 0 queue 0
-5 1 add moved hold 0 queue 0,1
-6 1 read waits hold 0 queue 0,1
-7 0 release called hold 0 queue 0,1
-8 0 read moved hold 0 queue 0,1
-9 0 write left hold - queue 1
-10 1 read entered hold 1 queue 1
-end 10
-"""
+LESSONS = Path(__file__).resolve().parent.parent / "examples"
+HANDED_ON_REPORT = (LESSONS / "ticket-hand-over.report").read_bytes()
 EMPTY = b"lock ticket threads 1\n"
 EMPTY_REPORT = b"end 0\n"
 REFUSED = b"lock ticket threads 2\n0 release\n"
@@ -174,7 +164,8 @@ def standard_input():
     folder = os.open(".", os.O_RDONLY)
     case("input a directory", ["replay"], 3, error=INPUT, stdin=folder)
     os.close(folder)
-    case("a pipe that ends in a move", ["replay"], 1, b"fault line 2 BadLine\n", stdin=HANDED_ON[:27])
+    case("a pipe that ends in a move", ["replay"], 1, b"fault line 2 BadLine\n",
+         stdin=HANDED_ON[:27])
     case("a pipe that ends behind a move", ["replay"], 0, HANDED_ON_REPORT[:34] + b"end 1\n",
          stdin=HANDED_ON[:31])
     with open("/dev/zero", "rb") as endless:
@@ -220,8 +211,8 @@ def full_file(what, words, stdin, report, size):
 
         _, error, status = run(words, stdin=stdin, stdout=short, before=before)
         short.seek(0)
-        check(f"{what}: a file that is full after {size} bytes", output=(short.read(), report[:size]),
-              error=(error, OUTPUT), status=(status, 3))
+        check(f"{what}: a file that is full after {size} bytes",
+              output=(short.read(), report[:size]), error=(error, OUTPUT), status=(status, 3))
 
 
 def reader_leaves(what, words, stdin, report):
@@ -278,14 +269,17 @@ def command_line():
     for words in (["--workers=8", "empty"], ["empty", "--workers", "3"],
                   ["--workers", "2", "--", "--workers"]):
         case(f"words {words}", ["batch", *words], 0, batch_text([EMPTY_REPORT]))
-    case("words on either side", ["batch", "empty", "--workers", "3", "handed_on", "--", "empty"], 0,
+    case("words on either side",
+         ["batch", "empty", "--workers", "3", "handed_on", "--", "empty"], 0,
          batch_text([EMPTY_REPORT, HANDED_ON_REPORT, EMPTY_REPORT]))
     for words in (["--help"], ["-h"]):
         case(f"words {words}", words, 0, is_help)
     case("help on batches", ["batch", "--help"], 0, lambda text: b"lockreplay batch" in text)
     case("error closed", ["play"], 2, before=closing(2))
-    case("too many, error closed", ["batch", "--workers", "2"] + ["x"] * 65_537, 2, before=closing(2))
-    case("error closed, input closed", ["replay"], 3, stdin=subprocess.DEVNULL, before=closing(0, 2))
+    case("too many, error closed", ["batch", "--workers", "2"] + ["x"] * 65_537, 2,
+         before=closing(2))
+    case("error closed, input closed", ["replay"], 3, stdin=subprocess.DEVNULL,
+         before=closing(0, 2))
     writer = left_pipe()
     case("error that nobody reads", ["play"], 2, stderr=writer)
     os.close(writer)
@@ -293,7 +287,8 @@ def command_line():
 
 def batches():
     names = ["empty", "handed_on", "refused", "none", "empty"]
-    reports = [EMPTY_REPORT, HANDED_ON_REPORT, REFUSED_REPORT, b"fault line 1 NoHeader\n", EMPTY_REPORT]
+    reports = [EMPTY_REPORT, HANDED_ON_REPORT, REFUSED_REPORT, b"fault line 1 NoHeader\n",
+               EMPTY_REPORT]
     for workers in range(1, 9):
         case(f"a batch of {workers} workers", ["batch", "--workers", str(workers), *names], 1,
              batch_text(reports))
@@ -312,7 +307,7 @@ def batches():
 
 
 def opened_once_read(fifo, program):
-    """The FIFO's end for writing, once the program has opened the other; none where it ends without."""
+    """The FIFO's end for writing, once the program has opened the other; None if it never does."""
     while program.poll() is None:
         try:
             return os.open(fifo, os.O_WRONLY | os.O_NONBLOCK)
@@ -322,8 +317,8 @@ def opened_once_read(fifo, program):
 
 
 def files():
-    for name in ("missing", "folder", "dangling", "circle", "socket", "empty/x", "n" * 300, "n" * 5000,
-                 ""):
+    for name in ("missing", "folder", "dangling", "circle", "socket", "empty/x", "n" * 300,
+                 "n" * 5000, ""):
         case(f"file {name[:20]!r}", ["batch", "--workers", "2", "empty", name, "missing"], 3,
              error=cannot_read(2))
     case("the first of all", ["batch", "--workers", "8", "missing", "folder", "empty"], 3,
@@ -349,9 +344,12 @@ def memory():
     spinning = ["batch", "--workers"]
     for what, words, stdin, report in (
         ("replay", ["replay"], SPINNING, SPINNING_REPORT),
-        ("batch, 1 worker", [*spinning, "1"] + ["spinning"] * 12, b"", batch_text([SPINNING_REPORT] * 12)),
-        ("batch, 8 workers", [*spinning, "8"] + ["spinning"] * 12, b"", batch_text([SPINNING_REPORT] * 12)),
-        ("65,536 names", [*spinning, "2"] + ["empty"] * 65_536, b"", batch_text([EMPTY_REPORT] * 65_536)),
+        ("batch, 1 worker", [*spinning, "1"] + ["spinning"] * 12, b"",
+         batch_text([SPINNING_REPORT] * 12)),
+        ("batch, 8 workers", [*spinning, "8"] + ["spinning"] * 12, b"",
+         batch_text([SPINNING_REPORT] * 12)),
+        ("65,536 names", [*spinning, "2"] + ["empty"] * 65_536, b"",
+         batch_text([EMPTY_REPORT] * 65_536)),
     ):
         refused = given = 0
         for megabytes in (4, 5, 6, 8, 12, 16, 24, 32, 48, 64, 80, 96, 128, 160, 256, 512):
@@ -359,15 +357,15 @@ def memory():
             wanted = (b"", MEMORY, 3) if got[2] == 3 else (report, b"", 0)
             refused += got[2] == 3
             given += got[2] == 0
-            check(f"{what} within {megabytes} MB", output=(got[0], wanted[0]), error=(got[1], wanted[1]),
-                  status=(got[2], wanted[2]))
+            check(f"{what} within {megabytes} MB", output=(got[0], wanted[0]),
+                  error=(got[1], wanted[1]), status=(got[2], wanted[2]))
         check(f"{what}: memory is short, then ample", refused=(refused, lambda n: n > 0),
               given=(given, lambda n: n > 0))
 
 
 def make_files():
-    for name, text in (("empty", EMPTY), ("handed_on", HANDED_ON), ("refused", REFUSED), ("none", b""),
-                       ("spinning", SPINNING), ("--workers", EMPTY)):
+    for name, text in (("empty", EMPTY), ("handed_on", HANDED_ON), ("refused", REFUSED),
+                       ("none", b""), ("spinning", SPINNING), ("--workers", EMPTY)):
         Path(name).write_bytes(text)
     os.mkdir("folder")
     os.symlink("nowhere", "dangling")

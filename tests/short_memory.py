@@ -4,10 +4,10 @@
     short_memory.py PROGRAM
 
 Each faulty text is replayed under ever wider limits of memory, and so is a text of the same length
-whose fault is a bad line behind its header. The second needs memory for its moves and the first needs
-none: there are limits under which the one is answered and the other is not. Under each limit the
-answer is the fault or want of memory. Prints `N passed, M failed` last, and ends with 1
-where one failed.
+whose fault is a bad line behind its header. The second needs memory for its moves and the first
+needs none: there are limits under which the one is answered and the other is not. Under each limit
+the answer is the fault or want of memory. Prints `N passed, M failed` last, and ends with 1 where
+one failed.
 """
 import resource
 import subprocess
@@ -31,8 +31,9 @@ def needed(program, text, fault):
     """The least limit in KB under which the text is answered; None where another answer is met."""
     for limit in range(LEAST, MOST, STEP):
         size = limit << 10
+        limits = (size, size)
         ran = subprocess.run([program, "replay"], input=text, capture_output=True, check=False,
-                             preexec_fn=lambda: resource.setrlimit(resource.RLIMIT_AS, (size, size)))
+                             preexec_fn=lambda: resource.setrlimit(resource.RLIMIT_AS, limits))
         answer = ran.stdout, ran.stderr, ran.returncode
         if answer == (fault, b"", 1):
             return limit

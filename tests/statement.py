@@ -3,9 +3,9 @@
 
     tests/statement.py [NAME]
 
-From `MainTheorem.EveryRunIsAsPromised`, or from another definition given as FILE.NAME, it follows each name to
-its definition in crates/lk_locks/specs, and prints for each file the definitions that are reached, with their
-lines. Blank lines, comments and `use` lines do not count.
+From `MainTheorem.EveryRunIsAsPromised`, or from another definition given as FILE.NAME, it follows
+each name to its definition in crates/lk_locks/specs, and prints for each file the definitions that
+are reached, with their lines. Blank lines, comments and `use` lines do not count.
 """
 
 import re
@@ -32,7 +32,8 @@ class Definitions:
         for line in lines:
             if line.startswith("use "):
                 self.add_import(line)
-            elif line.strip() and not line.lstrip().startswith("--") and not line.startswith("pub mod"):
+            elif line.strip() and not line.lstrip().startswith("--") and not (
+                    line.startswith("pub mod")):
                 opens = DEFINITION.match(line)
                 name = opens.group(1) if opens else name
                 self.lines.setdefault(name, []).append(line)

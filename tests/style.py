@@ -31,17 +31,7 @@ NOT_YET = [
     ("crates/lockreplay/src/command_line/tests.rt", "body"),
     ("record/lockreplay_record.h", "lines"),
     ("docs/BENCHMARKS.md", "columns"),
-    ("docs/CHECKING.md", "columns"),
     ("docs/LOCKTRACE.md", "columns"),
-    ("docs/PARALLEL.md", "columns"),
-    ("fuzz/fuzz.py", "columns"),
-    ("tests/edits.py", "columns"),
-    ("tests/process.py", "columns"),
-    ("tests/refuse/*", "columns"),
-    ("tests/rows.py", "columns"),
-    ("tests/short_memory.py", "columns"),
-    ("tests/statement.py", "columns"),
-    ("tests/worked_rows.py", "columns"),
 ]
 # Written by a script from files that are kept to the rules.
 GENERATED = ["crates/lk_replay/src/tests/rows/*"]

@@ -4,12 +4,12 @@ They stand in three places, and nowhere else:
 
     examples/NAME.schedule, NAME.report      lessons
     tests/rows/NAME.schedule, NAME.report    whole reports that are no lesson
-    tests/rows/TABLE.txt                     a text and its report on one line; the head of texts.txt
-                                             says how they are written
+    tests/rows/TABLE.txt                     a text and its report on one line; the head of
+                                             texts.txt says how they are written
 
-The two texts of examples/ that are too large to lie there are printed by examples/limits.sh. Two rows
-more are made by a rule, below. `rows.py` replays all of them, and `refusals.py` does so with each
-request for memory refused. What stands in no file, since it is made by a rule, is below.
+The two texts of examples/ that are too large to lie there are printed by examples/limits.sh. Two
+rows more are made by a rule, below. `rows.py` replays all of them, and `refusals.py` does so with
+each request for memory refused. What stands in no file, since it is made by a rule, is below.
 """
 import pathlib
 import re

@@ -8,7 +8,13 @@ enum { HERE = 99999998, ASK = 99999999, ARM = 100000000 };
 
 static int failed;
 
-#define EXPECT(fact) do { if (!(fact)) { failed = 1; printf("line %d: %s\n", __LINE__, #fact); } } while (0)
+#define EXPECT(fact)                                   \
+    do {                                               \
+        if (!(fact)) {                                 \
+            failed = 1;                                \
+            printf("line %d: %s\n", __LINE__, #fact);  \
+        }                                              \
+    } while (0)
 
 /* Whether a request is granted; the block is given back at once. */
 static int is_granted(size_t size) {
@@ -49,9 +55,10 @@ static void not_reached(void) {
 static void grown_and_aligned(void) {
     void *block = malloc(8), *aligned = NULL;
     EXPECT(is_granted(ARM + 1));
-    EXPECT(realloc(block, 800) == NULL);
+    void *grown = realloc(block, 800);
+    EXPECT(grown == NULL);
     EXPECT(!is_granted(ASK));
-    free(block);
+    free(grown == NULL ? block : grown);
     EXPECT(is_granted(ARM + 2));
     free(aligned_alloc(64, 64));
     EXPECT(posix_memalign(&aligned, 64, 64) != 0);

@@ -1,21 +1,25 @@
-/* A library, preloaded before a test, that refuses one request for memory: the Nth from a given one.
+/* A library, preloaded before a test, that refuses one request for memory: the Nth from a
+ * given one.
  *
  *     cc -O2 -shared -fPIC -o refuse.so refuse.c
  *     REFUSE_LOG=FILE LD_PRELOAD=./refuse.so TESTS NAME
  *
- * A test speaks to it by requests of telling sizes, which need no call that a test cannot make. Each
- * is answered with one byte or refused; the test gives a granted block back without using it.
+ * A test speaks to it by requests of telling sizes, which need no call that a test cannot make.
+ * Each is answered with one byte or refused; the test gives a granted block back without using it.
  *
- *     HERE        is refused. Without the library it is granted: so a test knows whether it is there.
- *     ARM + N     arms it, N from 1 to 999,999: of the requests that follow, of all threads together,
- *                 the Nth is refused, and no other.
- *     ASK         disarms it, and is refused exactly where a request was refused since it was armed.
+ *     HERE        is refused. Without the library it is granted: so a test knows whether it is
+ *                 there.
+ *     ARM + N     arms it, N from 1 to 999,999: of the requests that follow, of all threads
+ *                 together, the Nth is refused, and no other.
+ *     ASK         disarms it, and is refused exactly where a request was refused since it was
+ *                 armed.
  *                 Without the library it is granted: no request was refused.
  *
- * What counts as a request is what a program asks for by malloc, realloc, aligned_alloc, memalign or
- * posix_memalign, other than by the sizes above. A program in Rattle uses malloc and realloc alone
- * (`nm -D`); alignments above 16 are refused before. calloc is let through and not counted: the C
- * library calls it when it starts a thread. Freeing and shrinking with realloc(p, 0) are no requests.
+ * What counts as a request is what a program asks for by malloc, realloc, aligned_alloc, memalign
+ * or posix_memalign, other than by the sizes above. A program in Rattle uses malloc and realloc
+ * alone (`nm -D`); alignments above 16 are refused before. calloc is let through and not counted:
+ * the C library calls it when it starts a thread. Freeing and shrinking with realloc(p, 0) are no
+ * requests.
  *
  * A test of a call that may want memory goes round for N = 1, 2, 3 and so on:
  *
@@ -23,19 +27,21 @@
  *     ASK refused:  the answer is want of memory, or the answer with ample memory; go on with N + 1
  *     ASK granted:  the answer is the one with ample memory; end
  *
- * Where HERE is refused and the call is to take memory, N = 1 has to be refused: a test that ends its
- * round with N = 1 then met no refusal and fails. For a call that takes no memory the round is N = 1
- * alone, with ASK granted. Nothing between ARM and ASK but the call itself may ask for memory.
+ * Where HERE is refused and the call is to take memory, N = 1 has to be refused: a test that ends
+ * its round with N = 1 then met no refusal and fails. For a call that takes no memory the round is
+ * N = 1 alone, with ASK granted. Nothing between ARM and ASK but the call itself may ask for
+ * memory.
  *
  * At each ASK a line `request N refused` or `request N not reached` is appended to the file that
- * REFUSE_LOG names. A library that could not be preloaded leaves no line, and the loader only warns:
- * so whoever runs the tests looks for the lines (run.sh does).
+ * REFUSE_LOG names. A library that could not be preloaded leaves no line, and the loader only
+ * warns: so whoever runs the tests looks for the lines (run.sh does).
  *
- * A program that does not speak to it is armed by REFUSE_NTH=N: of all requests since its start the Nth is
- * refused. When the program ends, the line of that round is appended, and a line `requests K` with how
- * many it made. refusals.py runs the built program so.
+ * A program that does not speak to it is armed by REFUSE_NTH=N: of all requests since its start the
+ * Nth is refused. When the program ends, the line of that round is appended, and a line
+ * `requests K` with how many it made. refusals.py runs the built program so.
  *
- * Not held to: a product that asks for exactly one of these sizes. No test here leads to such a request.
+ * Not held to: a product that asks for exactly one of these sizes. No test here leads to such a
+ * request.
  */
 #define _GNU_SOURCE
 #include <errno.h>
@@ -99,7 +105,8 @@ static int is_granted(void) {
     if (is_armed_at_start) __atomic_add_fetch(&count, 1, __ATOMIC_SEQ_CST);
     long now = __atomic_load_n(&left, __ATOMIC_SEQ_CST);
     while (now > 0)
-        if (__atomic_compare_exchange_n(&left, &now, now - 1, 0, __ATOMIC_SEQ_CST, __ATOMIC_SEQ_CST)) {
+        if (__atomic_compare_exchange_n(&left, &now, now - 1, 0, __ATOMIC_SEQ_CST,
+                                        __ATOMIC_SEQ_CST)) {
             if (now > 1) return 1;
             __atomic_store_n(&refused, 1, __ATOMIC_SEQ_CST);
             errno = ENOMEM;

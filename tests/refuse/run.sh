@@ -2,11 +2,11 @@
 # Runs tests under the allocator that refuses a request: run.sh WORD TESTS...
 #
 # TESTS are test binaries of Rattle (`crates/NAME/out/NAME_tests`). Each test whose name contains
-# WORD is run in a process of its own under refuse.c, whose head says how the two speak. A test fails
-# where it ends with another status than 0, and also where no request was refused in it, be it that
-# the library was not loaded. A test with `no_request` in its name shows that a call asks for nothing:
-# it fails where the library was not asked. Before them the library itself is tried by probe.c.
-# Prints `N passed, M failed` last, and ends with 1 where one failed or none was found.
+# WORD is run in a process of its own under refuse.c, whose head says how the two speak. A test
+# fails where it ends with another status than 0, and also where no request was refused in it, be it
+# that the library was not loaded. A test with `no_request` in its name shows that a call asks for
+# nothing: it fails where the library was not asked. Before them the library itself is tried by
+# probe.c. Prints `N passed, M failed` last, and ends with 1 where one failed or none was found.
 set -euo pipefail
 
 here=$(dirname "$(realpath "$0")")
