@@ -33,9 +33,10 @@ SHORT_FUZZ_SECONDS := 5
 SOAK_SECONDS := 3600
 EDIT := *
 
-.PHONY: test check edits twins demo bench gate soak tools
+.PHONY: test check edits twins demo bench soak tools
 
-test: gate tools
+test: tools
+	tests/gate.sh
 	$(MAKE) --no-print-directory tried release-checks FUZZ_SECONDS=$(FUZZ_SECONDS)
 	tests/refuse/run.sh request crates/$(TESTS)/out/$(TESTS)_tests
 	$(MAKE) --no-print-directory test-page test-library
@@ -66,9 +67,6 @@ tried-fuzz:
 	fuzz/fuzz.py $(PROGRAM) --seconds $(FUZZ_SECONDS)
 $(addprefix tried-,$(filter-out oracle layout fuzz,$(TRIED))): tried-%:
 	tests/$*.py $(PROGRAM)
-
-gate:
-	rt ci
 
 .PHONY: page test-page browsers
 

@@ -8,12 +8,14 @@
 set -euo pipefail
 
 readonly TARGET=wasm64-unknown-unknown
+# how many processors the checks may take
+readonly JOBS=${JOBS:-$(nproc)}
 
 kit=$(dirname "$(rt doc)")
 cd "$(dirname "${BASH_SOURCE[0]}")/../crates"
 
 # lk_replay, and lk_locks and lk_words below it
-(cd lk_replay && rt lib)
+(cd lk_replay && rt lib --jobs "$JOBS")
 
 library() {
   echo "--extern $1=$2/$1.rlib"
@@ -27,7 +29,7 @@ mkdir -p out
   $(library lk_words ../lk_words/out/rlib) $(library lk_locks ../lk_locks/out/rlib) \
   $(library lk_replay ../lk_replay/out/rlib) -L dependency="$kit/rlibs" \
   --antt-project "$kit/rattle/logic/antt-project.json" --logic-built "$kit/logic_built" \
-  --jobs "$(nproc)" --links lk_page= --crate-type staticlib --toolchain "$kit/toolchain" \
+  --jobs "$JOBS" --links lk_page= --crate-type staticlib --toolchain "$kit/toolchain" \
   --backend llvm --target "$TARGET" --incremental out/incremental_wasm -o out/liblk_page_wasm.a
 "$kit/bin/rattle-link" --target "$TARGET" --toolchain "$kit/toolchain" \
   -o out/lockreplay.wasm out/liblk_page_wasm.a
