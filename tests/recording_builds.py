@@ -4,6 +4,8 @@ import shutil
 import subprocess
 from pathlib import Path
 
+import wanted
+
 ROOT = Path(__file__).resolve().parent.parent
 SOURCES = ROOT / "examples" / "recording"
 HEADER = ROOT / "record" / "lockreplay_record.h"
@@ -23,9 +25,7 @@ def install_what_is_missing():
     missing = [package for package, tool in
                [("gcc", "gcc"), ("g++", "g++"), ("binutils", "objdump")] if not shutil.which(tool)]
     missing += [] if Path("/usr/include/ck_pr.h").exists() else ["libck-dev"]
-    if missing:
-        subprocess.run(["apt-get", "update"], check=True)
-        subprocess.run(["apt-get", "install", "-y", *missing], check=True)
+    wanted.install(*missing)
 
 
 def language(compiler):
