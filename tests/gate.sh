@@ -1,10 +1,10 @@
 #!/usr/bin/env bash
-# The proofs of `make test`: `rt ci`, and beside it what `rt ci` builds nothing of, the page's module
-# and the static library for C.
+# The proofs of `make test`: `rt ci`, and beside it what `rt ci` builds nothing of, the page's
+# module and the static library for C.
 #
-# `rt ci` takes what its tree has built aside, so the two are built in a copy of the tree. Towards its
-# end `rt ci` leaves processors idle, since the wrong bodies of one crate are tried one after another:
-# the copy is built with what it leaves. Fails where either fails, and says which.
+# `rt ci` takes what its tree has built aside, so the two are built in a copy of the tree. Towards
+# its end `rt ci` leaves processors idle, since the wrong bodies of one crate are tried one after
+# another: the copy is built with what it leaves. Fails where either fails, and says which.
 set -euo pipefail
 cd "$(dirname "$0")/.."
 readonly MODULE=crates/lk_page/out/lockreplay.wasm
