@@ -4,8 +4,11 @@
 //! Nothing is asked of the words inside but the operation itself, so a write and a compare-and-swap
 //! that fails do not know what they found.
 
-ghost use Rattle.std.specs.Prelude.{◌≡◌, ◌+◌, ◌%◌, ◌^◌, ◌<◌, ◌==◌, cond, slice_index, slice_set, length, None, Some};
-ghost use Rattle.lk_words.specs.declared.recording.Operation.TheVariants.{Read, Write, Swap, CompareAndSwap, FetchAndAdd};
+ghost use Rattle.std.specs.Prelude.{◌≡◌, ◌+◌, ◌%◌, ◌^◌, ◌<◌, ◌==◌, cond, slice_index, slice_set};
+ghost use Rattle.std.specs.Prelude.{length, None, Some};
+ghost use Rattle.lk_words.specs.declared.recording.Operation.TheVariants.{Read, Write, Swap};
+ghost use Rattle.lk_words.specs.declared.recording.Operation.TheVariants.{CompareAndSwap};
+ghost use Rattle.lk_words.specs.declared.recording.Operation.TheVariants.{FetchAndAdd};
 
 use crate::Words;
 use crate::array::greatest_of;
@@ -88,7 +91,12 @@ impl<W: Words> Words for RecordingWords<W> {
         ensures value { result ≡ slice_index (W.list self.old.inner) i }
         ensures kept { W.list self.new.inner ≡ W.list self.old.inner }
         ensures width { W.width self.new.inner ≡ W.width self.old.inner }
-        ensures last { self.new.last ≡ Some (record { operation = Read; word = i; found = Some result; left = Some result }) }
+        ensures last { self.new.last ≡ Some (record {
+          operation = Read;
+          word = i;
+          found = Some result;
+          left = Some result;
+        }) }
     {
         let found = self.inner.read(i);
         self.last = Some(Access {
@@ -105,7 +113,8 @@ impl<W: Words> Words for RecordingWords<W> {
         requires fits { v < 2 ^ W.width self.old.inner }
         ensures changed { W.list self.new.inner ≡ slice_set (W.list self.old.inner) i v }
         ensures width { W.width self.new.inner ≡ W.width self.old.inner }
-        ensures last { self.new.last ≡ Some (record { operation = Write; word = i; found = None; left = Some v }) }
+        ensures last { self.new.last
+            ≡ Some (record { operation = Write; word = i; found = None; left = Some v }) }
     {
         self.inner.write(i, v);
         self.last = Some(Access {
@@ -123,7 +132,8 @@ impl<W: Words> Words for RecordingWords<W> {
         ensures value { result ≡ slice_index (W.list self.old.inner) i }
         ensures changed { W.list self.new.inner ≡ slice_set (W.list self.old.inner) i v }
         ensures width { W.width self.new.inner ≡ W.width self.old.inner }
-        ensures last { self.new.last ≡ Some (record { operation = Swap; word = i; found = Some result; left = Some v }) }
+        ensures last { self.new.last
+            ≡ Some (record { operation = Swap; word = i; found = Some result; left = Some v }) }
     {
         let found = self.inner.swap(i, v);
         self.last = Some(Access {
@@ -140,9 +150,16 @@ impl<W: Words> Words for RecordingWords<W> {
         requires old_fits { old < 2 ^ W.width self.old.inner }
         requires new_fits { new < 2 ^ W.width self.old.inner }
         ensures value { result ≡ (slice_index (W.list self.old.inner) i == old) }
-        ensures changed { W.list self.new.inner ≡ cond (slice_index (W.list self.old.inner) i == old) (slice_set (W.list self.old.inner) i new) (W.list self.old.inner) }
+        ensures changed { W.list self.new.inner
+            ≡ cond (slice_index (W.list self.old.inner) i == old)
+            (slice_set (W.list self.old.inner) i new) (W.list self.old.inner) }
         ensures width { W.width self.new.inner ≡ W.width self.old.inner }
-        ensures last { self.new.last ≡ Some (record { operation = CompareAndSwap; word = i; found = cond result (Some old) None; left = cond result (Some new) None }) }
+        ensures last { self.new.last ≡ Some (record {
+          operation = CompareAndSwap;
+          word = i;
+          found = cond result (Some old) None;
+          left = cond result (Some new) None;
+        }) }
     {
         let swapped = self.inner.compare_and_swap(i, old, new);
         self.last = Some(Access {
@@ -159,9 +176,16 @@ impl<W: Words> Words for RecordingWords<W> {
         requires fits { d < 2 ^ W.width self.old.inner }
         ensures fits_width { result < 2 ^ W.width self.old.inner }
         ensures value { result ≡ slice_index (W.list self.old.inner) i }
-        ensures changed { W.list self.new.inner ≡ slice_set (W.list self.old.inner) i ((slice_index (W.list self.old.inner) i + d) % 2 ^ W.width self.old.inner) }
+        ensures changed { W.list self.new.inner
+            ≡ slice_set (W.list self.old.inner) i
+            ((slice_index (W.list self.old.inner) i + d) % 2 ^ W.width self.old.inner) }
         ensures width { W.width self.new.inner ≡ W.width self.old.inner }
-        ensures last { self.new.last ≡ Some (record { operation = FetchAndAdd; word = i; found = Some result; left = Some ((result + d) % 2 ^ W.width self.old.inner) }) }
+        ensures last { self.new.last ≡ Some (record {
+          operation = FetchAndAdd;
+          word = i;
+          found = Some result;
+          left = Some ((result + d) % 2 ^ W.width self.old.inner);
+        }) }
     {
         let greatest = greatest_of(self.inner.bits());
         let found = self.inner.fetch_and_add(i, d);
