@@ -1,5 +1,6 @@
 -- Numbers below a number.
-use Rattle.std.proofs.Common.{add-one, ◌≡◌, ℕ, zero, suc, ◌+◌, ◌<◌, ◌≤◌, List, [], ◌∷◌, All, refl, ap, ◌∙◌, arith, lt_of_not-le}
+use Rattle.std.proofs.Common.{add-one, ◌≡◌, ℕ, zero, suc, ◌+◌, ◌<◌, ◌≤◌, List, [], ◌∷◌, All, refl}
+use Rattle.std.proofs.Common.{ap, ◌∙◌, arith, lt_of_not-le}
 use Rattle.std.proofs.lemmas.List.Elements.{All-cons}
 use Rattle.std.proofs.lemmas.List.Concat.{flat_map-cons}
 use Rattle.std.specs.List.{flat_map}
@@ -41,14 +42,22 @@ once_there x (suc n) h = go (dec_le n x) (once_there x n)
     go (no d) f = let r = f (lt_of_not-le d) in let l = lt_of_not-le d in grind arith
 
 -- a list that has each number as often as it is below n
-pub each_below : (n : ℕ) (xs : List ℕ) → ((x : ℕ) → occurrences x xs ≡ once_below x n) → IsEachBelow n xs
+pub each_below : (n : ℕ) (xs : List ℕ) → ((x : ℕ) → occurrences x xs ≡ once_below x n)
+    → IsEachBelow n xs
 each_below n xs h = (λ x l. h x ∙ once_there x n l, λ x l. h x ∙ none_there x n l)
 
-pub occurrences-flat_map : {A : Type 0} (f : A → List ℕ) (x : ℕ) (vs : List A) → occurrences x (flat_map f vs) ≡ sum_over (λ v. occurrences x (f v)) vs
+pub occurrences-flat_map : {A : Type 0} (f : A → List ℕ) (x : ℕ) (vs : List A)
+    → occurrences x (flat_map f vs) ≡ sum_over (λ v. occurrences x (f v)) vs
 occurrences-flat_map f x [] = refl
-occurrences-flat_map f x (v ∷ vs) = let r = occurrences-flat_map f x vs in let a = sum_over-append (indicator x) (f v) (flat_map f vs) in ap (occurrences x) (flat_map-cons f v vs) ∙ omega arith
+occurrences-flat_map f x (v ∷ vs) =
+    let r = occurrences-flat_map f x vs in
+    let a = sum_over-append (indicator x) (f v) (flat_map f vs) in
+    ap (occurrences x) (flat_map-cons f v vs) ∙ omega arith
 
 -- where only numbers below n stand in a list, all are below n
-pub all_below : (n : ℕ) (xs : List ℕ) → ((x : ℕ) → 1 ≤ occurrences x xs → x < n) → All (λ x. x < n) xs
+pub all_below : (n : ℕ) (xs : List ℕ) → ((x : ℕ) → 1 ≤ occurrences x xs → x < n)
+    → All (λ x. x < n) xs
 all_below n [] h = λ k d l. absurd (omega arith)
-all_below n (y ∷ ys) h = All-cons (λ x. x < n) y ys (h y (let a = indicator_here y in omega arith)) (all_below n ys (λ x t. h x (omega arith)))
+all_below n (y ∷ ys) h =
+    All-cons (λ x. x < n) y ys (h y (let a = indicator_here y in omega arith))
+    (all_below n ys (λ x t. h x (omega arith)))

@@ -1,5 +1,8 @@
 -- What is drawn, and what comes back.
-use Rattle.std.proofs.Common.{◌≡◌, ℕ, ◌+◌, ◌-◌, ◌*◌, ◌<◌, ◌≤◌, Vec, Global, List, [], ◌∷◌, ◌++◌, cond, length, map, filter, ltb, Bool, true, false, ltb-false, ap₂, sym, refl, ap, ◌∙◌, arith, length-append, le-ltb, append-nil, lt_of_not-le}
+use Rattle.std.proofs.Common.{◌≡◌, ℕ, ◌+◌, ◌-◌, ◌*◌, ◌<◌, ◌≤◌, Vec, Global, List, [], ◌∷◌, ◌++◌}
+use Rattle.std.proofs.Common.{cond, length, map, filter, ltb, Bool, true, false, ltb-false, ap₂}
+use Rattle.std.proofs.Common.{sym, refl, ap, ◌∙◌, arith, length-append, le-ltb, append-nil}
+use Rattle.std.proofs.Common.{lt_of_not-le}
 use native.Mathlib.Decide.{dec_le}
 use Rattle.std.proofs.Math.Nat.{add-mul}
 use Rattle.std.proofs.lemmas.List.Elements.{filter-append}
@@ -7,59 +10,107 @@ use mathlib.Core.List.{map-append}
 use Rattle.lk_workers.specs.Counting.{occurrences, indicator, IsEachBelow}
 use Rattle.lk_workers.proofs.Sums.{sum_over-append}
 use Rattle.lk_workers.specs.Drawing.{Counter, Drawer, drawer}
-use Rattle.lk_workers.specs.invariants.Collected.{bytes_of, IsDone, report_at, reports_of, IsThrough, IsWorkOf, IsEachOnce}
+use Rattle.lk_workers.specs.invariants.Collected.{bytes_of, IsDone, report_at, reports_of}
+use Rattle.lk_workers.specs.invariants.Collected.{IsThrough, IsWorkOf, IsEachOnce}
 
-pub past : (texts : List (List ℕ)) (drawn : List ℕ) (x : ℕ) → length texts ≤ x → reports_of texts (drawn ++ x ∷ []) ≡ reports_of texts drawn
-past texts drawn x h = let p : ℕ → Bool = λ k. ltb k (length texts) in let f : ℕ → ℕ × List ℕ = λ k. (k, report_at texts k) in
-    ap (map f) (filter-append p drawn (x ∷ []) ∙ ap (λ b. filter p drawn ++ cond b (x ∷ []) []) (le-ltb x (length texts) h) ∙ append-nil (filter p drawn))
+pub past : (texts : List (List ℕ)) (drawn : List ℕ) (x : ℕ) → length texts ≤ x
+    → reports_of texts (drawn ++ x ∷ []) ≡ reports_of texts drawn
+past texts drawn x h =
+    let p : ℕ → Bool = λ k. ltb k (length texts) in
+    let f : ℕ → ℕ × List ℕ = λ k. (k, report_at texts k) in
+    ap (map f)
+    (filter-append p drawn (x ∷ [])
+    ∙ ap (λ b. filter p drawn ++ cond b (x ∷ []) []) (le-ltb x (length texts) h)
+    ∙ append-nil (filter p drawn))
 
-pub through : (texts : List (List ℕ)) (drawn : List ℕ) (x : ℕ) → length texts ≤ x → IsThrough texts (drawn ++ x ∷ [])
-through texts drawn x h = (x, h, (let a = sum_over-append (indicator x) drawn (x ∷ []) in let b : indicator x x ≡ 1 = grind arith in omega arith))
+pub through : (texts : List (List ℕ)) (drawn : List ℕ) (x : ℕ) → length texts ≤ x
+    → IsThrough texts (drawn ++ x ∷ [])
+through texts drawn x h = (
+  x,
+  h,
+  (let a = sum_over-append (indicator x) drawn (x ∷ []) in
+      let b : indicator x x ≡ 1 = grind arith in
+      omega arith),
+)
 
-pub both : (texts : List (List ℕ)) (a b : List ℕ) → reports_of texts (a ++ b) ≡ reports_of texts a ++ reports_of texts b
-both texts a b = let p : ℕ → Bool = λ k. ltb k (length texts) in let f : ℕ → ℕ × List ℕ = λ k. (k, report_at texts k) in ap (map f) (filter-append p a b) ∙ map-append f (filter p a) (filter p b)
+pub both : (texts : List (List ℕ)) (a b : List ℕ)
+    → reports_of texts (a ++ b) ≡ reports_of texts a ++ reports_of texts b
+both texts a b =
+    let p : ℕ → Bool = λ k. ltb k (length texts) in
+    let f : ℕ → ℕ × List ℕ = λ k. (k, report_at texts k) in
+    ap (map f) (filter-append p a b) ∙ map-append f (filter p a) (filter p b)
 
-pub through_both : (texts : List (List ℕ)) (a b : List ℕ) → IsThrough texts a → IsThrough texts (a ++ b)
-through_both texts a b h = (h.0, h.1, (let c = sum_over-append (indicator h.0) a b in let d = h.2 in omega arith))
+pub through_both : (texts : List (List ℕ)) (a b : List ℕ) → IsThrough texts a
+    → IsThrough texts (a ++ b)
+through_both texts a b h =
+    (h.0, h.1, (let c = sum_over-append (indicator h.0) a b in let d = h.2 in omega arith))
 
-pub together : {X : Type 0} (f : X → ℕ × List ℕ) (texts : List (List ℕ)) (ps qs : List X) (a b : List ℕ) → map f ps ≡ reports_of texts a → map f qs ≡ reports_of texts b → map f (ps ++ qs) ≡ reports_of texts (a ++ b)
+pub together : {X : Type 0} (f : X → ℕ × List ℕ) (texts : List (List ℕ)) (ps qs : List X)
+    (a b : List ℕ)
+    → map f ps ≡ reports_of texts a → map f qs ≡ reports_of texts b
+    → map f (ps ++ qs) ≡ reports_of texts (a ++ b)
 together f texts ps qs a b h k = map-append f ps qs ∙ ap₂ (λ x y. x ++ y) h k ∙ sym (both texts a b)
 
 -- numbers of texts are kept
-kept_occurrences : (n k : ℕ) (drawn : List ℕ) → k < n → occurrences k (filter (λ j. ltb j n) drawn) ≡ occurrences k drawn
+kept_occurrences : (n k : ℕ) (drawn : List ℕ) → k < n
+    → occurrences k (filter (λ j. ltb j n) drawn) ≡ occurrences k drawn
 kept_occurrences n k [] h = refl
 kept_occurrences n k (x ∷ xs) h = go (ltb x n) refl (kept_occurrences n k xs h)
   where
-    go : (b : Bool) → ltb x n ≡ b → occurrences k (filter (λ j. ltb j n) xs) ≡ occurrences k xs → occurrences k (cond b (x ∷ filter (λ j. ltb j n) xs) (filter (λ j. ltb j n) xs)) ≡ indicator k x + occurrences k xs
+    go : (b : Bool) → ltb x n ≡ b → occurrences k (filter (λ j. ltb j n) xs) ≡ occurrences k xs
+        → occurrences k (cond b (x ∷ filter (λ j. ltb j n) xs) (filter (λ j. ltb j n) xs))
+        ≡ indicator k x + occurrences k xs
     go true e r = ap (λ m. indicator k x + m) r
-    go false e r = let l = ltb-false x n e in let z : indicator k x ≡ 0 = grind arith in r ∙ omega arith
+    go false e r =
+        let l = ltb-false x n e in
+        let z : indicator k x ≡ 0 = grind arith in
+        r ∙ omega arith
 
 -- a number that was drawn is below the word
-drawn_below : (drawn : List ℕ) (word x : ℕ) → IsEachBelow word drawn → 1 ≤ occurrences x drawn → x < word
+drawn_below : (drawn : List ℕ) (word x : ℕ) → IsEachBelow word drawn → 1 ≤ occurrences x drawn
+    → x < word
 drawn_below drawn word x each t = go (dec_le word x)
   where
     go : Dec (word ≤ x) → x < word
     go (yes d) = let z = each.1 x d in absurd (omega arith)
     go (no d) = lt_of_not-le d
 
-pub each_once : (texts : List (List ℕ)) (ps : List (ℕ × List ℕ)) (drawn : List ℕ) (word : ℕ) → IsWorkOf texts drawn ps → IsEachBelow word drawn → IsEachOnce texts ps
+pub each_once : (texts : List (List ℕ)) (ps : List (ℕ × List ℕ)) (drawn : List ℕ) (word : ℕ)
+    → IsWorkOf texts drawn ps → IsEachBelow word drawn → IsEachOnce texts ps
 each_once texts ps drawn word work each = (
   drawn,
   work.0,
-  λ k below. kept_occurrences (length texts) k drawn below ∙ each.0 k (let last = work.1 in let past = drawn_below drawn word last.0 each last.2 in let far = last.1 in omega arith),
+  λ k below. kept_occurrences (length texts) k drawn below ∙ each.0 k (
+      let last = work.1 in
+      let past = drawn_below drawn word last.0 each last.2 in
+      let far = last.1 in
+      omega arith),
 )
 
 -- what two groups of workers bring back is what all of them bring back
-pub done_both : (c : Counter) (texts : List (Vec ℕ Global)) (workers half rest : ℕ) (front back s : Drawer) (ps qs all : List (ℕ × Vec ℕ Global)) → half + rest ≡ workers
-    → IsDone c texts half front ps → IsDone c texts rest back qs → s ≡ drawer c (front.drawn ++ back.drawn) (front.left + back.left) → all ≡ ps ++ qs → IsDone c texts workers s all
+pub done_both : (c : Counter) (texts : List (Vec ℕ Global)) (workers half rest : ℕ)
+    (front back s : Drawer) (ps qs all : List (ℕ × Vec ℕ Global))
+    → half + rest ≡ workers
+    → IsDone c texts half front ps → IsDone c texts rest back qs
+    → s ≡ drawer c (front.drawn ++ back.drawn) (front.left + back.left) → all ≡ ps ++ qs
+    → IsDone c texts workers s all
 done_both c texts workers half rest front back s ps qs all sum f b seat reports =
-    let n : ℕ = length texts + 1 in let k : workers * n ≡ half * n + rest * n = ap (λ m. m * n) (sym sum) ∙ add-mul half rest n in
+    let n : ℕ = length texts + 1 in
+    let k : workers * n ≡ half * n + rest * n =
+    ap (λ m. m * n) (sym sum) ∙ add-mul half rest n in
     let long = length-append front.drawn back.drawn in let x = f.0.1 in let y = b.0.1 in
-    let whole : IsDone c texts workers (drawer c (front.drawn ++ back.drawn) (front.left + back.left)) (ps ++ qs) = (
+    let whole : IsDone c texts workers
+    (drawer c (front.drawn ++ back.drawn) (front.left + back.left)) (ps ++ qs) = (
       ((refl, refl), omega (arith, k, long, x, y)),
-      (together (λ p. (p.0, p.1.items)) (bytes_of texts) ps qs front.drawn back.drawn f.1.0 b.1.0, through_both (bytes_of texts) front.drawn back.drawn f.1.1),
+      (
+        together (λ p. (p.0, p.1.items))
+            (bytes_of texts) ps qs front.drawn back.drawn f.1.0 b.1.0,
+        through_both (bytes_of texts) front.drawn back.drawn f.1.1,
+      ),
     ) in rw (seat, reports) whole
 
 -- the draws of all workers are those of some and those of the others
 pub shares : (workers half n : ℕ) → half < workers → half * n + (workers - half) * n ≡ workers * n
-shares workers half n h = let all : half + (workers - half) ≡ workers = omega arith in sym (add-mul half (workers - half) n) ∙ ap (λ m. m * n) all
+shares workers half n h =
+    let all : half + (workers - half) ≡ workers = omega arith in
+    sym (add-mul half (workers - half) n) ∙ ap (λ m. m * n) all

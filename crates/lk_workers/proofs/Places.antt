@@ -1,5 +1,9 @@
 -- Reports put into their places, and taken out of them.
-use Rattle.std.proofs.Common.{Bool, true, false, cond, ltb, ltb-true, filter, All, subst, ◌≡◌, ℕ, zero, suc, ◌<◌, ◌≤◌, List, [], ◌∷◌, ◌++◌, length, map, set, get_or, replicate, Some, None, option_map, IsSome, drop, sym, refl, ap, ap₂, ◌∙◌, arith, append_assoc, get_or-set_same, get_or-set_other, ext_get_or, length-set}
+use Rattle.std.proofs.Common.{Bool, true, false, cond, ltb, ltb-true, filter, All, subst, ◌≡◌, ℕ}
+use Rattle.std.proofs.Common.{zero, suc, ◌<◌, ◌≤◌, List, [], ◌∷◌, ◌++◌, length, map, set, get_or}
+use Rattle.std.proofs.Common.{replicate, Some, None, option_map, IsSome, drop, sym, refl, ap, ap₂}
+use Rattle.std.proofs.Common.{◌∙◌, arith, append_assoc, get_or-set_same, get_or-set_other}
+use Rattle.std.proofs.Common.{ext_get_or, length-set}
 use Rattle.std.specs.Prelude.{Option}
 use mathlib.Core.List.{map-append}
 use mathlib.Core.Logic.{dite}
@@ -13,17 +17,30 @@ use Rattle.lk_replay.specs.Report.{report_text}
 use Rattle.lk_workers.specs.invariants.Collected.{placed, report_at, IsEachOnce}
 
 module _ {X L : Type 0} (h : X → L) where
-  pub took : (all : List X) (old rest : List (Option X)) (slot : Option X) (x : X) (whole : List (Option L)) → old ≡ slot ∷ rest → slot ≡ Some x
-      → map (λ r. Some (h r)) all ++ map (option_map h) old ≡ whole → map (λ r. Some (h r)) (all ++ x ∷ []) ++ map (option_map h) rest ≡ whole
-  took all old rest slot x whole s e i = let f : X → Option L = λ r. Some (h r) in let g : Option X → Option L = option_map h in
-      ap (λ l. l ++ map g rest) (map-append f all (x ∷ [])) ∙ append_assoc (map f all) (f x ∷ []) (map g rest) ∙ ap (λ o. map f all ++ (g o ∷ map g rest)) (sym e) ∙ ap (λ o. map f all ++ map g o) (sym s) ∙ i
+  pub took : (all : List X) (old rest : List (Option X)) (slot : Option X) (x : X)
+      (whole : List (Option L))
+      → old ≡ slot ∷ rest → slot ≡ Some x
+      → map (λ r. Some (h r)) all ++ map (option_map h) old ≡ whole
+      → map (λ r. Some (h r)) (all ++ x ∷ []) ++ map (option_map h) rest ≡ whole
+  took all old rest slot x whole s e i =
+      let f : X → Option L = λ r. Some (h r) in
+      let g : Option X → Option L = option_map h in
+      ap (λ l. l ++ map g rest) (map-append f all (x ∷ []))
+      ∙ append_assoc (map f all) (f x ∷ []) (map g rest)
+      ∙ ap (λ o. map f all ++ (g o ∷ map g rest)) (sym e)
+      ∙ ap (λ o. map f all ++ map g o) (sym s) ∙ i
 
-pub put : {X : Type 0} (h : X → List ℕ) (slots : List (Option X)) (old rest : List (ℕ × X)) (n : ℕ) (x : X) (whole : List (Option (List ℕ))) → old ≡ (n, x) ∷ rest
-    → placed (map (option_map h) slots) (map (λ p. (p.0, h p.1)) old) ≡ whole → placed (map (option_map h) (set slots n (Some x))) (map (λ p. (p.0, h p.1)) rest) ≡ whole
+pub put : {X : Type 0} (h : X → List ℕ) (slots : List (Option X)) (old rest : List (ℕ × X)) (n : ℕ)
+    (x : X) (whole : List (Option (List ℕ)))
+    → old ≡ (n, x) ∷ rest
+    → placed (map (option_map h) slots) (map (λ p. (p.0, h p.1)) old) ≡ whole
+    → placed (map (option_map h) (set slots n (Some x))) (map (λ p. (p.0, h p.1)) rest) ≡ whole
 put {X} h slots old rest n x whole s i = let f : ℕ × X → ℕ × List ℕ = λ p. (p.0, h p.1) in
-    ap (λ l. placed l (map f rest)) (map-set (option_map h) slots n (Some x)) ∙ ap (λ o. placed (map (option_map h) slots) (map f o)) (sym s) ∙ i
+    ap (λ l. placed l (map f rest)) (map-set (option_map h) slots n (Some x))
+    ∙ ap (λ o. placed (map (option_map h) slots) (map f o)) (sym s) ∙ i
 
-pub placed_length : (os : List (Option (List ℕ))) (ps : List (ℕ × List ℕ)) → length (placed os ps) ≡ length os
+pub placed_length : (os : List (Option (List ℕ))) (ps : List (ℕ × List ℕ))
+    → length (placed os ps) ≡ length os
 placed_length os [] = refl
 placed_length os (p ∷ ps) = placed_length (set os p.0 (Some p.1)) ps ∙ length-set os p.0 (Some p.1)
 
@@ -31,74 +48,123 @@ module _ (F : ℕ → List ℕ) where
   abbrev pub pairs_of : List ℕ → List (ℕ × List ℕ)
   pairs_of ks = map (λ k. (k, F k)) ks
 
-  pub stays : (ks : List ℕ) (os : List (Option (List ℕ))) (k : ℕ) → k < length os → get_or os k None ≡ Some (F k) → get_or (placed os (pairs_of ks)) k None ≡ Some (F k)
+  pub stays : (ks : List ℕ) (os : List (Option (List ℕ))) (k : ℕ) → k < length os
+      → get_or os k None ≡ Some (F k) → get_or (placed os (pairs_of ks)) k None ≡ Some (F k)
   stays [] os k b e = e
-  stays (j ∷ ks) os k b e = stays ks (set os j (Some (F j))) k (let l = length-set os j (Some (F j)) in omega arith)
-      (dite (ℕ_discrete k j) (λ is. ap (λ i. get_or (set os j (Some (F j))) i None) is ∙ get_or-set_same os j (Some (F j)) None (omega arith) ∙ ap (λ i. Some (F i)) (sym is)) (λ no. get_or-set_other os j k (Some (F j)) None no ∙ e))
+  stays (j ∷ ks) os k b e =
+      stays ks (set os j (Some (F j))) k (let l = length-set os j (Some (F j)) in omega arith)
+      (dite (ℕ_discrete k j) (λ is. ap (λ i. get_or (set os j (Some (F j))) i None) is
+      ∙ get_or-set_same os j (Some (F j)) None (omega arith) ∙ ap (λ i. Some (F i)) (sym is))
+      (λ no. get_or-set_other os j k (Some (F j)) None no ∙ e))
 
-  pub hit : (ks : List ℕ) (os : List (Option (List ℕ))) (k : ℕ) → k < length os → 1 ≤ occurrences k ks → get_or (placed os (pairs_of ks)) k None ≡ Some (F k)
+  pub hit : (ks : List ℕ) (os : List (Option (List ℕ))) (k : ℕ) → k < length os
+      → 1 ≤ occurrences k ks → get_or (placed os (pairs_of ks)) k None ≡ Some (F k)
   hit [] os k b t = absurd (omega arith)
   hit (j ∷ ks) os k b t = dite (ℕ_discrete k j)
-      (λ is. stays ks (set os j (Some (F j))) k (let l = length-set os j (Some (F j)) in omega arith)
-      (ap (λ i. get_or (set os j (Some (F j))) i None) is ∙ get_or-set_same os j (Some (F j)) None (omega arith) ∙ ap (λ i. Some (F i)) (sym is)))
-      (λ no. hit ks (set os j (Some (F j))) k (let l = length-set os j (Some (F j)) in omega arith) (let z : indicator k j ≡ 0 = grind arith in omega arith))
+      (λ is.
+      stays ks (set os j (Some (F j))) k (let l = length-set os j (Some (F j)) in omega arith)
+      (ap (λ i. get_or (set os j (Some (F j))) i None) is
+      ∙ get_or-set_same os j (Some (F j)) None (omega arith) ∙ ap (λ i. Some (F i)) (sym is)))
+      (λ no. hit ks (set os j (Some (F j))) k (let l = length-set os j (Some (F j)) in omega arith)
+      (let z : indicator k j ≡ 0 = grind arith in omega arith))
 
-pub goes : {X Y : Type 0} (slots : List Y) (i : ℕ) (y : Y) (old rest : List (ℕ × X)) (x : ℕ × X) → old ≡ x ∷ rest → All (λ p. p.0 < length slots) old → All (λ p. p.0 < length (set slots i y)) rest
-goes slots i y old rest x s a k d h = subst (λ n. (get_or rest k d).0 < n) (sym (length-set slots i y)) (All-tail (λ p. p.0 < length slots) x rest (subst (All (λ p. p.0 < length slots)) s a) k d h)
+pub goes : {X Y : Type 0} (slots : List Y) (i : ℕ) (y : Y) (old rest : List (ℕ × X)) (x : ℕ × X)
+    → old ≡ x ∷ rest → All (λ p. p.0 < length slots) old
+    → All (λ p. p.0 < length (set slots i y)) rest
+goes slots i y old rest x s a k d h =
+    subst (λ n. (get_or rest k d).0 < n) (sym (length-set slots i y))
+    (All-tail (λ p. p.0 < length slots) x rest (subst (All (λ p. p.0 < length slots)) s a) k d h)
 
 -- the numbers of pairs that are kept are below
 abbrev Below : ℕ → ℕ × List ℕ → Type 0
 Below n p = p.0 < n
 
-kept_below : (n : ℕ) (ks : List ℕ) (f : ℕ → List ℕ) → All (Below n) (map (λ k. (k, f k)) (filter (λ j. ltb j n) ks))
+kept_below : (n : ℕ) (ks : List ℕ) (f : ℕ → List ℕ)
+    → All (Below n) (map (λ k. (k, f k)) (filter (λ j. ltb j n) ks))
 kept_below n [] f = λ k d h. absurd (omega arith)
 kept_below n (x ∷ xs) f = go (ltb x n) refl (kept_below n xs f)
   where
-    go : (b : Bool) → ltb x n ≡ b → All (Below n) (map (λ k. (k, f k)) (filter (λ j. ltb j n) xs)) → All (Below n) (map (λ k. (k, f k)) (cond b (x ∷ filter (λ j. ltb j n) xs) (filter (λ j. ltb j n) xs)))
-    go true e r = All-cons (Below n) (x, f x) (map (λ k. (k, f k)) (filter (λ j. ltb j n) xs)) (ltb-true x n e) r
+    go : (b : Bool) → ltb x n ≡ b → All (Below n) (map (λ k. (k, f k)) (filter (λ j. ltb j n) xs))
+        → All (Below n)
+        (map (λ k. (k, f k)) (cond b (x ∷ filter (λ j. ltb j n) xs) (filter (λ j. ltb j n) xs)))
+    go true e r =
+        All-cons (Below n) (x, f x) (map (λ k. (k, f k)) (filter (λ j. ltb j n) xs))
+        (ltb-true x n e) r
     go false e r = r
 
-pub each_below : (texts : List (List ℕ)) (ps : List (ℕ × List ℕ)) → IsEachOnce texts ps → All (Below (length texts)) ps
-each_below texts ps h = subst (All (Below (length texts))) (sym h.1) (kept_below (length texts) h.0 (report_at texts))
+pub each_below : (texts : List (List ℕ)) (ps : List (ℕ × List ℕ)) → IsEachOnce texts ps
+    → All (Below (length texts)) ps
+each_below texts ps h =
+    subst (All (Below (length texts))) (sym h.1) (kept_below (length texts) h.0 (report_at texts))
 
 -- all places are filled, each with the report of its text
-pub filled : (texts : List (List ℕ)) (ps : List (ℕ × List ℕ)) → IsEachOnce texts ps → placed (replicate (length texts) None) ps ≡ map (λ t. Some (report_text t)) texts
-filled texts ps h = let n : ℕ = length texts in let ks : List ℕ = filter (λ j. ltb j n) h.0 in let os : List (Option (List ℕ)) = replicate n None in let nothing : Option (List ℕ) = None in let whole = length-replicate n nothing in
-    let long : length (placed os ps) ≡ length (map (λ (t : List ℕ). Some (report_text t)) texts) = placed_length os ps ∙ whole ∙ sym (length-map texts (λ t. Some (report_text t))) in
+pub filled : (texts : List (List ℕ)) (ps : List (ℕ × List ℕ)) → IsEachOnce texts ps
+    → placed (replicate (length texts) None) ps ≡ map (λ t. Some (report_text t)) texts
+filled texts ps h =
+    let n : ℕ = length texts in
+    let ks : List ℕ = filter (λ j. ltb j n) h.0 in
+    let os : List (Option (List ℕ)) = replicate n None in
+    let nothing : Option (List ℕ) = None in
+    let whole = length-replicate n nothing in
+    let long : length (placed os ps) ≡ length (map (λ (t : List ℕ). Some (report_text t)) texts) =
+    placed_length os ps ∙ whole ∙ sym (length-map texts (λ t. Some (report_text t))) in
     ext_get_or None (placed os ps) (map (λ t. Some (report_text t)) texts) long
     (λ k b. let below : k < n = (let a = placed_length os ps in omega arith) in
-    ap (λ qs. get_or (placed os qs) k None) h.1 ∙ hit (report_at texts) ks os k (omega arith) (let t = h.2 k below in omega arith) ∙ sym (get_or-map (λ t. Some (report_text t)) texts k [] None below))
+    ap (λ qs. get_or (placed os qs) k None) h.1
+    ∙ hit (report_at texts) ks os k (omega arith) (let t = h.2 k below in omega arith)
+    ∙ sym (get_or-map (λ t. Some (report_text t)) texts k [] None below))
 
-pub unmapped : {X Y : Type 0} (P : Y → Type 0) (f : X → Y) (xs : List X) → All P (map f xs) → All (λ x. P (f x)) xs
-unmapped P f xs a k d h = subst P (get_or-map f xs k d (f d) h) (a k (f d) (let l = length-map xs f in omega arith))
+pub unmapped : {X Y : Type 0} (P : Y → Type 0) (f : X → Y) (xs : List X) → All P (map f xs)
+    → All (λ x. P (f x)) xs
+unmapped P f xs a k d h =
+    subst P (get_or-map f xs k d (f d) h) (a k (f d) (let l = length-map xs f in omega arith))
 
-pub all_some : {X L T : Type 0} (h : X → L) (g : T → L) (os : List (Option X)) (ts : List T) → map (option_map h) os ≡ map (λ t. Some (g t)) ts → All (λ o. IsSome o) os
+pub all_some : {X L T : Type 0} (h : X → L) (g : T → L) (os : List (Option X)) (ts : List T)
+    → map (option_map h) os ≡ map (λ t. Some (g t)) ts → All (λ o. IsSome o) os
 all_some h g [] ts e = λ k d b. absurd (omega arith)
 all_some h g (o ∷ os) [] e = grind arith
 all_some h g (None ∷ os) (t ∷ ts) e = grind arith
-all_some h g (Some x ∷ os) (t ∷ ts) e = All-cons (λ o. IsSome o) (Some x) os refl (all_some h g os ts (ap (drop 1) e))
+all_some h g (Some x ∷ os) (t ∷ ts) e =
+    All-cons (λ o. IsSome o) (Some x) os refl (all_some h g os ts (ap (drop 1) e))
 
-pub no_values : {X L : Type 0} (h : X → L) (n : ℕ) → map (option_map h) (replicate n None) ≡ replicate n None
+pub no_values : {X L : Type 0} (h : X → L) (n : ℕ)
+    → map (option_map h) (replicate n None) ≡ replicate n None
 no_values h zero = refl
 no_values h (suc n) = ap (λ l. None ∷ l) (no_values h n)
 
-twice : {T : Type 0} (it : T → List ℕ) (F : List ℕ → Option (List ℕ)) (ts : List T) → map F (map it ts) ≡ map (λ t. F (it t)) ts
+twice : {T : Type 0} (it : T → List ℕ) (F : List ℕ → Option (List ℕ)) (ts : List T)
+    → map F (map it ts) ≡ map (λ t. F (it t)) ts
 twice it F [] = refl
 twice it F (t ∷ ts) = ap (λ l. F (it t) ∷ l) (twice it F ts)
 
-module _ {X T : Type 0} (h : X → List ℕ) (it : T → List ℕ) (ts : List T) (reports : List (ℕ × X)) (slots : List (Option X)) (once : IsEachOnce (map it ts) (map (λ p. (p.0, h p.1)) reports)) (s : slots ≡ replicate (length ts) None) where
+module _ {X T : Type 0} (h : X → List ℕ) (it : T → List ℕ) (ts : List T) (reports : List (ℕ × X))
+    (slots : List (Option X)) (once : IsEachOnce (map it ts) (map (λ p. (p.0, h p.1)) reports))
+    (s : slots ≡ replicate (length ts) None) where
   pub fits : (n : ℕ) → n ≡ length slots → All (λ p. p.0 < n) reports
-  fits n e = let nothing : Option X = None in let l : length (map it ts) ≡ n = length-map ts it ∙ sym (e ∙ ap length s ∙ length-replicate (length ts) nothing) in
-      subst (λ k. All (λ (p : ℕ × X). p.0 < k) reports) l (unmapped (Below (length (map it ts))) (λ p. (p.0, h p.1)) reports (each_below (map it ts) (map (λ p. (p.0, h p.1)) reports) once))
+  fits n e =
+      let nothing : Option X = None in
+      let l : length (map it ts) ≡ n =
+      length-map ts it ∙ sym (e ∙ ap length s ∙ length-replicate (length ts) nothing) in
+      subst (λ k. All (λ (p : ℕ × X). p.0 < k) reports) l
+      (unmapped (Below (length (map it ts))) (λ p. (p.0, h p.1)) reports
+      (each_below (map it ts) (map (λ p. (p.0, h p.1)) reports) once))
 
-  pub finished : (out : List (Option X)) → map (option_map h) out ≡ placed (map (option_map h) slots) (map (λ p. (p.0, h p.1)) reports) → map (option_map h) out ≡ map (λ t. Some (report_text (it t))) ts
+  pub finished : (out : List (Option X))
+      → map (option_map h) out ≡ placed (map (option_map h) slots) (map (λ p. (p.0, h p.1)) reports)
+      → map (option_map h) out ≡ map (λ t. Some (report_text (it t))) ts
   finished out p = let ps : List (ℕ × List ℕ) = map (λ p. (p.0, h p.1)) reports in
-      p ∙ ap (λ os. placed os ps) (ap (map (option_map h)) s ∙ no_values h (length ts) ∙ ap (λ n. replicate n None) (sym (length-map ts it))) ∙ filled (map it ts) ps once ∙ twice it (λ t. Some (report_text t)) ts
+      p ∙ ap (λ os. placed os ps) (ap (map (option_map h)) s ∙ no_values h (length ts)
+      ∙ ap (λ n. replicate n None) (sym (length-map ts it)))
+      ∙ filled (map it ts) ps once ∙ twice it (λ t. Some (report_text t)) ts
 
-pub first : {X : Type 0} (n k : ℕ) (x : X) (rest old : List (ℕ × X)) → old ≡ (k, x) ∷ rest → All (λ p. p.0 < n) old → k < n
-first {X} n k x rest old s a = let P : ℕ × X → Type 0 = λ p. p.0 < n in All-head P (k, x) rest (subst (All P) s a)
+pub first : {X : Type 0} (n k : ℕ) (x : X) (rest old : List (ℕ × X)) → old ≡ (k, x) ∷ rest
+    → All (λ p. p.0 < n) old → k < n
+first {X} n k x rest old s a =
+    let P : ℕ × X → Type 0 = λ p. p.0 < n in
+    All-head P (k, x) rest (subst (All P) s a)
 
-pub unsome : {X T : Type 0} (h : X → List ℕ) (g : T → List ℕ) (xs : List X) (ts : List T) → map (λ x. Some (h x)) xs ≡ map (λ t. Some (g t)) ts → map h xs ≡ map g ts
+pub unsome : {X T : Type 0} (h : X → List ℕ) (g : T → List ℕ) (xs : List X) (ts : List T)
+    → map (λ x. Some (h x)) xs ≡ map (λ t. Some (g t)) ts → map h xs ≡ map g ts
 unsome h g [] [] e = refl
 unsome h g [] (t ∷ ts) e = grind arith
 unsome h g (x ∷ xs) [] e = grind arith

@@ -1,5 +1,7 @@
--- Splits and joins of seats keep the rule of the running ticket lock, and what it says of the last state.
-use Rattle.std.proofs.Common.{◌≡◌, ℕ, zero, suc, ◌+◌, ◌≤◌, max, List, [], ◌∷◌, ◌++◌, get_or, set, sym, refl, ap, ◌∙◌, subst, arith, ⊎_elim, lt_of_not-le}
+-- Splits and joins of seats keep the rule of the running ticket lock, and what it says of the last
+-- state.
+use Rattle.std.proofs.Common.{◌≡◌, ℕ, zero, suc, ◌+◌, ◌≤◌, max, List, [], ◌∷◌, ◌++◌, get_or, set}
+use Rattle.std.proofs.Common.{sym, refl, ap, ◌∙◌, subst, arith, ⊎_elim, lt_of_not-le}
 use native.Mathlib.Decide.{dec_le}
 use mathlib.Core.Option.{some, some-injective, some-ne-none}
 use lib.ListN.{get_elem?}
@@ -16,82 +18,172 @@ use Rattle.lk_workers.proofs.Sums.{sum_over-set, sum_over-append, at_most_sum, a
 use Rattle.lk_workers.proofs.Below.{none_there, once_there}
 use Rattle.lk_workers.proofs.SeatMoves.{built, views_set}
 
-pub splits : (takes id a : ℕ) (v : List SeatState) (r : SeatState) → v ≡ r ∷ [] → a ≤ r.left → Splits (Running takes) id v (cut_left a v) (cut_right a v)
-splits takes id a v r is low = subst (λ u. Splits (Running takes) id u (cut_left a u) (cut_right a u)) (sym is) go
+pub splits : (takes id a : ℕ) (v : List SeatState) (r : SeatState) → v ≡ r ∷ [] → a ≤ r.left
+    → Splits (Running takes) id v (cut_left a v) (cut_right a v)
+splits takes id a v r is low =
+    subst (λ u. Splits (Running takes) id u (cut_left a u) (cut_right a u)) (sym is) go
   where
     go : Splits (Running takes) id (r ∷ []) (cut_left a (r ∷ [])) (cut_right a (r ∷ []))
-    go s h at = let vs : List (List SeatState) = s.views in let l : List SeatState = cut_left a (r ∷ []) in let b : List SeatState = cut_right a (r ∷ []) in let old = h.seats id (r ∷ []) at in let m : ℕ = serving_of s in
+    go s h at =
+        let vs : List (List SeatState) = s.views in
+        let l : List SeatState = cut_left a (r ∷ []) in
+        let b : List SeatState = cut_right a (r ∷ []) in
+        let old = h.seats id (r ∷ []) at in
+        let m : ℕ = serving_of s in
         let ls : List (List SeatState) = set vs id l in let n : ℕ = next_of s in
-        built takes (record { words = s.words; homes = s.homes; views = ls ++ b ∷ [] }) n m h.two_words refl refl h.served
-        (λ x. let c = sum_over-set (sum_over (ticket_indicator x)) vs id (r ∷ []) l at in let d = sum_over-append (sum_over (ticket_indicator x)) ls (b ∷ []) in let t = h.tickets x in omega arith)
-        (λ j u e. ⊎_elim (λ x. views_set (ViewFits m) vs id l ((old.0.0, tt), omega arith) (λ j u _ e. h.seats j u e) j u x) (λ (x : b ≡ u). subst (ViewFits m) x (((tt, old.0.0.1), tt), omega arith)) (at_snoc ls b u j e))
-        (let c = sum_over-set (sum_over (λ u. u.taken)) vs id (r ∷ []) l at in let d = sum_over-append (sum_over (λ u. u.taken)) ls (b ∷ []) in let t = h.taken in omega arith)
-        (let c = sum_over-set (sum_over (λ u. u.left)) vs id (r ∷ []) l at in let d = sum_over-append (sum_over (λ u. u.left)) ls (b ∷ []) in let t = h.left in omega arith)
+        built takes (record { words = s.words; homes = s.homes; views = ls ++ b ∷ [] }) n m
+        h.two_words refl refl h.served
+        (λ x. let c = sum_over-set (sum_over (ticket_indicator x)) vs id (r ∷ []) l at in
+        let d = sum_over-append (sum_over (ticket_indicator x)) ls (b ∷ []) in
+        let t = h.tickets x in
+        omega arith)
+        (λ j u e. ⊎_elim (λ x. views_set (ViewFits m) vs id l ((old.0.0, tt), omega arith)
+        (λ j u _ e. h.seats j u e) j u x)
+        (λ (x : b ≡ u). subst (ViewFits m) x (((tt, old.0.0.1), tt), omega arith))
+        (at_snoc ls b u j e))
+        (let c = sum_over-set (sum_over (λ u. u.taken)) vs id (r ∷ []) l at in
+        let d = sum_over-append (sum_over (λ u. u.taken)) ls (b ∷ []) in
+        let t = h.taken in
+        omega arith)
+        (let c = sum_over-set (sum_over (λ u. u.left)) vs id (r ∷ []) l at in
+        let d = sum_over-append (sum_over (λ u. u.left)) ls (b ∷ []) in
+        let t = h.left in
+        omega arith)
 
-pub unpairs : (takes id : ℕ) (v : List SeatState) (r q : SeatState) → v ≡ r ∷ q ∷ [] → Splits (Running takes) id v (first_of v) (second_of v)
-unpairs takes id v r q is = subst (λ u. Splits (Running takes) id u (first_of u) (second_of u)) (sym is) go
+pub unpairs : (takes id : ℕ) (v : List SeatState) (r q : SeatState) → v ≡ r ∷ q ∷ []
+    → Splits (Running takes) id v (first_of v) (second_of v)
+unpairs takes id v r q is =
+    subst (λ u. Splits (Running takes) id u (first_of u) (second_of u)) (sym is) go
   where
     go : Splits (Running takes) id (r ∷ q ∷ []) (r ∷ []) (q ∷ [])
-    go s h at = let vs : List (List SeatState) = s.views in let old = h.seats id (r ∷ q ∷ []) at in let m : ℕ = serving_of s in
+    go s h at =
+        let vs : List (List SeatState) = s.views in
+        let old = h.seats id (r ∷ q ∷ []) at in
+        let m : ℕ = serving_of s in
         let ls : List (List SeatState) = set vs id (r ∷ []) in let n : ℕ = next_of s in
-        built takes (record { words = s.words; homes = s.homes; views = ls ++ (q ∷ []) ∷ [] }) n m h.two_words refl refl h.served
-        (λ x. let c = sum_over-set (sum_over (ticket_indicator x)) vs id (r ∷ q ∷ []) (r ∷ []) at in let d = sum_over-append (sum_over (ticket_indicator x)) ls ((q ∷ []) ∷ []) in let t = h.tickets x in omega arith)
-        (λ j u e. ⊎_elim (λ x. views_set (ViewFits m) vs id (r ∷ []) ((old.0.0, tt), omega arith) (λ j u _ e. h.seats j u e) j u x) (λ (x : q ∷ [] ≡ u). subst (ViewFits m) x (old.0.1, omega arith)) (at_snoc ls (q ∷ []) u j e))
-        (let c = sum_over-set (sum_over (λ u. u.taken)) vs id (r ∷ q ∷ []) (r ∷ []) at in let d = sum_over-append (sum_over (λ u. u.taken)) ls ((q ∷ []) ∷ []) in let t = h.taken in omega arith)
-        (let c = sum_over-set (sum_over (λ u. u.left)) vs id (r ∷ q ∷ []) (r ∷ []) at in let d = sum_over-append (sum_over (λ u. u.left)) ls ((q ∷ []) ∷ []) in let t = h.left in omega arith)
+        built takes (record { words = s.words; homes = s.homes; views = ls ++ (q ∷ []) ∷ [] }) n m
+        h.two_words refl refl h.served
+        (λ x. let c = sum_over-set (sum_over (ticket_indicator x)) vs id (r ∷ q ∷ []) (r ∷ []) at in
+        let d = sum_over-append (sum_over (ticket_indicator x)) ls ((q ∷ []) ∷ []) in
+        let t = h.tickets x in
+        omega arith)
+        (λ j u e. ⊎_elim (λ x. views_set (ViewFits m) vs id (r ∷ []) ((old.0.0, tt), omega arith)
+        (λ j u _ e. h.seats j u e) j u x)
+        (λ (x : q ∷ [] ≡ u). subst (ViewFits m) x (old.0.1, omega arith))
+        (at_snoc ls (q ∷ []) u j e))
+        (let c = sum_over-set (sum_over (λ u. u.taken)) vs id (r ∷ q ∷ []) (r ∷ []) at in
+        let d = sum_over-append (sum_over (λ u. u.taken)) ls ((q ∷ []) ∷ []) in
+        let t = h.taken in
+        omega arith)
+        (let c = sum_over-set (sum_over (λ u. u.left)) vs id (r ∷ q ∷ []) (r ∷ []) at in
+        let d = sum_over-append (sum_over (λ u. u.left)) ls ((q ∷ []) ∷ []) in
+        let t = h.left in
+        omega arith)
 
 -- two seats become the one list of seats b, which has what both had
-one_list : (takes id other : ℕ) (r q : SeatState) (b : List SeatState) → ((x : ℕ) → sum_over (ticket_indicator x) b ≡ ticket_indicator x r + ticket_indicator x q) → sum_over (λ u. u.taken) b ≡ r.taken + q.taken → sum_over (λ u. u.left) b ≡ r.left + q.left
-    → ((m : ℕ) → Fits m r → Fits m q → ViewFits m b) → Joins (Running takes) id (r ∷ []) other (q ∷ []) b []
-one_list takes id other r q b hs ts ls fits s h at two there = let vs : List (List SeatState) = s.views in let bs : List (List SeatState) = set vs id b in let m : ℕ = serving_of s in let n : ℕ = next_of s in
-    let theirs : get_elem? vs other ≡ some (q ∷ []) = ⊎_elim (λ x. absurd (two x.0)) (λ x. x.1) (at_set vs id other b (q ∷ []) there) in
+one_list : (takes id other : ℕ) (r q : SeatState) (b : List SeatState)
+    → ((x : ℕ) → sum_over (ticket_indicator x) b ≡ ticket_indicator x r + ticket_indicator x q)
+    → sum_over (λ u. u.taken) b ≡ r.taken + q.taken → sum_over (λ u. u.left) b ≡ r.left + q.left
+    → ((m : ℕ) → Fits m r → Fits m q → ViewFits m b)
+    → Joins (Running takes) id (r ∷ []) other (q ∷ []) b []
+one_list takes id other r q b hs ts ls fits s h at two there =
+    let vs : List (List SeatState) = s.views in
+    let bs : List (List SeatState) = set vs id b in
+    let m : ℕ = serving_of s in
+    let n : ℕ = next_of s in
+    let theirs : get_elem? vs other ≡ some (q ∷ []) =
+    ⊎_elim (λ x. absurd (two x.0)) (λ x. x.1) (at_set vs id other b (q ∷ []) there) in
     let mine = h.seats id (r ∷ []) at in let its = h.seats other (q ∷ []) theirs in
-    built takes (record { words = s.words; homes = s.homes; views = set bs other [] }) n m h.two_words refl refl h.served
-    (λ x. let c = sum_over-set (sum_over (ticket_indicator x)) vs id (r ∷ []) b at in let d = sum_over-set (sum_over (ticket_indicator x)) bs other (q ∷ []) [] there in let t = h.tickets x in let e = hs x in omega arith)
-    (views_set (ViewFits m) bs other [] (tt, omega arith) (λ j u _ e. views_set (ViewFits m) vs id b (fits m mine.0.0 its.0.0) (λ j u _ e. h.seats j u e) j u e))
-    (let c = sum_over-set (sum_over (λ u. u.taken)) vs id (r ∷ []) b at in let d = sum_over-set (sum_over (λ u. u.taken)) bs other (q ∷ []) [] there in let t = h.taken in omega arith)
-    (let c = sum_over-set (sum_over (λ u. u.left)) vs id (r ∷ []) b at in let d = sum_over-set (sum_over (λ u. u.left)) bs other (q ∷ []) [] there in let t = h.left in omega arith)
+    built takes (record { words = s.words; homes = s.homes; views = set bs other [] }) n m
+    h.two_words refl refl h.served
+    (λ x. let c = sum_over-set (sum_over (ticket_indicator x)) vs id (r ∷ []) b at in
+    let d = sum_over-set (sum_over (ticket_indicator x)) bs other (q ∷ []) [] there in
+    let t = h.tickets x in
+    let e = hs x in
+    omega arith)
+    (views_set (ViewFits m) bs other [] (tt, omega arith) (λ j u _ e. views_set (ViewFits m) vs id b
+    (fits m mine.0.0 its.0.0) (λ j u _ e. h.seats j u e) j u e))
+    (let c = sum_over-set (sum_over (λ u. u.taken)) vs id (r ∷ []) b at in
+    let d = sum_over-set (sum_over (λ u. u.taken)) bs other (q ∷ []) [] there in
+    let t = h.taken in
+    omega arith)
+    (let c = sum_over-set (sum_over (λ u. u.left)) vs id (r ∷ []) b at in
+    let d = sum_over-set (sum_over (λ u. u.left)) bs other (q ∷ []) [] there in
+    let t = h.left in
+    omega arith)
 
 max_le : (a b m : ℕ) → a ≤ m → b ≤ m → max a b ≤ m
 max_le a b m h k = omega arith
 
-pub glues : (takes id other : ℕ) (v w : List SeatState) (r q : SeatState) → v ≡ r ∷ [] → w ≡ q ∷ [] → r.phase ≡ Idle → q.phase ≡ Idle → Joins (Running takes) id v other w (glued v w) []
-glues takes id other v w r q is are idle idle' = subst (λ (z : List SeatState × List SeatState). Joins (Running takes) id z.0 other z.1 (glued z.0 z.1) []) (λ k. (sym is k, sym are k))
+pub glues : (takes id other : ℕ) (v w : List SeatState) (r q : SeatState) → v ≡ r ∷ [] → w ≡ q ∷ []
+    → r.phase ≡ Idle → q.phase ≡ Idle → Joins (Running takes) id v other w (glued v w) []
+glues takes id other v w r q is are idle idle' = subst (λ (z : List SeatState × List SeatState).
+    Joins (Running takes) id z.0 other z.1 (glued z.0 z.1) [])
+    (λ k. (sym is k, sym are k))
     (one_list takes id other r q (glued (r ∷ []) (q ∷ []))
-    (λ x. let a : ticket_indicator x r ≡ 0 = ap (λ p. ticket_indicator_in x p r.ticket) idle in let b : ticket_indicator x q ≡ 0 = ap (λ p. ticket_indicator_in x p q.ticket) idle' in omega arith)
-    (omega arith) (omega arith) (λ m f g. (((tt, max_le r.seen q.seen m f.1 g.1), tt), omega arith)))
+    (λ x. let a : ticket_indicator x r ≡ 0 = ap (λ p. ticket_indicator_in x p r.ticket) idle in
+    let b : ticket_indicator x q ≡ 0 = ap (λ p. ticket_indicator_in x p q.ticket) idle' in
+    omega arith)
+    (omega arith) (omega arith)
+    (λ m f g. (((tt, max_le r.seen q.seen m f.1 g.1), tt), omega arith)))
 
-pub pairs : (takes id other : ℕ) (v w : List SeatState) (r q : SeatState) → v ≡ r ∷ [] → w ≡ q ∷ [] → Joins (Running takes) id v other w (paired v w) []
-pairs takes id other v w r q is are = subst (λ (z : List SeatState × List SeatState). Joins (Running takes) id z.0 other z.1 (paired z.0 z.1) []) (λ k. (sym is k, sym are k))
+pub pairs : (takes id other : ℕ) (v w : List SeatState) (r q : SeatState) → v ≡ r ∷ [] → w ≡ q ∷ []
+    → Joins (Running takes) id v other w (paired v w) []
+pairs takes id other v w r q is are = subst (λ (z : List SeatState × List SeatState).
+    Joins (Running takes) id z.0 other z.1 (paired z.0 z.1) [])
+    (λ k. (sym is k, sym are k))
     (one_list takes id other r q (paired (r ∷ []) (q ∷ []))
-    (λ x. omega arith) (omega arith) (omega arith) (λ m f g. let l = max_le r.seen q.seen m f.1 g.1 in (((f.0, l), ((g.0, l), tt)), omega arith)))
+    (λ x. omega arith) (omega arith) (omega arith)
+    (λ m f g. let l = max_le r.seen q.seen m f.1 g.1 in
+    (((f.0, l), ((g.0, l), tt)), omega arith)))
 
 -- a seat that took no ticket has none
-none_taken : (x m : ℕ) (p : LivePhase) (t taken : ℕ) → FitsPhase m p t taken → taken ≡ 0 → ticket_indicator_in x p t ≡ 0
+none_taken : (x m : ℕ) (p : LivePhase) (t taken : ℕ) → FitsPhase m p t taken → taken ≡ 0
+    → ticket_indicator_in x p t ≡ 0
 none_taken x m Idle t taken f z = refl
 none_taken x m Waiting t taken f z = absurd (omega arith)
 none_taken x m Inside t taken f z = let g = f.1 in absurd (omega arith)
 none_taken x m Leaving t taken f z = let g = f.1 in absurd (omega arith)
 
-none_of_ticket : (x m : ℕ) (u : List SeatState) → Each (Fits m) u → sum_over (λ p. p.taken) u ≡ 0 → sum_over (ticket_indicator x) u ≡ 0
+none_of_ticket : (x m : ℕ) (u : List SeatState) → Each (Fits m) u → sum_over (λ p. p.taken) u ≡ 0
+    → sum_over (ticket_indicator x) u ≡ 0
 none_of_ticket x m [] e z = refl
-none_of_ticket x m (p ∷ ps) e z = let a = none_taken x m p.phase p.ticket p.taken e.0.0 (omega arith) in let b = none_of_ticket x m ps e.1 (omega arith) in omega arith
+none_of_ticket x m (p ∷ ps) e z =
+    let a = none_taken x m p.phase p.ticket p.taken e.0.0 (omega arith) in
+    let b = none_of_ticket x m ps e.1 (omega arith) in
+    omega arith
 
 pub word_at : (ws : List ℕ) (i n : ℕ) → get_elem? ws i ≡ some n → get_or ws i 0 ≡ n
 word_at [] i n e = absurd (some-ne-none n (sym e))
 word_at (w ∷ ws) zero n e = some-injective w n e
 word_at (w ∷ ws) (suc i) n e = word_at ws i n e
 
-pub closes : (takes id : ℕ) (v : List SeatState) (r : SeatState) (words : List ℕ) (slots : List (Unit {0})) (n m : ℕ) → v ≡ r ∷ [] → r.phase ≡ Idle
-    → Final (Seen (Running takes) id v) words slots → get_elem? words 0 ≡ some n → get_elem? words 1 ≡ some m → (m ≤ n) × (r.taken ≤ n) × (r.taken ≡ n → m ≡ n)
-closes takes id v r words slots n m is idle h w0 w1 = let s = h.0 in let k = h.1.0 in let at : get_elem? s.views id ≡ some (r ∷ []) = h.1.1 ∙ ap some is in
-    let en : next_of s ≡ n = ap (λ (ws : List ℕ). get_or ws 0 0) h.2 ∙ word_at words 0 n w0 in let em : serving_of s ≡ m = ap (λ (ws : List ℕ). get_or ws 1 0) h.2 ∙ word_at words 1 m w1 in
-    let low = k.served in let t = k.taken in let mine = at_most_sum (sum_over (λ u. u.taken)) s.views id (r ∷ []) at in (
+pub closes : (takes id : ℕ) (v : List SeatState) (r : SeatState) (words : List ℕ)
+    (slots : List (Unit {0})) (n m : ℕ)
+    → v ≡ r ∷ [] → r.phase ≡ Idle
+    → Final (Seen (Running takes) id v) words slots → get_elem? words 0 ≡ some n
+    → get_elem? words 1 ≡ some m → (m ≤ n) × (r.taken ≤ n) × (r.taken ≡ n → m ≡ n)
+closes takes id v r words slots n m is idle h w0 w1 =
+    let s = h.0 in
+    let k = h.1.0 in
+    let at : get_elem? s.views id ≡ some (r ∷ []) = h.1.1 ∙ ap some is in
+    let en : next_of s ≡ n = ap (λ (ws : List ℕ). get_or ws 0 0) h.2 ∙ word_at words 0 n w0 in
+    let em : serving_of s ≡ m =
+    ap (λ (ws : List ℕ). get_or ws 1 0) h.2 ∙ word_at words 1 m w1 in
+    let low = k.served in
+    let t = k.taken in
+    let mine = at_most_sum (sum_over (λ u. u.taken)) s.views id (r ∷ []) at in (
       omega arith,
       omega arith,
       λ all. let x : ℕ = serving_of s in
-          let only = alone_at (sum_over (λ u. u.taken)) (sum_over (ticket_indicator x)) s.views (λ j u e z. none_of_ticket x x u (k.seats j u e).0 z) id (r ∷ []) at (omega arith) in
-          let none_here : ticket_indicator x r ≡ 0 = ap (λ p. ticket_indicator_in x p r.ticket) idle in let c = k.tickets x in let d = none_there x x (omega arith) in ends x (next_of s) m n em en low (omega arith),
+          let only =
+          alone_at (sum_over (λ u. u.taken)) (sum_over (ticket_indicator x)) s.views
+          (λ j u e z. none_of_ticket x x u (k.seats j u e).0 z) id (r ∷ []) at (omega arith) in
+          let none_here : ticket_indicator x r ≡ 0 =
+          ap (λ p. ticket_indicator_in x p r.ticket) idle in
+          let c = k.tickets x in
+          let d = none_there x x (omega arith) in
+          ends x (next_of s) m n em en low (omega arith),
     )
   where
     ends : (x y m n : ℕ) → x ≡ m → y ≡ n → x ≤ y → once_below x y ≡ 0 → m ≡ n

@@ -1,5 +1,7 @@
 -- Each step of the running ticket lock keeps its rule.
-use Rattle.std.proofs.Common.{◌≡◌, ◌≢◌, ℕ, zero, suc, ◌+◌, ◌%◌, ◌^◌, ◌<◌, ◌≤◌, ◌==◌, Bool, true, false, List, [], ◌∷◌, ◌++◌, length, if◌then◌else◌, set, sym, refl, ap, ◌∙◌, subst, arith, length-set, ⊎_elim}
+use Rattle.std.proofs.Common.{◌≡◌, ◌≢◌, ℕ, zero, suc, ◌+◌, ◌%◌, ◌^◌, ◌<◌, ◌≤◌, ◌==◌, Bool, true}
+use Rattle.std.proofs.Common.{false, List, [], ◌∷◌, ◌++◌, length, if◌then◌else◌, set, sym, refl, ap}
+use Rattle.std.proofs.Common.{◌∙◌, subst, arith, length-set, ⊎_elim}
 use mathlib.Core.Option.{none, some, some-ne-none}
 use lib.ListN.{get_elem?}
 use Rattle.atomic_table.specs.Table.{Step, step, keeps, stepped, Allows, opening}
@@ -8,9 +10,12 @@ use Rattle.lk_workers.specs.declared.live.LivePhase.{LivePhase}
 use Rattle.lk_workers.specs.declared.live.LivePhase.TheVariants.{Idle, Waiting, Inside, Leaving}
 use Rattle.lk_workers.specs.declared.live.rule.SeatState.{SeatState}
 use Rattle.lk_workers.specs.Counting.{sum_over, indicator, once_below}
-use Rattle.lk_workers.specs.Seats.{seat_state, operation, noted, Table, sum_over_seats, next_of, serving_of, ticket_indicator, ticket_indicator_in, IsHolding}
+use Rattle.lk_workers.specs.Seats.{seat_state, operation, noted, Table, sum_over_seats, next_of}
+use Rattle.lk_workers.specs.Seats.{serving_of, ticket_indicator, ticket_indicator_in, IsHolding}
 use Rattle.lk_workers.specs.SeatSteps.{LiveStep, take_step, look_step, read_step, pass_step, moved}
-use Rattle.lk_workers.specs.invariants.Running.{Sees, loads_of, made_of, FitsPhase, Fits, Each, ViewFits, Running, TakeTells, LookTells, ReadTells, PassTells, OfOne, Counts, Compares}
+use Rattle.lk_workers.specs.invariants.Running.{Sees, loads_of, made_of, FitsPhase, Fits, Each}
+use Rattle.lk_workers.specs.invariants.Running.{ViewFits, Running, TakeTells, LookTells, ReadTells}
+use Rattle.lk_workers.specs.invariants.Running.{PassTells, OfOne, Counts, Compares}
 use Rattle.lk_workers.proofs.Sums.{sum_over-set, at_most_sum, set_same}
 use Rattle.lk_workers.proofs.TwoWords.{w00, w01, w10, w11}
 use Rattle.lk_workers.proofs.Below.{below_suc, indicator_here, at_most_once, below_of, once_there}
@@ -19,151 +24,311 @@ abbrev head_or : SeatState → List SeatState → SeatState
 head_or d [] = d
 head_or d (r ∷ rs) = r
 
-told : (live : LiveStep) (tells : SeatState → ℕ → Type 0) (st : Step (Unit {0})) (me : Sees) (found : ℕ) (r : SeatState) → me.0 ≡ r ∷ [] → tells r found
-    → OfOne live tells st me found (noted (operation st.word st.first) (live.next r found) ∷ [], me.1)
-told live tells st me found r is t r' is' = let e : r ≡ r' = ap (head_or r) (sym is ∙ is') in (ap (λ z. (noted (operation st.word st.first) (live.next z found) ∷ [], me.1)) e, subst (λ z. tells z found) e t)
+told : (live : LiveStep) (tells : SeatState → ℕ → Type 0) (st : Step (Unit {0})) (me : Sees)
+    (found : ℕ) (r : SeatState)
+    → me.0 ≡ r ∷ [] → tells r found
+    → OfOne live tells st me found
+    (noted (operation st.word st.first) (live.next r found) ∷ [], me.1)
+told live tells st me found r is t r' is' =
+    let e : r ≡ r' = ap (head_or r) (sym is ∙ is') in (
+      ap (λ z. (noted (operation st.word st.first) (live.next z found) ∷ [], me.1)) e,
+      subst (λ z. tells z found) e t,
+    )
 
 -- a seat's view, as its struct keeps it
-pub stands : (me : Sees) (q : SeatState) (c : List (ℕ × Unit {0})) → me ≡ (q ∷ [], c) → c ≡ [] → me ≡ (seat_state q.phase q.ticket q.left q.taken q.seen (loads_of me.0) (made_of me.0) ∷ [], [])
-stands me q c e none_held = e ∙ (λ k. (seat_state q.phase q.ticket q.left q.taken q.seen (loads_of (sym e k).0) (made_of (sym e k).0) ∷ [], none_held k))
+pub stands : (me : Sees) (q : SeatState) (c : List (ℕ × Unit {0})) → me ≡ (q ∷ [], c) → c ≡ []
+    → me
+    ≡ (seat_state q.phase q.ticket q.left q.taken q.seen (loads_of me.0) (made_of me.0) ∷ [], [])
+stands me q c e none_held = e ∙ (λ k. (
+  seat_state q.phase q.ticket q.left q.taken q.seen (loads_of (sym e k).0) (made_of (sym e k).0)
+      ∷ [],
+  none_held k,
+))
 
-pub looked : (me : Sees) (p : LivePhase) (r : SeatState) (found : ℕ) (c : List (ℕ × Unit {0})) (b : Bool) → me ≡ (moved look_step r found ∷ [], c) → c ≡ [] → (found == r.ticket) ≡ b → p ≡ (if b then Inside else Waiting)
+pub looked : (me : Sees) (p : LivePhase) (r : SeatState) (found : ℕ) (c : List (ℕ × Unit {0}))
+    (b : Bool)
+    → me ≡ (moved look_step r found ∷ [], c) → c ≡ [] → (found == r.ticket) ≡ b
+    → p ≡ (if b then Inside else Waiting)
     → me ≡ (seat_state p r.ticket r.left r.taken found (loads_of me.0) (made_of me.0) ∷ [], [])
-looked me p r found c b e none_held is same_phase = let is_p : (if (found == r.ticket) then Inside else Waiting) ≡ p = ap (λ d. if d then Inside else Waiting) is ∙ sym same_phase in
-    stands me (seat_state p r.ticket r.left r.taken found (r.loads + 1) (r.made ++ operation 1 0 ∷ [])) c (e ∙ ap (λ d. (seat_state d r.ticket r.left r.taken found (r.loads + 1) (r.made ++ operation 1 0 ∷ []) ∷ [], c)) is_p) none_held
+looked me p r found c b e none_held is same_phase =
+    let is_p : (if (found == r.ticket) then Inside else Waiting) ≡ p =
+    ap (λ d. if d then Inside else Waiting) is ∙ sym same_phase in
+    stands me
+    (seat_state p r.ticket r.left r.taken found (r.loads + 1) (r.made ++ operation 1 0 ∷ [])) c
+    (e ∙ ap (λ d. (
+      seat_state d r.ticket r.left r.taken found (r.loads + 1) (r.made ++ operation 1 0 ∷ [])
+          ∷ [],
+      c,
+    )) is_p) none_held
 
-pub built : (takes : ℕ) (s : Table) (n m : ℕ) → length s.words ≡ 2 → next_of s ≡ n → serving_of s ≡ m → m ≤ n
+pub built : (takes : ℕ) (s : Table) (n m : ℕ) → length s.words ≡ 2 → next_of s ≡ n
+    → serving_of s ≡ m → m ≤ n
     → ((x : ℕ) → sum_over_seats (ticket_indicator x) s.views + once_below x m ≡ once_below x n)
     → ((id : ℕ) (v : List SeatState) → get_elem? s.views id ≡ some v → ViewFits m v)
-    → sum_over_seats (λ r. r.taken) s.views ≡ n → n + sum_over_seats (λ r. r.left) s.views ≤ 2 ^ 40 → Running takes s
+    → sum_over_seats (λ r. r.taken) s.views ≡ n → n + sum_over_seats (λ r. r.left) s.views ≤ 2 ^ 40
+    → Running takes s
 built takes s n m two en em low tickets seats taken left = record {
   two_words = two;
   served = omega arith;
-  tickets = λ x. (let a = ap (once_below x) en in let b = ap (once_below x) em in let c = tickets x in omega arith);
+  tickets = λ x. (
+      let a = ap (once_below x) en in
+      let b = ap (once_below x) em in
+      let c = tickets x in
+      omega arith);
   seats = λ id v at. subst (λ k. ViewFits k v) (sym em) (seats id v at);
   taken = taken ∙ sym en;
   left = omega arith;
 }
 
-pub views_set : (P : List SeatState → Type 0) (views : List (List SeatState)) (id : ℕ) (w : List SeatState) → P w → ((j : ℕ) (u : List SeatState) → j ≢ id → get_elem? views j ≡ some u → P u)
+pub views_set : (P : List SeatState → Type 0) (views : List (List SeatState)) (id : ℕ)
+    (w : List SeatState)
+    → P w → ((j : ℕ) (u : List SeatState) → j ≢ id → get_elem? views j ≡ some u → P u)
     → (j : ℕ) (u : List SeatState) → get_elem? (set views id w) j ≡ some u → P u
-views_set P views id w mine others j u e = ⊎_elim (λ (x : (j ≡ id) × (w ≡ u)). subst P x.1 mine) (λ (x : (j ≢ id) × (get_elem? views j ≡ some u)). others j u x.0 x.1) (at_set views id j w u e)
+views_set P views id w mine others j u e =
+    ⊎_elim (λ (x : (j ≡ id) × (w ≡ u)). subst P x.1 mine)
+    (λ (x : (j ≢ id) × (get_elem? views j ≡ some u)). others j u x.0 x.1) (at_set views id j w u e)
 
-pub opens : (takes : ℕ) → takes ≤ 2 ^ 40 → Running takes (opening (0 ∷ 0 ∷ []) [] (seat_state Idle 0 takes 0 0 0 [] ∷ []))
+pub opens : (takes : ℕ) → takes ≤ 2 ^ 40
+    → Running takes (opening (0 ∷ 0 ∷ []) [] (seat_state Idle 0 takes 0 0 0 [] ∷ []))
 opens takes few = record {
   two_words = refl;
   served = omega arith;
   tickets = λ x. refl;
-  seats = views_set (ViewFits 0) ((seat_state Idle 0 takes 0 0 0 [] ∷ []) ∷ []) 0 (seat_state Idle 0 takes 0 0 0 [] ∷ []) (((tt, omega arith), tt), omega arith) (λ j u other e. only j u other e);
+  seats =
+      views_set (ViewFits 0) ((seat_state Idle 0 takes 0 0 0 [] ∷ []) ∷ []) 0
+      (seat_state Idle 0 takes 0 0 0 [] ∷ []) (((tt, omega arith), tt), omega arith)
+      (λ j u other e. only j u other e);
   taken = refl;
   left = omega arith;
 }
   where
-    only : (j : ℕ) (u : List SeatState) → j ≢ 0 → get_elem? ((seat_state Idle 0 takes 0 0 0 [] ∷ []) ∷ []) j ≡ some u → ViewFits 0 u
+    only : (j : ℕ) (u : List SeatState) → j ≢ 0
+        → get_elem? ((seat_state Idle 0 takes 0 0 0 [] ∷ []) ∷ []) j ≡ some u → ViewFits 0 u
     only zero u other e = absurd (other refl)
     only (suc j) u other e = absurd (some-ne-none u (sym e))
 
 module _ (takes slots id : ℕ) (me : Sees) (r : SeatState) (is : me.0 ≡ r ∷ []) where
-  pub take : r.phase ≡ Idle → 0 < r.left → Allows (Running takes) slots id me 0 (λ n. (n + 1) % 2 ^ 64) (OfOne take_step TakeTells (step slots 0 1 0 none) me)
-  take idle some_left s h _ at0 _ = let at : get_elem? s.views id ≡ some (r ∷ []) = at0 ∙ ap some is in
-      let n : ℕ = next_of s in let m : ℕ = serving_of s in let q : SeatState = moved take_step r n in let vs : List (List SeatState) = s.views in
-      let sum = h.left in let low = at_most_sum (sum_over (λ u. u.left)) vs id (r ∷ []) at in let all = h.taken in let mine = at_most_sum (sum_over (λ u. u.taken)) vs id (r ∷ []) at in
+  pub take : r.phase ≡ Idle → 0 < r.left
+      → Allows (Running takes) slots id me 0 (λ n. (n + 1) % 2 ^ 64)
+      (OfOne take_step TakeTells (step slots 0 1 0 none) me)
+  take idle some_left s h _ at0 _ =
+      let at : get_elem? s.views id ≡ some (r ∷ []) = at0 ∙ ap some is in
+      let n : ℕ = next_of s in
+      let m : ℕ = serving_of s in
+      let q : SeatState = moved take_step r n in
+      let vs : List (List SeatState) = s.views in
+      let sum = h.left in
+      let low = at_most_sum (sum_over (λ u. u.left)) vs id (r ∷ []) at in
+      let all = h.taken in
+      let mine = at_most_sum (sum_over (λ u. u.taken)) vs id (r ∷ []) at in
       let old = h.seats id (r ∷ []) at in let served = h.served in let seen = old.0.0.1 in
       let next : (n + 1) % 2 ^ 64 ≡ n + 1 = omega arith in (
         (q ∷ []),
         keeps,
         tt,
-        built takes (stepped s 0 ((n + 1) % 2 ^ 64) id me.1 (q ∷ []) keeps) (n + 1) m (length-set s.words 0 _ ∙ h.two_words) (w00 s.words _ h.two_words ∙ next) (w01 s.words _) (omega arith)
-            (λ x. let c = sum_over-set (sum_over (ticket_indicator x)) vs id (r ∷ []) (q ∷ []) at in let none_yet : ticket_indicator x r ≡ 0 = ap (λ p. ticket_indicator_in x p r.ticket) idle in let t = h.tickets x in let b = below_suc x n in omega arith)
-            (views_set (ViewFits m) vs id (q ∷ []) (((omega arith, seen), tt), omega arith) (λ j u _ e. h.seats j u e))
-            (let c = sum_over-set (sum_over (λ u. u.taken)) vs id (r ∷ []) (q ∷ []) at in omega arith)
-            (let c = sum_over-set (sum_over (λ u. u.left)) vs id (r ∷ []) (q ∷ []) at in omega arith),
-        told take_step TakeTells (step slots 0 1 0 none) me n r is (omega arith, omega arith, omega arith),
+        built takes (stepped s 0 ((n + 1) % 2 ^ 64) id me.1 (q ∷ []) keeps) (n + 1) m
+            (length-set s.words 0 _ ∙ h.two_words) (w00 s.words _ h.two_words ∙ next)
+            (w01 s.words _) (omega arith)
+            (λ x. let c = sum_over-set (sum_over (ticket_indicator x)) vs id (r ∷ []) (q ∷ []) at in
+            let none_yet : ticket_indicator x r ≡ 0 =
+            ap (λ p. ticket_indicator_in x p r.ticket) idle in
+            let t = h.tickets x in
+            let b = below_suc x n in
+            omega arith)
+            (views_set (ViewFits m) vs id (q ∷ []) (((omega arith, seen), tt), omega arith)
+            (λ j u _ e. h.seats j u e))
+            (let c = sum_over-set (sum_over (λ u. u.taken)) vs id (r ∷ []) (q ∷ []) at in
+            omega arith)
+            (let c = sum_over-set (sum_over (λ u. u.left)) vs id (r ∷ []) (q ∷ []) at in
+            omega arith),
+        told take_step TakeTells (step slots 0 1 0 none) me n r is
+            (omega arith, omega arith, omega arith),
       )
 
-  look_indicator : (x t : ℕ) (b : Bool) → ticket_indicator_in x (if b then Inside else Waiting) t ≡ indicator x t
+  look_indicator : (x t : ℕ) (b : Bool)
+      → ticket_indicator_in x (if b then Inside else Waiting) t ≡ indicator x t
   look_indicator x t true = refl
   look_indicator x t false = refl
 
-  look_fits : (m t taken : ℕ) (b : Bool) → (m == t) ≡ b → 1 ≤ taken → FitsPhase m (if b then Inside else Waiting) t taken
+  look_fits : (m t taken : ℕ) (b : Bool) → (m == t) ≡ b → 1 ≤ taken
+      → FitsPhase m (if b then Inside else Waiting) t taken
   look_fits m t taken true e some_taken = (grind arith, some_taken)
   look_fits m t taken false e some_taken = some_taken
 
-  pub look : r.phase ≡ Waiting → Allows (Running takes) slots id me 1 (λ n. n) (OfOne look_step LookTells (step slots 1 0 0 none) me)
+  pub look : r.phase ≡ Waiting
+      → Allows (Running takes) slots id me 1 (λ n. n)
+      (OfOne look_step LookTells (step slots 1 0 0 none) me)
   look waiting s h _ at0 _ = let at : get_elem? s.views id ≡ some (r ∷ []) = at0 ∙ ap some is in
-      let n : ℕ = next_of s in let m : ℕ = serving_of s in let q : SeatState = moved look_step r m in let vs : List (List SeatState) = s.views in let old = h.seats id (r ∷ []) at in let served = h.served in
-      let some_taken : 1 ≤ r.taken = subst (λ p. FitsPhase m p r.ticket r.taken) waiting old.0.0.0 in (
+      let n : ℕ = next_of s in
+      let m : ℕ = serving_of s in
+      let q : SeatState = moved look_step r m in
+      let vs : List (List SeatState) = s.views in
+      let old = h.seats id (r ∷ []) at in
+      let served = h.served in
+      let some_taken : 1 ≤ r.taken =
+      subst (λ p. FitsPhase m p r.ticket r.taken) waiting old.0.0.0 in (
         (q ∷ []),
         keeps,
         tt,
-        built takes (stepped s 1 m id me.1 (q ∷ []) keeps) n m (length-set s.words 1 _ ∙ h.two_words) (w10 s.words _) (w11 s.words _ h.two_words) served
-            (λ x. let c = sum_over-set (sum_over (ticket_indicator x)) vs id (r ∷ []) (q ∷ []) at in let a : ticket_indicator x r ≡ indicator x r.ticket = ap (λ p. ticket_indicator_in x p r.ticket) waiting in let b = look_indicator x r.ticket (m == r.ticket) in let t = h.tickets x in omega arith)
-            (views_set (ViewFits m) vs id (q ∷ []) (((look_fits m r.ticket r.taken (m == r.ticket) refl some_taken, omega arith), tt), omega arith) (λ j u _ e. h.seats j u e))
-            (let c = sum_over-set (sum_over (λ u. u.taken)) vs id (r ∷ []) (q ∷ []) at in let t = h.taken in omega arith)
-            (let c = sum_over-set (sum_over (λ u. u.left)) vs id (r ∷ []) (q ∷ []) at in let t = h.left in omega arith),
+        built takes (stepped s 1 m id me.1 (q ∷ []) keeps) n m
+            (length-set s.words 1 _ ∙ h.two_words) (w10 s.words _)
+            (w11 s.words _ h.two_words) served
+            (λ x. let c = sum_over-set (sum_over (ticket_indicator x)) vs id (r ∷ []) (q ∷ []) at in
+            let a : ticket_indicator x r ≡ indicator x r.ticket =
+            ap (λ p. ticket_indicator_in x p r.ticket) waiting in
+            let b = look_indicator x r.ticket (m == r.ticket) in
+            let t = h.tickets x in
+            omega arith)
+            (views_set (ViewFits m) vs id (q ∷ []) (
+              ((look_fits m r.ticket r.taken (m == r.ticket) refl some_taken, omega arith), tt),
+              omega arith,
+            ) (λ j u _ e. h.seats j u e))
+            (let c = sum_over-set (sum_over (λ u. u.taken)) vs id (r ∷ []) (q ∷ []) at in
+            let t = h.taken in
+            omega arith)
+            (let c = sum_over-set (sum_over (λ u. u.left)) vs id (r ∷ []) (q ∷ []) at in
+            let t = h.left in
+            omega arith),
         told look_step LookTells (step slots 1 0 0 none) me m r is old.0.0.1,
       )
 
-  pub read : r.phase ≡ Inside → Allows (Running takes) slots id me 1 (λ n. n) (OfOne read_step ReadTells (step slots 1 0 0 none) me)
+  pub read : r.phase ≡ Inside
+      → Allows (Running takes) slots id me 1 (λ n. n)
+      (OfOne read_step ReadTells (step slots 1 0 0 none) me)
   read inside s h _ at0 _ = let at : get_elem? s.views id ≡ some (r ∷ []) = at0 ∙ ap some is in
-      let n : ℕ = next_of s in let m : ℕ = serving_of s in let q : SeatState = moved read_step r m in let vs : List (List SeatState) = s.views in let old = h.seats id (r ∷ []) at in
+      let n : ℕ = next_of s in
+      let m : ℕ = serving_of s in
+      let q : SeatState = moved read_step r m in
+      let vs : List (List SeatState) = s.views in
+      let old = h.seats id (r ∷ []) at in
       let fits = subst (λ p. FitsPhase m p r.ticket r.taken) inside old.0.0.0 in (
         (q ∷ []),
         keeps,
         tt,
-        built takes (stepped s 1 m id me.1 (q ∷ []) keeps) n m (length-set s.words 1 _ ∙ h.two_words) (w10 s.words _) (w11 s.words _ h.two_words) h.served
-            (λ x. let c = sum_over-set (sum_over (ticket_indicator x)) vs id (r ∷ []) (q ∷ []) at in let a : ticket_indicator x r ≡ indicator x r.ticket = ap (λ p. ticket_indicator_in x p r.ticket) inside in let t = h.tickets x in omega arith)
-            (views_set (ViewFits m) vs id (q ∷ []) (((fits, omega arith), tt), omega arith) (λ j u _ e. h.seats j u e))
-            (let c = sum_over-set (sum_over (λ u. u.taken)) vs id (r ∷ []) (q ∷ []) at in let t = h.taken in omega arith)
-            (let c = sum_over-set (sum_over (λ u. u.left)) vs id (r ∷ []) (q ∷ []) at in let t = h.left in omega arith),
+        built takes (stepped s 1 m id me.1 (q ∷ []) keeps) n m
+            (length-set s.words 1 _ ∙ h.two_words) (w10 s.words _)
+            (w11 s.words _ h.two_words) h.served
+            (λ x. let c = sum_over-set (sum_over (ticket_indicator x)) vs id (r ∷ []) (q ∷ []) at in
+            let a : ticket_indicator x r ≡ indicator x r.ticket =
+            ap (λ p. ticket_indicator_in x p r.ticket) inside in
+            let t = h.tickets x in
+            omega arith)
+            (views_set (ViewFits m) vs id (q ∷ []) (((fits, omega arith), tt), omega arith)
+            (λ j u _ e. h.seats j u e))
+            (let c = sum_over-set (sum_over (λ u. u.taken)) vs id (r ∷ []) (q ∷ []) at in
+            let t = h.taken in
+            omega arith)
+            (let c = sum_over-set (sum_over (λ u. u.left)) vs id (r ∷ []) (q ∷ []) at in
+            let t = h.left in
+            omega arith),
         told read_step ReadTells (step slots 1 0 0 none) me m r is (sym fits.0),
       )
 
   -- where no seat has the ticket that was served, each fits the next
-  up_phase : (m : ℕ) (p : LivePhase) (t taken : ℕ) → FitsPhase m p t taken → ticket_indicator_in m p t ≡ 0 → FitsPhase (m + 1) p t taken
+  up_phase : (m : ℕ) (p : LivePhase) (t taken : ℕ) → FitsPhase m p t taken
+      → ticket_indicator_in m p t ≡ 0 → FitsPhase (m + 1) p t taken
   up_phase m Idle t taken f z = tt
   up_phase m Waiting t taken f z = f
-  up_phase m Inside t taken f z = let a = indicator_here m in let b = ap (indicator m) f.0 in absurd (omega arith)
-  up_phase m Leaving t taken f z = let a = indicator_here m in let b = ap (indicator m) f.0 in absurd (omega arith)
+  up_phase m Inside t taken f z =
+      let a = indicator_here m in
+      let b = ap (indicator m) f.0 in
+      absurd (omega arith)
+  up_phase m Leaving t taken f z =
+      let a = indicator_here m in
+      let b = ap (indicator m) f.0 in
+      absurd (omega arith)
 
-  up : (m : ℕ) (u : List SeatState) → Each (Fits m) u → sum_over (ticket_indicator m) u ≡ 0 → Each (Fits (m + 1)) u
+  up : (m : ℕ) (u : List SeatState) → Each (Fits m) u → sum_over (ticket_indicator m) u ≡ 0
+      → Each (Fits (m + 1)) u
   up m [] e z = tt
-  up m (p ∷ ps) e z = let a : ticket_indicator m p ≡ 0 = omega arith in let b = e.0.1 in ((up_phase m p.phase p.ticket p.taken e.0.0 a, omega arith), up m ps e.1 (omega arith))
+  up m (p ∷ ps) e z =
+      let a : ticket_indicator m p ≡ 0 = omega arith in
+      let b = e.0.1 in
+      ((up_phase m p.phase p.ticket p.taken e.0.0 a, omega arith), up m ps e.1 (omega arith))
 
-  pub pass : (new : ℕ) → r.phase ≡ Leaving → new ≡ r.ticket + 1 → Allows (Running takes) slots id me 1 (λ _. new) (λ _. OfOne pass_step PassTells (step slots 1 new 0 none) me new)
-  pass new leaving is_next s h _ at0 _ = let at : get_elem? s.views id ≡ some (r ∷ []) = at0 ∙ ap some is in
-      let n : ℕ = next_of s in let m : ℕ = serving_of s in let q : SeatState = noted (operation 1 new) (pass_step.next r m) in let vs : List (List SeatState) = s.views in let old = h.seats id (r ∷ []) at in
-      let fits = subst (λ p. FitsPhase m p r.ticket r.taken) leaving old.0.0.0 in let here : r.ticket ≡ m = fits.0 in
-      let has_r : (x : ℕ) → ticket_indicator x r ≡ indicator x m = λ x. ap (λ p. ticket_indicator_in x p r.ticket) leaving ∙ ap (indicator x) here in
-      let part = at_most_sum (sum_over (ticket_indicator m)) vs id (r ∷ []) at in let one = indicator_here m in let hm = has_r m in let tm = h.tickets m in
+  pub pass : (new : ℕ) → r.phase ≡ Leaving → new ≡ r.ticket + 1
+      → Allows (Running takes) slots id me 1 (λ _. new)
+      (λ _. OfOne pass_step PassTells (step slots 1 new 0 none) me new)
+  pass new leaving is_next s h _ at0 _ =
+      let at : get_elem? s.views id ≡ some (r ∷ []) = at0 ∙ ap some is in
+      let n : ℕ = next_of s in
+      let m : ℕ = serving_of s in
+      let q : SeatState = noted (operation 1 new) (pass_step.next r m) in
+      let vs : List (List SeatState) = s.views in
+      let old = h.seats id (r ∷ []) at in
+      let fits = subst (λ p. FitsPhase m p r.ticket r.taken) leaving old.0.0.0 in
+      let here : r.ticket ≡ m = fits.0 in
+      let has_r : (x : ℕ) → ticket_indicator x r ≡ indicator x m =
+      λ x. ap (λ p. ticket_indicator_in x p r.ticket) leaving ∙ ap (indicator x) here in
+      let part = at_most_sum (sum_over (ticket_indicator m)) vs id (r ∷ []) at in
+      let one = indicator_here m in
+      let hm = has_r m in
+      let tm = h.tickets m in
       let more : m < n = below_of m n (omega arith) in
-      let tickets : (x : ℕ) → sum_over_seats (ticket_indicator x) (set vs id (q ∷ [])) + once_below x (m + 1) ≡ once_below x n =
-      λ x. (let c = sum_over-set (sum_over (ticket_indicator x)) vs id (r ∷ []) (q ∷ []) at in let a = has_r x in let t = h.tickets x in let b = below_suc x m in omega arith) in
-      let gone : sum_over_seats (ticket_indicator m) (set vs id (q ∷ [])) ≡ 0 = (let a = tickets m in let b = at_most_once m n in let c = once_there m (m + 1) (omega arith) in omega arith) in (
+      let tickets : (x : ℕ)
+      → sum_over_seats (ticket_indicator x) (set vs id (q ∷ [])) + once_below x (m + 1)
+      ≡ once_below x n =
+      λ x. (
+      let c = sum_over-set (sum_over (ticket_indicator x)) vs id (r ∷ []) (q ∷ []) at in
+      let a = has_r x in
+      let t = h.tickets x in
+      let b = below_suc x m in
+      omega arith) in
+      let gone : sum_over_seats (ticket_indicator m) (set vs id (q ∷ [])) ≡ 0 = (
+      let a = tickets m in
+      let b = at_most_once m n in
+      let c = once_there m (m + 1) (omega arith) in
+      omega arith) in (
         (q ∷ []),
         keeps,
         tt,
-        built takes (stepped s 1 new id me.1 (q ∷ []) keeps) n (m + 1) (length-set s.words 1 _ ∙ h.two_words) (w10 s.words _) (w11 s.words _ h.two_words ∙ is_next ∙ ap (λ k. k + 1) here) (omega arith)
+        built takes (stepped s 1 new id me.1 (q ∷ []) keeps) n (m + 1)
+            (length-set s.words 1 _ ∙ h.two_words) (w10 s.words _)
+            (w11 s.words _ h.two_words ∙ is_next ∙ ap (λ k. k + 1) here) (omega arith)
             tickets
-            (λ j u e. ⊎_elim (λ (x : (j ≡ id) × (q ∷ [] ≡ u)). subst (ViewFits (m + 1)) x.1 (((tt, omega arith), tt), omega arith))
-            (λ (x : (j ≢ id) × (get_elem? vs j ≡ some u)). let f = h.seats j u x.1 in (up m u f.0 (let a = at_most_sum (sum_over (ticket_indicator m)) (set vs id (q ∷ [])) j u e in omega arith), f.1)) (at_set vs id j (q ∷ []) u e))
-            (let c = sum_over-set (sum_over (λ u. u.taken)) vs id (r ∷ []) (q ∷ []) at in let t = h.taken in omega arith)
-            (let c = sum_over-set (sum_over (λ u. u.left)) vs id (r ∷ []) (q ∷ []) at in let t = h.left in omega arith),
+            (λ j u e. ⊎_elim (λ (x : (j ≡ id) × (q ∷ [] ≡ u)). subst (ViewFits (m + 1)) x.1
+            (((tt, omega arith), tt), omega arith))
+            (λ (x : (j ≢ id) × (get_elem? vs j ≡ some u)). let f = h.seats j u x.1 in (
+              up m u f.0
+                  (let a = at_most_sum (sum_over (ticket_indicator m)) (set vs id (q ∷ [])) j u e in
+                  omega arith),
+              f.1,
+            ))
+            (at_set vs id j (q ∷ []) u e))
+            (let c = sum_over-set (sum_over (λ u. u.taken)) vs id (r ∷ []) (q ∷ []) at in
+            let t = h.taken in
+            omega arith)
+            (let c = sum_over-set (sum_over (λ u. u.left)) vs id (r ∷ []) (q ∷ []) at in
+            let t = h.left in
+            omega arith),
         told pass_step PassTells (step slots 1 new 0 none) me new r is tt,
       )
 
   pub count : Allows (Running takes) slots id me 0 (λ n. n) (Counts (step slots 0 0 0 none) me)
   count s h _ at0 _ = let at : get_elem? s.views id ≡ some (r ∷ []) = at0 ∙ ap some is in
-      let a = at_most_sum (sum_over (λ u. u.taken)) s.views id (r ∷ []) at in let b = at_most_sum (sum_over (λ u. u.left)) s.views id (r ∷ []) at in let t = h.taken in let l = h.left in (
+      let a = at_most_sum (sum_over (λ u. u.taken)) s.views id (r ∷ []) at in
+      let b = at_most_sum (sum_over (λ u. u.left)) s.views id (r ∷ []) at in
+      let t = h.taken in
+      let l = h.left in (
         me.0,
         keeps,
         tt,
-        subst (Running takes) (λ k. record { words = sym (set_same s.words 0) k; homes = s.homes; views = sym (set_again s.views id me.0 at0) k }) h,
-        (refl, refl, λ q is'. let e : r ≡ q = ap (head_or r) (sym is ∙ is') in subst (λ z. (z.left ≤ 2 ^ 40) × (z.taken ≤ 2 ^ 40)) e (omega arith, omega arith)),
+        subst (Running takes) (λ k. record {
+          words = sym (set_same s.words 0) k;
+          homes = s.homes;
+          views = sym (set_again s.views id me.0 at0) k;
+        }) h,
+        (
+          refl,
+          refl,
+          λ q is'. let e : r ≡ q = ap (head_or r) (sym is ∙ is') in
+              subst (λ z. (z.left ≤ 2 ^ 40) × (z.taken ≤ 2 ^ 40)) e (omega arith, omega arith),
+        ),
       )
 
 module _ (takes slots id : ℕ) (me : Sees) where
-  holds_it : (m : ℕ) (p : LivePhase) (t taken : ℕ) → FitsPhase m p t taken → IsHolding p → ticket_indicator_in m p t ≡ 1
+  holds_it : (m : ℕ) (p : LivePhase) (t taken : ℕ) → FitsPhase m p t taken → IsHolding p
+      → ticket_indicator_in m p t ≡ 1
   holds_it m Idle t taken f h = absurd h
   holds_it m Waiting t taken f h = absurd h
   holds_it m Inside t taken f h = ap (indicator m) f.0 ∙ indicator_here m
@@ -174,13 +339,26 @@ module _ (takes slots id : ℕ) (me : Sees) where
     me.0,
     keeps,
     tt,
-    subst (Running takes) (λ k. record { words = sym (set_same s.words 0) k; homes = s.homes; views = sym (set_again s.views id me.0 at) k }) h,
+    subst (Running takes) (λ k. record {
+      words = sym (set_same s.words 0) k;
+      homes = s.homes;
+      views = sym (set_again s.views id me.0 at) k;
+    }) h,
     (
       refl,
       refl,
       λ r q is. let at' : get_elem? s.views id ≡ some (r ∷ q ∷ []) = at ∙ ap some is in
-          let once : (x : ℕ) → ticket_indicator x r + ticket_indicator x q ≤ 1 = λ x. (let a = at_most_sum (sum_over (ticket_indicator x)) s.views id (r ∷ q ∷ []) at' in let b = h.tickets x in let c = at_most_once x n in omega arith) in
-          let fits = h.seats id (r ∷ q ∷ []) at' in
-          ((λ two. let a = holds_it m r.phase r.ticket r.taken fits.0.0.0 two.0 in let b = holds_it m q.phase q.ticket q.taken fits.0.1.0.0 two.1 in let c = once m in absurd (omega arith)), once),
+          let once : (x : ℕ) → ticket_indicator x r + ticket_indicator x q ≤ 1 = λ x. (
+          let a = at_most_sum (sum_over (ticket_indicator x)) s.views id (r ∷ q ∷ []) at' in
+          let b = h.tickets x in
+          let c = at_most_once x n in
+          omega arith) in
+          let fits = h.seats id (r ∷ q ∷ []) at' in (
+            (λ two. let a = holds_it m r.phase r.ticket r.taken fits.0.0.0 two.0 in
+                let b = holds_it m q.phase q.ticket q.taken fits.0.1.0.0 two.1 in
+                let c = once m in
+                absurd (omega arith)),
+            once,
+          ),
     ),
   )

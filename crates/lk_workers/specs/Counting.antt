@@ -16,7 +16,8 @@ occurrences x xs = sum_over (indicator x) xs
 
 -- each number below n stands in the list exactly once, and no other number stands in it
 abbrev pub IsEachBelow : ℕ → List ℕ → Type 0
-IsEachBelow n xs = ((x : ℕ) → x < n → occurrences x xs ≡ 1) × ((x : ℕ) → n ≤ x → occurrences x xs ≡ 0)
+IsEachBelow n xs =
+    ((x : ℕ) → x < n → occurrences x xs ≡ 1) × ((x : ℕ) → n ≤ x → occurrences x xs ≡ 0)
 
 -- 1 where x is below n, else 0
 abbrev pub once_below : ℕ → ℕ → ℕ

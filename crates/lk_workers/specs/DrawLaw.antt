@@ -12,22 +12,29 @@ use Rattle.lk_workers.specs.invariants.DrawRule.{Drawn}
 abbrev pub word_of : State (Unit {0}) Hand → ℕ
 word_of s = slice_index s.words 0
 
--- One word, and a view for each seat that `open` and `split` made. A dropped seat keeps its view, and one that was joined into another has drawn nothing
+-- One word, and a view for each seat that `open` and `split` made. A dropped seat keeps its view,
+-- and one that was joined into another has drawn nothing
 pub record DrawState (draws : ℕ) (s : State (Unit {0}) Hand) : Type 0 where
   -- the numbers in the lists of all seats are those below the word, each once
   pub numbers : IsEachBelow (word_of s) (flat_map (λ v. v.drawn) s.views)
   -- what was drawn and what is left is all
   pub all : word_of s + sum_over (λ v. v.left) s.views ≡ draws
   -- no two seats have one number
-  pub apart : (i j : ℕ) (v w : Hand) (x : ℕ) → i ≢ j → get_elem? s.views i ≡ some v → get_elem? s.views j ≡ some w → 1 ≤ occurrences x v.drawn → occurrences x w.drawn ≡ 0
+  pub apart : (i j : ℕ) (v w : Hand) (x : ℕ) → i ≢ j → get_elem? s.views i ≡ some v
+      → get_elem? s.views j ≡ some w → 1 ≤ occurrences x v.drawn → occurrences x w.drawn ≡ 0
   -- the next draw is greater than each number that a seat has
   pub greater : (i : ℕ) (v : Hand) → get_elem? s.views i ≡ some v → All (λ x. x < word_of s) v.drawn
   -- a seat with all draws has each number below the word
-  pub whole : (i : ℕ) (v : Hand) → get_elem? s.views i ≡ some v → length v.drawn + v.left ≡ draws → IsEachBelow (word_of s) v.drawn
+  pub whole : (i : ℕ) (v : Hand) → get_elem? s.views i ≡ some v → length v.drawn + v.left ≡ draws
+      → IsEachBelow (word_of s) v.drawn
 
--- this word is that of a state of the counter, in which a seat has drawn these numbers and has this left
+-- this word is that of a state of the counter, in which a seat has drawn these numbers and has this
+-- left
 abbrev pub IsEnd : ℕ → ℕ → List ℕ → ℕ → Type 0
-IsEnd draws word drawn left = (s : State (Unit {0}) Hand) × DrawState draws s × (word_of s ≡ word) × ((id : ℕ) × (v : Hand) × (get_elem? s.views id ≡ some v) × (v.drawn ≡ drawn) × (v.left ≡ left))
+IsEnd draws word drawn left =
+    (s : State (Unit {0}) Hand) × DrawState draws s × (word_of s ≡ word)
+    × ((id : ℕ) × (v : Hand) × (get_elem? s.views id ≡ some v) × (v.drawn ≡ drawn)
+    × (v.left ≡ left))
 
 abbrev pub EachNumberOnce : Type 0
 EachNumberOnce = (draws : ℕ) (s : State (Unit {0}) Hand) → Drawn draws s → DrawState draws s

@@ -8,7 +8,8 @@ pub record Counter : Type 0 where
   pub table : TableId
   pub draws : ℕ
 
--- a seat: its counter, with the draws of that one, the numbers that the seat drew, the last at the end, and the draws that it has left
+-- a seat: its counter, with the draws of that one, the numbers that the seat drew, the last at the
+-- end, and the draws that it has left
 pub record Drawer : Type 0 where
   pub table : TableId
   pub draws : ℕ
@@ -23,6 +24,7 @@ drawer c drawn left = record { table = c.table; draws = c.draws; drawn = drawn; 
 abbrev pub IsSeatOf : Counter → Drawer → Type 0
 IsSeatOf c s = (s.table ≡ c.table) × (s.draws ≡ c.draws)
 
--- the view of a seat: the numbers that it drew, the draws that it has left, and those of its counter
+-- the view of a seat: the numbers that it drew, the draws that it has left, and those of its
+-- counter
 abbrev pub hand : List ℕ → ℕ → ℕ → Hand
 hand drawn left draws = record { drawn = drawn; left = left; draws = draws }

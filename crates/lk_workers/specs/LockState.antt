@@ -1,13 +1,16 @@
--- Definitions. What holds of the running ticket lock between any two atomic steps, and which event of the ticket machine each step is.
+-- Definitions. What holds of the running ticket lock between any two atomic steps, and which event
+-- of the ticket machine each step is.
 --
--- The machine is that of Mellor-Crummey and Scott, ACM TOCS 9(1), 1991, section 2.2, whose events lk_locks defines; the seats and the
--- correspondence are this project's own.
-use Rattle.std.specs.Prelude.{◌≢◌, ◌≡◌, ℕ, ◌+◌, ◌^◌, ◌<◌, ◌≤◌, ◌++◌, List, [], ◌∷◌, slice_index, slice_set, length}
+-- The machine is that of Mellor-Crummey and Scott, ACM TOCS 9(1), 1991, section 2.2, whose events
+-- lk_locks defines; the seats and the correspondence are this project's own.
+use Rattle.std.specs.Prelude.{◌≢◌, ◌≡◌, ℕ, ◌+◌, ◌^◌, ◌<◌, ◌≤◌, ◌++◌, List, [], ◌∷◌, slice_index}
+use Rattle.std.specs.Prelude.{slice_set, length}
 use mathlib.Core.Option.{some}
 use lib.ListN.{get_elem?}
 use Rattle.atomic_table.specs.Table.{Act, stepped}
 use Rattle.lk_locks.specs.declared.kinds.Phase.{Phase}
-use Rattle.lk_locks.specs.declared.kinds.Phase.TheVariants.{TakeTicket, AwaitTurn, ReadServing, PassOn}
+use Rattle.lk_locks.specs.declared.kinds.Phase.TheVariants.{TakeTicket, AwaitTurn, ReadServing}
+use Rattle.lk_locks.specs.declared.kinds.Phase.TheVariants.{PassOn}
 use Rattle.lk_locks.specs.Change.{to}
 use Rattle.lk_locks.specs.laws.{Event}
 use Rattle.lk_locks.specs.ticket.{step}
@@ -29,13 +32,17 @@ HasTicket t r = (r.phase ≢ Idle) × (r.ticket ≡ t)
 -- the words and the seats are a state of the ticket lock
 pub record LockState (s : Table) : Type 0 where
   pub order : serving_of s ≤ next_of s
-  pub waiting : (id k : ℕ) (r : SeatState) → IsAt s.views id k r → r.phase ≡ Waiting → (serving_of s ≤ r.ticket) × (r.ticket < next_of s)
+  pub waiting : (id k : ℕ) (r : SeatState) → IsAt s.views id k r → r.phase ≡ Waiting
+      → (serving_of s ≤ r.ticket) × (r.ticket < next_of s)
   -- who is inside or leaves has the ticket that is served
-  pub holding : (id k : ℕ) (r : SeatState) → IsAt s.views id k r → IsHolding r.phase → (r.ticket ≡ serving_of s) × (serving_of s < next_of s)
+  pub holding : (id k : ℕ) (r : SeatState) → IsAt s.views id k r → IsHolding r.phase
+      → (r.ticket ≡ serving_of s) × (serving_of s < next_of s)
   -- the tickets of two seats differ
-  pub differ : (id k id' k' : ℕ) (r r' : SeatState) (t : ℕ) → IsAt s.views id k r → IsAt s.views id' k' r' → HasTicket t r → HasTicket t r' → (id ≡ id') × (k ≡ k')
+  pub differ : (id k id' k' : ℕ) (r r' : SeatState) (t : ℕ) → IsAt s.views id k r
+      → IsAt s.views id' k' r' → HasTicket t r → HasTicket t r' → (id ≡ id') × (k ≡ k')
   -- each number from `serving` up to but not including `next` is the ticket of a seat
-  pub each : (t : ℕ) → serving_of s ≤ t → t < next_of s → (id : ℕ) × (k : ℕ) × (r : SeatState) × IsAt s.views id k r × HasTicket t r
+  pub each : (t : ℕ) → serving_of s ≤ t → t < next_of s
+      → (id : ℕ) × (k : ℕ) × (r : SeatState) × IsAt s.views id k r × HasTicket t r
   pub taken : sum_over_seats (λ r. r.taken) s.views ≡ next_of s
   pub some_taken : (id k : ℕ) (r : SeatState) → IsAt s.views id k r → r.phase ≢ Idle → 1 ≤ r.taken
   pub left : next_of s + sum_over_seats (λ r. r.left) s.views ≤ 2 ^ 40
@@ -44,35 +51,47 @@ pub record LockState (s : Table) : Type 0 where
 
 -- these two words are those of a state of the lock, in which the view of a seat is this
 abbrev pub IsEnd : ℕ → ℕ → SeatState → Type 0
-IsEnd next serving r = (s : Table) × LockState s × (next_of s ≡ next) × (serving_of s ≡ serving) × ((id : ℕ) × (get_elem? s.views id ≡ some (r ∷ [])))
+IsEnd next serving r =
+    (s : Table) × LockState s × (next_of s ≡ next) × (serving_of s ≡ serving)
+    × ((id : ℕ) × (get_elem? s.views id ≡ some (r ∷ [])))
 
 abbrev pub RuleIsTheLock : Type 0
 RuleIsTheLock = (takes : ℕ) (s : Table) → Running takes s → LockState s
 
--- Whatever a step of one seat, a split of it or a join of another into it does, the view of each other seat stays. So a seat that was dropped, and takes no part in any, keeps its view
+-- Whatever a step of one seat, a split of it or a join of another into it does, the view of each
+-- other seat stays. So a seat that was dropped, and takes no part in any, keeps its view
 abbrev pub OthersStay : Type 0
 OthersStay = (s : Table) (id j : ℕ) → j ≢ id
-    → ((i n : ℕ) (c : List (ℕ × Unit {0})) (w : List SeatState) (a : Act (Unit {0})) → get_elem? (stepped s i n id c w a).views j ≡ get_elem? s.views j)
-    × ((v left right : List SeatState) → get_elem? s.views j ≡ some v → get_elem? (slice_set s.views id left ++ right ∷ []) j ≡ some v)
-    × ((other : ℕ) (both spent : List SeatState) → j ≢ other → get_elem? (slice_set (slice_set s.views id both) other spent) j ≡ get_elem? s.views j)
+    → ((i n : ℕ) (c : List (ℕ × Unit {0})) (w : List SeatState) (a : Act (Unit {0}))
+    → get_elem? (stepped s i n id c w a).views j ≡ get_elem? s.views j)
+    × ((v left right : List SeatState) → get_elem? s.views j ≡ some v
+    → get_elem? (slice_set s.views id left ++ right ∷ []) j ≡ some v)
+    × ((other : ℕ) (both spent : List SeatState) → j ≢ other
+    → get_elem? (slice_set (slice_set s.views id both) other spent) j ≡ get_elem? s.views j)
 
--- the phase in which a thread makes the step of its seat: after the call of an acquire where it is idle, and after that of a release where it is inside
+-- the phase in which a thread makes the step of its seat: after the call of an acquire where it is
+-- idle, and after that of a release where it is inside
 abbrev pub due_in : LivePhase → ℕ → Phase
 due_in Idle t = TakeTicket
 due_in Waiting t = AwaitTurn t
 due_in Inside t = ReadServing t
 due_in Leaving t = PassOn t
 
--- From s to s' the thread of one seat, which is in the phase `due`, makes this event on this word, and all else stays
+-- From s to s' the thread of one seat, which is in the phase `due`, makes this event on this word,
+-- and all else stays
 pub record Happens (s s' : Table) (id word : ℕ) (due : Phase) (e : Event) : Type 0 where
   pub leaves : slice_index s'.words word ≡ e.word
   pub other_word : (i : ℕ) → i ≢ word → slice_index s'.words i ≡ slice_index s.words i
   pub seat : (r : SeatState) × (get_elem? s'.views id ≡ some (r ∷ [])) × (thread_of r ≡ e.phase)
   pub other_seats : (j : ℕ) → j ≢ id → get_elem? s'.views j ≡ get_elem? s.views j
-  -- it is the step that the ticket machine of 64 bits makes on these words, whichever thread makes it
+  -- it is the step that the ticket machine of 64 bits makes on these words, whichever thread makes
+  -- it
   pub machine : (thread : ℕ) → step 64 thread s.words due ≡ to s'.words e.phase e.outcome
 
 -- the step of a seat in this phase is this event, of what the seat was and of the word found
 abbrev pub IsEvent : LiveStep → LivePhase → (SeatState → ℕ → Event) → Type 0
-IsEvent live phase event_of = (takes id : ℕ) (s : Table) (r : SeatState) → Running takes s → get_elem? s.views id ≡ some (r ∷ []) → r.phase ≡ phase
-    → Happens s (after live id s r) id live.word (due_in r.phase r.ticket) (event_of r (slice_index s.words live.word))
+IsEvent live phase event_of =
+    (takes id : ℕ) (s : Table) (r : SeatState) → Running takes s
+    → get_elem? s.views id ≡ some (r ∷ []) → r.phase ≡ phase
+    → Happens s (after live id s r) id live.word (due_in r.phase r.ticket)
+    (event_of r (slice_index s.words live.word))

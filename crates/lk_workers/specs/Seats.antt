@@ -1,7 +1,9 @@
--- Definitions. What is known of a seat of the running ticket lock, and the thread of the ticket machine that it stands for.
+-- Definitions. What is known of a seat of the running ticket lock, and the thread of the ticket
+-- machine that it stands for.
 --
--- The correspondence is this project's own: a seat is a thread, and each of its calls is one event of the lock of Mellor-Crummey and
--- Scott, "Algorithms for Scalable Synchronization on Shared-Memory Multiprocessors", ACM TOCS 9(1), 1991, section 2.2.
+-- The correspondence is this project's own: a seat is a thread, and each of its calls is one event
+-- of the lock of Mellor-Crummey and Scott, "Algorithms for Scalable Synchronization on
+-- Shared-Memory Multiprocessors", ACM TOCS 9(1), 1991, section 2.2.
 use Rattle.std.specs.Prelude.{ℕ, ◌+◌, ◌≤◌, List, [], ◌∷◌, ◌++◌, slice_index, Option, Some, None, ⊤}
 use Rattle.atomic_table.specs.Table.{State}
 use Rattle.atomic_table.specs.Seated.{TableId}
@@ -17,9 +19,18 @@ use Rattle.lk_workers.specs.Counting.{indicator, sum_over}
 abbrev pub operation : ℕ → ℕ → Operation
 operation word operand = record { word = word; operand = operand }
 
--- phase, ticket, takes left, tickets taken, the last `now_serving` known, the loads of it, and the operations made, the last at the end
+-- phase, ticket, takes left, tickets taken, the last `now_serving` known, the loads of it, and the
+-- operations made, the last at the end
 abbrev pub seat_state : LivePhase → ℕ → ℕ → ℕ → ℕ → ℕ → List Operation → SeatState
-seat_state phase ticket left taken seen loads made = record { phase = phase; ticket = ticket; left = left; taken = taken; seen = seen; loads = loads; made = made }
+seat_state phase ticket left taken seen loads made = record {
+  phase = phase;
+  ticket = ticket;
+  left = left;
+  taken = taken;
+  seen = seen;
+  loads = loads;
+  made = made;
+}
 
 -- the seat with one operation more
 abbrev pub noted : Operation → SeatState → SeatState
@@ -30,7 +41,8 @@ pub record Live : Type 0 where
   pub table : TableId
   pub state : SeatState
 
--- the two words, and the view of each seat that was made: no record where the seat was joined into another, else one, or two between the two steps of `apart`
+-- the two words, and the view of each seat that was made: no record where the seat was joined into
+-- another, else one, or two between the two steps of `apart`
 abbrev pub Table : Type 0
 Table = State (Unit {0}) (List SeatState)
 
@@ -84,4 +96,6 @@ with_seen n r = seat_state r.phase r.ticket r.left r.taken n r.loads r.made
 
 -- not both seats are inside or leaving, and no ticket is that of both
 abbrev pub AreApart : SeatState → SeatState → Type 0
-AreApart r q = ¬ (IsHolding r.phase × IsHolding q.phase) × ((x : ℕ) → ticket_indicator x r + ticket_indicator x q ≤ 1)
+AreApart r q =
+    ¬ (IsHolding r.phase × IsHolding q.phase)
+    × ((x : ℕ) → ticket_indicator x r + ticket_indicator x q ≤ 1)

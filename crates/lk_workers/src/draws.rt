@@ -4,7 +4,8 @@
 //! numbers that it drew, which no run keeps. The rule counts: each number stands as often in the
 //! lists of all seats as it is below the word.
 
-ghost use Rattle.std.specs.Prelude.{◌≡◌, ℕ, ◌+◌, ◌-◌, ◌^◌, ◌<◌, ◌≤◌, [], ◌∷◌, ◌++◌, length, All, IfOk};
+ghost use Rattle.std.specs.Prelude.{◌≡◌, ℕ, ◌+◌, ◌-◌, ◌^◌, ◌<◌, ◌≤◌, [], ◌∷◌, ◌++◌, length, All};
+ghost use Rattle.std.specs.Prelude.{IfOk};
 ghost use Rattle.lk_workers.specs.Counting.{IsEachBelow};
 ghost use Rattle.lk_workers.specs.Drawing.{Drawer, drawer, Counter, IsSeatOf, hand};
 ghost use Rattle.lk_workers.specs.DrawLaw.{EachNumberOnce, IsEnd};
@@ -86,7 +87,8 @@ impl Model for Draws {
 
     ghost view = { λ d. record { table = d.table.shared.table_id; draws = d.table.shared.key } };
 
-    ghost invariant = { λ d. (d.table.shared.table_id.words ≡ 1) × (d.table.shared.table_id.slots ≡ 0) };
+    ghost invariant = { λ d.
+        (d.table.shared.table_id.words ≡ 1) × (d.table.shared.table_id.slots ≡ 0) };
 }
 
 /// The right to draw a number of times from one counter. A contract sees the numbers that it drew.
@@ -102,7 +104,12 @@ impl Model for DrawSeat {
 
     ghost Value = { Drawer };
 
-    ghost view = { λ s. record { table = s.seat.table_id; draws = s.seat.me.0.draws; drawn = s.seat.me.0.drawn; left = s.left } };
+    ghost view = { λ s. record {
+      table = s.seat.table_id;
+      draws = s.seat.me.0.draws;
+      drawn = s.seat.me.0.drawn;
+      left = s.left;
+    } };
 
     ghost invariant = { λ s. (s.seat.me.0.left ≡ s.left) × (s.seat.me.1 ≡ []) };
 }
@@ -119,8 +126,12 @@ impl DrawSeat {
 fn cut_off<A: Amount>(word: &Word, seat: &mut Seat<(), Hand>, amount: u64) -> Seat<(), Hand>
     requires amount { (amount ≡ A.amount) × (amount ≤ seat.old.me.0.left) }
     requires own { (seat.old.table_id ≡ word.now.table_id) × (0 < word.now.table_id.words) }
-    ensures kept { (seat.new.table_id ≡ seat.old.table_id) × (seat.new.me ≡ (hand seat.old.me.0.drawn (seat.old.me.0.left - amount) seat.old.me.0.draws, seat.old.me.1)) }
-    ensures given { (result.table_id ≡ seat.old.table_id) × (result.me ≡ (hand [] amount seat.old.me.0.draws, [])) }
+    ensures kept { (seat.new.table_id ≡ seat.old.table_id) × (seat.new.me ≡ (
+      hand seat.old.me.0.drawn (seat.old.me.0.left - amount) seat.old.me.0.draws,
+      seat.old.me.1,
+    )) }
+    ensures given { (result.table_id ≡ seat.old.table_id)
+        × (result.me ≡ (hand [] amount seat.old.me.0.draws, [])) }
 {
     word.split_seat::<Cut<A>>(seat)
 }
@@ -143,7 +154,8 @@ impl Draws {
     pub fn draw(&self, seat: &mut DrawSeat) -> u64
         requires own { IsSeatOf self.now seat.old }
         requires left { 0 < seat.old.left }
-        ensures seat { seat.new ≡ drawer self.now (seat.old.drawn ++ result ∷ []) (seat.old.left - 1) }
+        ensures seat { seat.new
+            ≡ drawer self.now (seat.old.drawn ++ result ∷ []) (seat.old.left - 1) }
         ensures greater { All (λ x. x < result) seat.old.drawn }
         // as many numbers are below it at least
         ensures many { length seat.old.drawn ≤ result }
@@ -168,7 +180,8 @@ impl Draws {
     /// Makes two seats one, which has both lists and the draws of both.
     pub fn join(&self, seat: &mut DrawSeat, other: DrawSeat)
         requires own { IsSeatOf self.now seat.old × IsSeatOf self.now other }
-        ensures { seat.new ≡ drawer self.now (seat.old.drawn ++ other.drawn) (seat.old.left + other.left) }
+        ensures { seat.new
+            ≡ drawer self.now (seat.old.drawn ++ other.drawn) (seat.old.left + other.left) }
     {
         let DrawSeat { seat: other, left } = other;
         self.table.shared.join_seat::<Glue>(&mut seat.seat, other);

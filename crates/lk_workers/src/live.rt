@@ -8,13 +8,17 @@
 //! makes and `join` takes away. A waiting seat that is dropped keeps its ticket: no later one is
 //! served.
 
-ghost use Rattle.std.specs.Prelude.{◌≡◌, ℕ, ◌+◌, ◌-◌, ◌%◌, ◌^◌, ◌<◌, ◌≤◌, ◌==◌, max, if◌then◌else◌, [], ◌∷◌, ◌++◌, Option, IfOk};
+ghost use Rattle.std.specs.Prelude.{◌≡◌, ℕ, ◌+◌, ◌-◌, ◌%◌, ◌^◌, ◌<◌, ◌≤◌, ◌==◌, max, if◌then◌else◌};
+ghost use Rattle.std.specs.Prelude.{[], ◌∷◌, ◌++◌, Option, IfOk};
 ghost use Rattle.lk_locks.specs.declared.kinds.Outcome.TheVariants.{Moved, Waits, Entered, Left};
 ghost use Rattle.lk_locks.specs.laws.{event, take_event, look_event, read_event, pass_event};
-ghost use Rattle.lk_workers.specs.declared.live.LivePhase.TheVariants.{Idle, Waiting, Inside, Leaving};
-ghost use Rattle.lk_workers.specs.Seats.{Live, seat_state, operation, ticket_in, thread_of, with_seen, AreApart};
+ghost use Rattle.lk_workers.specs.declared.live.LivePhase.TheVariants.{Idle, Waiting, Inside};
+ghost use Rattle.lk_workers.specs.declared.live.LivePhase.TheVariants.{Leaving};
+ghost use Rattle.lk_workers.specs.Seats.{Live, seat_state, operation, ticket_in, thread_of};
+ghost use Rattle.lk_workers.specs.Seats.{with_seen, AreApart};
 ghost use Rattle.lk_workers.specs.LockState.{IsEnd};
-ghost use Rattle.lk_workers.specs.SeatSteps.{take_step, look_step, read_step, pass_step, moved, joined, rest_of, share_of, cut_left, cut_right};
+ghost use Rattle.lk_workers.specs.SeatSteps.{take_step, look_step, read_step, pass_step, moved};
+ghost use Rattle.lk_workers.specs.SeatSteps.{joined, rest_of, share_of, cut_left, cut_right};
 
 pub mod laws;
 mod rule;
@@ -54,7 +58,8 @@ impl Model for LiveTicket {
 
     ghost view = { λ t. t.table.shared.table_id };
 
-    ghost invariant = { λ t. (t.table.shared.table_id.words ≡ 2) × (t.table.shared.table_id.slots ≡ 0) };
+    ghost invariant = { λ t.
+        (t.table.shared.table_id.words ≡ 2) × (t.table.shared.table_id.slots ≡ 0) };
 }
 
 /// A thread of one lock, as far as the lock is concerned.
@@ -75,16 +80,26 @@ impl Model for LiveSeat {
 
     ghost Value = { Live };
 
-    ghost view = { λ s. record { table = s.seat.table_id; state = seat_state s.phase s.ticket s.left s.taken s.seen (loads_of s.seat.me.0) (made_of s.seat.me.0) } };
+    ghost view = { λ s. record {
+      table = s.seat.table_id;
+      state = seat_state s.phase s.ticket s.left s.taken s.seen (loads_of s.seat.me.0)
+          (made_of s.seat.me.0);
+    } };
 
-    ghost invariant = { λ s. (s.seat.me ≡ (seat_state s.phase s.ticket s.left s.taken s.seen (loads_of s.seat.me.0) (made_of s.seat.me.0) ∷ [], [])) × (s.ticket < 2 ^ 40) };
+    ghost invariant = { λ s. (s.seat.me ≡ (
+      seat_state s.phase s.ticket s.left s.taken s.seen (loads_of s.seat.me.0)
+          (made_of s.seat.me.0) ∷ [],
+      [],
+    ))
+        × (s.ticket < 2 ^ 40) };
 }
 
 impl LiveSeat {
     // A seat that took nothing yet.
     fn idle(seat: Seat<(), View>, left: u64, seen: u64) -> LiveSeat
         requires { seat.me ≡ (seat_state Idle 0 left 0 seen 0 [] ∷ [], []) }
-        ensures { (result.table ≡ seat.table_id) × (result.state ≡ seat_state Idle 0 left 0 seen 0 []) }
+        ensures { (result.table ≡ seat.table_id)
+            × (result.state ≡ seat_state Idle 0 left 0 seen 0 []) }
     {
         LiveSeat {
             seat,
@@ -139,8 +154,10 @@ fn cut_off<A: Amount>(words: &LiveWords, seat: &mut Seat<(), View>, amount: u64)
     requires amount { amount ≡ A.amount }
     requires own { (seat.old.table_id ≡ words.now.table_id) × (0 < words.now.table_id.words) }
     requires left { (r : _) × (seat.old.me.0 ≡ r ∷ []) × (amount ≤ r.left) }
-    ensures kept { (seat.new.table_id ≡ seat.old.table_id) × (seat.new.me ≡ (cut_left amount seat.old.me.0, seat.old.me.1)) }
-    ensures given { (result.table_id ≡ seat.old.table_id) × (result.me ≡ (cut_right amount seat.old.me.0, [])) }
+    ensures kept { (seat.new.table_id ≡ seat.old.table_id)
+        × (seat.new.me ≡ (cut_left amount seat.old.me.0, seat.old.me.1)) }
+    ensures given { (result.table_id ≡ seat.old.table_id)
+        × (result.me ≡ (cut_right amount seat.old.me.0, [])) }
 {
     words.split_seat::<Cut<A>>(seat)
 }
@@ -153,7 +170,8 @@ impl LiveTicket {
     /// There was no memory for the words.
     pub fn open(alloc: Global, takes: u64) -> Result<(LiveTicket, LiveSeat), AllocError>
         requires { takes ≤ 2 ^ 40 }
-        ensures { IfOk result (λ r. (r.1.table ≡ r.0) × (r.1.state ≡ seat_state Idle 0 takes 0 0 0 [])) }
+        ensures { IfOk result
+            (λ r. (r.1.table ≡ r.0) × (r.1.state ≡ seat_state Idle 0 takes 0 0 0 [])) }
     {
         let (table, seat) = Table::of_words(alloc, &[0, 0], &takes)?;
         Ok((LiveTicket { table }, LiveSeat::idle(seat, takes, 0)))
@@ -167,7 +185,8 @@ impl LiveTicket {
         ensures seat { seat.new.state ≡ moved take_step seat.old.state result }
         ensures operation { seat.new.state.made ≡ seat.old.state.made ++ operation 0 1 ∷ [] }
         ensures seen { seat.old.state.seen ≤ result }
-        ensures event { take_event 64 result ≡ event ((result + 1) % 2 ^ 64) (thread_of seat.new.state) Moved }
+        ensures event { take_event 64 result
+            ≡ event ((result + 1) % 2 ^ 64) (thread_of seat.new.state) Moved }
     {
         let ticket = self.table.shared.fetch_add::<Take>(&mut seat.seat, 0, 1);
         seat.phase = LivePhase::Waiting;
@@ -186,7 +205,9 @@ impl LiveTicket {
         ensures operation { seat.new.state.made ≡ seat.old.state.made ++ operation 1 0 ∷ [] }
         ensures later { seat.old.state.seen ≤ seat.new.state.seen }
         ensures answer { result ≡ (seat.new.state.seen == seat.old.state.ticket) }
-        ensures event { look_event seat.old.state.ticket seat.new.state.seen ≡ event seat.new.state.seen (thread_of seat.new.state) (if result then Entered else Waits) }
+        ensures event { look_event seat.old.state.ticket seat.new.state.seen
+            ≡ event seat.new.state.seen (thread_of seat.new.state)
+            (if result then Entered else Waits) }
     {
         let serving = self.table.shared.load::<Look>(&mut seat.seat, 1);
         seat.seen = serving;
@@ -204,7 +225,8 @@ impl LiveTicket {
         ensures own { seat.new.table ≡ self.now }
         ensures seat { seat.new.state ≡ moved read_step seat.old.state seat.old.state.ticket }
         ensures operation { seat.new.state.made ≡ seat.old.state.made ++ operation 1 0 ∷ [] }
-        ensures event { read_event seat.new.state.seen ≡ event seat.new.state.seen (thread_of seat.new.state) Moved }
+        ensures event { read_event seat.new.state.seen
+            ≡ event seat.new.state.seen (thread_of seat.new.state) Moved }
     {
         let serving = self.table.shared.load::<ReadServing>(&mut seat.seat, 1);
         seat.seen = serving;
@@ -217,8 +239,10 @@ impl LiveTicket {
         requires leaving { seat.old.state.phase ≡ Leaving }
         ensures own { seat.new.table ≡ self.now }
         ensures seat { seat.new.state ≡ moved pass_step seat.old.state seat.old.state.ticket }
-        ensures operation { seat.new.state.made ≡ seat.old.state.made ++ operation 1 (seat.old.state.ticket + 1) ∷ [] }
-        ensures event { pass_event 64 seat.old.state.ticket ≡ event seat.new.state.seen (thread_of seat.new.state) Left }
+        ensures operation { seat.new.state.made
+            ≡ seat.old.state.made ++ operation 1 (seat.old.state.ticket + 1) ∷ [] }
+        ensures event { pass_event 64 seat.old.state.ticket
+            ≡ event seat.new.state.seen (thread_of seat.new.state) Left }
     {
         let next = seat.ticket + 1;
         self.table.shared.store::<Pass>(&mut seat.seat, 1, next);
@@ -231,7 +255,8 @@ impl LiveTicket {
     pub fn split(&self, seat: &mut LiveSeat, left: u64) -> LiveSeat
         requires own { seat.old.table ≡ self.now }
         requires idle { (seat.old.state.phase ≡ Idle) × (left ≤ seat.old.state.left) }
-        ensures kept { (seat.new.table ≡ self.now) × (seat.new.state ≡ rest_of seat.old.state left) }
+        ensures kept { (seat.new.table ≡ self.now)
+            × (seat.new.state ≡ rest_of seat.old.state left) }
         ensures given { (result.table ≡ self.now) × (result.state ≡ share_of seat.old.state left) }
     {
         let other = cut_off::<Brand>(&self.table.shared, &mut seat.seat, left);
@@ -267,8 +292,10 @@ impl LiveTicket {
     pub fn apart(&self, seat: &mut LiveSeat, other: LiveSeat) -> LiveSeat
         requires own { (seat.old.table ≡ self.now) × (other.table ≡ self.now) }
         ensures own { (seat.new.table ≡ self.now) × (result.table ≡ self.now) }
-        ensures first { seat.new.state ≡ with_seen (max seat.old.state.seen other.state.seen) seat.old.state }
-        ensures second { result.state ≡ with_seen (max seat.old.state.seen other.state.seen) other.state }
+        ensures first { seat.new.state
+            ≡ with_seen (max seat.old.state.seen other.state.seen) seat.old.state }
+        ensures second { result.state
+            ≡ with_seen (max seat.old.state.seen other.state.seen) other.state }
         ensures apart { AreApart seat.new.state result.state }
     {
         let LiveSeat {

@@ -5,11 +5,13 @@
 //! draws there are. When all seats are joined again, the numbers below the word were drawn once
 //! each. So each report has one place, and no place stays empty.
 
-ghost use Rattle.std.specs.Prelude.{◌≡◌, ℕ, ◌+◌, ◌-◌, ◌*◌, ◌<◌, ◌≤◌, ◌++◌, length, map, All, IsSome, None, Some, option_map, replicate, IfOk};
+ghost use Rattle.std.specs.Prelude.{◌≡◌, ℕ, ◌+◌, ◌-◌, ◌*◌, ◌<◌, ◌≤◌, ◌++◌, length, map, All};
+ghost use Rattle.std.specs.Prelude.{IsSome, None, Some, option_map, replicate, IfOk};
 ghost use Rattle.std.specs.Thread.{IsSync};
 ghost use Rattle.lk_replay.specs.Report.{report_text};
 ghost use Rattle.lk_workers.specs.Drawing.{IsSeatOf, drawer};
-ghost use Rattle.lk_workers.specs.invariants.Collected.{bytes_of, numbered, MayWork, IsDone, IsEachOnce, placed};
+ghost use Rattle.lk_workers.specs.invariants.Collected.{bytes_of, numbered, MayWork, IsDone};
+ghost use Rattle.lk_workers.specs.invariants.Collected.{IsEachOnce, placed};
 
 use crate::draws::{DrawSeat, Draws};
 use crate::gate::{Gate, Opened};
@@ -86,7 +88,8 @@ impl<'a, G: Gate> Batch<'a, G> {
 // What two groups of workers bring back, as one.
 fn gather(draws: &Draws, front: Done, back: Done) -> Result<Done, AllocError>
     requires { IsSeatOf draws.now front.0 × IsSeatOf draws.now back.0 }
-    ensures { IfOk result (λ r. (r.0 ≡ drawer draws.now (front.0.drawn ++ back.0.drawn) (front.0.left + back.0.left))
+    ensures { IfOk result
+        (λ r. (r.0 ≡ drawer draws.now (front.0.drawn ++ back.0.drawn) (front.0.left + back.0.left))
         × (r.1.items ≡ front.1.items ++ back.1.items)) }
 {
     let (mut seat, mut reports) = front;
@@ -104,7 +107,8 @@ fn work_all<G: Gate, R: Threads + Sync>(
     workers: u8,
 ) -> Result<Done, AllocError>
     requires { MayWork batch.draws.now batch.texts.now workers seat }
-    ensures { IfOk result (λ r. IsDone batch.entry.draws.now batch.entry.texts.now workers r.0 r.1.items) }
+    ensures { IfOk result
+        (λ r. IsDone batch.entry.draws.now batch.entry.texts.now workers r.0 r.1.items) }
 {
     if workers == 1 {
         return batch.work(seat);
@@ -169,7 +173,8 @@ fn empty_places(alloc: Global, count: usize) -> Result<Vec<Option<Vec<u8>>>, All
 
 fn place_all(mut places: Vec<Option<Vec<u8>>>, reports: Vec<Numbered>) -> Vec<Option<Vec<u8>>>
     requires { All (λ p. p.0 < length places.items) reports.items }
-    ensures { map (option_map (λ v. v.items)) result.items ≡ placed (map (option_map (λ v. v.items)) places.items) (numbered reports.items) }
+    ensures { map (option_map (λ v. v.items)) result.items
+        ≡ placed (map (option_map (λ v. v.items)) places.items) (numbered reports.items) }
 {
     for (number, report) in reports {
         places[number] = Some(report);
@@ -179,7 +184,8 @@ fn place_all(mut places: Vec<Option<Vec<u8>>>, reports: Vec<Numbered>) -> Vec<Op
 
 fn take_all(alloc: Global, places: Vec<Option<Vec<u8>>>) -> Result<Vec<Vec<u8>>, AllocError>
     requires { All (λ o. IsSome o) places.items }
-    ensures { IfOk result (λ v. map (λ r. Some r.items) v.items ≡ map (option_map (λ v. v.items)) places.items) }
+    ensures { IfOk result
+        (λ v. map (λ r. Some r.items) v.items ≡ map (option_map (λ v. v.items)) places.items) }
 {
     let mut all = Vec::with_capacity(alloc, places.len())?;
     for place in places {
@@ -207,7 +213,8 @@ pub fn replay_many<G: Gate, R: Threads + Sync>(
 ) -> Result<Vec<Vec<u8>>, AllocError>
     requires workers { (1 ≤ workers) × (workers ≤ 8) }
     requires texts { length texts.now ≤ 65536 }
-    ensures { IfOk result (λ reports. map (λ r. r.items) reports.items ≡ map (λ t. report_text t.items) texts.now) }
+    ensures { IfOk result
+        (λ reports. map (λ r. r.items) reports.items ≡ map (λ t. report_text t.items) texts.now) }
 {
     let reports = draw_all(rt, alloc, texts, workers, gate)?;
     let places = place_all(empty_places(alloc, texts.len())?, reports);

@@ -1,5 +1,6 @@
 -- Invariants. What workers that draw the numbers of texts bring back.
-use Rattle.std.specs.Prelude.{Option, Some, Vec, slice_set, ◌∷◌, ◌≡◌, ℕ, ◌+◌, ◌*◌, ◌<◌, ◌≤◌, List, [], map, length, filter, ltb, slice_index_or}
+use Rattle.std.specs.Prelude.{Option, Some, Vec, slice_set, ◌∷◌, ◌≡◌, ℕ, ◌+◌, ◌*◌, ◌<◌, ◌≤◌, List}
+use Rattle.std.specs.Prelude.{[], map, length, filter, ltb, slice_index_or}
 use Rattle.std.specs.declared.alloc.Global.{Global}
 use Rattle.lk_replay.specs.Report.{report_text}
 use Rattle.lk_workers.specs.Counting.{occurrences}
@@ -18,7 +19,8 @@ report_at texts k = report_text (slice_index_or texts k [])
 
 -- the numbers of texts among the numbers drawn, each with its report
 abbrev pub reports_of : List (List ℕ) → List ℕ → List (ℕ × List ℕ)
-reports_of texts drawn = map (λ k. (k, report_at texts k)) (filter (λ k. ltb k (length texts)) drawn)
+reports_of texts drawn =
+    map (λ k. (k, report_at texts k)) (filter (λ k. ltb k (length texts)) drawn)
 
 -- a number past the texts was drawn
 abbrev pub IsThrough : List (List ℕ) → List ℕ → Type 0
@@ -37,15 +39,19 @@ IsBack c share s = IsSeatOf c s × (length s.drawn + s.left ≡ share)
 
 -- a seat with the draws of these many workers, each of whom may draw once more than there are texts
 abbrev pub MayWork : Counter → List (Vec ℕ Global) → ℕ → Drawer → Type 0
-MayWork c texts workers s = IsFresh c (workers * (length texts + 1)) s × (1 ≤ workers) × (length texts ≤ 65536)
+MayWork c texts workers s =
+    IsFresh c (workers * (length texts + 1)) s × (1 ≤ workers) × (length texts ≤ 65536)
 
 -- a seat that comes back from these many workers, with their reports
 abbrev pub IsDone : Counter → List (Vec ℕ Global) → ℕ → Drawer → List (ℕ × Vec ℕ Global) → Type 0
-IsDone c texts workers s reports = IsBack c (workers * (length texts + 1)) s × IsWorkOf (bytes_of texts) s.drawn (numbered reports)
+IsDone c texts workers s reports =
+    IsBack c (workers * (length texts + 1)) s × IsWorkOf (bytes_of texts) s.drawn (numbered reports)
 
 -- the number of each text stands there once, with its report, and no other number
 abbrev pub IsEachOnce : List (List ℕ) → List (ℕ × List ℕ) → Type 0
-IsEachOnce texts ps = (ks : List ℕ) × (ps ≡ reports_of texts ks) × ((k : ℕ) → k < length texts → occurrences k (filter (λ j. ltb j (length texts)) ks) ≡ 1)
+IsEachOnce texts ps =
+    (ks : List ℕ) × (ps ≡ reports_of texts ks)
+    × ((k : ℕ) → k < length texts → occurrences k (filter (λ j. ltb j (length texts)) ks) ≡ 1)
 
 -- the reports put into their places
 abbrev pub placed : List (Option (List ℕ)) → List (ℕ × List ℕ) → List (Option (List ℕ))

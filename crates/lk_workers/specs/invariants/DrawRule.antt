@@ -1,5 +1,6 @@
 -- Invariants. The rule of the draw counter in counting form, and what its steps tell.
-use Rattle.std.specs.Prelude.{◌≡◌, ℕ, ◌+◌, ◌-◌, ◌^◌, ◌<◌, ◌≤◌, [], ◌∷◌, ◌++◌, length, slice_index, All}
+use Rattle.std.specs.Prelude.{◌≡◌, ℕ, ◌+◌, ◌-◌, ◌^◌, ◌<◌, ◌≤◌, [], ◌∷◌, ◌++◌, length, slice_index}
+use Rattle.std.specs.Prelude.{All}
 use Rattle.atomic_table.specs.Table.{State, Me, Step}
 use Rattle.lk_workers.specs.Counting.{sum_over, occurrences, once_below}
 use Rattle.lk_workers.specs.declared.draws.Hand.{Hand}
@@ -8,14 +9,18 @@ use Rattle.lk_workers.specs.Drawing.{hand}
 -- each number is drawn as often as it is below the word, and what is drawn and what is left is all
 pub record Drawn (draws : ℕ) (s : State (Unit {0}) Hand) : Type 0 where
   pub one_word : length s.words ≡ 1
-  pub once : (x : ℕ) → sum_over (λ v. occurrences x v.drawn) s.views ≡ once_below x (slice_index s.words 0)
+  pub once : (x : ℕ)
+      → sum_over (λ v. occurrences x v.drawn) s.views ≡ once_below x (slice_index s.words 0)
   pub many : sum_over (λ v. length v.drawn) s.views ≡ slice_index s.words 0
   pub all : slice_index s.words 0 + sum_over (λ v. v.left) s.views ≡ draws
   pub few : draws ≤ 2 ^ 40
 
--- the word found is appended. It is greater than each number of the list, and there are at least as many numbers below it
+-- the word found is appended. It is greater than each number of the list, and there are at least as
+-- many numbers below it
 abbrev pub DrawTells : Step (Unit {0}) → Me (Unit {0}) Hand → ℕ → Me (Unit {0}) Hand → Type 0
-DrawTells st v found w = (w ≡ (hand (v.0.drawn ++ found ∷ []) (v.0.left - 1) v.0.draws, v.1)) × (length v.0.drawn ≤ found) × All (λ x. x < found) v.0.drawn
+DrawTells st v found w =
+    (w ≡ (hand (v.0.drawn ++ found ∷ []) (v.0.left - 1) v.0.draws, v.1))
+    × (length v.0.drawn ≤ found) × All (λ x. x < found) v.0.drawn
 
 -- nothing changes, and what is left is few
 abbrev pub CountTells : Step (Unit {0}) → Me (Unit {0}) Hand → ℕ → Me (Unit {0}) Hand → Type 0

@@ -8,7 +8,8 @@ use Rattle.lk_workers.specs.declared.live.LivePhase.TheVariants.{Idle, Waiting, 
 use Rattle.lk_workers.specs.declared.live.rule.Operation.{Operation}
 use Rattle.lk_workers.specs.declared.live.rule.SeatState.{SeatState}
 use Rattle.lk_workers.specs.Counting.{once_below}
-use Rattle.lk_workers.specs.Seats.{Table, operation, noted, next_of, serving_of, sum_over_seats, ticket_indicator, AreApart}
+use Rattle.lk_workers.specs.Seats.{Table, operation, noted, next_of, serving_of, sum_over_seats}
+use Rattle.lk_workers.specs.Seats.{ticket_indicator, AreApart}
 use Rattle.lk_workers.specs.SeatSteps.{LiveStep}
 
 abbrev pub Sees : Type 0
@@ -46,8 +47,11 @@ ViewFits serving v = Each (Fits serving) v × (length v ≤ 2)
 pub record Running (takes : ℕ) (s : Table) : Type 0 where
   pub two_words : length s.words ≡ 2
   pub served : serving_of s ≤ next_of s
-  pub tickets : (x : ℕ) → sum_over_seats (ticket_indicator x) s.views + once_below x (serving_of s) ≡ once_below x (next_of s)
-  pub seats : (id : ℕ) (v : List SeatState) → get_elem? s.views id ≡ some v → ViewFits (serving_of s) v
+  pub tickets : (x : ℕ)
+      → sum_over_seats (ticket_indicator x) s.views + once_below x (serving_of s)
+      ≡ once_below x (next_of s)
+  pub seats : (id : ℕ) (v : List SeatState) → get_elem? s.views id ≡ some v
+      → ViewFits (serving_of s) v
   pub taken : sum_over_seats (λ r. r.taken) s.views ≡ next_of s
   pub left : next_of s + sum_over_seats (λ r. r.left) s.views ≤ 2 ^ 40
 
@@ -63,14 +67,20 @@ ReadTells r found = found ≡ r.ticket
 abbrev pub PassTells : SeatState → ℕ → Type 0
 PassTells r found = ⊤
 
--- a step of the only seat of a view, with a note of the word and the operand that the table's own step has
+-- a step of the only seat of a view, with a note of the word and the operand that the table's own
+-- step has
 abbrev pub OfOne : LiveStep → (SeatState → ℕ → Type 0) → Step (Unit {0}) → Sees → ℕ → Sees → Type 0
-OfOne live tells st v found w = (r : SeatState) → v.0 ≡ r ∷ [] → (w ≡ (noted (operation st.word st.first) (live.next r found) ∷ [], v.1)) × tells r found
+OfOne live tells st v found w =
+    (r : SeatState) → v.0 ≡ r ∷ []
+    → (w ≡ (noted (operation st.word st.first) (live.next r found) ∷ [], v.1)) × tells r found
 
 -- nothing changes, and what one seat has is few
 abbrev pub Counts : Step (Unit {0}) → Sees → ℕ → Sees → Type 0
-Counts st v found w = (w ≡ v) × (st.word ≡ 0) × ((r : SeatState) → v.0 ≡ r ∷ [] → (r.left ≤ 2 ^ 40) × (r.taken ≤ 2 ^ 40))
+Counts st v found w =
+    (w ≡ v) × (st.word ≡ 0)
+    × ((r : SeatState) → v.0 ≡ r ∷ [] → (r.left ≤ 2 ^ 40) × (r.taken ≤ 2 ^ 40))
 
 -- nothing changes, and two seats side by side are apart
 abbrev pub Compares : Step (Unit {0}) → Sees → ℕ → Sees → Type 0
-Compares st v found w = (w ≡ v) × (st.word ≡ 0) × ((r q : SeatState) → v.0 ≡ r ∷ q ∷ [] → AreApart r q)
+Compares st v found w =
+    (w ≡ v) × (st.word ≡ 0) × ((r q : SeatState) → v.0 ≡ r ∷ q ∷ [] → AreApart r q)

@@ -5,11 +5,20 @@ use Rattle.lk_workers.proofs.SeatJoins.{pairs, unpairs}
 use Rattle.lk_workers.proofs.live.LiveTicket.apart.Goals as goal
 
 pub join_seat-requires : goal.join_seat-requires
-join_seat-requires c = (search rules, search rules, search rules, search rules, pairs _ _ _ _ _ _ _ (ap (λ m. m.0) c.seat.invariant.0) (ap (λ m. m.0) c.other.invariant.0))
+join_seat-requires c = (
+  search rules,
+  search rules,
+  search rules,
+  search rules,
+  pairs _ _ _ _ _ _ _ (ap (λ m. m.0) c.seat.invariant.0) (ap (λ m. m.0) c.other.invariant.0),
+)
 
 pub load-requires : goal.load-requires
 load-requires c = (search rules, search rules, compare _ _ _ _)
 
 pub split_seat-second-requires : goal.split_seat-second-requires
-split_seat-second-requires c = let is = ap (λ m. m.0) (c.load.ensures.2.0 ∙ c.join_seat.ensures.2) ∙ (λ k. paired (c.seat.invariant.0 k).0 (c.other.invariant.0 k).0) in
+split_seat-second-requires c =
+    let is =
+    ap (λ m. m.0) (c.load.ensures.2.0 ∙ c.join_seat.ensures.2)
+    ∙ (λ k. paired (c.seat.invariant.0 k).0 (c.other.invariant.0 k).0) in
     (search rules, search rules, unpairs _ _ _ _ _ is)

@@ -5,7 +5,18 @@ use Rattle.lk_workers.proofs.SeatJoins.{glues}
 use Rattle.lk_workers.proofs.live.LiveTicket.join.Goals as goal
 
 pub join_seat-requires : goal.join_seat-requires
-join_seat-requires c = (search rules, search rules, search rules, search rules, glues _ _ _ _ _ _ _ (ap (λ m. m.0) c.seat.invariant.0) (ap (λ m. m.0) c.other.invariant.0) (search rules) (search rules))
+join_seat-requires c = (
+  search rules,
+  search rules,
+  search rules,
+  search rules,
+  glues _ _ _ _ _ _ _ (ap (λ m. m.0) c.seat.invariant.0) (ap (λ m. m.0) c.other.invariant.0)
+      (search rules) (search rules),
+)
 
 pub load-requires : goal.load-requires
-load-requires c = let is = ap (λ m. m.0) c.join_seat.ensures.2 ∙ (λ k. glued (c.seat.invariant.0 k).0 (c.other.invariant.0 k).0) in (search rules, search rules, count _ _ _ _ _ is)
+load-requires c =
+    let is =
+    ap (λ m. m.0) c.join_seat.ensures.2
+    ∙ (λ k. glued (c.seat.invariant.0 k).0 (c.other.invariant.0 k).0) in
+    (search rules, search rules, count _ _ _ _ _ is)

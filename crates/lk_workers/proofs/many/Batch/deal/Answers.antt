@@ -3,7 +3,13 @@ use Rattle.lk_workers.proofs.DrawnWork.{shares}
 use Rattle.lk_workers.proofs.many.Batch.deal.Goals as goal
 
 pub returns-clause-kept : goal.returns-clause-kept
-returns-clause-kept g c = let e = shares c.args.workers c.args.half (length c.args.self.now.texts.now + 1) c.requires.half.1 in search rules
+returns-clause-kept g c =
+    let e =
+    shares c.args.workers c.args.half (length c.args.self.now.texts.now + 1) c.requires.half.1 in
+    search rules
 
 pub split-requires-clause-left : goal.split-requires-clause-left
-split-requires-clause-left g c = let e = shares c.args.workers c.args.half (length c.args.self.now.texts.now + 1) c.requires.half.1 in search rules
+split-requires-clause-left g c =
+    let e =
+    shares c.args.workers c.args.half (length c.args.self.now.texts.now + 1) c.requires.half.1 in
+    search rules
