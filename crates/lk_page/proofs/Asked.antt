@@ -1,5 +1,6 @@
 -- The moves that are asked for, one after another.
-use Rattle.std.proofs.Common.{◌≡◌, ℕ, zero, suc, ◌+◌, ◌-◌, ◌<◌, ◌≤◌, List, [], ◌∷◌, length, take, drop, None, Some, refl, ap, sym, ◌∙◌, arith}
+use Rattle.std.proofs.Common.{◌≡◌, ℕ, zero, suc, ◌+◌, ◌-◌, ◌<◌, ◌≤◌, List, [], ◌∷◌, length, take}
+use Rattle.std.proofs.Common.{drop, None, Some, refl, ap, sym, ◌∙◌, arith}
 use Rattle.std.proofs.lemmas.Option.{none-some, same_Some}
 use Rattle.std.proofs.Math.Seq.{take-nil}
 use Rattle.lk_replay.specs.Reading.{first_of}
@@ -13,10 +14,13 @@ first_is : (ms : List Line) (l : Line) → first_of ms ≡ Some l → ms ≡ l �
 first_is [] l e = absurd (none-some l e)
 first_is (m ∷ ms) l e = ap (λ (x : Line). x ∷ ms) (same_Some m l e)
 
-pub next_asked : (most count : ℕ) (ms : List Line) (l : Line) → count < most → first_of ms ≡ Some l → take (most - count) ms ≡ l ∷ take (most - (count + 1)) (drop 1 ms)
+pub next_asked : (most count : ℕ) (ms : List Line) (l : Line) → count < most → first_of ms ≡ Some l
+    → take (most - count) ms ≡ l ∷ take (most - (count + 1)) (drop 1 ms)
 next_asked most count ms l h e =
-    ap (take (most - count)) (first_is ms l e) ∙ prefix (most - count) l (drop 1 ms) (omega (arith, h))
-    ∙ (let e : most - count - 1 ≡ most - (count + 1) = omega arith in ap (λ (n : ℕ). l ∷ take n (drop 1 ms)) e)
+    ap (take (most - count)) (first_is ms l e)
+    ∙ prefix (most - count) l (drop 1 ms) (omega (arith, h))
+    ∙ (let e : most - count - 1 ≡ most - (count + 1) = omega arith in
+    ap (λ (n : ℕ). l ∷ take n (drop 1 ms)) e)
 
 no_first : (ms : List Line) → first_of ms ≡ None → ms ≡ []
 no_first [] e = refl
@@ -26,7 +30,9 @@ pub none_left : (most count : ℕ) (ms : List Line) → first_of ms ≡ None →
 none_left most count ms e = ap (take (most - count)) (no_first ms e) ∙ take-nil (most - count)
 
 pub none_asked : (most count : ℕ) (ms : List Line) → most ≤ count → take (most - count) ms ≡ []
-none_asked most count ms h = let e : most - count ≡ 0 = omega (arith, h) in ap (λ (n : ℕ). take n ms) e
+none_asked most count ms h =
+    let e : most - count ≡ 0 = omega (arith, h) in
+    ap (λ (n : ℕ). take n ms) e
 
 pub fewer : (ms : List Line) (l : Line) → first_of ms ≡ Some l → length (drop 1 ms) + 1 ≡ length ms
 fewer [] l e = absurd (none-some l e)

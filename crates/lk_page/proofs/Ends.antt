@@ -1,5 +1,6 @@
 -- What is written at the end is what the text says.
-use Rattle.std.proofs.Common.{◌≡◌, ℕ, List, [], ◌++◌, length, take, drop, Option, Some, IfSome, Result, Ok, Err, refl, ap, subst, ◌∙◌}
+use Rattle.std.proofs.Common.{◌≡◌, ℕ, List, [], ◌++◌, length, take, drop, Option, Some, IfSome}
+use Rattle.std.proofs.Common.{Result, Ok, Err, refl, ap, subst, ◌∙◌}
 use Rattle.lk_locks.specs.Tracked.{Tracked, tracked, holding_in, waiting_in}
 use Rattle.lk_locks.specs.declared.kinds.Refusal.{Refusal}
 use Rattle.lk_replay.specs.Faults.{Fault}
@@ -17,27 +18,48 @@ use Rattle.lk_page.specs.Playing.{HavePlayed}
 use Rattle.lk_page.proofs.Replayed.{entries_replayed}
 use Rattle.lk_page.proofs.Tracks.{holding_tracked, waiting_tracked}
 
-same_state : (p : Plan) (most moves : ℕ) (k : Tracked) (count : ℕ) (refused : Option (ℕ × Refusal)) (old new : List ℕ) → HavePlayed (start_of p) (take most p.moves) old k count refused new → moves ≡ length p.moves
+same_state : (p : Plan) (most moves : ℕ) (k : Tracked) (count : ℕ) (refused : Option (ℕ × Refusal))
+    (old new : List ℕ)
+    → HavePlayed (start_of p) (take most p.moves) old k count refused new → moves ≡ length p.moves
     → let end : Moment = after_lines (beginning p) (take most p.moves) in
-    bytes_of_state moves count refused k.state (holding_in k) (waiting_in k) ≡ state_bytes (length p.moves) (length (replay_from (start_of p) (take most p.moves)).made) (replay_from (start_of p) (take most p.moves)).refused end
+    bytes_of_state moves count refused k.state (holding_in k) (waiting_in k)
+    ≡ state_bytes (length p.moves) (length (replay_from (start_of p) (take most p.moves)).made)
+    (replay_from (start_of p) (take most p.moves)).refused end
 same_state p most moves k count refused old new h m =
     let end : Moment = after_lines (beginning p) (take most p.moves) in
-    rw (h.after, h.made, h.stopped, m, holding_tracked end.state end.entries, waiting_tracked end.state end.entries) refl
+    rw (
+      h.after,
+      h.made,
+      h.stopped,
+      m,
+      holding_tracked end.state end.entries,
+      waiting_tracked end.state end.entries,
+    ) refl
 
-pub plays : (p : Plan) (read : Result Plan Fault) (most answer moves : ℕ) (first k : Tracked) (count : ℕ) (refused : Option (ℕ × Refusal)) (records_old records_new state_old state_new bytes : List ℕ)
-    → read ≡ Ok p → first ≡ tracked (start_of p) [] → HavePlayed first.state (take most p.moves) records_old k count refused records_new → answer ≡ answer_of refused → moves ≡ length p.moves
-    → bytes ≡ bytes_of_state moves count refused k.state (holding_in k) (waiting_in k) → state_new ≡ bytes ++ drop 2304 state_old
+pub plays : (p : Plan) (read : Result Plan Fault) (most answer moves : ℕ) (first k : Tracked)
+    (count : ℕ) (refused : Option (ℕ × Refusal))
+    (records_old records_new state_old state_new bytes : List ℕ)
+    → read ≡ Ok p → first ≡ tracked (start_of p) []
+    → HavePlayed first.state (take most p.moves) records_old k count refused records_new
+    → answer ≡ answer_of refused → moves ≡ length p.moves
+    → bytes ≡ bytes_of_state moves count refused k.state (holding_in k) (waiting_in k)
+    → state_new ≡ bytes ++ drop 2304 state_old
     → IsTold read most answer records_old records_new state_old state_new
-plays p read most answer moves first k count refused records_old records_new state_old state_new bytes r e h a m b w =
-    let g : HavePlayed (start_of p) (take most p.moves) records_old k count refused records_new = subst (λ (x : Tracked). HavePlayed x.state (take most p.moves) records_old k count refused records_new) e h in
+plays p read most answer moves first k count refused records_old records_new state_old state_new
+    bytes r e h a m b w =
+    let g : HavePlayed (start_of p) (take most p.moves) records_old k count refused records_new =
+    subst (λ (x : Tracked). HavePlayed x.state
+    (take most p.moves) records_old k count refused records_new) e h in
     rw r (record {
       answer_is = a ∙ ap answer_of g.stopped;
       records_are = g.records;
       history_is = entries_replayed (beginning p) (take most p.moves);
-      state_is = w ∙ ap (λ (x : List ℕ). x ++ drop 2304 state_old) (b ∙ same_state p most moves k count refused records_old records_new g m);
+      state_is = w ∙ ap (λ (x : List ℕ). x ++ drop 2304 state_old)
+          (b ∙ same_state p most moves k count refused records_old records_new g m);
     })
 
-names_fault : (fault : ReadFault) (told : Result Plan Fault) → Fails fault told → IsOfText fault → (f : Fault) × (told ≡ Err f) × (as_fault fault ≡ Some f)
+names_fault : (fault : ReadFault) (told : Result Plan Fault) → Fails fault told → IsOfText fault
+    → (f : Fault) × (told ≡ Err f) × (as_fault fault ≡ Some f)
 names_fault read.TooLong told e t = (_, e, refl)
 names_fault (read.NoHeader n) told e t = (_, e, refl)
 names_fault (read.BadHeader n) told e t = (_, e, refl)
@@ -47,10 +69,18 @@ names_fault (read.TooManyMoves n) told e t = (_, e, refl)
 names_fault (read.WordsTooNarrow n) told e t = (_, e, refl)
 names_fault read.OutOfMemory told e t = absurd t
 
-pub tells_fault : (fault : ReadFault) (told : Result Plan Fault) (most answer code line : ℕ) (records_old records_new state_old state_new bytes : List ℕ)
-    → Fails fault told → IsOfText fault → IfSome (as_fault fault) (λ f. (code ≡ fault_code f) × (line ≡ fault_line f)) → answer ≡ 2 → records_new ≡ records_old
-    → bytes ≡ bytes_of_fault code line → state_new ≡ bytes ++ drop 2304 state_old → IsTold told most answer records_old records_new state_old state_new
-tells_fault fault told most answer code line records_old records_new state_old state_new bytes e t c a r b w =
+pub tells_fault : (fault : ReadFault) (told : Result Plan Fault) (most answer code line : ℕ)
+    (records_old records_new state_old state_new bytes : List ℕ)
+    → Fails fault told → IsOfText fault
+    → IfSome (as_fault fault) (λ f. (code ≡ fault_code f) × (line ≡ fault_line f)) → answer ≡ 2
+    → records_new ≡ records_old
+    → bytes ≡ bytes_of_fault code line → state_new ≡ bytes ++ drop 2304 state_old
+    → IsTold told most answer records_old records_new state_old state_new
+tells_fault fault told most answer code line records_old records_new state_old state_new bytes e t c
+    a r b w =
     let n = names_fault fault told e t in
-    let named : (code ≡ fault_code n.0) × (line ≡ fault_line n.0) = subst (λ (o : Option Fault). IfSome o (λ f. (code ≡ fault_code f) × (line ≡ fault_line f))) n.2 c in
-    rw n.1 (a, r, w ∙ ap (λ (x : List ℕ). x ++ drop 2304 state_old) (b ∙ rw (named.0, named.1) refl))
+    let named : (code ≡ fault_code n.0) × (line ≡ fault_line n.0) =
+    subst (λ (o : Option Fault). IfSome o (λ f. (code ≡ fault_code f) × (line ≡ fault_line f)))
+    n.2 c in
+    rw n.1
+    (a, r, w ∙ ap (λ (x : List ℕ). x ++ drop 2304 state_old) (b ∙ rw (named.0, named.1) refl))

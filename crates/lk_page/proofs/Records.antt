@@ -1,8 +1,10 @@
 -- The record of a move that was made.
-use Rattle.std.proofs.Common.{◌≡◌, ℕ, ◌<◌, List, ◌++◌, length, slice_index, Option, None, Some, Result, Ok, refl, ap, sym, subst, ◌∙◌}
+use Rattle.std.proofs.Common.{◌≡◌, ℕ, ◌<◌, List, ◌++◌, length, slice_index, Option, None, Some}
+use Rattle.std.proofs.Common.{Result, Ok, refl, ap, sym, subst, ◌∙◌}
 use Rattle.std.proofs.lemmas.List.{get_or-set_same, length-set}
 use Rattle.lk_locks.specs.State.{State, phase_at}
-use Rattle.lk_locks.specs.Steps.{refusal_of, change_of, next_state, answer_unless, answer_to, refused_with}
+use Rattle.lk_locks.specs.Steps.{refusal_of, change_of, next_state, answer_unless, answer_to}
+use Rattle.lk_locks.specs.Steps.{refused_with}
 use Rattle.lk_locks.specs.Entries.{entries_of}
 use Rattle.lk_locks.specs.Tracked.{Tracked, tracked, after_tracked, holding_in, waiting_in}
 use Rattle.lk_locks.specs.declared.kinds.Entry.{Entry}
@@ -35,48 +37,87 @@ refused_unless None o = refl
 refused_unless (Some r) o = refl
 
 -- what an outcome tells
-pub was_made : (s : State) (t : ℕ) (m : Move) (o : Outcome) → Ok o ≡ answer_to s t m → (refusal_of s t m ≡ None) × (o ≡ (change_of s t m).outcome)
-was_made s t m o e = subst (λ (a : Result Outcome Refusal). WasMade (refusal_of s t m) (change_of s t m).outcome a) (sym e) (made_unless (refusal_of s t m) (change_of s t m).outcome)
+pub was_made : (s : State) (t : ℕ) (m : Move) (o : Outcome) → Ok o ≡ answer_to s t m
+    → (refusal_of s t m ≡ None) × (o ≡ (change_of s t m).outcome)
+was_made s t m o e =
+    subst (λ (a : Result Outcome Refusal). WasMade (refusal_of s t m) (change_of s t m).outcome a)
+    (sym e) (made_unless (refusal_of s t m) (change_of s t m).outcome)
 
-pub state_after : (k next : Tracked) (t : ℕ) (m : Move) → refusal_of k.state t m ≡ None → next ≡ after_tracked k t m → next.state ≡ next_state k.state t m
+pub state_after : (k next : Tracked) (t : ℕ) (m : Move) → refusal_of k.state t m ≡ None
+    → next ≡ after_tracked k t m → next.state ≡ next_state k.state t m
 state_after k next t m a e = ap (λ (x : Tracked). x.state) e ∙ rw a refl
 
 -- the thread has still a phase
-pub thread_stays : (k next : Tracked) (t : ℕ) (m : Move) → refusal_of k.state t m ≡ None → next ≡ after_tracked k t m → t < length next.state.phases
+pub thread_stays : (k next : Tracked) (t : ℕ) (m : Move) → refusal_of k.state t m ≡ None
+    → next ≡ after_tracked k t m → t < length next.state.phases
 thread_stays k next t m a e =
-    rw (state_after k next t m a e, length-set k.state.phases t (change_of k.state t m).phase) (accepted_of k.state t m a).thread
+    rw (state_after k next t m a e, length-set k.state.phases t (change_of k.state t m).phase)
+    (accepted_of k.state t m a).thread
 
-pub same_size : (k next : Tracked) (t : ℕ) (m : Move) (before after : List ℕ) → refusal_of k.state t m ≡ None → next ≡ after_tracked k t m → before ≡ k.state.words → after ≡ next.state.words → length before ≡ length after
+pub same_size : (k next : Tracked) (t : ℕ) (m : Move) (before after : List ℕ)
+    → refusal_of k.state t m ≡ None → next ≡ after_tracked k t m → before ≡ k.state.words
+    → after ≡ next.state.words → length before ≡ length after
 same_size k next t m before after a e b c =
-    ap length b ∙ sym (same_length k.state.kind k.state.bits k.state.words t (phase_at k.state.phases t) m)
+    ap length b
+    ∙ sym (same_length k.state.kind k.state.bits k.state.words t (phase_at k.state.phases t) m)
     ∙ sym (ap length c ∙ ap (λ (s : State). length s.words) (state_after k next t m a e))
 
-pub few_changes : (k next : Tracked) (t : ℕ) (m : Move) (before after : List ℕ) → refusal_of k.state t m ≡ None → next ≡ after_tracked k t m → before ≡ k.state.words → after ≡ next.state.words → AreTwoAtMost before after
+pub few_changes : (k next : Tracked) (t : ℕ) (m : Move) (before after : List ℕ)
+    → refusal_of k.state t m ≡ None → next ≡ after_tracked k t m → before ≡ k.state.words
+    → after ≡ next.state.words → AreTwoAtMost before after
 few_changes k next t m before after a e b c =
     subst (λ (ws : List ℕ). AreTwoAtMost ws after) (sym b)
-    (subst (λ (ws : List ℕ). AreTwoAtMost k.state.words ws) (sym (c ∙ ap (λ (s : State). s.words) (state_after k next t m a e)))
+    (subst (λ (ws : List ℕ). AreTwoAtMost k.state.words ws)
+    (sym (c ∙ ap (λ (s : State). s.words) (state_after k next t m a e)))
     (two_at_most k.state.kind k.state.bits k.state.words t (phase_at k.state.phases t) m))
 
 -- a call changes no word
-pub untouched_by : (k next : Tracked) (t : ℕ) (m : Move) (seen : Option ℕ) (first : Option Touch) (before after : List ℕ) → refusal_of k.state t m ≡ None → next ≡ after_tracked k t m → before ≡ k.state.words → after ≡ next.state.words → IsUnseen m seen
-    → (seen ≡ None → ((i : ℕ) → i < length before → slice_index after i ≡ slice_index before i) → first ≡ None) → IsUntouched m first
+pub untouched_by : (k next : Tracked) (t : ℕ) (m : Move) (seen : Option ℕ) (first : Option Touch)
+    (before after : List ℕ)
+    → refusal_of k.state t m ≡ None → next ≡ after_tracked k t m → before ≡ k.state.words
+    → after ≡ next.state.words → IsUnseen m seen
+    → (seen ≡ None → ((i : ℕ) → i < length before → slice_index after i ≡ slice_index before i)
+    → first ≡ None)
+    → IsUntouched m first
 untouched_by k next t (Call op) seen first before after a e b c u h =
-    h u (λ i d. ap (λ (ws : List ℕ). slice_index ws i) (c ∙ ap (λ (s : State). s.words) (state_after k next t (Call op) a e) ∙ sym b))
+    h u (λ i d. ap (λ (ws : List ℕ). slice_index ws i)
+    (c ∙ ap (λ (s : State). s.words) (state_after k next t (Call op) a e) ∙ sym b))
 untouched_by k next t (Step step) seen first before after a e b c u h = tt
 
-pub is_told : (k next : Tracked) (es : List Entry) (l : Line) (o : Outcome) (p : Phase) (stand : Standing) (first second : Option Touch) (before after : List ℕ)
-    → k ≡ tracked k.state es → refusal_of k.state l.thread l.action ≡ None → next ≡ after_tracked k l.thread l.action
-    → o ≡ (change_of k.state l.thread l.action).outcome → p ≡ phase_at next.state.phases l.thread → stand ≡ standing (holding_in next) (waiting_in next) l.thread
-    → before ≡ k.state.words → after ≡ next.state.words → AreTouched before after first second → IsUntouched l.action first
-    → IsRecord (moment k.state es) l (record { line = l.number; thread = l.thread; action = l.action; outcome = o; phase = p; standing = stand; first = first; second = second })
+pub is_told : (k next : Tracked) (es : List Entry) (l : Line) (o : Outcome) (p : Phase)
+    (stand : Standing) (first second : Option Touch) (before after : List ℕ)
+    → k ≡ tracked k.state es → refusal_of k.state l.thread l.action ≡ None
+    → next ≡ after_tracked k l.thread l.action
+    → o ≡ (change_of k.state l.thread l.action).outcome → p ≡ phase_at next.state.phases l.thread
+    → stand ≡ standing (holding_in next) (waiting_in next) l.thread
+    → before ≡ k.state.words → after ≡ next.state.words → AreTouched before after first second
+    → IsUntouched l.action first
+    → IsRecord (moment k.state es) l (record {
+      line = l.number;
+      thread = l.thread;
+      action = l.action;
+      outcome = o;
+      phase = p;
+      standing = stand;
+      first = first;
+      second = second;
+    })
 is_told k next es l o p stand first second before after h a e oe pe se be ae touched untouched =
     let new : State = next_state k.state l.thread l.action in
     let all : List Entry = es ++ entries_of k.state l.thread l.action in
-    let g : next ≡ tracked new all = e ∙ ap (λ (x : Tracked). after_tracked x l.thread l.action) h ∙ tracked_on k.state l.thread l.action es a in
+    let g : next ≡ tracked new all =
+    e ∙ ap (λ (x : Tracked). after_tracked x l.thread l.action) h
+    ∙ tracked_on k.state l.thread l.action es a in
     record {
       accepted = rw oe refl;
-      phase = pe ∙ ap (λ (x : Tracked). phase_at x.state.phases l.thread) g ∙ get_or-set_same k.state.phases l.thread (change_of k.state l.thread l.action).phase Idle (accepted_of k.state l.thread l.action a).thread;
+      phase =
+          pe ∙ ap (λ (x : Tracked). phase_at x.state.phases l.thread) g
+          ∙ get_or-set_same k.state.phases l.thread (change_of k.state l.thread l.action).phase Idle
+          (accepted_of k.state l.thread l.action a).thread;
       stands = se ∙ rw (g, holding_tracked new all, waiting_tracked new all) refl;
-      touched = subst (λ (ws : List ℕ). AreTouched ws new.words first second) be (subst (λ (ws : List ℕ). AreTouched before ws first second) (ae ∙ ap (λ (x : Tracked). x.state.words) g) touched);
+      touched =
+          subst (λ (ws : List ℕ). AreTouched ws new.words first second) be
+          (subst (λ (ws : List ℕ). AreTouched before ws first second)
+          (ae ∙ ap (λ (x : Tracked). x.state.words) g) touched);
       untouched = untouched;
     }

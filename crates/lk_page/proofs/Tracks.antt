@@ -6,29 +6,38 @@ use Rattle.lk_locks.specs.Entries.{entries_of}
 use Rattle.lk_locks.specs.Sequential.{nobody}
 use Rattle.lk_locks.specs.Legal.{after_entries}
 use Rattle.lk_locks.specs.Holding.{holder_after, holding_of, waiting_of}
-use Rattle.lk_locks.specs.Tracked.{tracked, followed, after_tracked, held_as, waits_as, holding_in, waiting_in}
+use Rattle.lk_locks.specs.Tracked.{tracked, followed, after_tracked, held_as, waits_as, holding_in}
+use Rattle.lk_locks.specs.Tracked.{waiting_in}
 use Rattle.lk_locks.proofs.Histories.{after_append, holder_append}
 use Rattle.lk_locks.specs.declared.kinds.LockKind.{LockKind}
 use Rattle.lk_locks.specs.declared.kinds.LockKind.TheVariants.{Ticket, Mcs, RwSimple, RwFifo}
 use Rattle.lk_locks.specs.declared.kinds.Move.{Move}
 use Rattle.lk_locks.specs.declared.kinds.Entry.{Entry}
 
-held_by_history : (kind : LockKind) (s : State) (es : List Entry) → held_as kind (record { state = s; sequential = after_entries (nobody kind) es; holder = holder_after None es }) ≡ holding_of kind es
+held_by_history : (kind : LockKind) (s : State) (es : List Entry) → held_as kind (record {
+  state = s;
+  sequential = after_entries (nobody kind) es;
+  holder = holder_after None es;
+})
+    ≡ holding_of kind es
 held_by_history Ticket s es = refl
 held_by_history Mcs s es = refl
 held_by_history RwSimple s es = refl
 held_by_history RwFifo s es = refl
 
-pub holding_tracked : (s : State) (es : List Entry) → holding_in (tracked s es) ≡ holding_of s.kind es
+pub holding_tracked : (s : State) (es : List Entry)
+    → holding_in (tracked s es) ≡ holding_of s.kind es
 holding_tracked s es = held_by_history s.kind s es
 
-waits_by_history : (kind : LockKind) (es : List Entry) → waits_as kind (after_entries (nobody kind) es) ≡ waiting_of kind es
+waits_by_history : (kind : LockKind) (es : List Entry)
+    → waits_as kind (after_entries (nobody kind) es) ≡ waiting_of kind es
 waits_by_history Ticket es = refl
 waits_by_history Mcs es = refl
 waits_by_history RwSimple es = refl
 waits_by_history RwFifo es = refl
 
-pub waiting_tracked : (s : State) (es : List Entry) → waiting_in (tracked s es) ≡ waiting_of s.kind es
+pub waiting_tracked : (s : State) (es : List Entry)
+    → waiting_in (tracked s es) ≡ waiting_of s.kind es
 waiting_tracked s es = waits_by_history s.kind es
 
 more_tracked : (s : State) (t : ℕ) (m : Move) (es new : List Entry)
@@ -36,5 +45,6 @@ more_tracked : (s : State) (t : ℕ) (m : Move) (es new : List Entry)
 more_tracked s t m es new = rw (after_append (nobody s.kind) es new, holder_append None es new) refl
 
 -- an accepted move leaves the lock that its entries lead to
-pub tracked_on : (s : State) (t : ℕ) (m : Move) (es : List Entry) → refusal_of s t m ≡ None → after_tracked (tracked s es) t m ≡ tracked (next_state s t m) (es ++ entries_of s t m)
+pub tracked_on : (s : State) (t : ℕ) (m : Move) (es : List Entry) → refusal_of s t m ≡ None
+    → after_tracked (tracked s es) t m ≡ tracked (next_state s t m) (es ++ entries_of s t m)
 tracked_on s t m es accepted = rw accepted (more_tracked s t m es (entries_of s t m))

@@ -1,5 +1,6 @@
 -- One turn of the loop that plays what is asked for.
-use Rattle.std.proofs.Common.{◌≡◌, ℕ, ◌+◌, ◌-◌, ◌*◌, ◌<◌, ◌≤◌, List, [], ◌∷◌, length, take, drop, None, Some, refl, ap, sym, subst, ◌∙◌, arith}
+use Rattle.std.proofs.Common.{◌≡◌, ℕ, ◌+◌, ◌-◌, ◌*◌, ◌<◌, ◌≤◌, List, [], ◌∷◌, length, take, drop}
+use Rattle.std.proofs.Common.{None, Some, refl, ap, sym, subst, ◌∙◌, arith}
 use Rattle.std.proofs.lemmas.List.{length-set}
 use Rattle.lk_locks.specs.State.{State, phase_at}
 use Rattle.lk_locks.specs.Steps.{refusal_of, change_of}
@@ -19,40 +20,73 @@ use Rattle.lk_page.proofs.Asked.{next_asked, none_left, none_asked}
 use Rattle.lk_page.proofs.PlayedOn.{playing_starts, playing_on, playing_stops, playing_ends}
 use Rattle.lk_page.proofs.Records.{state_after}
 
-pub turn_first : (moves : List Line) (old : List ℕ) (k : Tracked) (most : ℕ) → k ≡ tracked k.state [] → ArePlaying k.state (take most moves) old k (take (most - 0) moves) 0 old
+pub turn_first : (moves : List Line) (old : List ℕ) (k : Tracked) (most : ℕ)
+    → k ≡ tracked k.state []
+    → ArePlaying k.state (take most moves) old k (take (most - 0) moves) 0 old
 turn_first moves old k most e =
     let same : most ≡ most - 0 = omega arith in
-    subst (λ (n : ℕ). ArePlaying k.state (take most moves) old k (take n moves) 0 old) same (playing_starts k.state (take most moves) old k e)
+    subst (λ (n : ℕ). ArePlaying k.state (take most moves) old k (take n moves) 0 old) same
+    (playing_starts k.state (take most moves) old k e)
 
-pub turn_made : (s : State) (moves left after : List Line) (old now written : List ℕ) (k next : Tracked) (l : Line) (most count : ℕ) (r : Record)
-    → ArePlaying s (take most moves) old k (take (most - count) left) count now → count < most → Some l ≡ first_of left → after ≡ drop 1 left → None ≡ refusal_of k.state l.thread l.action → next ≡ after_tracked k l.thread l.action
-    → ((es : List Entry) → k ≡ tracked k.state es → IsRecord (moment k.state es) l r) → written ≡ placed now (count * 56) (record_bytes r)
+pub turn_made : (s : State) (moves left after : List Line) (old now written : List ℕ)
+    (k next : Tracked) (l : Line) (most count : ℕ) (r : Record)
+    → ArePlaying s (take most moves) old k (take (most - count) left) count now → count < most
+    → Some l ≡ first_of left → after ≡ drop 1 left → None ≡ refusal_of k.state l.thread l.action
+    → next ≡ after_tracked k l.thread l.action
+    → ((es : List Entry) → k ≡ tracked k.state es → IsRecord (moment k.state es) l r)
+    → written ≡ placed now (count * 56) (record_bytes r)
     → ArePlaying s (take most moves) old next (take (most - (count + 1)) after) (count + 1) written
 turn_made s moves left after old now written k next l most count r p h f d a e told w =
-    let q : ArePlaying s (take most moves) old k (l ∷ take (most - (count + 1)) (drop 1 left)) count now = subst (λ (ls : List Line). ArePlaying s (take most moves) old k ls count now) (next_asked most count left l h (sym f)) p in
-    subst (λ (ls : List Line). ArePlaying s (take most moves) old next (take (most - (count + 1)) ls) (count + 1) written) (sym d)
-    (playing_on s (take most moves) old k next l (take (most - (count + 1)) (drop 1 left)) count now written r q (sym a) e (told q.entries q.tracks) w)
+    let q : ArePlaying s (take most moves) old k
+    (l ∷ take (most - (count + 1)) (drop 1 left)) count now =
+    subst (λ (ls : List Line). ArePlaying s (take most moves) old k ls count now)
+    (next_asked most count left l h (sym f)) p in
+    subst (λ (ls : List Line). ArePlaying s (take most moves) old next
+    (take (most - (count + 1)) ls) (count + 1) written)
+    (sym d)
+    (playing_on s (take most moves) old k next l (take (most - (count + 1)) (drop 1 left)) count now
+    written r q (sym a) e (told q.entries q.tracks) w)
 
-pub turn_refused : (s : State) (moves left : List Line) (old now : List ℕ) (k next : Tracked) (l : Line) (most count : ℕ) (x : Refusal)
-    → ArePlaying s (take most moves) old k (take (most - count) left) count now → count < most → Some l ≡ first_of left → Some x ≡ refusal_of k.state l.thread l.action → next ≡ after_tracked k l.thread l.action
+pub turn_refused : (s : State) (moves left : List Line) (old now : List ℕ) (k next : Tracked)
+    (l : Line) (most count : ℕ) (x : Refusal)
+    → ArePlaying s (take most moves) old k (take (most - count) left) count now → count < most
+    → Some l ≡ first_of left → Some x ≡ refusal_of k.state l.thread l.action
+    → next ≡ after_tracked k l.thread l.action
     → HavePlayed s (take most moves) old next count (Some (l.number, x)) now
 turn_refused s moves left old now k next l most count x p h f a e =
-    let q : ArePlaying s (take most moves) old k (l ∷ take (most - (count + 1)) (drop 1 left)) count now = subst (λ (ls : List Line). ArePlaying s (take most moves) old k ls count now) (next_asked most count left l h (sym f)) p in
-    playing_stops s (take most moves) old k next l (take (most - (count + 1)) (drop 1 left)) count now x q (sym a) e
+    let q : ArePlaying s (take most moves) old k
+    (l ∷ take (most - (count + 1)) (drop 1 left)) count now =
+    subst (λ (ls : List Line). ArePlaying s (take most moves) old k ls count now)
+    (next_asked most count left l h (sym f)) p in
+    playing_stops s (take most moves) old k next l
+    (take (most - (count + 1)) (drop 1 left)) count now x q (sym a) e
 
-pub turn_without : (s : State) (moves left : List Line) (old now : List ℕ) (k : Tracked) (most count : ℕ)
-    → ArePlaying s (take most moves) old k (take (most - count) left) count now → None ≡ first_of left → HavePlayed s (take most moves) old k count None now
-turn_without s moves left old now k most count p f = playing_ends s (take most moves) old k _ count now p (none_left most count left (sym f))
+pub turn_without : (s : State) (moves left : List Line) (old now : List ℕ) (k : Tracked)
+    (most count : ℕ)
+    → ArePlaying s (take most moves) old k (take (most - count) left) count now
+    → None ≡ first_of left → HavePlayed s (take most moves) old k count None now
+turn_without s moves left old now k most count p f =
+    playing_ends s (take most moves) old k _ count now p (none_left most count left (sym f))
 
-pub turns_over : (s : State) (moves left : List Line) (old now : List ℕ) (k : Tracked) (most count : ℕ)
-    → ArePlaying s (take most moves) old k (take (most - count) left) count now → most ≤ count → HavePlayed s (take most moves) old k count None now
-turns_over s moves left old now k most count p h = playing_ends s (take most moves) old k _ count now p (none_asked most count left h)
+pub turns_over : (s : State) (moves left : List Line) (old now : List ℕ) (k : Tracked)
+    (most count : ℕ)
+    → ArePlaying s (take most moves) old k (take (most - count) left) count now → most ≤ count
+    → HavePlayed s (take most moves) old k count None now
+turns_over s moves left old now k most count p h =
+    playing_ends s (take most moves) old k _ count now p (none_asked most count left h)
 
-pub same_threads : (k next : Tracked) (t : ℕ) (m : Move) → None ≡ refusal_of k.state t m → next ≡ after_tracked k t m → length next.state.phases ≡ length k.state.phases
-same_threads k next t m a e = ap (λ (s : State). length s.phases) (state_after k next t m (sym a) e) ∙ length-set k.state.phases t (change_of k.state t m).phase
+pub same_threads : (k next : Tracked) (t : ℕ) (m : Move) → None ≡ refusal_of k.state t m
+    → next ≡ after_tracked k t m → length next.state.phases ≡ length k.state.phases
+same_threads k next t m a e =
+    ap (λ (s : State). length s.phases) (state_after k next t m (sym a) e)
+    ∙ length-set k.state.phases t (change_of k.state t m).phase
 
-pub same_words : (k next : Tracked) (t : ℕ) (m : Move) → None ≡ refusal_of k.state t m → next ≡ after_tracked k t m → length next.state.words ≡ length k.state.words
-same_words k next t m a e = ap (λ (s : State). length s.words) (state_after k next t m (sym a) e) ∙ same_length k.state.kind k.state.bits k.state.words t (phase_at k.state.phases t) m
+pub same_words : (k next : Tracked) (t : ℕ) (m : Move) → None ≡ refusal_of k.state t m
+    → next ≡ after_tracked k t m → length next.state.words ≡ length k.state.words
+same_words k next t m a e =
+    ap (λ (s : State). length s.words) (state_after k next t m (sym a) e)
+    ∙ same_length k.state.kind k.state.bits k.state.words t (phase_at k.state.phases t) m
 
-pub stays_refused : (k next : Tracked) (t : ℕ) (m : Move) (x : Refusal) → Some x ≡ refusal_of k.state t m → next ≡ after_tracked k t m → next ≡ k
+pub stays_refused : (k next : Tracked) (t : ℕ) (m : Move) (x : Refusal)
+    → Some x ≡ refusal_of k.state t m → next ≡ after_tracked k t m → next ≡ k
 stays_refused k next t m x a e = let b : refusal_of k.state t m ≡ Some x = sym a in e ∙ rw b refl

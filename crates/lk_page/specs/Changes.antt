@@ -5,7 +5,8 @@ use Rattle.lk_locks.specs.declared.kinds.Move.TheVariants.{Call, Step}
 
 -- all words but two stay
 abbrev pub AreTwoAtMost : List ℕ → List ℕ → Type 0
-AreTwoAtMost before after = (i j : ℕ) × ((k : ℕ) → (k ≡ i → ⊥) → (k ≡ j → ⊥) → slice_index after k ≡ slice_index before k)
+AreTwoAtMost before after =
+    (i j : ℕ) × ((k : ℕ) → (k ≡ i → ⊥) → (k ≡ j → ⊥) → slice_index after k ≡ slice_index before k)
 
 -- a call looks at no word
 abbrev pub IsUnseen : Move → Option ℕ → Type 0

@@ -1,16 +1,21 @@
--- Definitions: the bytes of a record and of a state. This project's own. All numbers are little-endian.
-use Rattle.std.specs.Prelude.{ℕ, zero, suc, ◌+◌, ◌-◌, ◌*◌, List, [], ◌∷◌, ◌++◌, length, replicate, Option, None, Some, is_none, Bool, if◌then◌else◌, nat_lt}
+-- Definitions: the bytes of a record and of a state. This project's own. All numbers are
+-- little-endian.
+use Rattle.std.specs.Prelude.{ℕ, zero, suc, ◌+◌, ◌-◌, ◌*◌, List, [], ◌∷◌, ◌++◌, length, replicate}
+use Rattle.std.specs.Prelude.{Option, None, Some, is_none, Bool, if◌then◌else◌, nat_lt}
 use Rattle.std.specs.Int.{to_le_bytes, w16, w32, w64}
 use Rattle.std.specs.List.{flat_map}
 use Rattle.lk_locks.specs.State.{State, phase_at}
 use Rattle.lk_locks.specs.Steps.{refusal_of, step_due}
 use Rattle.lk_locks.specs.Holding.{Holding, Free, HeldBy, ReadBy, WrittenBy, holding_of, waiting_of}
 use Rattle.lk_locks.specs.declared.kinds.Op.{Op}
-use Rattle.lk_locks.specs.declared.kinds.Op.TheVariants.{Acquire, Release, ReadLock, ReadUnlock, WriteLock, WriteUnlock, Downgrade}
+use Rattle.lk_locks.specs.declared.kinds.Op.TheVariants.{Acquire, Release, ReadLock, ReadUnlock}
+use Rattle.lk_locks.specs.declared.kinds.Op.TheVariants.{WriteLock, WriteUnlock, Downgrade}
 use Rattle.lk_locks.specs.declared.kinds.Move.TheVariants.{Call}
 use Rattle.lk_locks.specs.declared.kinds.Refusal.{Refusal}
 use Rattle.lk_replay.specs.Faults.{Fault}
-use Rattle.lk_page.specs.Codes.{lock_code, action_code, word_code, outcome_code, phase_code, phase_number, due_code, refusal_code, refusal_step, fault_code, fault_line}
+use Rattle.lk_page.specs.Codes.{lock_code, action_code, word_code, outcome_code, phase_code}
+use Rattle.lk_page.specs.Codes.{phase_number, due_code, refusal_code, refusal_step, fault_code}
+use Rattle.lk_page.specs.Codes.{fault_line}
 use Rattle.lk_page.specs.Told.{Moment}
 use Rattle.lk_page.specs.declared.told.Touch.{Touch}
 use Rattle.lk_page.specs.declared.told.Standing.{Standing}
@@ -39,8 +44,10 @@ standing_code s = bit s.holds + 2 * bit s.is_queued + 4 * bit s.writes
 unfoldable pub record_bytes : Record → List ℕ
 record_bytes r =
     to_le_bytes w32 r.line
-    ++ (r.thread ∷ action_code r.action ∷ word_code r.action ∷ outcome_code r.outcome ∷ phase_code r.phase ∷ standing_code r.standing ∷ [])
-    ++ to_le_bytes w16 (touched_word r.first) ++ to_le_bytes w16 (touched_word r.second) ++ to_le_bytes w16 0
+    ++ (r.thread ∷ action_code r.action ∷ word_code r.action ∷ outcome_code r.outcome
+    ∷ phase_code r.phase ∷ standing_code r.standing ∷ [])
+    ++ to_le_bytes w16 (touched_word r.first) ++ to_le_bytes w16 (touched_word r.second)
+    ++ to_le_bytes w16 0
     ++ to_le_bytes w64 (found_of r.first) ++ to_le_bytes w64 (left_of r.first)
     ++ to_le_bytes w64 (found_of r.second) ++ to_le_bytes w64 (left_of r.second)
     ++ to_le_bytes w64 (phase_number r.phase)
@@ -68,13 +75,15 @@ call_bit s t op = bit (is_none (refusal_of s t (Call op)))
 -- the calls that would be accepted of a thread
 abbrev pub allowed_calls : State → ℕ → ℕ
 allowed_calls s t =
-    call_bit s t Acquire + 2 * call_bit s t Release + 4 * call_bit s t ReadLock + 8 * call_bit s t ReadUnlock
+    call_bit s t Acquire + 2 * call_bit s t Release + 4 * call_bit s t ReadLock
+    + 8 * call_bit s t ReadUnlock
     + 16 * call_bit s t WriteLock + 32 * call_bit s t WriteUnlock + 64 * call_bit s t Downgrade
 
 -- what a thread does, and what it may do next: 16 bytes
 abbrev pub own_bytes : State → ℕ → List ℕ
 own_bytes s t =
-    (phase_code (phase_at s.phases t) ∷ due_code (step_due s.kind (phase_at s.phases t)) ∷ allowed_calls s t ∷ 0 ∷ 0 ∷ 0 ∷ 0 ∷ 0 ∷ [])
+    (phase_code (phase_at s.phases t) ∷ due_code (step_due s.kind (phase_at s.phases t))
+    ∷ allowed_calls s t ∷ 0 ∷ 0 ∷ 0 ∷ 0 ∷ 0 ∷ [])
     ++ to_le_bytes w64 (phase_number (phase_at s.phases t))
 
 abbrev pub thread_bytes : State → ℕ → List ℕ
@@ -94,7 +103,8 @@ stop_numbers (Some r) = 1 ∷ refusal_code r.1 ∷ r.0 ∷ refusal_step r.1 ∷ 
 abbrev pub numbers : ℕ → ℕ → Option (ℕ × Refusal) → State → Holding → List ℕ → List ℕ
 numbers moves count refused s held queue =
     stop_numbers refused
-    ++ lock_code s.kind ∷ length s.phases ∷ s.bits ∷ count ∷ moves ∷ length s.words ∷ holding_code held ∷ length (holder_list held) ∷ length queue ∷ 0 ∷ 0 ∷ 0 ∷ []
+    ++ lock_code s.kind ∷ length s.phases ∷ s.bits ∷ count ∷ moves ∷ length s.words
+    ∷ holding_code held ∷ length (holder_list held) ∷ length queue ∷ 0 ∷ 0 ∷ 0 ∷ []
 
 -- 2,304 bytes
 unfoldable pub bytes_of_state : ℕ → ℕ → Option (ℕ × Refusal) → State → Holding → List ℕ → List ℕ
@@ -106,7 +116,8 @@ bytes_of_state moves count refused s held queue =
 
 abbrev pub state_bytes : ℕ → ℕ → Option (ℕ × Refusal) → Moment → List ℕ
 state_bytes moves count refused m =
-    bytes_of_state moves count refused m.state (holding_of m.state.kind m.entries) (waiting_of m.state.kind m.entries)
+    bytes_of_state moves count refused m.state (holding_of m.state.kind m.entries)
+    (waiting_of m.state.kind m.entries)
 
 unfoldable pub bytes_of_fault : ℕ → ℕ → List ℕ
 bytes_of_fault code line = flat_map (to_le_bytes w32) (2 ∷ code ∷ line ∷ []) ++ replicate 2292 0

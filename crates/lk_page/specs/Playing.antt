@@ -13,17 +13,21 @@ abbrev pub moment : State → List Entry → Moment
 moment s es = record { state = s; entries = es }
 
 -- what the moves `ms` on a lock in state `s` gave
-pub record HavePlayed (s : State) (ms : List Line) (old : List ℕ) (k : Tracked) (count : ℕ) (refused : Option (ℕ × Refusal)) (new : List ℕ) : Type 0 where
+pub record HavePlayed (s : State) (ms : List Line) (old : List ℕ) (k : Tracked) (count : ℕ)
+    (refused : Option (ℕ × Refusal)) (new : List ℕ) : Type 0 where
   pub made : count ≡ length (replay_from s ms).made
   pub stopped : refused ≡ (replay_from s ms).refused
-  pub after : k ≡ tracked (after_lines (moment s []) ms).state (after_lines (moment s []) ms).entries
+  pub after : k
+      ≡ tracked (after_lines (moment s []) ms).state (after_lines (moment s []) ms).entries
   pub records : AreRecords (moment s []) ms 0 old new
 
 -- `count` of the moves `ms` were made, and `rest` is left of them
-pub record ArePlaying (s : State) (ms : List Line) (old : List ℕ) (k : Tracked) (rest : List Line) (count : ℕ) (now : List ℕ) : Type 0 where
+pub record ArePlaying (s : State) (ms : List Line) (old : List ℕ) (k : Tracked) (rest : List Line)
+    (count : ℕ) (now : List ℕ) : Type 0 where
   pub entries : List Entry
   pub tracks : k ≡ tracked k.state entries
   pub made : count + length (replay_from k.state rest).made ≡ length (replay_from s ms).made
   pub stopped : (replay_from k.state rest).refused ≡ (replay_from s ms).refused
   pub after : after_lines (moment k.state entries) rest ≡ after_lines (moment s []) ms
-  pub records : (new : List ℕ) → AreRecords (moment k.state entries) rest count now new → AreRecords (moment s []) ms 0 old new
+  pub records : (new : List ℕ) → AreRecords (moment k.state entries) rest count now new
+      → AreRecords (moment s []) ms 0 old new

@@ -1,6 +1,8 @@
--- Definitions: what a page is told of each move that is made, and of the lock after the last. This project's own; what a move does,
--- who holds and who waits is said by the definitions of the locks and of the replay alone.
-use Rattle.std.specs.Prelude.{◌≡◌, ◌≢◌, ℕ, ◌<◌, List, [], ◌∷◌, ◌++◌, length, slice_index, Option, None, Some, Bool, false, eqb}
+-- Definitions: what a page is told of each move that is made, and of the lock after the last. This
+-- project's own; what a move does, who holds and who waits is said by the definitions of the locks
+-- and of the replay alone.
+use Rattle.std.specs.Prelude.{◌≡◌, ◌≢◌, ℕ, ◌<◌, List, [], ◌∷◌, ◌++◌, length, slice_index, Option}
+use Rattle.std.specs.Prelude.{None, Some, Bool, false, eqb}
 use Rattle.lk_locks.specs.State.{State}
 use Rattle.lk_locks.specs.Steps.{refusal_of, change_of, next_state}
 use Rattle.lk_locks.specs.Entries.{entries_of}
@@ -28,7 +30,10 @@ beginning p = record { state = start_of p; entries = [] }
 
 -- after an accepted move
 abbrev pub after_line : Moment → Line → Moment
-after_line m l = record { state = next_state m.state l.thread l.action; entries = m.entries ++ entries_of m.state l.thread l.action }
+after_line m l = record {
+  state = next_state m.state l.thread l.action;
+  entries = m.entries ++ entries_of m.state l.thread l.action;
+}
 
 abbrev pub unless_stopped : Option Refusal → Moment → Moment → Moment
 unless_stopped None m next = next
@@ -37,12 +42,15 @@ unless_stopped (Some r) m next = m
 -- after these moves, up to the first refused one
 abbrev pub after_lines : Moment → List Line → Moment
 after_lines m [] = m
-after_lines m (l ∷ ls) = unless_stopped (refusal_of m.state l.thread l.action) m (after_lines (after_line m l) ls)
+after_lines m (l ∷ ls) =
+    unless_stopped (refusal_of m.state l.thread l.action) m (after_lines (after_line m l) ls)
 
 -- a word that was touched, with what stood in it before and after
 abbrev pub IsTouch : List ℕ → List ℕ → Option Touch → Type 0
 IsTouch before after None = Unit {0}
-IsTouch before after (Some t) = (t.word < length before) × (t.found ≡ slice_index before t.word) × (t.left ≡ slice_index after t.word)
+IsTouch before after (Some t) =
+    (t.word < length before) × (t.found ≡ slice_index before t.word)
+    × (t.left ≡ slice_index after t.word)
 
 abbrev pub IsWord : Option Touch → ℕ → Type 0
 IsWord None i = ⊥
@@ -58,8 +66,10 @@ IsChange (Some t) = t.found ≢ t.left
 pub record AreTouched (before after : List ℕ) (first second : Option Touch) : Type 0 where
   pub first_is : IsTouch before after first
   pub second_is : IsTouch before after second
-  pub others : (i : ℕ) → i < length before → (IsWord first i → ⊥) → (IsWord second i → ⊥) → slice_index after i ≡ slice_index before i
-  pub first_changed : (IsChange first → ⊥) → (i : ℕ) → i < length before → slice_index after i ≡ slice_index before i
+  pub others : (i : ℕ) → i < length before → (IsWord first i → ⊥) → (IsWord second i → ⊥)
+      → slice_index after i ≡ slice_index before i
+  pub first_changed : (IsChange first → ⊥) → (i : ℕ) → i < length before
+      → slice_index after i ≡ slice_index before i
   pub second_changed : second ≢ None → IsChange second
 
 -- a call touches no word
@@ -83,8 +93,11 @@ standing h queue t = record { holds = holds h t; is_queued = has queue t; writes
 
 -- the record of an accepted move
 pub record IsRecord (m : Moment) (l : Line) (r : Record) : Type 0 where
-  pub accepted : (made_by m.state l).accepted ≡ record { line = r.line; thread = r.thread; action = r.action; outcome = r.outcome }
+  pub accepted : (made_by m.state l).accepted
+      ≡ record { line = r.line; thread = r.thread; action = r.action; outcome = r.outcome }
   pub phase : r.phase ≡ (change_of m.state l.thread l.action).phase
-  pub stands : r.standing ≡ (let n : Moment = after_line m l in standing (holding_of n.state.kind n.entries) (waiting_of n.state.kind n.entries) l.thread)
+  pub stands : r.standing
+      ≡ (let n : Moment = after_line m l in
+      standing (holding_of n.state.kind n.entries) (waiting_of n.state.kind n.entries) l.thread)
   pub touched : AreTouched m.state.words (after_line m l).state.words r.first r.second
   pub untouched : IsUntouched l.action r.first

@@ -11,7 +11,8 @@ fn changed_from(before: &[u64], after: &[u64], from: usize) -> Option<usize>
     requires same { length before.now ≡ length after.now }
     requires place { from ≤ length before.now }
     ensures { MatchOption result
-        ((i : ℕ) → from ≤ i → i < length before.now → slice_index after.now i ≡ slice_index before.now i)
+        ((i : ℕ) → from ≤ i → i < length before.now
+        → slice_index after.now i ≡ slice_index before.now i)
         (λ at. (from ≤ at) × (at < length before.now)
         × ((i : ℕ) → from ≤ i → i < at → slice_index after.now i ≡ slice_index before.now i)
         × (slice_index after.now at ≡ slice_index before.now at → ⊥)) }
@@ -45,7 +46,9 @@ pub fn touches(before: &[u64], after: &[u64], seen: Option<usize>) -> (Option<To
     requires few { length before.now ≤ 129 }
     requires changes { AreTwoAtMost before.now after.now }
     ensures touched { AreTouched before.now after.now result.0 result.1 }
-    ensures untouched { seen ≡ None → ((i : ℕ) → i < length before.now → slice_index after.now i ≡ slice_index before.now i) → result.0 ≡ None }
+    ensures untouched { seen ≡ None
+        → ((i : ℕ) → i < length before.now → slice_index after.now i ≡ slice_index before.now i)
+        → result.0 ≡ None }
 {
     let Some(first) = changed_from(before, after, 0) else {
         return match seen {

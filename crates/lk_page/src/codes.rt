@@ -1,7 +1,9 @@
 //! The numbers by which a page knows locks, moves, outcomes, phases, refusals and faults.
 
 ghost use Rattle.std.specs.Prelude.{◌≡◌, IfSome};
-ghost use Rattle.lk_page.specs.Codes.{lock_code, op_code, step_code, action_code, word_code, outcome_code, phase_code, phase_number, due_code, refusal_code, refusal_step, fault_code, fault_line, as_fault};
+ghost use Rattle.lk_page.specs.Codes.{lock_code, op_code, step_code, action_code, word_code};
+ghost use Rattle.lk_page.specs.Codes.{outcome_code, phase_code, phase_number, due_code};
+ghost use Rattle.lk_page.specs.Codes.{refusal_code, refusal_step, fault_code, fault_line, as_fault};
 
 use lk_locks::{LockKind, Move, Op, Outcome, Phase, Refusal, StepKind};
 use lk_replay::ReadFault;

@@ -38,7 +38,8 @@ fn play_moves(
 ) -> Stopped
     requires fresh { lock.old ≡ tracked lock.old.state [] }
     requires few { length reader.old.moves ≤ 65536 }
-    ensures played { HavePlayed lock.old.state (take most reader.old.moves) records.old lock.new result.count result.refused records.new }
+    ensures played { HavePlayed lock.old.state
+        (take most reader.old.moves) records.old lock.new result.count result.refused records.new }
     ensures threads { length lock.new.state.phases ≡ length lock.old.state.phases }
     ensures words { length lock.new.state.words ≡ length lock.old.state.words }
 {
@@ -72,7 +73,8 @@ fn play_moves(
 // The lock of a schedule, on which nothing was played.
 fn new_lock(reader: &ScheduleReader) -> Tracker<RecordingWords<WordArray>>
     ensures { let plan = reader.now in
-        result ≡ tracked (start plan.kind plan.bits (replicate (word_count plan.kind plan.threads) 0) plan.threads) [] }
+        result ≡ tracked (start plan.kind plan.bits
+        (replicate (word_count plan.kind plan.threads) 0) plan.threads) [] }
 {
     let kind = reader.kind();
     let threads = reader.threads();

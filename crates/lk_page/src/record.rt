@@ -7,7 +7,8 @@ ghost use Rattle.lk_locks.specs.Tracked.{tracked, after_tracked, holding_in, wai
 ghost use Rattle.lk_locks.specs.declared.kinds.Entry.{Entry};
 ghost use Rattle.lk_page.specs.Told.{IsRecord, standing};
 ghost use Rattle.lk_page.specs.Changes.{IsUnseen};
-ghost use Rattle.lk_page.specs.Layout.{record_bytes, touched_word, found_of, left_of, standing_code};
+ghost use Rattle.lk_page.specs.Layout.{record_bytes, touched_word, found_of, left_of};
+ghost use Rattle.lk_page.specs.Layout.{standing_code};
 
 use crate::changes::touches;
 use crate::codes::{action_codes, outcome_code, phase_code, phase_number};
@@ -70,7 +71,8 @@ pub fn play_line(
     lock: &mut Tracker<RecordingWords<WordArray>>,
     line: &Line,
 ) -> Result<Record, Refusal>
-    ensures refused { refused_with result ≡ refusal_of lock.old.state line.now.thread line.now.action }
+    ensures refused { refused_with result
+        ≡ refusal_of lock.old.state line.now.thread line.now.action }
     ensures after { lock.new ≡ after_tracked lock.old line.now.thread line.now.action }
     ensures record { IfOk result (λ told. (es : List Entry) → lock.old ≡ tracked lock.old.state es
         → IsRecord (record { state = lock.old.state; entries = es }) line.now told) }

@@ -3,7 +3,9 @@
 ghost use Rattle.std.specs.Prelude.{◌≡◌, ◌+◌, ◌<◌, ◌≤◌, ◌++◌, length};
 ghost use Rattle.lk_locks.specs.Holding.{holding};
 ghost use Rattle.lk_locks.specs.Tracked.{holding_in, waiting_in};
-ghost use Rattle.lk_page.specs.Layout.{padded, holding_code, holder_list, call_bit, allowed_calls, own_bytes, thread_bytes, threads_bytes, stop_numbers, bytes_of_state, bytes_of_fault};
+ghost use Rattle.lk_page.specs.Layout.{padded, holding_code, holder_list, call_bit, allowed_calls};
+ghost use Rattle.lk_page.specs.Layout.{own_bytes, thread_bytes, threads_bytes, stop_numbers};
+ghost use Rattle.lk_page.specs.Layout.{bytes_of_state, bytes_of_fault};
 
 use crate::codes::{due_code, lock_code, phase_code, phase_number, refusal_code, refusal_step};
 use crate::layout::{put_bytes, put_u32s, put_u64, put_u64s, put_zeros};
@@ -168,7 +170,9 @@ pub fn state_bytes(
     stopped: Stopped,
 ) -> ArrayVec<u8, 2304>
     requires threads { threads ≡ length lock.now.state.phases }
-    ensures bytes { result.items ≡ bytes_of_state moves stopped.count stopped.refused lock.now.state (holding_in lock.now) (waiting_in lock.now) }
+    ensures bytes { result.items
+        ≡ bytes_of_state moves stopped.count stopped.refused lock.now.state (holding_in lock.now)
+        (waiting_in lock.now) }
     ensures size { length result.items ≡ 2304 }
 {
     let mut out = ArrayVec::new();

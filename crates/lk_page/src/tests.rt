@@ -19,7 +19,8 @@ fn a_short_state_is_left_alone(rt: HostRuntime) {
 
 // Thread 1 of an MCS lock is in the queue, and its record is not linked yet.
 const LATE_LINK: &[u8] =
-    b"lock mcs threads 2\n\n0 acquire\n0 write\n0 swap\n1 acquire\n1 write\n1 swap\n0 release\n0 read\n0 cas\n0 read\n1 read\n";
+    b"lock mcs threads 2\n\n0 acquire\n0 write\n0 swap\n1 acquire\n1 write\n1 swap\n\
+      0 release\n0 read\n0 cas\n0 read\n1 read\n";
 
 #[test]
 fn a_late_link_is_seen(rt: HostRuntime) {

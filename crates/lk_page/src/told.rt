@@ -28,7 +28,8 @@ pub struct Record {
     /// The phase and the standing of its thread after it.
     pub phase: Phase,
     pub standing: Standing,
-    /// The word that changed or else was looked at, and the second word of a section that changes two.
+    /// The word that changed or else was looked at, and the second word of a section that changes
+    /// two.
     pub first: Option<Touch>,
     pub second: Option<Touch>,
 }

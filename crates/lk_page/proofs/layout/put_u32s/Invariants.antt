@@ -6,6 +6,7 @@ use Rattle.lk_page.proofs.layout.put_u32s.Given as goal
 
 abbrev pub invariant-loop-number : goal.invariant-loop-number
 invariant-loop-number g l = record {
-  bytes : l.out.items ++ flat_map (to_le_bytes w32) (drop l.number-index l.numbers) ≡ l.initial.out.items ++ flat_map (to_le_bytes w32) l.numbers;
+  bytes : l.out.items ++ flat_map (to_le_bytes w32) (drop l.number-index l.numbers)
+      ≡ l.initial.out.items ++ flat_map (to_le_bytes w32) l.numbers;
   size : length l.out.items ≡ length l.initial.out.items + 4 * l.number-index;
 }

@@ -5,7 +5,8 @@ use Rattle.lk_page.proofs.playing.play_moves.Given as goal
 
 abbrev pub invariant-loop-count : goal.invariant-loop-count
 invariant-loop-count l = record {
-  playing : ArePlaying l.initial.lock.state (take l.most l.initial.reader.moves) l.initial.records l.lock (take (l.most - l.count) l.reader.moves) l.count l.records;
+  playing : ArePlaying l.initial.lock.state (take l.most l.initial.reader.moves) l.initial.records
+      l.lock (take (l.most - l.count) l.reader.moves) l.count l.records;
   few : l.count + length l.reader.moves ≤ 65536;
   threads : length l.lock.state.phases ≡ length l.initial.lock.state.phases;
   words : length l.lock.state.words ≡ length l.initial.lock.state.words;
