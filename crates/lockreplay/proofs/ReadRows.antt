@@ -1,5 +1,6 @@
 -- What the getters read of the rows that a plain batch line gives.
-use Rattle.std.proofs.Common.{◌≡◌, ◌∙◌, ℕ, ◌+◌, ◌<◌, ◌≤◌, List, Option, Some, None, Result, option_map, codes, refl, ap, arith, zero, suc}
+use Rattle.std.proofs.Common.{◌≡◌, ◌∙◌, ℕ, ◌+◌, ◌<◌, ◌≤◌, List, Option, Some, None, Result}
+use Rattle.std.proofs.Common.{option_map, codes, refl, ap, arith, zero, suc}
 use Rattle.std.specs.Prelude.{unwrap_or, IsSomeAnd}
 use Rattle.std.proofs.lemmas.Option.{none-some, same_Some}
 use Rattle.std.specs.Str.Parse.{ParsesUnsigned, digits_value, without_leading_plus, IsNumeral}
@@ -11,7 +12,8 @@ use Rattle.lockreplay.proofs.PlainLines.{no_hyphen, plain_digit}
 
 -- the digit is a numeral, and writes the number
 is_number : (workers : ℕ) → workers ≤ 9
-    → (digits_value 10 (without_leading_plus (digit workers)) ≡ workers) × (without_leading_plus (digit workers) ≡ digit workers) × (digit_value (48 + workers) < 10)
+    → (digits_value 10 (without_leading_plus (digit workers)) ≡ workers)
+    × (without_leading_plus (digit workers) ≡ digit workers) × (digit_value (48 + workers) < 10)
 is_number zero most = (refl, refl, omega arith)
 is_number (suc zero) most = (refl, refl, omega arith)
 is_number (suc (suc zero)) most = (refl, refl, omega arith)
@@ -21,8 +23,10 @@ is_number (suc (suc (suc (suc (suc zero))))) most = (refl, refl, omega arith)
 is_number (suc (suc (suc (suc (suc (suc zero)))))) most = (refl, refl, omega arith)
 is_number (suc (suc (suc (suc (suc (suc (suc zero))))))) most = (refl, refl, omega arith)
 is_number (suc (suc (suc (suc (suc (suc (suc (suc zero)))))))) most = (refl, refl, omega arith)
-is_number (suc (suc (suc (suc (suc (suc (suc (suc (suc zero))))))))) most = (refl, refl, omega arith)
-is_number (suc (suc (suc (suc (suc (suc (suc (suc (suc (suc k)))))))))) most = absurd (omega (arith, most))
+is_number (suc (suc (suc (suc (suc (suc (suc (suc (suc zero))))))))) most =
+    (refl, refl, omega arith)
+is_number (suc (suc (suc (suc (suc (suc (suc (suc (suc (suc k)))))))))) most =
+    absurd (omega (arith, most))
 
 is_numeral : (workers : ℕ) → workers ≤ 9 → IsNumeral 10 (without_leading_plus (digit workers))
 is_numeral workers most =
@@ -30,22 +34,28 @@ is_numeral workers most =
     rw (number.1) (omega arith, (number.2, tt))
 
 -- `get_one::<u8>` of the digit
-pub reads_digit : {E : Type 0} (gives : Text → Result ℕ E → Type 0) → ((t : Text) (r : Result ℕ E) → gives t r → ParsesUnsigned 8 10 t r)
-    → (workers : ℕ) (r : Option ℕ) → workers ≤ 9 → ReadsOne gives (digit workers) r → r ≡ Some workers
-reads_digit gives parses workers (Some n) most read = ap Some ((parses _ _ read).1 ∙ (is_number workers most).0)
+pub reads_digit : {E : Type 0} (gives : Text → Result ℕ E → Type 0)
+    → ((t : Text) (r : Result ℕ E) → gives t r → ParsesUnsigned 8 10 t r)
+    → (workers : ℕ) (r : Option ℕ) → workers ≤ 9 → ReadsOne gives (digit workers) r
+    → r ≡ Some workers
+reads_digit gives parses workers (Some n) most read =
+    ap Some ((parses _ _ read).1 ∙ (is_number workers most).0)
 reads_digit gives parses workers None most read =
     let number = is_number workers most in
     absurd (parses _ _ read.1 (is_numeral workers most, omega (arith, number.0, most)))
 
 -- what stands in the rows
-pub finds_digit : (workers : ℕ) (files : List Text) → one_of (codes "workers") (batch_rows workers files) ≡ Some (digit workers)
+pub finds_digit : (workers : ℕ) (files : List Text)
+    → one_of (codes "workers") (batch_rows workers files) ≡ Some (digit workers)
 finds_digit workers files = rw (no_hyphen (48 + workers) (plain_digit workers)) refl
 
-pub finds_files : (workers : ℕ) (files : List Text) → all_of (codes "files") (batch_rows workers files) ≡ Some files
+pub finds_files : (workers : ℕ) (files : List Text)
+    → all_of (codes "files") (batch_rows workers files) ≡ Some files
 finds_files workers files = refl
 
 -- what an option's default stands for, where the option has a value
-pub taken_texts : {X : Type 0} (f : X → List Text) (o : Option X) (d : X) (files : List Text) → option_map f o ≡ Some files → f (unwrap_or o d) ≡ files
+pub taken_texts : {X : Type 0} (f : X → List Text) (o : Option X) (d : X) (files : List Text)
+    → option_map f o ≡ Some files → f (unwrap_or o d) ≡ files
 taken_texts f None d files e = absurd (none-some files e)
 taken_texts f (Some x) d files e = same_Some _ _ e
 
@@ -55,6 +65,7 @@ is_given None v h = absurd h
 is_given (Some x) v h = ap Some h
 
 -- the first of each pair
-pub first_of_pairs : {B X Y : Type 0} (f : B → X) (g : B → Y) (o : Option B) (x : X) (y : Y) → option_map {U = X × Y} (λ b. (f b, g b)) o ≡ Some (x, y) → option_map f o ≡ Some x
+pub first_of_pairs : {B X Y : Type 0} (f : B → X) (g : B → Y) (o : Option B) (x : X) (y : Y)
+    → option_map {U = X × Y} (λ b. (f b, g b)) o ≡ Some (x, y) → option_map f o ≡ Some x
 first_of_pairs {X = X} {Y = Y} f g None x y e = absurd (none-some (x, y) e)
 first_of_pairs {X = X} {Y = Y} f g (Some b) x y e = ap (option_map (λ (p : X × Y). p.0)) e

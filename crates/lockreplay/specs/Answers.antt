@@ -1,5 +1,6 @@
 -- Definitions: what the program leaves on its two outputs, and its status. This project's own.
-use Rattle.std.specs.Prelude.{◌≡◌, ℕ, true, List, string_bytes, Option, Result, Ok, Err, MatchResult}
+use Rattle.std.specs.Prelude.{◌≡◌, ℕ, true, List, string_bytes, Option, Result, Ok, Err}
+use Rattle.std.specs.Prelude.{MatchResult}
 use Rattle.std.specs.Io.KnownBytes.{Appends, Keeps}
 use Rattle.lk_replay.specs.Devices.{AppendsPrefix}
 use Rattle.lockreplay.specs.declared.answers.Ended.{Ended}
@@ -12,7 +13,8 @@ use Rattle.lockreplay.specs.Faults.{fault_line, fault_status}
 use Rattle.lockreplay.specs.Jobs.{EndsJob}
 
 -- what was asked for leaves on standard output, and how it ends: with a status, or with a fault
-abbrev pub Does : Result Job ParseFault → Option (List ℕ) → Option (List ℕ) → Option (List ℕ) → Result ℕ ProgramFault → Type 0
+abbrev pub Does : Result Job ParseFault → Option (List ℕ) → Option (List ℕ) → Option (List ℕ)
+    → Result ℕ ProgramFault → Type 0
 Does (Ok job) input old new r = EndsJob job input old new r
 Does (Err (parse.Help text)) input old new r = MatchResult r
     (λ status. (status ≡ 0) × Appends old new (string_bytes text))
@@ -21,19 +23,26 @@ Does (Err (parse.Usage text)) input old new r = (r ≡ Ok 2) × Keeps old new
 Does (Err parse.TooManyFiles) input old new r = (r ≡ Err TooManyFiles) × Keeps old new
 Does (Err parse.OutOfMemory) input old new r = (r ≡ Err Memory) × Keeps old new
 
--- a status stands for itself, and a fault has its line on standard error, whole where the device took it
+-- a status stands for itself, and a fault has its line on standard error, whole where the device
+-- took it
 abbrev pub TellsOf : Result ℕ ProgramFault → Option (List ℕ) → Option (List ℕ) → Ended → Type 0
 TellsOf (Ok status) old new ended = (ended.status ≡ status) × Keeps old new
-TellsOf (Err fault) old new ended = (ended.status ≡ fault_status fault) × (ended.told ≡ true → Appends old new (fault_line fault))
+TellsOf (Err fault) old new ended =
+    (ended.status ≡ fault_status fault) × (ended.told ≡ true → Appends old new (fault_line fault))
 
--- what stands on standard error: the parser's text where the words ask for nothing, else what the ending tells
-abbrev pub Tells : Result Job ParseFault → Result ℕ ProgramFault → Option (List ℕ) → Option (List ℕ) → Ended → Type 0
-Tells (Err (parse.Usage text)) r old new ended = (ended.status ≡ 2) × (ended.told ≡ true → Appends old new (string_bytes text))
+-- what stands on standard error: the parser's text where the words ask for nothing, else what the
+-- ending tells
+abbrev pub Tells : Result Job ParseFault → Result ℕ ProgramFault → Option (List ℕ) → Option (List ℕ)
+    → Ended → Type 0
+Tells (Err (parse.Usage text)) r old new ended =
+    (ended.status ≡ 2) × (ended.told ≡ true → Appends old new (string_bytes text))
 Tells (Err (parse.Help text)) r old new ended = TellsOf r old new ended
 Tells (Err parse.TooManyFiles) r old new ended = TellsOf r old new ended
 Tells (Err parse.OutOfMemory) r old new ended = TellsOf r old new ended
 Tells (Ok job) r old new ended = TellsOf r old new ended
 
 -- what the program leaves of its input, standard output and standard error
-abbrev pub EndsProgram : Result Job ParseFault → Option (List ℕ) → Option (List ℕ) → Option (List ℕ) → Option (List ℕ) → Option (List ℕ) → Ended → Type 0
-EndsProgram asked input out out' err err' ended = (r : Result ℕ ProgramFault) × Does asked input out out' r × Tells asked r err err' ended
+abbrev pub EndsProgram : Result Job ParseFault → Option (List ℕ) → Option (List ℕ) → Option (List ℕ)
+    → Option (List ℕ) → Option (List ℕ) → Ended → Type 0
+EndsProgram asked input out out' err err' ended =
+    (r : Result ℕ ProgramFault) × Does asked input out out' r × Tells asked r err err' ended

@@ -1,5 +1,6 @@
 -- Definitions: the status of a batch, and what a batch leaves on its output. This project's own.
-use Rattle.std.specs.Prelude.{◌≡◌, ◌≤◌, ℕ, Bool, true, false, List, length, map, Option, Result, MatchResult, if◌then◌else◌}
+use Rattle.std.specs.Prelude.{◌≡◌, ◌≤◌, ℕ, Bool, true, false, List, length, map, Option, Result}
+use Rattle.std.specs.Prelude.{MatchResult, if◌then◌else◌}
 use Rattle.std.specs.List.{list_all}
 use Rattle.std.specs.Io.KnownBytes.{Appends, Keeps}
 use Rattle.lk_replay.specs.declared.ending.Ending.{Ending}
@@ -9,7 +10,8 @@ use Rattle.lk_replay.specs.Devices.{AppendsPrefix}
 use Rattle.lk_replay.specs.Report.{report_text}
 use Rattle.lk_workers.specs.Batch.{batch_text_of}
 use Rattle.lockreplay.specs.declared.faults.ProgramFault.{ProgramFault}
-use Rattle.lockreplay.specs.declared.faults.ProgramFault.TheVariants.{Input, Output, Memory, TooManyFiles, File}
+use Rattle.lockreplay.specs.declared.faults.ProgramFault.TheVariants.{Input, Output, Memory}
+use Rattle.lockreplay.specs.declared.faults.ProgramFault.TheVariants.{TooManyFiles, File}
 
 abbrev pub is_accepted : Ending → Bool
 is_accepted Accepted = true
@@ -23,7 +25,8 @@ status_of_reports reports = if list_all (λ r. is_accepted (ending_of r)) report
 -- so many texts were replayed: their reports went out as one text, and the status is theirs
 abbrev pub IsBatchOf : ℕ → Option (List ℕ) → Option (List ℕ) → ℕ → Type 0
 IsBatchOf count old new status = (texts : List (List ℕ)) × (length texts ≡ count)
-    × Appends old new (batch_text_of (map report_text texts)) × (status ≡ status_of_reports (map report_text texts))
+    × Appends old new (batch_text_of (map report_text texts))
+    × (status ≡ status_of_reports (map report_text texts))
 
 -- where a fault ends a batch of so many files, a prefix of its text went out if the output failed,
 -- and else nothing

@@ -1,6 +1,7 @@
--- Definitions: the plain command lines, and what each asks for. This project's own. What every other
--- line comes to, as one with its options in another order, is the parser's own.
-use Rattle.std.specs.Prelude.{◌≡◌, ◌⊎◌, ◌+◌, ◌<◌, ◌≤◌, ◌==◌, not, ℕ, Bool, true, List, [], ◌∷◌, length, map, codes, string_bytes, Result, Ok, Err}
+-- Definitions: the plain command lines, and what each asks for. This project's own. What every
+-- other line comes to, as one with its options in another order, is the parser's own.
+use Rattle.std.specs.Prelude.{◌≡◌, ◌⊎◌, ◌+◌, ◌<◌, ◌≤◌, ◌==◌, not, ℕ, Bool, true, List, [], ◌∷◌}
+use Rattle.std.specs.Prelude.{length, map, codes, string_bytes, Result, Ok, Err}
 use Rattle.lockreplay.specs.declared.command_line.Job.{Job}
 use Rattle.lockreplay.specs.declared.command_line.Job.TheVariants.{Replay, Batch}
 use Rattle.lockreplay.specs.declared.command_line.ParseFault.{ParseFault}
@@ -43,7 +44,8 @@ IsTooMany _ = ⊥
 -- what a batch of files comes to, by how many there are
 abbrev pub AnswersBatch : ℕ → List Word → Result Job ParseFault → Type 0
 AnswersBatch workers files r =
-    (length files ≤ 65536 → AsksFor (IsBatchOfFiles workers files) r) × (65536 < length files → IsTooMany r)
+    (length files ≤ 65536 → AsksFor (IsBatchOfFiles workers files) r)
+    × (65536 < length files → IsTooMany r)
 
 -- the digits that are no number of workers
 abbrev pub IsUnfit : ℕ → Type 0

@@ -1,5 +1,5 @@
--- Invariants: the command that the parser is given, in the parser's own words. What it is built of is
--- carried to the parse; no public contract rests on it.
+-- Invariants: the command that the parser is given, in the parser's own words. What it is built of
+-- is carried to the parse; no public contract rests on it.
 use Rattle.std.specs.Prelude.{◌+◌, Some, None, [], ◌∷◌, List, ℕ, codes, true, pos}
 use Rattle.clap.specs.Words.{App, Row, Rule, Text, new_app, new_rule, with_rule, with_subcommand}
 use Rattle.clap.specs.Lexer.{usize_max}
@@ -35,7 +35,8 @@ bare_app = let app = new_app (codes "lockreplay") in
     record app { top = record app.top { no_binary_name = true; subcommand_required = true } }
 
 abbrev pub program_app : App
-program_app = with_subcommand (with_subcommand bare_app (new_app (codes "replay")).top) batch_app.top
+program_app =
+    with_subcommand (with_subcommand bare_app (new_app (codes "replay")).top) batch_app.top
 
 -- the digit of `--workers`
 abbrev pub digit : ℕ → Text

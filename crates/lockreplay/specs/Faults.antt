@@ -1,9 +1,11 @@
--- Definitions: the line and the status of each fault, and what a fault of a run is to the program. This project's own.
+-- Definitions: the line and the status of each fault, and what a fault of a run is to the program.
+-- This project's own.
 use Rattle.std.specs.Prelude.{ℕ, List, ◌++◌, codes, decimal}
 use Rattle.lk_replay.specs.declared.devices.RunFault.{RunFault}
 use Rattle.lk_replay.specs.declared.devices.RunFault.TheVariants as run
 use Rattle.lockreplay.specs.declared.faults.ProgramFault.{ProgramFault}
-use Rattle.lockreplay.specs.declared.faults.ProgramFault.TheVariants.{Input, Output, Memory, TooManyFiles, File}
+use Rattle.lockreplay.specs.declared.faults.ProgramFault.TheVariants.{Input, Output, Memory}
+use Rattle.lockreplay.specs.declared.faults.ProgramFault.TheVariants.{TooManyFiles, File}
 
 -- 2 where the words ask for too much, 3 where a device or the memory failed
 abbrev pub fault_status : ProgramFault → ℕ

@@ -5,7 +5,8 @@ use Rattle.lk_replay.specs.Devices.{AppendsPrefix}
 use Rattle.lk_replay.specs.Ending.{ending_of, status_of}
 use Rattle.lk_replay.specs.Report.{report_text}
 use Rattle.lockreplay.specs.declared.faults.ProgramFault.{ProgramFault}
-use Rattle.lockreplay.specs.declared.faults.ProgramFault.TheVariants.{Input, Output, Memory, TooManyFiles, File}
+use Rattle.lockreplay.specs.declared.faults.ProgramFault.TheVariants.{Input, Output, Memory}
+use Rattle.lockreplay.specs.declared.faults.ProgramFault.TheVariants.{TooManyFiles, File}
 
 -- the report of the input's bytes went out, and the status is its ending's
 abbrev pub IsReplayOf : Option (List ℕ) → Option (List ℕ) → Option (List ℕ) → ℕ → Type 0
@@ -22,5 +23,6 @@ IsCutReplay input old new (File k) = ⊥
 IsCutReplay input old new TooManyFiles = ⊥
 
 -- what the replay of an input leaves
-abbrev pub EndsReplay : Option (List ℕ) → Option (List ℕ) → Option (List ℕ) → Result ℕ ProgramFault → Type 0
+abbrev pub EndsReplay : Option (List ℕ) → Option (List ℕ) → Option (List ℕ) → Result ℕ ProgramFault
+    → Type 0
 EndsReplay input old new r = MatchResult r (IsReplayOf input old new) (IsCutReplay input old new)

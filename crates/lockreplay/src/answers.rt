@@ -32,8 +32,10 @@ pub struct Ended {
 
 /// Writes the help, and gives the status of a job that was done.
 fn help<W: Write>(output: &mut W, text: &str) -> Result<u8, ProgramFault>
-    ensures done { IfOk result (λ status. (status ≡ 0) × Appends (W.contents output.old) (W.contents output.new) text.now) }
-    ensures cut { IfErr result (λ e. (e ≡ ProgramFault.Output) × AppendsPrefix (W.contents output.old) (W.contents output.new) text.now) }
+    ensures done { IfOk result (λ status. (status ≡ 0)
+        × Appends (W.contents output.old) (W.contents output.new) text.now) }
+    ensures cut { IfErr result (λ e. (e ≡ ProgramFault.Output)
+        × AppendsPrefix (W.contents output.old) (W.contents output.new) text.now) }
 {
     let Ok(()) = send(output, text.as_bytes()) else {
         return Err(ProgramFault::Output);
@@ -44,7 +46,8 @@ fn help<W: Write>(output: &mut W, text: &str) -> Result<u8, ProgramFault>
 /// Says in one line what ends the program.
 fn tell_fault<E: Write>(errors: &mut E, fault: ProgramFault) -> Ended
     ensures status { result.status ≡ fault_status fault }
-    ensures line { result.told ≡ true → Appends (E.contents errors.old) (E.contents errors.new) (fault_line fault) }
+    ensures line { result.told ≡ true
+        → Appends (E.contents errors.old) (E.contents errors.new) (fault_line fault) }
 {
     let told = writeln!(errors, "{fault}").is_ok();
     Ended {
@@ -66,7 +69,8 @@ fn finish<E: Write>(errors: &mut E, ending: Result<u8, ProgramFault>) -> Ended
 /// Says why the words ask for nothing.
 fn tell_usage<E: Write>(errors: &mut E, text: &str) -> Ended
     ensures status { result.status ≡ 2 }
-    ensures text { result.told ≡ true → Appends (E.contents errors.old) (E.contents errors.new) text.now }
+    ensures text { result.told ≡ true
+        → Appends (E.contents errors.old) (E.contents errors.new) text.now }
 {
     let told = send(errors, text.as_bytes()).is_ok();
     Ended {
@@ -85,7 +89,8 @@ pub fn answer<R: Files + Threads + Sync, I: Read, O: Write, E: Write>(
     errors: &mut E,
 ) -> Ended
     requires { FitsJob asked }
-    ensures { EndsProgram asked (I.remaining input.old) (O.contents output.old) (O.contents output.new) (E.contents errors.old) (E.contents errors.new) result }
+    ensures { EndsProgram asked (I.remaining input.old) (O.contents output.old)
+        (O.contents output.new) (E.contents errors.old) (E.contents errors.new) result }
 {
     match asked {
         Ok(job) => finish(errors, perform(rt, alloc, &job, input, output)),

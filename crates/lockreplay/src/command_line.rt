@@ -4,11 +4,13 @@
 //! of files is tried after it. What the plain lines ask for, `replay` and `batch --workers N
 //! FILE...` with no option among the files, is proved; every other line is read as `clap` reads it.
 
-ghost use Rattle.std.specs.Prelude.{◌≡◌, ℕ, ◌<◌, ◌≤◌, List, length, map, false, true, string_bytes, IfOk, Result};
+ghost use Rattle.std.specs.Prelude.{◌≡◌, ℕ, ◌<◌, ◌≤◌, List, length, map, false, true, string_bytes};
+ghost use Rattle.std.specs.Prelude.{IfOk, Result};
 ghost use Rattle.std.specs.List.{list_all};
 ghost use Rattle.clap.specs.Words.{app_of, found_of, kind_of, rows_of};
 ghost use Rattle.clap.specs.declared.builder.command.Command.TheViews.{out-Command};
-ghost use Rattle.lockreplay.specs.CommandLines.{AnswersBatch, AnswersNoJob, AsksFor, IsUnfit, Word, batch_line, is_plain, replay_line};
+ghost use Rattle.lockreplay.specs.CommandLines.{AnswersBatch, AnswersNoJob, AsksFor, IsUnfit, Word};
+ghost use Rattle.lockreplay.specs.CommandLines.{batch_line, is_plain, replay_line};
 ghost use Rattle.lockreplay.specs.Commands.{batch_app, batch_rows, program_app};
 ghost use Rattle.lockreplay.specs.Jobs.{FitsJob};
 ghost use Rattle.lockreplay.specs.declared.command_line.ParseFault.TheVariants.{OutOfMemory};
@@ -121,9 +123,11 @@ fn copied(alloc: Global, texts: &[&str]) -> Result<Vec<String>, AllocError>
 /// The batch that the parser found. The limit on files is tried before anything is copied.
 fn batch_given(alloc: Global, batch: &ArgMatches<'_>) -> Result<Job, ParseFault>
     ensures fits { FitsJob result }
-    ensures plain { (workers : ℕ) → (files : List Word) → rows_of (found_of batch.now) ≡ batch_rows workers files
+    ensures plain { (workers : ℕ) → (files : List Word)
+        → rows_of (found_of batch.now) ≡ batch_rows workers files
         → 1 ≤ workers → workers ≤ 8 → 0 < length files → AnswersBatch workers files result }
-    ensures unfit { (workers : ℕ) → (files : List Word) → rows_of (found_of batch.now) ≡ batch_rows workers files
+    ensures unfit { (workers : ℕ) → (files : List Word)
+        → rows_of (found_of batch.now) ≡ batch_rows workers files
         → IsUnfit workers → AnswersNoJob result }
 {
     let workers = batch.get_one::<u8>("workers").unwrap_or(0);
@@ -157,12 +161,17 @@ fn fault_told(alloc: Global, error: &clap::Error) -> ParseFault
 /// place of any answer.
 pub fn parse_words(alloc: Global, words: &[String]) -> Result<Job, ParseFault>
     ensures fits { FitsJob result }
-    ensures replay { map string_bytes words.now ≡ replay_line → AsksFor (λ job. job ≡ Job.Replay) result }
-    ensures batch { (workers : ℕ) → (files : List Word) → map string_bytes words.now ≡ batch_line workers files
-        → 1 ≤ workers → workers ≤ 8 → 0 < length files → list_all is_plain files ≡ true → AnswersBatch workers files result }
+    ensures replay { map string_bytes words.now ≡ replay_line
+        → AsksFor (λ job. job ≡ Job.Replay) result }
+    ensures batch { (workers : ℕ) → (files : List Word)
+        → map string_bytes words.now ≡ batch_line workers files
+        → 1 ≤ workers → workers ≤ 8 → 0 < length files → list_all is_plain files ≡ true
+        → AnswersBatch workers files result }
     // 0 or 9 workers get no job, whatever the parser says of them
-    ensures unfit { (workers : ℕ) → (files : List Word) → map string_bytes words.now ≡ batch_line workers files
-        → IsUnfit workers → 0 < length files → list_all is_plain files ≡ true → AnswersNoJob result }
+    ensures unfit { (workers : ℕ) → (files : List Word)
+        → map string_bytes words.now ≡ batch_line workers files
+        → IsUnfit workers → 0 < length files → list_all is_plain files ≡ true
+        → AnswersNoJob result }
 {
     let command = program_command(alloc)?;
     let matches = match command.try_get_matches_from(words) {

@@ -23,7 +23,8 @@ pub fn replay_input<R: Read, W: Write>(
     input: &mut R,
     output: &mut W,
 ) -> Result<u8, ProgramFault>
-    ensures { EndsReplay (R.remaining input.old) (W.contents output.old) (W.contents output.new) result }
+    ensures { EndsReplay (R.remaining input.old) (W.contents output.old)
+        (W.contents output.new) result }
 {
     let ran = run(alloc, input, output);
     let status = status_of(&ran);
@@ -104,7 +105,8 @@ pub fn perform<R: Files + Threads + Sync, I: Read, O: Write>(
     output: &mut O,
 ) -> Result<u8, ProgramFault>
     requires { IsFitJob job.now }
-    ensures { EndsJob job.now (I.remaining input.old) (O.contents output.old) (O.contents output.new) result }
+    ensures { EndsJob job.now (I.remaining input.old) (O.contents output.old)
+        (O.contents output.new) result }
 {
     match job {
         Job::Replay => replay_input(alloc, input, output),

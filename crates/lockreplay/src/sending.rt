@@ -21,8 +21,12 @@ fn push_file_line<W: Write>(
     output: &mut W,
     number: usize,
 ) -> Result<(), RunFault>
-    ensures passed { OnOk result (Passes waiting.old (W.contents output.old) (file_line number) waiting.new (W.contents output.new)) }
-    ensures prefix { OnErr result (AppendsPrefix (W.contents output.old) (W.contents output.new) (waiting.old ++ file_line number)) }
+    ensures passed { OnOk result
+        (Passes waiting.old (W.contents output.old) (file_line number) waiting.new
+        (W.contents output.new)) }
+    ensures prefix { OnErr result
+        (AppendsPrefix (W.contents output.old) (W.contents output.new)
+        (waiting.old ++ file_line number)) }
     ensures fault { IfErr result (λ e. e ≡ RunFault.Write) }
 {
     let mut buffer = Buffer::new();
@@ -42,10 +46,14 @@ pub fn send_reports<W: Write>(
     output: &mut W,
     reports: &[Vec<u8>],
 ) -> Result<(), RunFault>
-    ensures written { OnOk result (Appends (W.contents output.old) (W.contents output.new) (batch_text_of (map (λ r. r.items) reports.now))) }
+    ensures written { OnOk result
+        (Appends (W.contents output.old) (W.contents output.new)
+        (batch_text_of (map (λ r. r.items) reports.now))) }
     ensures prefix { IfErrOf result RunFault.Write
-        (AppendsPrefix (W.contents output.old) (W.contents output.new) (batch_text_of (map (λ r. r.items) reports.now))) }
-    ensures no_memory { IfErrOf result RunFault.OutOfMemory (Keeps (W.contents output.old) (W.contents output.new)) }
+        (AppendsPrefix (W.contents output.old) (W.contents output.new)
+        (batch_text_of (map (λ r. r.items) reports.now))) }
+    ensures no_memory { IfErrOf result RunFault.OutOfMemory
+        (Keeps (W.contents output.old) (W.contents output.new)) }
     ensures fault { IfErr result (λ e. e ≢ RunFault.Read) }
 {
     let Ok(mut waiting) = OutputBuffer::new(alloc) else {

@@ -1,7 +1,9 @@
 -- The parser takes a plain line, and finds what it says.
 use Rattle.std.proofs.lemmas.List.{length-map}
 use Rattle.clap.specs.Lexer.{usize_max}
-use Rattle.std.proofs.Common.{String, Global, length, map, string_bytes, ◌<◌, ◌≤◌, ◌^◌, rules, ◌≡◌, ◌∙◌, ℕ, List, Some, option_map, codes, ap, ap₂, sym, refl, subst, true, false, true≢false, arith, []}
+use Rattle.std.proofs.Common.{String, Global, length, map, string_bytes, ◌<◌, ◌≤◌, ◌^◌, rules, ◌≡◌}
+use Rattle.std.proofs.Common.{◌∙◌, ℕ, List, Some, option_map, codes, ap, ap₂, sym, refl, subst}
+use Rattle.std.proofs.Common.{true, false, true≢false, arith, []}
 use Rattle.std.specs.Prelude.{Err}
 use Rattle.clap.specs.Words.{Text, is_simple, subcommand_of, takes}
 use Rattle.clap.proofs.OnLiterals.{clap_on_literals}
@@ -14,21 +16,29 @@ use Rattle.std.proofs.lemmas.Option.{none-some, same_Some}
 use Rattle.std.specs.Str.{bytes_eq}
 use Rattle.clap.specs.declared.parser.matches.ArgMatches.TheViews.{out-ArgMatches}
 use Rattle.lockreplay.proofs.ReadRows.{first_of_pairs}
-use Rattle.lockreplay.proofs.command_line.parse_words.Goals.{in_default-via-in-Some+else-eq, in_default-via-in_default}
+use Rattle.lockreplay.proofs.command_line.parse_words.Goals.{in_default-via-in-Some+else-eq}
+use Rattle.lockreplay.proofs.command_line.parse_words.Goals.{in_default-via-in_default}
 use Rattle.lockreplay.proofs.command_line.parse_words.Goals as goal
 
 -- a slice has fewer elements than memory has bytes
-fits_in_memory : (files : List Text) (words : List (String Global)) → (workers : ℕ) → map string_bytes words ≡ batch_line workers files → length words < 2 ^ 64 → length files ≤ usize_max
-fits_in_memory files words workers line few = omega (arith, few, ap length line, length-map words string_bytes)
+fits_in_memory : (files : List Text) (words : List (String Global)) → (workers : ℕ)
+    → map string_bytes words ≡ batch_line workers files → length words < 2 ^ 64
+    → length files ≤ usize_max
+fits_in_memory files words workers line few =
+    omega (arith, few, ap length line, length-map words string_bytes)
 
 pub returns-in-Err-clause-replay : goal.returns-in-Err-clause-replay
 returns-in-Err-clause-replay c = λ line.
-    let told = c.fault_told.ensures (c.in-Err.ensures.passes (ap₂ takes c.in_ok-command.ensures line ∙ replay_taken)) in
+    let told =
+    c.fault_told.ensures
+    (c.in-Err.ensures.passes (ap₂ takes c.in_ok-command.ensures line ∙ replay_taken)) in
     subst (λ f. AsksFor (λ job. job ≡ Replay) (Err f)) (sym told) tt
 
 pub returns-in-Err-clause-batch : goal.returns-in-Err-clause-batch
 returns-in-Err-clause-batch c = λ workers files line few many some plain.
-    let told = c.fault_told.ensures (c.in-Err.ensures.passes (ap₂ takes c.in_ok-command.ensures line ∙ batch_taken workers files few many some (fits_in_memory files c.args.words.now workers line (search rules)) plain)) in
+    let told = c.fault_told.ensures (c.in-Err.ensures.passes (ap₂ takes c.in_ok-command.ensures line
+    ∙ batch_taken workers files few many
+    some (fits_in_memory files c.args.words.now workers line (search rules)) plain)) in
     subst (λ f. AnswersBatch workers files (Err f)) (sym told) ((λ _. tt), λ _. tt)
 
 is_simple_program : is_simple program_app ≡ true
@@ -40,41 +50,64 @@ replay_found = refl
 
 pub returns-in-Some-clause-replay : goal.returns-in-Some-clause-replay
 returns-in-Some-clause-replay c = λ line.
-    let found = (c.in-Ok.ensures.matches (ap is_simple c.in_ok-command.ensures ∙ is_simple_program)).1 ∙ ap₂ subcommand_of c.in_ok-command.ensures line ∙ replay_found in
-    let name = c.in-Some.ensures.name ∙ first_of_pairs _ _ (out-ArgMatches c.in-Ok.matches).subcommand _ _ found in
-    let other : bytes_eq c.in-Some.name.now (codes "batch") ≡ false = ap (λ t. bytes_eq t (codes "batch")) (same_Some _ _ name) in
+    let found =
+    (c.in-Ok.ensures.matches (ap is_simple c.in_ok-command.ensures ∙ is_simple_program)).1
+    ∙ ap₂ subcommand_of c.in_ok-command.ensures line ∙ replay_found in
+    let name =
+    c.in-Some.ensures.name
+    ∙ first_of_pairs _ _ (out-ArgMatches c.in-Ok.matches).subcommand _ _ found in
+    let other : bytes_eq c.in-Some.name.now (codes "batch") ≡ false =
+    ap (λ t. bytes_eq t (codes "batch")) (same_Some _ _ name) in
     absurd (true≢false (sym c.if-eq.true ∙ c.eq.ensures ∙ other))
 
 pub returns-in-Some-clause-batch : goal.returns-in-Some-clause-batch
 returns-in-Some-clause-batch c = λ workers files line few many some plain.
-    let found = (c.in-Ok.ensures.matches (ap is_simple c.in_ok-command.ensures ∙ is_simple_program)).1 ∙ ap₂ subcommand_of c.in_ok-command.ensures line ∙ batch_found workers files some plain in
-    c.batch_given.ensures.plain workers files (same_Some _ _ (c.in-Some.ensures.rows ∙ ap (option_map (λ p. p.1)) found)) few many some
+    let found =
+    (c.in-Ok.ensures.matches (ap is_simple c.in_ok-command.ensures ∙ is_simple_program)).1
+    ∙ ap₂ subcommand_of c.in_ok-command.ensures line ∙ batch_found workers files some plain in
+    c.batch_given.ensures.plain workers files
+    (same_Some _ _ (c.in-Some.ensures.rows ∙ ap (option_map (λ p. p.1)) found)) few many some
 
 pub returns-clause-batch : goal.returns-clause-batch
 returns-clause-batch c = λ workers files line few many some plain.
-    let found = (c.in-Ok.ensures.matches (ap is_simple c.in_ok-command.ensures ∙ is_simple_program)).1 ∙ ap₂ subcommand_of c.in_ok-command.ensures line ∙ batch_found workers files some plain in
+    let found =
+    (c.in-Ok.ensures.matches (ap is_simple c.in_ok-command.ensures ∙ is_simple_program)).1
+    ∙ ap₂ subcommand_of c.in_ok-command.ensures line ∙ batch_found workers files some plain in
     elim c.in_default.branch [
       | in_default-via-in-Some+else-eq w ↦
-          let name = w.in-Some.ensures.name ∙ first_of_pairs _ _ (out-ArgMatches c.in-Ok.matches).subcommand _ _ found in
-          let same : bytes_eq w.in-Some.name.now (codes "batch") ≡ true = ap (λ t. bytes_eq t (codes "batch")) (same_Some _ _ name) in
+          let name =
+          w.in-Some.ensures.name
+          ∙ first_of_pairs _ _ (out-ArgMatches c.in-Ok.matches).subcommand _ _ found in
+          let same : bytes_eq w.in-Some.name.now (codes "batch") ≡ true =
+          ap (λ t. bytes_eq t (codes "batch")) (same_Some _ _ name) in
           absurd (true≢false (sym same ∙ sym w.eq.ensures ∙ w.if-eq.false))
       | in_default-via-in_default w ↦
-          absurd (none-some (codes "batch") (w.in_default.ensures.name ∙ first_of_pairs _ _ (out-ArgMatches c.in-Ok.matches).subcommand _ _ found))
+          absurd (none-some (codes "batch") (w.in_default.ensures.name
+          ∙ first_of_pairs _ _ (out-ArgMatches c.in-Ok.matches).subcommand _ _ found))
     ]
 
 pub returns-in-Some-clause-unfit : goal.returns-in-Some-clause-unfit
 returns-in-Some-clause-unfit c = λ workers files line unfit some plain.
-    let found = (c.in-Ok.ensures.matches (ap is_simple c.in_ok-command.ensures ∙ is_simple_program)).1 ∙ ap₂ subcommand_of c.in_ok-command.ensures line ∙ batch_found workers files some plain in
-    c.batch_given.ensures.unfit workers files (same_Some _ _ (c.in-Some.ensures.rows ∙ ap (option_map (λ p. p.1)) found)) unfit
+    let found =
+    (c.in-Ok.ensures.matches (ap is_simple c.in_ok-command.ensures ∙ is_simple_program)).1
+    ∙ ap₂ subcommand_of c.in_ok-command.ensures line ∙ batch_found workers files some plain in
+    c.batch_given.ensures.unfit workers files
+    (same_Some _ _ (c.in-Some.ensures.rows ∙ ap (option_map (λ p. p.1)) found)) unfit
 
 pub returns-clause-unfit : goal.returns-clause-unfit
 returns-clause-unfit c = λ workers files line unfit some plain.
-    let found = (c.in-Ok.ensures.matches (ap is_simple c.in_ok-command.ensures ∙ is_simple_program)).1 ∙ ap₂ subcommand_of c.in_ok-command.ensures line ∙ batch_found workers files some plain in
+    let found =
+    (c.in-Ok.ensures.matches (ap is_simple c.in_ok-command.ensures ∙ is_simple_program)).1
+    ∙ ap₂ subcommand_of c.in_ok-command.ensures line ∙ batch_found workers files some plain in
     elim c.in_default.branch [
       | in_default-via-in-Some+else-eq w ↦
-          let name = w.in-Some.ensures.name ∙ first_of_pairs _ _ (out-ArgMatches c.in-Ok.matches).subcommand _ _ found in
-          let same : bytes_eq w.in-Some.name.now (codes "batch") ≡ true = ap (λ t. bytes_eq t (codes "batch")) (same_Some _ _ name) in
+          let name =
+          w.in-Some.ensures.name
+          ∙ first_of_pairs _ _ (out-ArgMatches c.in-Ok.matches).subcommand _ _ found in
+          let same : bytes_eq w.in-Some.name.now (codes "batch") ≡ true =
+          ap (λ t. bytes_eq t (codes "batch")) (same_Some _ _ name) in
           absurd (true≢false (sym same ∙ sym w.eq.ensures ∙ w.if-eq.false))
       | in_default-via-in_default w ↦
-          absurd (none-some (codes "batch") (w.in_default.ensures.name ∙ first_of_pairs _ _ (out-ArgMatches c.in-Ok.matches).subcommand _ _ found))
+          absurd (none-some (codes "batch") (w.in_default.ensures.name
+          ∙ first_of_pairs _ _ (out-ArgMatches c.in-Ok.matches).subcommand _ _ found))
     ]

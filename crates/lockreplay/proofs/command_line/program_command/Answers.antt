@@ -11,4 +11,6 @@ returns c =
     let replay_is : app_of c.about-replay.result ≡ new_app (codes "replay") = search rules in
     let bare_is : app_of c.subcommand_required.result ≡ bare_app = search rules in
     IfOk-weaker c.subcommand-2.result _ _ (λ r h. h.shape (search rules)
-    ∙ ap₂ with_subcommand (c.in_ok-subcommand.ensures.shape (search rules) ∙ ap₂ with_subcommand bare_is (ap (λ (a : App). a.top) replay_is)) (ap (λ (a : App). a.top) c.in_ok-batch_command.ensures.app)) c.subcommand-2.ensures
+    ∙ ap₂ with_subcommand (c.in_ok-subcommand.ensures.shape (search rules)
+    ∙ ap₂ with_subcommand bare_is (ap (λ (a : App). a.top) replay_is))
+    (ap (λ (a : App). a.top) c.in_ok-batch_command.ensures.app)) c.subcommand-2.ensures

@@ -12,18 +12,25 @@ returns-in-Ok-send_reports g c =
     let texts = c.in_ok-texts.texts.items in
     let old = g.W.Write.contents c.args.output.now in
     let new = g.W.Write.contents c.send_reports.new.output in
-    let sent = same_reports texts _ _ _ c.deref.ensures.value c.deref-2.ensures.value c.in-Ok.ensures in
-    let judged = same_reports texts _ _ _ c.deref.ensures.value c.deref-in-Ok-send_reports.ensures.value c.in-Ok.ensures in (
+    let sent =
+    same_reports texts _ _ _ c.deref.ensures.value c.deref-2.ensures.value c.in-Ok.ensures in
+    let judged =
+    same_reports texts _ _ _ c.deref.ensures.value c.deref-in-Ok-send_reports.ensures.value
+    c.in-Ok.ensures in (
       bytes_of texts,
       length-map texts (λ t. t.items) ∙ c.in_ok-texts.ensures.each,
-      subst (λ (rs : List (List ℕ)). Appends old new (batch_text_of rs)) sent c.in-Ok-send_reports.ensures.written,
+      subst (λ (rs : List (List ℕ)). Appends old new (batch_text_of rs)) sent
+          c.in-Ok-send_reports.ensures.written,
       c.batch_status.ensures ∙ ap status_of_reports judged,
     )
 
 pub returns : goal.returns
 returns g c =
     let texts = c.in_ok-texts.texts.items in
-    let sent = same_reports texts _ _ _ c.deref.ensures.value c.deref-2.ensures.value c.in-Ok.ensures in
+    let sent =
+    same_reports texts _ _ _ c.deref.ensures.value c.deref-2.ensures.value c.in-Ok.ensures in
     let count = length-map texts (λ t. t.items) ∙ c.in_ok-texts.ensures.each in
     let ends = c.in-Err.ensures in
-    rw (c.from.ensures) (cut_batch c.in-Err.fault (bytes_of texts) _ _ _ _ count sent ends.prefix ends.no_memory ends.fault)
+    rw (c.from.ensures)
+    (cut_batch c.in-Err.fault
+    (bytes_of texts) _ _ _ _ count sent ends.prefix ends.no_memory ends.fault)
