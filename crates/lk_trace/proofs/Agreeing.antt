@@ -66,26 +66,33 @@ named : (word : Option WordName) (given : WordName) → is_word word given ≡ t
 named None given is = cc
 named (Some word) given is = ap Some (same_name word given is)
 
-word_agrees : (word : Option WordName) (given : WordName) → other_word word given ≡ None → word ≡ Some given
+word_agrees : (word : Option WordName) (given : WordName) → other_word word given ≡ None
+    → word ≡ Some given
 word_agrees word given none = named word given (holds (is_word word given) _ none)
 
-agreed_word : (word : Option WordName) (given : WordName) → word ≡ Some given → other_word word given ≡ None
-agreed_word word given is = ap (λ w. other_word w given) is ∙ cond-true (same_word given given) _ _ (its_name given)
+agreed_word : (word : Option WordName) (given : WordName) → word ≡ Some given
+    → other_word word given ≡ None
+agreed_word word given is =
+    ap (λ w. other_word w given) is ∙ cond-true (same_word given given) _ _ (its_name given)
 
 -- values
-found_agrees : (word : WordName) (found : ℕ) (given : Option ℕ) → found_other word found given ≡ None → IfSome given (λ v. found ≡ v)
+found_agrees : (word : WordName) (found : ℕ) (given : Option ℕ)
+    → found_other word found given ≡ None → IfSome given (λ v. found ≡ v)
 found_agrees word found None none = tt
 found_agrees word found (Some given) none = eqb-true found given (holds (found == given) _ none)
 
-agreed_found : (word : WordName) (found : ℕ) (given : Option ℕ) → IfSome given (λ v. found ≡ v) → found_other word found given ≡ None
+agreed_found : (word : WordName) (found : ℕ) (given : Option ℕ) → IfSome given (λ v. found ≡ v)
+    → found_other word found given ≡ None
 agreed_found word found None is = refl
 agreed_found word found (Some given) is = cond-true (found == given) _ _ (eq-eqb found given is)
 
-left_agrees : (word : WordName) (left : ℕ) (given : Option ℕ) → left_other word left given ≡ None → IfSome given (λ v. left ≡ v)
+left_agrees : (word : WordName) (left : ℕ) (given : Option ℕ) → left_other word left given ≡ None
+    → IfSome given (λ v. left ≡ v)
 left_agrees word left None none = tt
 left_agrees word left (Some given) none = eqb-true left given (holds (left == given) _ none)
 
-agreed_left : (word : WordName) (left : ℕ) (given : Option ℕ) → IfSome given (λ v. left ≡ v) → left_other word left given ≡ None
+agreed_left : (word : WordName) (left : ℕ) (given : Option ℕ) → IfSome given (λ v. left ≡ v)
+    → left_other word left given ≡ None
 agreed_left word left None is = refl
 agreed_left word left (Some given) is = cond-true (left == given) _ _ (eq-eqb left given is)
 
@@ -99,20 +106,26 @@ its_answer : (a : Bool) → same_answer a a ≡ true
 its_answer true = refl
 its_answer false = refl
 
-wrote_agrees : (wrote : Bool) (given : Option Bool) → wrote_other wrote given ≡ None → IfSome given (λ w. wrote ≡ w)
+wrote_agrees : (wrote : Bool) (given : Option Bool) → wrote_other wrote given ≡ None
+    → IfSome given (λ w. wrote ≡ w)
 wrote_agrees wrote None none = tt
-wrote_agrees wrote (Some given) none = same_test wrote given (holds (same_answer wrote given) _ none)
+wrote_agrees wrote (Some given) none =
+    same_test wrote given (holds (same_answer wrote given) _ none)
 
-agreed_wrote : (wrote : Bool) (given : Option Bool) → IfSome given (λ w. wrote ≡ w) → wrote_other wrote given ≡ None
+agreed_wrote : (wrote : Bool) (given : Option Bool) → IfSome given (λ w. wrote ≡ w)
+    → wrote_other wrote given ≡ None
 agreed_wrote wrote None is = refl
-agreed_wrote wrote (Some given) is = cond-true (same_answer wrote given) _ _ (ap (same_answer wrote) (sym is) ∙ its_answer wrote)
+agreed_wrote wrote (Some given) is =
+    cond-true (same_answer wrote given) _ _ (ap (same_answer wrote) (sym is) ∙ its_answer wrote)
 
 -- sections
-count_agrees : (last : ℕ) (given : Option ℕ) → count_other last given ≡ None → IfSome given (λ n. last < n)
+count_agrees : (last : ℕ) (given : Option ℕ) → count_other last given ≡ None
+    → IfSome given (λ n. last < n)
 count_agrees last None none = tt
 count_agrees last (Some given) none = ltb-true last given (holds (nat_lt last given) _ none)
 
-agreed_count : (last : ℕ) (given : Option ℕ) → IfSome given (λ n. last < n) → count_other last given ≡ None
+agreed_count : (last : ℕ) (given : Option ℕ) → IfSome given (λ n. last < n)
+    → count_other last given ≡ None
 agreed_count last None is = refl
 agreed_count last (Some given) is = cond-true (nat_lt last given) _ _ (lt-ltb last given is)
 
@@ -131,19 +144,26 @@ its_end Waits = refl
 its_end Entered = refl
 its_end Left = refl
 
-outcome_agrees : (outcome : Outcome) (given : Option Outcome) → outcome_other outcome given ≡ None → IfSome given (λ o. outcome ≡ o)
+outcome_agrees : (outcome : Outcome) (given : Option Outcome) → outcome_other outcome given ≡ None
+    → IfSome given (λ o. outcome ≡ o)
 outcome_agrees outcome None none = tt
-outcome_agrees outcome (Some given) none = same_end outcome given (holds (same_outcome outcome given) _ none)
+outcome_agrees outcome (Some given) none =
+    same_end outcome given (holds (same_outcome outcome given) _ none)
 
-agreed_outcome : (outcome : Outcome) (given : Option Outcome) → IfSome given (λ o. outcome ≡ o) → outcome_other outcome given ≡ None
+agreed_outcome : (outcome : Outcome) (given : Option Outcome) → IfSome given (λ o. outcome ≡ o)
+    → outcome_other outcome given ≡ None
 agreed_outcome outcome None is = refl
-agreed_outcome outcome (Some given) is = cond-true (same_outcome outcome given) _ _ (ap (same_outcome outcome) (sym is) ∙ its_end outcome)
+agreed_outcome outcome (Some given) is =
+    cond-true (same_outcome outcome given) _ _
+    (ap (same_outcome outcome) (sym is) ∙ its_end outcome)
 
 -- what the line saw
-seen_agrees : (c : Checked) (t : ℕ) (m : Move) (seen : Seen) → seen_other c t m seen ≡ None → AgreesOn c t m seen
+seen_agrees : (c : Checked) (t : ℕ) (m : Move) (seen : Seen) → seen_other c t m seen ≡ None
+    → AgreesOn c t m seen
 seen_agrees c t m Nothing none = tt
 seen_agrees c t m (OnWord word found left wrote) none =
-    let first = both_none (other_word (word_of c.lock.state t m) word) (values_other word (stands c.lock.state word) (will_stand c.lock.state t m word) found left wrote) none in
+    let first = both_none (other_word (word_of c.lock.state t m) word) (values_other word
+    (stands c.lock.state word) (will_stand c.lock.state t m word) found left wrote) none in
     let second = both_none (found_other word (stands c.lock.state word) found) _ first.1 in
     let third = both_none (left_other word (will_stand c.lock.state t m word) left) _ second.1 in
     record {
@@ -156,19 +176,26 @@ seen_agrees c t m (InSection count outcome) none =
     let both = both_none (count_other c.sections count) _ none in
     record { count_is = count_agrees _ count both.0; outcome_is = outcome_agrees _ outcome both.1 }
 
-agreed_seen : (c : Checked) (t : ℕ) (m : Move) (seen : Seen) → AgreesOn c t m seen → seen_other c t m seen ≡ None
+agreed_seen : (c : Checked) (t : ℕ) (m : Move) (seen : Seen) → AgreesOn c t m seen
+    → seen_other c t m seen ≡ None
 agreed_seen c t m Nothing agrees = refl
 agreed_seen c t m (OnWord word found left wrote) agrees =
     none_of_both _ _ (agreed_word _ word agrees.on_word)
-    (none_of_both _ _ (agreed_found word _ found agrees.found_is) (none_of_both _ _ (agreed_left word _ left agrees.left_is) (agreed_wrote _ wrote agrees.wrote_is)))
+    (none_of_both _ _ (agreed_found word _ found agrees.found_is) (none_of_both _ _
+    (agreed_left word _ left agrees.left_is) (agreed_wrote _ wrote agrees.wrote_is)))
 agreed_seen c t m (InSection count outcome) agrees =
-    none_of_both _ _ (agreed_count _ count agrees.count_is) (agreed_outcome _ outcome agrees.outcome_is)
+    none_of_both _ _ (agreed_count _ count agrees.count_is)
+    (agreed_outcome _ outcome agrees.outcome_is)
 
 -- a line
 pub agrees : (c : Checked) (l : TraceLine) → difference_of c l ≡ None → Agrees c l
 agrees c l none =
-    let both = both_none (refused (refusal_of c.lock.state l.thread l.action)) (seen_other c l.thread l.action l.seen) none in
+    let both =
+    both_none (refused (refusal_of c.lock.state l.thread l.action))
+    (seen_other c l.thread l.action l.seen) none in
     record { accepted = not_refused _ both.0; seen = seen_agrees c l.thread l.action l.seen both.1 }
 
 pub agreed : (c : Checked) (l : TraceLine) → Agrees c l → difference_of c l ≡ None
-agreed c l agrees = none_of_both _ _ (ap refused agrees.accepted) (agreed_seen c l.thread l.action l.seen agrees.seen)
+agreed c l agrees =
+    none_of_both _ _ (ap refused agrees.accepted)
+    (agreed_seen c l.thread l.action l.seen agrees.seen)

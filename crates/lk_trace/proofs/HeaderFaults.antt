@@ -11,7 +11,8 @@ use Rattle.lk_replay.specs.declared.schedule.ReadFault.TheVariants.{TooManyMoves
 use Rattle.lk_replay.specs.declared.schedule.ReadFault.TheVariants.{OutOfMemory}
 use Rattle.lk_trace.specs.Traces.{fault_named, header_read}
 
-pub header_fails : (fault : ReadFault) (read : Result text.Header Fault) → IsOfText fault → Fails fault read → Err (fault_named fault) ≡ header_read read
+pub header_fails : (fault : ReadFault) (read : Result text.Header Fault) → IsOfText fault
+    → Fails fault read → Err (fault_named fault) ≡ header_read read
 header_fails TooLong read some fails = sym (ap header_read fails)
 header_fails (NoHeader n) read some fails = sym (ap header_read fails)
 header_fails (BadHeader n) read some fails = sym (ap header_read fails)

@@ -12,14 +12,16 @@ use Rattle.lk_trace.specs.declared.line.Seen.TheVariants.{Nothing, OnWord, InSec
 use Rattle.lk_trace.specs.declared.line.TraceLine.{TraceLine}
 
 -- the machine's step is on this word, and found and leaves in it what is given
-pub record AgreesOnWord (s : State) (t : ℕ) (m : Move) (word : WordName) (found left : Option ℕ) (wrote : Option Bool) : Type 0 where
+pub record AgreesOnWord (s : State) (t : ℕ) (m : Move) (word : WordName) (found left : Option ℕ)
+    (wrote : Option Bool) : Type 0 where
   pub on_word : word_of s t m ≡ Some word
   pub found_is : IfSome found (λ v. stands s word ≡ v)
   pub left_is : IfSome left (λ v. will_stand s t m word ≡ v)
   pub wrote_is : IfSome wrote (λ w. not (stands s word == will_stand s t m word) ≡ w)
 
 -- the section's count is above those before, and this comes of it
-pub record AgreesOnSection (c : Checked) (t : ℕ) (m : Move) (count : Option ℕ) (outcome : Option Outcome) : Type 0 where
+pub record AgreesOnSection (c : Checked) (t : ℕ) (m : Move) (count : Option ℕ)
+    (outcome : Option Outcome) : Type 0 where
   pub count_is : IfSome count (λ n. c.sections < n)
   pub outcome_is : IfSome outcome (λ o. (change_of c.lock.state t m).outcome ≡ o)
 

@@ -1,6 +1,7 @@
 -- Definitions. The check of a move with what its thread saw: where they differ first. This
 -- project's own; what a move does is said by the definitions of the locks alone.
-use Rattle.std.specs.Prelude.{ℕ, ◌==◌, List, [], replicate, slice_index, Option, Some, None, Result, Ok, Err, Bool}
+use Rattle.std.specs.Prelude.{ℕ, ◌==◌, List, [], replicate, slice_index, Option, Some, None, Result}
+use Rattle.std.specs.Prelude.{Ok, Err, Bool}
 use Rattle.std.specs.Prelude.{true, false, not, nat_lt, if◌then◌else◌}
 use Rattle.lk_locks.specs.State.{State, start, word_count, phase_at}
 use Rattle.lk_locks.specs.Steps.{refusal_of, change_of, next_state}
@@ -53,7 +54,8 @@ other_word word given = if is_word word given then None else Some (OtherWord wor
 
 abbrev pub found_other : WordName → ℕ → Option ℕ → Option Difference
 found_other word found None = None
-found_other word found (Some given) = if found == given then None else Some (FoundOther word found given)
+found_other word found (Some given) =
+    if found == given then None else Some (FoundOther word found given)
 
 abbrev pub left_other : WordName → ℕ → Option ℕ → Option Difference
 left_other word left None = None
@@ -81,7 +83,8 @@ same_outcome a b = false
 
 abbrev pub outcome_other : Outcome → Option Outcome → Option Difference
 outcome_other outcome None = None
-outcome_other outcome (Some given) = if same_outcome outcome given then None else Some (OtherOutcome outcome given)
+outcome_other outcome (Some given) =
+    if same_outcome outcome given then None else Some (OtherOutcome outcome given)
 
 -- what stands in a word, and what stands in it after a move
 abbrev pub stands : State → WordName → ℕ
@@ -98,20 +101,25 @@ word_of s t (Step kind) = touched s.kind t (phase_at s.phases t)
 -- the values of a word before and after
 abbrev pub values_other : WordName → ℕ → ℕ → Option ℕ → Option ℕ → Option Bool → Option Difference
 values_other word found left given_found given_left given_wrote =
-    or_then (found_other word found given_found) (or_then (left_other word left given_left) (wrote_other (not (found == left)) given_wrote))
+    or_then (found_other word found given_found)
+    (or_then (left_other word left given_left) (wrote_other (not (found == left)) given_wrote))
 
 -- what an accepted move differs in
 abbrev pub seen_other : Checked → ℕ → Move → Seen → Option Difference
 seen_other c t m Nothing = None
 seen_other c t m (OnWord word found left wrote) =
     or_then (other_word (word_of c.lock.state t m) word)
-    (values_other word (stands c.lock.state word) (will_stand c.lock.state t m word) found left wrote)
+    (values_other word (stands c.lock.state word)
+    (will_stand c.lock.state t m word) found left wrote)
 seen_other c t m (InSection count outcome) =
-    or_then (count_other c.sections count) (outcome_other (change_of c.lock.state t m).outcome outcome)
+    or_then (count_other c.sections count)
+    (outcome_other (change_of c.lock.state t m).outcome outcome)
 
 -- where a line of a trace differs from the machine first
 abbrev pub difference_of : Checked → TraceLine → Option Difference
-difference_of c l = or_then (refused (refusal_of c.lock.state l.thread l.action)) (seen_other c l.thread l.action l.seen)
+difference_of c l =
+    or_then (refused (refusal_of c.lock.state l.thread l.action))
+    (seen_other c l.thread l.action l.seen)
 
 abbrev pub count_given : ℕ → Seen → ℕ
 count_given last (InSection (Some count) outcome) = count

@@ -28,7 +28,9 @@ Words = List (List ℕ)
 
 -- the number that the text writes, where that is of at most 64 bits
 unfoldable pub whole_number : List ℕ → Option ℕ
-whole_number text = if is_plain_number text && nat_le (value_from 0 text) 18446744073709551615 then Some (value_from 0 text) else None
+whole_number text =
+    if is_plain_number text && nat_le
+    (value_from 0 text) 18446744073709551615 then Some (value_from 0 text) else None
 
 abbrev pub outcome_word : Outcome → List ℕ
 outcome_word Called = codes "called"
@@ -53,7 +55,8 @@ Read A = Option (A × Words)
 -- `of J`, or else the thread's own record
 abbrev pub owner_of : ℕ → Words → Read ℕ
 owner_of thread (of ∷ number ∷ rest) =
-    if bytes_eq of (codes "of") then option_map (λ j. (j, rest)) (number_of 0 255 number) else Some (thread, of ∷ number ∷ rest)
+    if bytes_eq of (codes "of") then option_map (λ j. (j, rest))
+    (number_of 0 255 number) else Some (thread, of ∷ number ∷ rest)
 owner_of thread (of ∷ []) = if bytes_eq of (codes "of") then None else Some (thread, of ∷ [])
 owner_of thread [] = Some (thread, [])
 
@@ -68,18 +71,22 @@ place_in thread (name ∷ rest) =
     else (if bytes_eq name (codes "now_serving") then Some (NowServing, rest)
     else (if bytes_eq name (codes "tail") then Some (Tail, rest)
     else (if bytes_eq name (codes "next") then in_record Next (owner_of thread rest)
-    else (if bytes_eq name (codes "locked") then in_record Locked (owner_of thread rest) else None))))
+    else (if bytes_eq name (codes "locked") then in_record Locked
+    (owner_of thread rest) else None))))
 place_in thread [] = None
 
 -- a tag and its number, where the tag comes next
 abbrev pub tagged : List ℕ → Words → Read (Option ℕ)
 tagged tag (word ∷ number ∷ rest) =
-    if bytes_eq word tag then option_map (λ n. (Some n, rest)) (whole_number number) else Some (None, word ∷ number ∷ rest)
+    if bytes_eq word tag then option_map (λ n. (Some n, rest))
+    (whole_number number) else Some (None, word ∷ number ∷ rest)
 tagged tag (word ∷ []) = if bytes_eq word tag then None else Some (None, word ∷ [])
 tagged tag [] = Some (None, [])
 
 abbrev pub wrote : List ℕ → Option Bool
-wrote word = if bytes_eq word (codes "done") then Some true else (if bytes_eq word (codes "failed") then Some false else None)
+wrote word =
+    if bytes_eq word
+    (codes "done") then Some true else (if bytes_eq word (codes "failed") then Some false else None)
 
 abbrev pub result_alone : StepKind → List ℕ → Option (Option Bool)
 result_alone Cas word = option_map Some (wrote word)
@@ -148,7 +155,8 @@ seen_of thread action [] = Some Nothing
 seen_of thread action (word ∷ rest) = seen_behind thread action (word ∷ rest)
 
 abbrev pub with_seen : ℕ → Move → Option Seen → Option TraceLine
-with_seen thread action (Some seen) = Some (record { thread = thread; action = action; seen = seen })
+with_seen thread action (Some seen) =
+    Some (record { thread = thread; action = action; seen = seen })
 with_seen thread action None = None
 
 abbrev pub with_action : ℕ → Option Move → Words → Option TraceLine

@@ -34,12 +34,14 @@ fault_named (reading.WordsTooNarrow line) = WordsTooNarrow
 fault_named fault = BadHeader
 
 abbrev pub header_read : Result text.Header Fault → Result Header TextFault
-header_read (Ok header) = Ok (record { kind = header.kind; threads = header.threads; bits = header.bits })
+header_read (Ok header) =
+    Ok (record { kind = header.kind; threads = header.threads; bits = header.bits })
 header_read (Err fault) = Err (fault_of fault)
 
 -- the header that a line of at most 96 bytes is
 abbrev pub read_header_of : List ℕ → Result Header TextFault
-read_header_of line = if nat_lt 96 (length line) then Err BadHeader else header_read (text.header_of 0 line)
+read_header_of line =
+    if nat_lt 96 (length line) then Err BadHeader else header_read (text.header_of 0 line)
 
 -- the move that a line of at most 96 bytes is
 abbrev pub short_line_of : List ℕ → Option TraceLine

@@ -13,4 +13,5 @@ place_of word = 0
 abbrev pub name_at : ℕ → Option WordName
 name_at place =
     if place == read_acquires then Some ReadAcquires
-    else (if place == read_releases then Some ReadReleases else (if place == flag then Some Flag else None))
+    else (if place
+    == read_releases then Some ReadReleases else (if place == flag then Some Flag else None))

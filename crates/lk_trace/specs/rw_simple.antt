@@ -10,4 +10,5 @@ place_of Flag = flag
 place_of word = 0
 
 abbrev pub name_at : ℕ → Option WordName
-name_at place = if place == readers then Some Readers else (if place == flag then Some Flag else None)
+name_at place =
+    if place == readers then Some Readers else (if place == flag then Some Flag else None)

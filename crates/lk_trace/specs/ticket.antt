@@ -20,4 +20,5 @@ place_of NowServing = now_serving
 place_of word = 0
 
 abbrev pub name_at : ℕ → Option WordName
-name_at place = if place == next_ticket then Some NextTicket else (if place == now_serving then Some NowServing else None)
+name_at place = if place == next_ticket then Some NextTicket
+    else (if place == now_serving then Some NowServing else None)

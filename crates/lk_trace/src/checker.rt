@@ -1,7 +1,8 @@
 //! The check of a run, move by move: each is made on the lock's machine, and what its thread saw is
 //! compared with the machine's words.
 
-ghost use Rattle.std.specs.Prelude.{◌≡◌, ◌<◌, ◌≤◌, ◌^◌, ◌↔◌, Bool, None, Some, slice_index, length, IsOk, SomeIff};
+ghost use Rattle.std.specs.Prelude.{◌≡◌, ◌<◌, ◌≤◌, ◌^◌, ◌↔◌, Bool, None, Some, slice_index, length};
+ghost use Rattle.std.specs.Prelude.{IsOk, SomeIff};
 ghost use Rattle.lk_locks.specs.State.{phase_at};
 ghost use Rattle.lk_locks.specs.Steps.{refusal_of};
 ghost use Rattle.lk_trace.specs.Agreement.{Agrees};
@@ -145,7 +146,8 @@ impl Checker {
 
     /// What a thread does, where there is such a thread.
     pub fn phase(&self, t: u8) -> Option<Phase>
-        ensures { SomeIff result (t < length self.now.lock.state.phases) (phase_at self.now.lock.state.phases t) }
+        ensures { SomeIff result (t < length self.now.lock.state.phases)
+            (phase_at self.now.lock.state.phases t) }
     {
         let machine = self.lock.machine();
         if t < machine.threads() {

@@ -7,4 +7,5 @@ use Rattle.lk_trace.proofs.numbers.whole_number.Goals as goal
 pub returns-then-value-gt-MOST : goal.returns-then-value-gt-MOST
 returns-then-value-gt-MOST c =
     let step = value_from_step c.loop-b.value c.loop-b.b-index c.args.text.now c.loop-b-test.true in
-    sym (too_large _ (omega (arith, step, c.loop-b.invariant.value, c.if-value-gt-MOST.true, value_from_least)))
+    sym (too_large _
+    (omega (arith, step, c.loop-b.invariant.value, c.if-value-gt-MOST.true, value_from_least)))
