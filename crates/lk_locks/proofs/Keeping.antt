@@ -3,7 +3,8 @@ use Rattle.std.proofs.Common.{◌≡◌, ℕ, ◌<◌, List, ◌++◌, length, s
 use Rattle.std.proofs.lemmas.List.{length-set}
 use Rattle.lk_locks.specs.State.{State, phase_at}
 use Rattle.lk_locks.specs.Change.{Change}
-use Rattle.lk_locks.specs.Steps.{move_change, change_of, next_state, refusal_in, refusal_of, belongs}
+use Rattle.lk_locks.specs.Steps.{move_change, change_of, next_state, refusal_in, refusal_of}
+use Rattle.lk_locks.specs.Steps.{belongs}
 use Rattle.lk_locks.specs.Entries.{step_entries, move_entries, entries_of}
 use Rattle.lk_locks.specs.Sequential.{Sequential, thread_of}
 use Rattle.lk_locks.specs.Legal.{AreEnabled, after_entries, Legal}
@@ -14,8 +15,11 @@ use Rattle.lk_locks.specs.Tracked.{Tracked, followed}
 use Rattle.lk_locks.specs.invariants.Kept.{Kept, IsRecorded, AgreeAs}
 use Rattle.lk_locks.proofs.Cases.{AreOf, IsAgreed}
 use Rattle.lk_locks.proofs.Threads.{each_phase}
-use Rattle.lk_locks.proofs.Moves.{Accepted, accepted_of, well_kept, agreed, step_goes_on, call_begins, owed_is_own}
-use Rattle.lk_locks.proofs.Histories.{holder_append, after_append, allowed_append, all_append, all_prefix, all_map, turn_of_step, turn_of_call, turn_of_other}
+use Rattle.lk_locks.proofs.Moves.{Accepted, accepted_of, well_kept, agreed, step_goes_on}
+use Rattle.lk_locks.proofs.Moves.{call_begins, owed_is_own}
+use Rattle.lk_locks.proofs.Histories.{holder_append, after_append, allowed_append, all_append}
+use Rattle.lk_locks.proofs.Histories.{all_prefix, all_map, turn_of_step, turn_of_call}
+use Rattle.lk_locks.proofs.Histories.{turn_of_other}
 use Rattle.lk_locks.specs.declared.kinds.LockKind.{LockKind}
 use Rattle.lk_locks.specs.declared.kinds.Phase.{Phase}
 use Rattle.lk_locks.specs.declared.kinds.Move.{Move}

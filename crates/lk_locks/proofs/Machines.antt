@@ -1,6 +1,8 @@
 -- A machine after a move, by its fields.
-use Rattle.std.proofs.Common.{◌≡◌, ℕ, ◌+◌, ◌<◌, ◌≤◌, List, length, set, take, replicate, ◌^◌, ◌*◌, inl, inr, None, refl, sym, ◌∙◌, subst, arith, slice_index}
-use Rattle.std.proofs.lemmas.List.{length-set, take-replicate, length-replicate, get_or-replicate, get_or_past}
+use Rattle.std.proofs.Common.{◌≡◌, ℕ, ◌+◌, ◌<◌, ◌≤◌, List, length, set, take, replicate, ◌^◌, ◌*◌}
+use Rattle.std.proofs.Common.{inl, inr, None, refl, sym, ◌∙◌, subst, arith, slice_index}
+use Rattle.std.proofs.lemmas.List.{length-set, take-replicate, length-replicate, get_or-replicate}
+use Rattle.std.proofs.lemmas.List.{get_or_past}
 use Rattle.std.proofs.lemmas.Bool.{cases_lt}
 use Rattle.std.proofs.Math.Seq.{take-set-lt}
 use Rattle.lk_locks.specs.State.{State, phase_at, word_count, start}

@@ -1,12 +1,14 @@
 -- What every move keeps, whatever the lock: the rooms prove it, each of its own lock.
-use Rattle.std.proofs.Common.{Bool, List, None, Option, Some, arith, false, if◌then◌else◌, length, nat_lt, refl, set, true, unwrap_or, ℕ, ◌<◌, ◌≡◌, ◌≤◌}
+use Rattle.std.proofs.Common.{Bool, List, None, Option, Some, arith, false, if◌then◌else◌, length}
+use Rattle.std.proofs.Common.{nat_lt, refl, set, true, unwrap_or, ℕ, ◌<◌, ◌≡◌, ◌≤◌}
 use Rattle.std.proofs.lemmas.Bool.{ltb-true}
 use Rattle.std.proofs.lemmas.List.{length-set}
 use Rattle.lk_locks.specs.Change.{Change}
 use Rattle.lk_locks.specs.Entries.{entries_of, move_entries}
 use Rattle.lk_locks.specs.Sequential.{Sequential}
 use Rattle.lk_locks.specs.State.{State, phase_at}
-use Rattle.lk_locks.specs.Steps.{after_call, belongs, change_of, has_op, move_change, next_state, refusal_in, refusal_of, step_of}
+use Rattle.lk_locks.specs.Steps.{after_call, belongs, change_of, has_op, move_change, next_state}
+use Rattle.lk_locks.specs.Steps.{refusal_in, refusal_of, step_of}
 use Rattle.lk_locks.specs.invariants.Kept.{AgreeAs}
 use Rattle.lk_locks.specs.invariants.Owed.{owed_of}
 use Rattle.lk_locks.specs.invariants.WellFormed.{AreLinks, IsPhaseOf, WellFormed}

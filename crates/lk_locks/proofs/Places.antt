@@ -1,5 +1,6 @@
 -- An entry that meets P stands in a list, by recursion: for proofs.
-use Rattle.std.proofs.Common.{zero, suc, ◌<◌, List, [], ◌∷◌, length, refl, sym, arith, inl, inr, ◌⊎◌, subst}
+use Rattle.std.proofs.Common.{zero, suc, ◌<◌, List, [], ◌∷◌, length, refl, sym, arith, inl, inr}
+use Rattle.std.proofs.Common.{◌⊎◌, subst}
 use Rattle.std.specs.List.{Any}
 use Rattle.lk_locks.specs.declared.kinds.Entry.{Entry}
 

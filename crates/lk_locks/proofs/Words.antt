@@ -1,5 +1,6 @@
 -- Sums of words, which go round.
-use Rattle.std.proofs.Common.{ap, arith, bit_and, inl, inr, sym, ◌≤◌, ℕ, ◌%◌, ◌+◌, ◌-◌, ◌<◌, ◌^◌, ◌∙◌, ◌≡◌}
+use Rattle.std.proofs.Common.{ap, arith, bit_and, inl, inr, sym, ◌≤◌, ℕ, ◌%◌, ◌+◌, ◌-◌, ◌<◌, ◌^◌}
+use Rattle.std.proofs.Common.{◌∙◌, ◌≡◌}
 use Rattle.std.proofs.Math.Nat.{mod-add-mod, mod-eq-sub-mod, mod-eq_of_lt, mod-lt}
 use Rattle.std.proofs.lemmas.Bool.{cases_lt}
 use Rattle.std.proofs.lemmas.Nat.{and_mask, pow_pos}

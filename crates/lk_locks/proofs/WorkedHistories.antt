@@ -1,5 +1,6 @@
 -- Histories that are written out: those that are legal, and what the others lack.
-use Rattle.std.proofs.Common.{◌≡◌, ℕ, zero, suc, ◌<◌, List, [], ◌∷◌, ◌++◌, refl, ap, ◌∙◌, arith, rules, inl, inr}
+use Rattle.std.proofs.Common.{◌≡◌, ℕ, zero, suc, ◌<◌, List, [], ◌∷◌, ◌++◌, refl, ap, ◌∙◌, arith}
+use Rattle.std.proofs.Common.{rules, inl, inr}
 use Rattle.std.specs.List.{flat_map, Any}
 use Rattle.lk_locks.specs.Legal.{Legal, subhistory, whole_call}
 use Rattle.lk_locks.specs.Calls.{HasDone}
@@ -7,7 +8,8 @@ use Rattle.lk_locks.proofs.Places.{HasOne, any_of, one_of}
 use Rattle.lk_locks.specs.WorkedHistories.{handed_on, writers_in_turn, announced_entered, uncalled}
 use Rattle.lk_locks.specs.declared.kinds.LockKind.TheVariants.{Ticket, Mcs, RwSimple, RwFifo}
 use Rattle.lk_locks.specs.declared.kinds.Op.{Op}
-use Rattle.lk_locks.specs.declared.kinds.Op.TheVariants.{Acquire, Release, ReadLock, ReadUnlock, WriteLock, Downgrade}
+use Rattle.lk_locks.specs.declared.kinds.Op.TheVariants.{Acquire, Release, ReadLock, ReadUnlock}
+use Rattle.lk_locks.specs.declared.kinds.Op.TheVariants.{WriteLock, Downgrade}
 use Rattle.lk_locks.specs.declared.kinds.Entry.{Entry}
 use Rattle.lk_locks.specs.declared.kinds.Entry.TheVariants.{Called, Acted}
 
@@ -32,8 +34,25 @@ mcs_legal = record {
 
 pub simple_legal : Legal RwSimple 2 writers_in_turn
 simple_legal = record {
-  allowed =
-      (tt, (refl, (tt, (tt, (refl, (tt, (tt, (refl, (tt, (tt, (refl, (tt, (tt, (refl, (tt, (tt, (refl, (tt, tt))))))))))))))))));
+  allowed = (
+    tt,
+    (
+      refl,
+      (
+        tt,
+        (
+          tt,
+          (
+            refl,
+            (
+              tt,
+              (tt, (refl, (tt, (tt, (refl, (tt, (tt, (refl, (tt, (tt, (refl, (tt, tt)))))))))))),
+            ),
+          ),
+        ),
+      ),
+    ),
+  );
   well_formed = two_threads _
       (WriteLock ∷ Downgrade ∷ ReadUnlock ∷ [], [], refl)
       (ReadLock ∷ ReadUnlock ∷ WriteLock ∷ [], [], refl);

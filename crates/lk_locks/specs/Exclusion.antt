@@ -6,7 +6,8 @@ use Rattle.lk_locks.specs.Holding.{holder_after}
 use Rattle.lk_locks.specs.Places.{Between}
 use Rattle.lk_locks.specs.declared.kinds.LockKind.{LockKind}
 use Rattle.lk_locks.specs.declared.kinds.LockKind.TheVariants.{Ticket, Mcs, RwFifo}
-use Rattle.lk_locks.specs.declared.kinds.Op.TheVariants.{Acquire, Release, ReadLock, ReadUnlock, WriteLock, WriteUnlock, Downgrade}
+use Rattle.lk_locks.specs.declared.kinds.Op.TheVariants.{Acquire, Release, ReadLock, ReadUnlock}
+use Rattle.lk_locks.specs.declared.kinds.Op.TheVariants.{WriteLock, WriteUnlock, Downgrade}
 use Rattle.lk_locks.specs.declared.kinds.Entry.{Entry}
 use Rattle.lk_locks.specs.declared.kinds.Entry.TheVariants.{Announced, Acted, Returned}
 

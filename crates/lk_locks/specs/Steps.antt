@@ -1,7 +1,9 @@
 -- Definitions. Which moves are accepted, and what an accepted move does. The rooms say what is each
 -- lock's own; this file knows none of their phases or words. This project's own: the seven refusals
 -- and their order.
-use Rattle.std.specs.Prelude.{ℕ, List, [], ◌∷◌, length, set, Option, None, Some, is_some, is_none, unwrap_or, Bool, true, false, not, nat_lt, if◌then◌else◌, Result, Ok, Err}
+use Rattle.std.specs.Prelude.{ℕ, List, [], ◌∷◌, length, set, Option, None, Some, is_some, is_none}
+use Rattle.std.specs.Prelude.{unwrap_or, Bool, true, false, not, nat_lt, if◌then◌else◌, Result, Ok}
+use Rattle.std.specs.Prelude.{Err}
 use Rattle.std.specs.List.{list_any}
 use Rattle.lk_locks.specs.Change.{Change, to}
 use Rattle.lk_locks.specs.State.{State, phase_at}
@@ -23,7 +25,9 @@ use Rattle.lk_locks.specs.declared.kinds.Move.TheVariants.{Call, Step}
 use Rattle.lk_locks.specs.declared.kinds.Outcome.{Outcome}
 use Rattle.lk_locks.specs.declared.kinds.Outcome.TheVariants.{Called}
 use Rattle.lk_locks.specs.declared.kinds.Refusal.{Refusal}
-use Rattle.lk_locks.specs.declared.kinds.Refusal.TheVariants.{NoSuchThread, WrongLock, Busy, NotHolder, AlreadyHolds, NoCall, WrongStep}
+use Rattle.lk_locks.specs.declared.kinds.Refusal.TheVariants.{NoSuchThread, WrongLock, Busy}
+use Rattle.lk_locks.specs.declared.kinds.Refusal.TheVariants.{NotHolder, AlreadyHolds, NoCall}
+use Rattle.lk_locks.specs.declared.kinds.Refusal.TheVariants.{WrongStep}
 
 -- what the rooms say
 

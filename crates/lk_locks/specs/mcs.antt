@@ -5,11 +5,14 @@
 -- Multiprocessors", ACM TOCS 9(1), 1991, section 2.4, with the release that has compare-and-swap.
 -- Different here: each thread has one record, and thread i's is record i + 1, so that 0 is nil; the
 -- last write of a release uses the successor that was read last, without reading it again.
-use Rattle.std.specs.Prelude.{ℕ, ◌+◌, ◌-◌, ◌*◌, ◌==◌, List, [], ◌∷◌, slice_index, set, Option, None, Some, if◌then◌else◌}
+use Rattle.std.specs.Prelude.{ℕ, ◌+◌, ◌-◌, ◌*◌, ◌==◌, List, [], ◌∷◌, slice_index, set, Option, None}
+use Rattle.std.specs.Prelude.{Some, if◌then◌else◌}
 use Rattle.lk_locks.specs.Change.{Change, to}
 use Rattle.lk_locks.specs.Acts.{acts}
 use Rattle.lk_locks.specs.declared.kinds.Phase.{Phase}
-use Rattle.lk_locks.specs.declared.kinds.Phase.TheVariants.{Idle, ClearNext, SwapTail, SetLocked, LinkTo, AwaitGrant, McsInside, ReadNext, CasTail, AwaitLink, Grant}
+use Rattle.lk_locks.specs.declared.kinds.Phase.TheVariants.{Idle, ClearNext, SwapTail, SetLocked}
+use Rattle.lk_locks.specs.declared.kinds.Phase.TheVariants.{LinkTo, AwaitGrant, McsInside, ReadNext}
+use Rattle.lk_locks.specs.declared.kinds.Phase.TheVariants.{CasTail, AwaitLink, Grant}
 use Rattle.lk_locks.specs.declared.kinds.Op.{Op}
 use Rattle.lk_locks.specs.declared.kinds.Op.TheVariants.{Acquire, Release}
 use Rattle.lk_locks.specs.declared.kinds.StepKind.{StepKind}

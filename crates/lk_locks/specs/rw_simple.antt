@@ -8,7 +8,9 @@
 use Rattle.std.specs.Prelude.{ℕ, ◌==◌, ◌&&◌, List, slice_index, set, if◌then◌else◌}
 use Rattle.lk_locks.specs.Change.{Change, to, raised, less_one}
 use Rattle.lk_locks.specs.declared.kinds.Phase.{Phase}
-use Rattle.lk_locks.specs.declared.kinds.Phase.TheVariants.{Idle, TryRead, Reading, LeaveRead, TryWrite, Writing, LeaveWrite, TryDowngrade}
+use Rattle.lk_locks.specs.declared.kinds.Phase.TheVariants.{Idle, TryRead, Reading, LeaveRead}
+use Rattle.lk_locks.specs.declared.kinds.Phase.TheVariants.{TryWrite, Writing, LeaveWrite}
+use Rattle.lk_locks.specs.declared.kinds.Phase.TheVariants.{TryDowngrade}
 use Rattle.lk_locks.specs.declared.kinds.Outcome.TheVariants.{Waits, Entered, Left}
 
 -- the count of the readers, and the writer's flag

@@ -12,7 +12,8 @@ use Rattle.lk_locks.specs.Change.{Change, to}
 use Rattle.lk_locks.specs.Acts.{acts}
 use Rattle.lk_locks.specs.laws.{Event, take_event, look_event, read_event, pass_event}
 use Rattle.lk_locks.specs.declared.kinds.Phase.{Phase}
-use Rattle.lk_locks.specs.declared.kinds.Phase.TheVariants.{Idle, TakeTicket, AwaitTurn, TicketInside, ReadServing, PassOn}
+use Rattle.lk_locks.specs.declared.kinds.Phase.TheVariants.{Idle, TakeTicket, AwaitTurn}
+use Rattle.lk_locks.specs.declared.kinds.Phase.TheVariants.{TicketInside, ReadServing, PassOn}
 use Rattle.lk_locks.specs.declared.kinds.Op.{Op}
 use Rattle.lk_locks.specs.declared.kinds.Op.TheVariants.{Acquire, Release}
 use Rattle.lk_locks.specs.declared.kinds.StepKind.{StepKind}

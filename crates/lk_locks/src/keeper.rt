@@ -23,13 +23,18 @@ impl<W: Words> Model for Keeper<W> {
 
     ghost use Rattle.lk_locks.specs.invariants.Kept.{IsRecorded};
 
-    ghost view = { λ a. record { state = a.lock.state; sequential = a.lock.sequential; entries = a.history.entries } };
+    ghost view = { λ a. record {
+      state = a.lock.state;
+      sequential = a.lock.sequential;
+      entries = a.history.entries;
+    } };
 
     ghost invariant = { λ a. IsRecorded a.lock a.history.entries };
 }
 
 impl<W: Words> Keeper<W> {
-    ghost use Rattle.std.specs.Prelude.{◌≡◌, ℕ, ◌<◌, ◌≤◌, ◌^◌, length, slice_index, OnOk, OnErr, []};
+    ghost use Rattle.std.specs.Prelude.{◌≡◌, ℕ, ◌<◌, ◌≤◌, ◌^◌, length, slice_index, OnOk, OnErr};
+    ghost use Rattle.std.specs.Prelude.{[]};
     ghost use Rattle.lk_locks.specs.State.{start, word_count, phase_at};
     ghost use Rattle.lk_locks.specs.Steps.{step_due, refusal_of, change_of};
     ghost use Rattle.lk_locks.specs.Sequential.{nobody};
@@ -45,7 +50,11 @@ impl<W: Words> Keeper<W> {
         requires narrow { threads < 2 ^ W.width words }
         requires room { word_count kind threads ≤ length (W.list words) }
         requires clear { (i : ℕ) → i < length (W.list words) → slice_index (W.list words) i ≡ 0 }
-        ensures { result ≡ record { state = start kind (W.width words) (W.list words) threads; sequential = nobody kind; entries = [] } }
+        ensures { result ≡ record {
+          state = start kind (W.width words) (W.list words) threads;
+          sequential = nobody kind;
+          entries = [];
+        } }
     {
         Keeper {
             lock: Tracker::new(kind, threads, words),
@@ -59,7 +68,8 @@ impl<W: Words> Keeper<W> {
     /// After either fault nothing has changed. `OutOfMemory` is answered only where a growth of the
     /// history was refused; a refused move asks for no memory.
     pub fn play(&mut self, t: u8, m: Move) -> Result<Outcome, PlayFault>
-        ensures answer { IsPlayAnswer (refusal_of self.old.state t m) (change_of self.old.state t m).outcome result }
+        ensures answer { IsPlayAnswer (refusal_of self.old.state t m)
+            (change_of self.old.state t m).outcome result }
         ensures played { OnOk result (self.new ≡ after_play self.old t m) }
         ensures kept { OnErr result (self.new ≡ self.old) }
     {
@@ -80,7 +90,8 @@ impl<W: Words> Keeper<W> {
     /// requests, and a writer is alone.
     pub fn entries(&self) -> &[Entry]
         ensures entries { result.now ≡ self.now.entries }
-        ensures promised { IsAsPromised self.now.state.kind (length self.now.state.phases) result.now }
+        ensures promised { IsAsPromised self.now.state.kind
+            (length self.now.state.phases) result.now }
     {
         self.history.entries()
     }

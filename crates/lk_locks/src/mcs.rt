@@ -86,9 +86,11 @@ pub fn is_inside(phase: Phase) -> bool
 fn step_of_acquire<W: Words>(words: &mut W, thread: u8, phase: Phase) -> (Phase, Outcome)
     requires ready { IsReady Mcs (W.width words.old) (W.list words.old) thread phase }
     requires outside { is_inside phase ≡ false }
-    ensures words { W.list words.new ≡ (step (W.width words.old) thread (W.list words.old) phase).words }
+    ensures words { W.list words.new
+        ≡ (step (W.width words.old) thread (W.list words.old) phase).words }
     ensures phase { result.0 ≡ (step (W.width words.old) thread (W.list words.old) phase).phase }
-    ensures outcome { result.1 ≡ (step (W.width words.old) thread (W.list words.old) phase).outcome }
+    ensures outcome { result.1
+        ≡ (step (W.width words.old) thread (W.list words.old) phase).outcome }
     ensures width { W.width words.new ≡ W.width words.old }
 {
     match phase {
@@ -120,9 +122,11 @@ fn step_of_acquire<W: Words>(words: &mut W, thread: u8, phase: Phase) -> (Phase,
 fn step_of_release<W: Words>(words: &mut W, thread: u8, phase: Phase) -> (Phase, Outcome)
     requires ready { IsReady Mcs (W.width words.old) (W.list words.old) thread phase }
     requires inside { is_inside phase ≡ true }
-    ensures words { W.list words.new ≡ (step (W.width words.old) thread (W.list words.old) phase).words }
+    ensures words { W.list words.new
+        ≡ (step (W.width words.old) thread (W.list words.old) phase).words }
     ensures phase { result.0 ≡ (step (W.width words.old) thread (W.list words.old) phase).phase }
-    ensures outcome { result.1 ≡ (step (W.width words.old) thread (W.list words.old) phase).outcome }
+    ensures outcome { result.1
+        ≡ (step (W.width words.old) thread (W.list words.old) phase).outcome }
     ensures width { W.width words.new ≡ W.width words.old }
 {
     match phase {
@@ -152,9 +156,11 @@ fn step_of_release<W: Words>(words: &mut W, thread: u8, phase: Phase) -> (Phase,
 /// One step of a thread in this phase, with its new phase.
 pub fn step<W: Words>(words: &mut W, thread: u8, phase: Phase) -> (Phase, Outcome)
     requires { IsReady Mcs (W.width words.old) (W.list words.old) thread phase }
-    ensures words { W.list words.new ≡ (step (W.width words.old) thread (W.list words.old) phase).words }
+    ensures words { W.list words.new
+        ≡ (step (W.width words.old) thread (W.list words.old) phase).words }
     ensures phase { result.0 ≡ (step (W.width words.old) thread (W.list words.old) phase).phase }
-    ensures outcome { result.1 ≡ (step (W.width words.old) thread (W.list words.old) phase).outcome }
+    ensures outcome { result.1
+        ≡ (step (W.width words.old) thread (W.list words.old) phase).outcome }
     ensures width { W.width words.new ≡ W.width words.old }
 {
     if is_inside(phase) {

@@ -26,7 +26,8 @@ const FLAG: usize = 2;
 fn try_write<W: Words>(words: &mut W) -> (Phase, Outcome)
     requires words { 3 ≤ length (W.list words.old) }
     requires one { 1 < 2 ^ W.width words.old }
-    ensures words { W.list words.new ≡ (step (W.width words.old) (W.list words.old) TryWrite).words }
+    ensures words { W.list words.new
+        ≡ (step (W.width words.old) (W.list words.old) TryWrite).words }
     ensures phase { result.0 ≡ (step (W.width words.old) (W.list words.old) TryWrite).phase }
     ensures outcome { result.1 ≡ (step (W.width words.old) (W.list words.old) TryWrite).outcome }
     ensures width { W.width words.new ≡ W.width words.old }
@@ -45,9 +46,11 @@ fn try_write<W: Words>(words: &mut W) -> (Phase, Outcome)
 // The section in which an announced writer comes in, where as many readers left as came.
 fn await_readers<W: Words>(words: &mut W) -> (Phase, Outcome)
     requires { 3 ≤ length (W.list words.old) }
-    ensures words { W.list words.new ≡ (step (W.width words.old) (W.list words.old) AwaitReaders).words }
+    ensures words { W.list words.new
+        ≡ (step (W.width words.old) (W.list words.old) AwaitReaders).words }
     ensures phase { result.0 ≡ (step (W.width words.old) (W.list words.old) AwaitReaders).phase }
-    ensures outcome { result.1 ≡ (step (W.width words.old) (W.list words.old) AwaitReaders).outcome }
+    ensures outcome { result.1
+        ≡ (step (W.width words.old) (W.list words.old) AwaitReaders).outcome }
     ensures width { W.width words.new ≡ W.width words.old }
 {
     if words.read(READ_ACQUIRES) == words.read(READ_RELEASES) {

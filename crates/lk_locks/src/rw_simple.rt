@@ -25,7 +25,8 @@ const FLAG: usize = 1;
 fn try_write<W: Words>(words: &mut W) -> (Phase, Outcome)
     requires words { 2 ≤ length (W.list words.old) }
     requires one { 1 < 2 ^ W.width words.old }
-    ensures words { W.list words.new ≡ (step (W.width words.old) (W.list words.old) TryWrite).words }
+    ensures words { W.list words.new
+        ≡ (step (W.width words.old) (W.list words.old) TryWrite).words }
     ensures phase { result.0 ≡ (step (W.width words.old) (W.list words.old) TryWrite).phase }
     ensures outcome { result.1 ≡ (step (W.width words.old) (W.list words.old) TryWrite).outcome }
     ensures width { W.width words.new ≡ W.width words.old }

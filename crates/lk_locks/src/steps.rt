@@ -2,7 +2,8 @@
 //! knows none of their phases or words.
 
 ghost use Rattle.std.specs.Prelude.{◌≡◌, Option, None, Some};
-ghost use Rattle.lk_locks.specs.Steps.{has_op, steps_of, same_step, after_call, step_due, refusal_at, refusal_in, belongs, move_change, step_of};
+ghost use Rattle.lk_locks.specs.Steps.{has_op, steps_of, same_step, after_call, step_due};
+ghost use Rattle.lk_locks.specs.Steps.{refusal_at, refusal_in, belongs, move_change, step_of};
 ghost use Rattle.std.specs.List.{list_any};
 ghost use Rattle.lk_locks.specs.declared.kinds.Move.TheVariants.{Call};
 ghost use Rattle.lk_locks.specs.invariants.WellFormed.{IsReady};
@@ -102,9 +103,12 @@ pub fn refusal_in(kind: LockKind, phase: Phase, action: Move) -> Option<Refusal>
 
 fn take_step<W: Words>(words: &mut W, kind: LockKind, thread: u8, phase: Phase) -> (Phase, Outcome)
     requires { IsReady kind (W.width words.old) (W.list words.old) thread phase }
-    ensures words { W.list words.new ≡ (step_of kind (W.width words.old) (W.list words.old) thread phase).words }
-    ensures phase { result.0 ≡ (step_of kind (W.width words.old) (W.list words.old) thread phase).phase }
-    ensures outcome { result.1 ≡ (step_of kind (W.width words.old) (W.list words.old) thread phase).outcome }
+    ensures words { W.list words.new
+        ≡ (step_of kind (W.width words.old) (W.list words.old) thread phase).words }
+    ensures phase { result.0
+        ≡ (step_of kind (W.width words.old) (W.list words.old) thread phase).phase }
+    ensures outcome { result.1
+        ≡ (step_of kind (W.width words.old) (W.list words.old) thread phase).outcome }
     ensures width { W.width words.new ≡ W.width words.old }
 {
     match kind {
@@ -124,9 +128,12 @@ pub fn make_move<W: Words>(
     action: Move,
 ) -> (Phase, Outcome)
     requires { IsReady kind (W.width words.old) (W.list words.old) thread phase }
-    ensures words { W.list words.new ≡ (move_change kind (W.width words.old) (W.list words.old) thread phase action).words }
-    ensures phase { result.0 ≡ (move_change kind (W.width words.old) (W.list words.old) thread phase action).phase }
-    ensures outcome { result.1 ≡ (move_change kind (W.width words.old) (W.list words.old) thread phase action).outcome }
+    ensures words { W.list words.new
+        ≡ (move_change kind (W.width words.old) (W.list words.old) thread phase action).words }
+    ensures phase { result.0
+        ≡ (move_change kind (W.width words.old) (W.list words.old) thread phase action).phase }
+    ensures outcome { result.1
+        ≡ (move_change kind (W.width words.old) (W.list words.old) thread phase action).outcome }
     ensures width { W.width words.new ≡ W.width words.old }
 {
     match action {

@@ -7,7 +7,9 @@
 
 ghost use Rattle.lk_locks.specs.Runs.{EveryHistoryIsLegal};
 ghost use Rattle.lk_locks.specs.MainTheorem.{EveryRunIsAsPromised};
-ghost use Rattle.lk_locks.specs.Exclusion.{HoldersTakeTurns, HolderIsHead, HoldersAreApart, NeverTwoWriters, NeverAWriterBesideAReader, AnnouncedWriterGoesFirst};
+ghost use Rattle.lk_locks.specs.Exclusion.{HoldersTakeTurns, HolderIsHead, HoldersAreApart};
+ghost use Rattle.lk_locks.specs.Exclusion.{NeverTwoWriters, NeverAWriterBesideAReader};
+ghost use Rattle.lk_locks.specs.Exclusion.{AnnouncedWriterGoesFirst};
 ghost use Rattle.lk_locks.specs.Order.{EntersInOrder};
 ghost use Rattle.lk_locks.specs.Calls.{CallsActOnce, ActsAreCalled};
 

@@ -48,9 +48,11 @@ pub fn step_due(phase: Phase) -> Option<StepKind>
 /// One step of a thread in this phase, with its new phase.
 pub fn step<W: Words>(words: &mut W, thread: u8, phase: Phase) -> (Phase, Outcome)
     requires { IsReady Ticket (W.width words.old) (W.list words.old) thread phase }
-    ensures words { W.list words.new ≡ (step (W.width words.old) thread (W.list words.old) phase).words }
+    ensures words { W.list words.new
+        ≡ (step (W.width words.old) thread (W.list words.old) phase).words }
     ensures phase { result.0 ≡ (step (W.width words.old) thread (W.list words.old) phase).phase }
-    ensures outcome { result.1 ≡ (step (W.width words.old) thread (W.list words.old) phase).outcome }
+    ensures outcome { result.1
+        ≡ (step (W.width words.old) thread (W.list words.old) phase).outcome }
     ensures width { W.width words.new ≡ W.width words.old }
 {
     match phase {

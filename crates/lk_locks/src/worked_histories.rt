@@ -5,16 +5,27 @@
 //! is empty.
 
 ghost use Rattle.std.specs.Prelude.{◌≡◌, ◌++◌, [], ◌∷◌, None, Some, Any};
-ghost use Rattle.lk_locks.specs.WorkedHistories.{one_inside, left_free, handed_on, two_inside, overtaken, released_by_another, unasked, asked_twice, uncalled, reads, writes, two_readers, writers_in_turn, two_writers, reader_beside_writer, writer_beside_reader, writer_beside_downgraded, announced, announced_entered, reader_passes, writer_passes, ticket_moves, mcs_moves, simple_moves, fifo_moves};
+ghost use Rattle.lk_locks.specs.WorkedHistories.{one_inside, left_free, handed_on, two_inside};
+ghost use Rattle.lk_locks.specs.WorkedHistories.{overtaken, released_by_another, unasked};
+ghost use Rattle.lk_locks.specs.WorkedHistories.{asked_twice, uncalled, reads, writes, two_readers};
+ghost use Rattle.lk_locks.specs.WorkedHistories.{writers_in_turn, two_writers};
+ghost use Rattle.lk_locks.specs.WorkedHistories.{reader_beside_writer, writer_beside_reader};
+ghost use Rattle.lk_locks.specs.WorkedHistories.{writer_beside_downgraded, announced};
+ghost use Rattle.lk_locks.specs.WorkedHistories.{announced_entered, reader_passes, writer_passes};
+ghost use Rattle.lk_locks.specs.WorkedHistories.{ticket_moves, mcs_moves, simple_moves, fifo_moves};
 ghost use Rattle.lk_locks.specs.Legal.{Legal, subhistory};
-ghost use Rattle.lk_locks.specs.Holding.{holder_after, holding_of, waiting_of, IsListed, Free, HeldBy, ReadBy, WrittenBy};
-ghost use Rattle.lk_locks.specs.Exclusion.{IsQueueLock, HasOneHolder, IsHeldInTurn, IsHeldByHead, StopsWriting, HasOneWriter, IsNeverBesideReader, IsAnnouncedFirst};
+ghost use Rattle.lk_locks.specs.Holding.{holder_after, holding_of, waiting_of, IsListed, Free};
+ghost use Rattle.lk_locks.specs.Holding.{HeldBy, ReadBy, WrittenBy};
+ghost use Rattle.lk_locks.specs.Exclusion.{IsQueueLock, HasOneHolder, IsHeldInTurn, IsHeldByHead};
+ghost use Rattle.lk_locks.specs.Exclusion.{StopsWriting, HasOneWriter, IsNeverBesideReader};
+ghost use Rattle.lk_locks.specs.Exclusion.{IsAnnouncedFirst};
 ghost use Rattle.lk_locks.specs.Order.{requested, entered, IsInOrder};
 ghost use Rattle.lk_locks.specs.Calls.{ActsOnce, ActsInCalls, ReturnsNext};
 ghost use Rattle.lk_locks.specs.Runs.{after_moves, new_lock};
 ghost use Rattle.lk_locks.specs.MainTheorem.{IsAsPromised};
 ghost use Rattle.lk_locks.specs.declared.kinds.LockKind.TheVariants.{Ticket, Mcs, RwSimple, RwFifo};
-ghost use Rattle.lk_locks.specs.declared.kinds.Op.TheVariants.{Acquire, Release, WriteLock, WriteUnlock, Downgrade};
+ghost use Rattle.lk_locks.specs.declared.kinds.Op.TheVariants.{Acquire, Release, WriteLock};
+ghost use Rattle.lk_locks.specs.declared.kinds.Op.TheVariants.{WriteUnlock, Downgrade};
 ghost use Rattle.lk_locks.specs.declared.kinds.Entry.TheVariants.{Called, Acted, Returned};
 
 /// Hand-overs are legal. No thread enters before its turn, releases what another holds, or acts in
@@ -31,7 +42,8 @@ pub fn legal_histories()
     ensures writers { Legal RwSimple 2 two_writers → ⊥ }
     ensures passed { Legal RwFifo 3 reader_passes → ⊥ }
     ensures strangers { Legal Ticket 1 handed_on → ⊥ }
-    ensures own { subhistory 1 handed_on ≡ Called 1 Acquire ∷ Acted 1 Acquire ∷ Returned 1 Acquire ∷ [] }
+    ensures own { subhistory 1 handed_on
+        ≡ Called 1 Acquire ∷ Acted 1 Acquire ∷ Returned 1 Acquire ∷ [] }
 {}
 
 /// Who holds, and who is in line.
@@ -112,10 +124,14 @@ pub fn acts_of_calls()
 /// Moves lead to the entries that they are due, and refused ones to none. What they lead to is as
 /// promised.
 pub fn runs_of_moves()
-    ensures ticket { (after_moves (new_lock Ticket 2 (0 ∷ 0 ∷ []) 2) ticket_moves).entries ≡ handed_on }
-    ensures mcs { (after_moves (new_lock Mcs 2 (0 ∷ 0 ∷ 0 ∷ 0 ∷ 0 ∷ []) 2) mcs_moves).entries ≡ handed_on }
-    ensures simple { (after_moves (new_lock RwSimple 2 (0 ∷ 0 ∷ []) 2) simple_moves).entries ≡ two_readers }
-    ensures fifo { (after_moves (new_lock RwFifo 2 (0 ∷ 0 ∷ 0 ∷ []) 2) fifo_moves).entries ≡ announced_entered }
+    ensures ticket { (after_moves (new_lock Ticket 2 (0 ∷ 0 ∷ []) 2) ticket_moves).entries
+        ≡ handed_on }
+    ensures mcs { (after_moves (new_lock Mcs 2 (0 ∷ 0 ∷ 0 ∷ 0 ∷ 0 ∷ []) 2) mcs_moves).entries
+        ≡ handed_on }
+    ensures simple { (after_moves (new_lock RwSimple 2 (0 ∷ 0 ∷ []) 2) simple_moves).entries
+        ≡ two_readers }
+    ensures fifo { (after_moves (new_lock RwFifo 2 (0 ∷ 0 ∷ 0 ∷ []) 2) fifo_moves).entries
+        ≡ announced_entered }
     ensures queue_lock { IsAsPromised Mcs 2 handed_on }
     ensures read_write_lock { IsAsPromised RwFifo 2 announced_entered }
 {}

@@ -1,26 +1,39 @@
 -- The room of the MCS queue lock: each step goes on with its call, and each move keeps the queue of
 -- the swaps.
-use Rattle.std.proofs.Common.{List, None, [], ap, arith, drop, false, inl, inr, length, refl, rules, set, slice_index, sym, true, unwrap_or, ℕ, ◌*◌, ◌++◌, ◌+◌, ◌-◌, ◌<◌, ◌==◌, ◌∙◌, ◌∷◌, ◌≡◌, ◌≢◌, ◌≤◌}
+use Rattle.std.proofs.Common.{List, None, [], ap, arith, drop, false, inl, inr, length, refl, rules}
+use Rattle.std.proofs.Common.{set, slice_index, sym, true, unwrap_or, ℕ, ◌*◌, ◌++◌, ◌+◌, ◌-◌, ◌<◌}
+use Rattle.std.proofs.Common.{◌==◌, ◌∙◌, ◌∷◌, ◌≡◌, ◌≢◌, ◌≤◌}
 use Rattle.std.proofs.lemmas.Bool.{cases_lt, eq-eqb, false≢true, lt-ltb}
 use Rattle.std.proofs.lemmas.Bool.Decides.{eqb_tells}
-use Rattle.std.proofs.lemmas.List.{get_or-set_other, get_or-set_same, length-set, set-get_or, set_past}
+use Rattle.std.proofs.lemmas.List.{get_or-set_other, get_or-set_same, length-set, set-get_or}
+use Rattle.std.proofs.lemmas.List.{set_past}
 use Rattle.lk_locks.specs.Change.{Change}
 use Rattle.lk_locks.specs.Entries.{move_entries}
 use Rattle.lk_locks.specs.Sequential.{Sequential, has, is_allowed, is_head}
 use Rattle.lk_locks.specs.State.{phase_at}
 use Rattle.lk_locks.specs.Steps.{has_op, move_change, refusal_in}
 use Rattle.lk_locks.specs.invariants.Threads.{EachOnce}
-use Rattle.lk_locks.specs.invariants.mcs.{AreLinks, IsBehind, IsFirst, IsOutside, IsPhase, IsQueue, last_of, locked_of, next_of, owed, tail_of}
+use Rattle.lk_locks.specs.invariants.mcs.{AreLinks, IsBehind, IsFirst, IsOutside, IsPhase, IsQueue}
+use Rattle.lk_locks.specs.invariants.mcs.{last_of, locked_of, next_of, owed, tail_of}
 use Rattle.lk_locks.specs.mcs.{after_call, locked, next, step}
-use Rattle.lk_locks.proofs.Cases.{AreOf, Begins, Fits, GoesOn, IsAgreed, IsTaken, KeepsLength, either_way}
-use Rattle.lk_locks.proofs.invariants.McsLine.{IsHeadOf, first_frame, head_of, last_member, locked_after_locked, locked_after_next, mcs_first, mcs_grant, mcs_head, mcs_last, mcs_later, mcs_more, mcs_out, member_of, next_after_locked, next_after_next, not_member, place, second, tail_after}
+use Rattle.lk_locks.proofs.Cases.{AreOf, Begins, Fits, GoesOn, IsAgreed, IsTaken, KeepsLength}
+use Rattle.lk_locks.proofs.Cases.{either_way}
+use Rattle.lk_locks.proofs.invariants.McsLine.{IsHeadOf, first_frame, head_of, last_member}
+use Rattle.lk_locks.proofs.invariants.McsLine.{locked_after_locked, locked_after_next, mcs_first}
+use Rattle.lk_locks.proofs.invariants.McsLine.{mcs_grant, mcs_head, mcs_last, mcs_later, mcs_more}
+use Rattle.lk_locks.proofs.invariants.McsLine.{mcs_out, member_of, next_after_locked}
+use Rattle.lk_locks.proofs.invariants.McsLine.{next_after_next, not_member, place, second}
+use Rattle.lk_locks.proofs.invariants.McsLine.{tail_after}
 use Rattle.lk_locks.specs.declared.kinds.LockKind.TheVariants.{Mcs}
 use Rattle.lk_locks.specs.declared.kinds.Move.{Move}
 use Rattle.lk_locks.specs.declared.kinds.Move.TheVariants.{Call, Step}
 use Rattle.lk_locks.specs.declared.kinds.Op.{Op}
 use Rattle.lk_locks.specs.declared.kinds.Op.TheVariants.{Acquire, Release}
 use Rattle.lk_locks.specs.declared.kinds.Phase.{Phase}
-use Rattle.lk_locks.specs.declared.kinds.Phase.TheVariants.{AwaitGrant, AwaitLink, CasTail, ClearNext, Grant, Idle, LinkTo, McsInside, ReadNext, SetLocked, SwapTail}
+use Rattle.lk_locks.specs.declared.kinds.Phase.TheVariants.{AwaitGrant, AwaitLink, CasTail}
+use Rattle.lk_locks.specs.declared.kinds.Phase.TheVariants.{ClearNext, Grant, Idle, LinkTo}
+use Rattle.lk_locks.specs.declared.kinds.Phase.TheVariants.{McsInside, ReadNext, SetLocked}
+use Rattle.lk_locks.specs.declared.kinds.Phase.TheVariants.{SwapTail}
 use Rattle.lk_locks.specs.declared.kinds.Entry.TheVariants.{Acted}
 
 -- each step adds the next entries of the pending call

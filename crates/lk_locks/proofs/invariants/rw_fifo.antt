@@ -1,6 +1,8 @@
 -- The room of the FIFO read-write lock: each section goes on with its call, and each move keeps the
 -- counts and the flag.
-use Rattle.std.proofs.Common.{IsTrue, List, None, Some, [], ap, arith, eqb, false, inl, inr, length, refl, rules, set, slice_index, sym, true, unwrap_or, ℕ, ◌%◌, ◌+◌, ◌<◌, ◌==◌, ◌^◌, ◌∙◌, ◌≡◌, ◌≤◌}
+use Rattle.std.proofs.Common.{IsTrue, List, None, Some, [], ap, arith, eqb, false, inl, inr, length}
+use Rattle.std.proofs.Common.{refl, rules, set, slice_index, sym, true, unwrap_or, ℕ, ◌%◌, ◌+◌, ◌<◌}
+use Rattle.std.proofs.Common.{◌==◌, ◌^◌, ◌∙◌, ◌≡◌, ◌≤◌}
 use Rattle.std.proofs.Math.Nat.{mod-add-mod}
 use Rattle.std.proofs.lemmas.Bool.{lt-ltb}
 use Rattle.std.proofs.lemmas.Bool.Decides.{eqb_tells}
@@ -15,17 +17,26 @@ use Rattle.lk_locks.specs.invariants.WellFormed.{IsPhaseOf}
 use Rattle.lk_locks.specs.invariants.read_write.{AreHolders, is_announced, is_reading, is_writing}
 use Rattle.lk_locks.specs.invariants.rw_fifo.{AgreesWith, is_phase, owed}
 use Rattle.lk_locks.specs.rw_fifo.{step}
-use Rattle.lk_locks.proofs.Cases.{AreOf, Begins, Fits, GoesOn, IsAgreed, IsTaken, KeepsLength, either_way}
-use Rattle.lk_locks.proofs.invariants.HolderLists.{announced_is, empty_of_length, flag_none, flag_some, holders_announce, holders_downgrade, holders_frame, holders_join, holders_leave, holders_unwrite, holders_write, length_joined, length_left, no_writer, no_writer_beside, none_announced, not_same, readers_few}
+use Rattle.lk_locks.proofs.Cases.{AreOf, Begins, Fits, GoesOn, IsAgreed, IsTaken, KeepsLength}
+use Rattle.lk_locks.proofs.Cases.{either_way}
+use Rattle.lk_locks.proofs.invariants.HolderLists.{announced_is, empty_of_length, flag_none}
+use Rattle.lk_locks.proofs.invariants.HolderLists.{flag_some, holders_announce, holders_downgrade}
+use Rattle.lk_locks.proofs.invariants.HolderLists.{holders_frame, holders_join, holders_leave}
+use Rattle.lk_locks.proofs.invariants.HolderLists.{holders_unwrite, holders_write, length_joined}
+use Rattle.lk_locks.proofs.invariants.HolderLists.{length_left, no_writer, no_writer_beside}
+use Rattle.lk_locks.proofs.invariants.HolderLists.{none_announced, not_same, readers_few}
 use Rattle.lk_locks.proofs.Requests.{eqb-same}
 use Rattle.lk_locks.proofs.Words.{no_round, plus_one-lt, plus_one_plus}
 use Rattle.lk_locks.specs.declared.kinds.LockKind.TheVariants.{RwFifo}
 use Rattle.lk_locks.specs.declared.kinds.Move.{Move}
 use Rattle.lk_locks.specs.declared.kinds.Move.TheVariants.{Call, Step}
 use Rattle.lk_locks.specs.declared.kinds.Op.{Op}
-use Rattle.lk_locks.specs.declared.kinds.Op.TheVariants.{Downgrade, ReadLock, ReadUnlock, WriteLock, WriteUnlock}
+use Rattle.lk_locks.specs.declared.kinds.Op.TheVariants.{Downgrade, ReadLock, ReadUnlock, WriteLock}
+use Rattle.lk_locks.specs.declared.kinds.Op.TheVariants.{WriteUnlock}
 use Rattle.lk_locks.specs.declared.kinds.Phase.{Phase}
-use Rattle.lk_locks.specs.declared.kinds.Phase.TheVariants.{AwaitReaders, Idle, LeaveRead, LeaveWrite, Reading, TryDowngrade, TryRead, TryWrite, Writing}
+use Rattle.lk_locks.specs.declared.kinds.Phase.TheVariants.{AwaitReaders, Idle, LeaveRead}
+use Rattle.lk_locks.specs.declared.kinds.Phase.TheVariants.{LeaveWrite, Reading, TryDowngrade}
+use Rattle.lk_locks.specs.declared.kinds.Phase.TheVariants.{TryRead, TryWrite, Writing}
 use Rattle.lk_locks.specs.read_write
 use Rattle.lk_locks.specs.declared.kinds.Entry.TheVariants.{Acted, Announced}
 

@@ -1,6 +1,8 @@
 -- The room of the simple read-write lock: each section goes on with its call, and each move keeps
 -- the count and the flag.
-use Rattle.std.proofs.Common.{IsTrue, List, None, [], ap, arith, false, inl, inr, length, refl, rules, set, slice_index, sym, true, unwrap_or, ℕ, ◌%◌, ◌&&◌, ◌+◌, ◌-◌, ◌<◌, ◌==◌, ◌^◌, ◌∙◌, ◌≡◌, ◌≤◌}
+use Rattle.std.proofs.Common.{IsTrue, List, None, [], ap, arith, false, inl, inr, length, refl}
+use Rattle.std.proofs.Common.{rules, set, slice_index, sym, true, unwrap_or, ℕ, ◌%◌, ◌&&◌, ◌+◌, ◌-◌}
+use Rattle.std.proofs.Common.{◌<◌, ◌==◌, ◌^◌, ◌∙◌, ◌≡◌, ◌≤◌}
 use Rattle.std.proofs.Math.Nat.{add-mod_right, mod-eq_of_lt}
 use Rattle.std.proofs.lemmas.Bool.{lt-ltb}
 use Rattle.std.proofs.lemmas.Bool.Decides.{eqb_tells}
@@ -15,15 +17,23 @@ use Rattle.lk_locks.specs.invariants.WellFormed.{IsPhaseOf}
 use Rattle.lk_locks.specs.invariants.read_write.{is_announced, is_reading, is_writing}
 use Rattle.lk_locks.specs.invariants.rw_simple.{AgreesWith, is_phase, owed}
 use Rattle.lk_locks.specs.rw_simple.{step}
-use Rattle.lk_locks.proofs.Cases.{AreOf, Begins, Fits, GoesOn, IsAgreed, IsTaken, KeepsLength, either_way}
-use Rattle.lk_locks.proofs.invariants.HolderLists.{empty_of_length, flag_none, holders_downgrade, holders_frame, holders_join, holders_leave, holders_unwrite, holders_write, length_joined, length_left, no_writer, none_announced, readers_few, readers_fit}
+use Rattle.lk_locks.proofs.Cases.{AreOf, Begins, Fits, GoesOn, IsAgreed, IsTaken, KeepsLength}
+use Rattle.lk_locks.proofs.Cases.{either_way}
+use Rattle.lk_locks.proofs.invariants.HolderLists.{empty_of_length, flag_none, holders_downgrade}
+use Rattle.lk_locks.proofs.invariants.HolderLists.{holders_frame, holders_join, holders_leave}
+use Rattle.lk_locks.proofs.invariants.HolderLists.{holders_unwrite, holders_write, length_joined}
+use Rattle.lk_locks.proofs.invariants.HolderLists.{length_left, no_writer, none_announced}
+use Rattle.lk_locks.proofs.invariants.HolderLists.{readers_few, readers_fit}
 use Rattle.lk_locks.specs.declared.kinds.LockKind.TheVariants.{RwSimple}
 use Rattle.lk_locks.specs.declared.kinds.Move.{Move}
 use Rattle.lk_locks.specs.declared.kinds.Move.TheVariants.{Call, Step}
 use Rattle.lk_locks.specs.declared.kinds.Op.{Op}
-use Rattle.lk_locks.specs.declared.kinds.Op.TheVariants.{Downgrade, ReadLock, ReadUnlock, WriteLock, WriteUnlock}
+use Rattle.lk_locks.specs.declared.kinds.Op.TheVariants.{Downgrade, ReadLock, ReadUnlock, WriteLock}
+use Rattle.lk_locks.specs.declared.kinds.Op.TheVariants.{WriteUnlock}
 use Rattle.lk_locks.specs.declared.kinds.Phase.{Phase}
-use Rattle.lk_locks.specs.declared.kinds.Phase.TheVariants.{Idle, LeaveRead, LeaveWrite, Reading, TryDowngrade, TryRead, TryWrite, Writing}
+use Rattle.lk_locks.specs.declared.kinds.Phase.TheVariants.{Idle, LeaveRead, LeaveWrite, Reading}
+use Rattle.lk_locks.specs.declared.kinds.Phase.TheVariants.{TryDowngrade, TryRead, TryWrite}
+use Rattle.lk_locks.specs.declared.kinds.Phase.TheVariants.{Writing}
 use Rattle.lk_locks.specs.read_write
 use Rattle.lk_locks.specs.declared.kinds.Entry.TheVariants.{Acted}
 

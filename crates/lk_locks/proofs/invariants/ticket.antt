@@ -1,6 +1,8 @@
 -- The room of the ticket lock: each step goes on with its call, and each move keeps the queue of
 -- the tickets.
-use Rattle.std.proofs.Common.{IsTrue, List, None, Some, [], ap, arith, drop, eqb, false, inl, inr, length, refl, rules, set, slice_index, sym, true, unwrap_or, ℕ, ◌<◌, ◌==◌, ◌∙◌, ◌∷◌, ◌≡◌, ◌≤◌}
+use Rattle.std.proofs.Common.{IsTrue, List, None, Some, [], ap, arith, drop, eqb, false, inl, inr}
+use Rattle.std.proofs.Common.{length, refl, rules, set, slice_index, sym, true, unwrap_or, ℕ, ◌<◌}
+use Rattle.std.proofs.Common.{◌==◌, ◌∙◌, ◌∷◌, ◌≡◌, ◌≤◌}
 use Rattle.std.proofs.lemmas.Bool.{false≢true, lt-ltb}
 use Rattle.std.proofs.lemmas.Bool.Decides.{eqb_tells}
 use Rattle.std.proofs.lemmas.List.{length-set, set-get_or}
@@ -13,16 +15,19 @@ use Rattle.lk_locks.specs.invariants.WellFormed.{IsPhaseOf}
 use Rattle.lk_locks.specs.invariants.ticket.{IsQueue, is_phase, owed, ticket_of}
 use Rattle.lk_locks.specs.laws.{Event}
 use Rattle.lk_locks.specs.ticket.{after_call, now_serving, reads, step}
-use Rattle.lk_locks.proofs.Cases.{AreOf, Begins, Fits, GoesOn, IsAgreed, IsTaken, KeepsLength, either_way}
+use Rattle.lk_locks.proofs.Cases.{AreOf, Begins, Fits, GoesOn, IsAgreed, IsTaken, KeepsLength}
+use Rattle.lk_locks.proofs.Cases.{either_way}
 use Rattle.lk_locks.proofs.Threads.{bool_tells}
-use Rattle.lk_locks.proofs.invariants.TicketLine.{IsHead, inside_is_head, no_member, queue_frame, queue_pass, queue_take, served_is_head}
+use Rattle.lk_locks.proofs.invariants.TicketLine.{IsHead, inside_is_head, no_member, queue_frame}
+use Rattle.lk_locks.proofs.invariants.TicketLine.{queue_pass, queue_take, served_is_head}
 use Rattle.lk_locks.specs.declared.kinds.LockKind.TheVariants.{Ticket}
 use Rattle.lk_locks.specs.declared.kinds.Move.{Move}
 use Rattle.lk_locks.specs.declared.kinds.Move.TheVariants.{Call, Step}
 use Rattle.lk_locks.specs.declared.kinds.Op.{Op}
 use Rattle.lk_locks.specs.declared.kinds.Op.TheVariants.{Acquire, Release}
 use Rattle.lk_locks.specs.declared.kinds.Phase.{Phase}
-use Rattle.lk_locks.specs.declared.kinds.Phase.TheVariants.{AwaitTurn, Idle, PassOn, ReadServing, TakeTicket, TicketInside}
+use Rattle.lk_locks.specs.declared.kinds.Phase.TheVariants.{AwaitTurn, Idle, PassOn, ReadServing}
+use Rattle.lk_locks.specs.declared.kinds.Phase.TheVariants.{TakeTicket, TicketInside}
 use Rattle.lk_locks.specs.declared.kinds.Entry.TheVariants.{Acted}
 
 -- each step adds the next entries of the pending call

@@ -1,14 +1,17 @@
 -- Invariants. The MCS lock's: its phases, what a pending call still owes the history, who is
 -- inside, and how its words agree with the queue of its sequential object, which is only partly
 -- linked at most moments.
-use Rattle.std.specs.Prelude.{◌≡◌, ◌≢◌, ℕ, ◌+◌, ◌<◌, ◌≤◌, List, [], ◌∷◌, length, slice_index, Bool, true, false, IsTrue}
+use Rattle.std.specs.Prelude.{◌≡◌, ◌≢◌, ℕ, ◌+◌, ◌<◌, ◌≤◌, List, [], ◌∷◌, length, slice_index, Bool}
+use Rattle.std.specs.Prelude.{true, false, IsTrue}
 use Rattle.lk_locks.specs.State.{phase_at}
 use Rattle.lk_locks.specs.Acts.{acts}
 use Rattle.lk_locks.specs.Sequential.{has, is_head}
 use Rattle.lk_locks.specs.mcs.{tail, next, locked}
 use Rattle.lk_locks.specs.invariants.Threads.{EachOnce}
 use Rattle.lk_locks.specs.declared.kinds.Phase.{Phase}
-use Rattle.lk_locks.specs.declared.kinds.Phase.TheVariants.{Idle, ClearNext, SwapTail, SetLocked, LinkTo, AwaitGrant, McsInside, ReadNext, CasTail, AwaitLink, Grant}
+use Rattle.lk_locks.specs.declared.kinds.Phase.TheVariants.{Idle, ClearNext, SwapTail, SetLocked}
+use Rattle.lk_locks.specs.declared.kinds.Phase.TheVariants.{LinkTo, AwaitGrant, McsInside, ReadNext}
+use Rattle.lk_locks.specs.declared.kinds.Phase.TheVariants.{CasTail, AwaitLink, Grant}
 use Rattle.lk_locks.specs.declared.kinds.Op.TheVariants.{Acquire, Release}
 use Rattle.lk_locks.specs.declared.kinds.Entry.{Entry}
 use Rattle.lk_locks.specs.declared.kinds.Entry.TheVariants.{Returned}

@@ -5,7 +5,8 @@ use Rattle.lk_locks.specs.State.{phase_at}
 use Rattle.lk_locks.specs.Sequential.{Sequential, has}
 use Rattle.lk_locks.specs.invariants.Threads.{EachOnce, is_this}
 use Rattle.lk_locks.specs.declared.kinds.Phase.{Phase}
-use Rattle.lk_locks.specs.declared.kinds.Phase.TheVariants.{Reading, LeaveRead, AwaitReaders, Writing, LeaveWrite, TryDowngrade}
+use Rattle.lk_locks.specs.declared.kinds.Phase.TheVariants.{Reading, LeaveRead, AwaitReaders}
+use Rattle.lk_locks.specs.declared.kinds.Phase.TheVariants.{Writing, LeaveWrite, TryDowngrade}
 
 abbrev pub is_reading : Phase → Bool
 is_reading Reading = true

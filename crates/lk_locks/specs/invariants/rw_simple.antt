@@ -6,8 +6,11 @@ use Rattle.lk_locks.specs.Sequential.{Sequential}
 use Rattle.lk_locks.specs.rw_simple.{readers, flag}
 use Rattle.lk_locks.specs.invariants.read_write.{AreHolders, flag_of}
 use Rattle.lk_locks.specs.declared.kinds.Phase.{Phase}
-use Rattle.lk_locks.specs.declared.kinds.Phase.TheVariants.{Idle, TryRead, Reading, LeaveRead, TryWrite, Writing, LeaveWrite, TryDowngrade}
-use Rattle.lk_locks.specs.declared.kinds.Op.TheVariants.{ReadLock, ReadUnlock, WriteLock, WriteUnlock, Downgrade}
+use Rattle.lk_locks.specs.declared.kinds.Phase.TheVariants.{Idle, TryRead, Reading, LeaveRead}
+use Rattle.lk_locks.specs.declared.kinds.Phase.TheVariants.{TryWrite, Writing, LeaveWrite}
+use Rattle.lk_locks.specs.declared.kinds.Phase.TheVariants.{TryDowngrade}
+use Rattle.lk_locks.specs.declared.kinds.Op.TheVariants.{ReadLock, ReadUnlock, WriteLock}
+use Rattle.lk_locks.specs.declared.kinds.Op.TheVariants.{WriteUnlock, Downgrade}
 use Rattle.lk_locks.specs.declared.kinds.Entry.{Entry}
 
 abbrev pub is_phase : Phase → Bool

@@ -1,6 +1,7 @@
 -- Invariants. The ticket lock's: its phases, what a pending call still owes the history, and how
 -- its words agree with the queue of its sequential object.
-use Rattle.std.specs.Prelude.{◌≡◌, ℕ, ◌+◌, ◌%◌, ◌^◌, ◌<◌, List, [], ◌∷◌, length, slice_index, Option, None, Some, Bool, true, false}
+use Rattle.std.specs.Prelude.{◌≡◌, ℕ, ◌+◌, ◌%◌, ◌^◌, ◌<◌, List, [], ◌∷◌, length, slice_index}
+use Rattle.std.specs.Prelude.{Option, None, Some, Bool, true, false}
 use Rattle.lk_locks.specs.State.{phase_at}
 use Rattle.lk_locks.specs.Change.{plus_one}
 use Rattle.lk_locks.specs.Acts.{acts}
@@ -8,7 +9,8 @@ use Rattle.lk_locks.specs.Sequential.{has}
 use Rattle.lk_locks.specs.ticket.{next_ticket, now_serving}
 use Rattle.lk_locks.specs.invariants.Threads.{EachOnce}
 use Rattle.lk_locks.specs.declared.kinds.Phase.{Phase}
-use Rattle.lk_locks.specs.declared.kinds.Phase.TheVariants.{Idle, TakeTicket, AwaitTurn, TicketInside, ReadServing, PassOn}
+use Rattle.lk_locks.specs.declared.kinds.Phase.TheVariants.{Idle, TakeTicket, AwaitTurn}
+use Rattle.lk_locks.specs.declared.kinds.Phase.TheVariants.{TicketInside, ReadServing, PassOn}
 use Rattle.lk_locks.specs.declared.kinds.Op.TheVariants.{Acquire, Release}
 use Rattle.lk_locks.specs.declared.kinds.Entry.{Entry}
 use Rattle.lk_locks.specs.declared.kinds.Entry.TheVariants.{Returned}

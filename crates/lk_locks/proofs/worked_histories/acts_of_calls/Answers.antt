@@ -2,7 +2,8 @@ use Rattle.std.proofs.Common.{◌≡◌, [], ◌∷◌, refl}
 use Rattle.lk_locks.specs.WorkedHistories.{handed_on, writers_in_turn}
 use Rattle.lk_locks.proofs.CallLaws.{calls_act_once, acts_are_called}
 use Rattle.lk_locks.proofs.Places.{one_of}
-use Rattle.lk_locks.proofs.WorkedHistories.{mcs_legal, simple_legal, not_of_one, not_of_two, since_call, nothing_done}
+use Rattle.lk_locks.proofs.WorkedHistories.{mcs_legal, simple_legal, not_of_one, not_of_two}
+use Rattle.lk_locks.proofs.WorkedHistories.{since_call, nothing_done}
 use Rattle.lk_locks.specs.declared.kinds.LockKind.TheVariants.{Mcs, RwSimple}
 use Rattle.lk_locks.specs.declared.kinds.Op.TheVariants.{Acquire, WriteLock}
 use Rattle.lk_locks.specs.declared.kinds.Entry.TheVariants.{Called, Announced, Acted, Returned}

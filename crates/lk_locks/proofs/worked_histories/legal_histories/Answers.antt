@@ -1,4 +1,5 @@
-use Rattle.lk_locks.proofs.WorkedHistories.{ticket_legal, mcs_legal, simple_legal, fifo_legal, not_legal}
+use Rattle.lk_locks.proofs.WorkedHistories.{ticket_legal, mcs_legal, simple_legal, fifo_legal}
+use Rattle.lk_locks.proofs.WorkedHistories.{not_legal}
 use Rattle.lk_locks.proofs.worked_histories.legal_histories.Goals as goal
 
 pub returns-clause-ticket : goal.returns-clause-ticket
