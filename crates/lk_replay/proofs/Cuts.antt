@@ -1,18 +1,25 @@
 -- Where a text is cut at a byte.
-use Rattle.std.proofs.Common.{eq-eqb, ◌≡◌, ℕ, ◌+◌, ◌-◌, ◌<◌, List, [], ◌∷◌, ◌++◌, length, get_or, take, drop, Bool, false, ◌==◌, refl, sym, ap, ◌∙◌, arith, add-one, drop-cons, take-append-drop, length-take-le, get_or-take}
+use Rattle.std.proofs.Common.{eq-eqb, ◌≡◌, ℕ, ◌+◌, ◌-◌, ◌<◌, List, [], ◌∷◌, ◌++◌, length, get_or}
+use Rattle.std.proofs.Common.{take, drop, Bool, false, ◌==◌, refl, sym, ap, ◌∙◌, arith, add-one}
+use Rattle.std.proofs.Common.{drop-cons, take-append-drop, length-take-le, get_or-take}
 use Rattle.std.specs.List.{slice_split, All}
 use Rattle.std.proofs.lemmas.List.Splits.{slice_split_none, slice_split_at, length-slice_split}
 use Rattle.std.proofs.lemmas.List.{take_rest, get_or_default}
 use Rattle.std.proofs.lemmas.Bool.{false_from_ne_true, eqb-true}
 use Rattle.lk_replay.specs.Lines.{lines_of, without_empty_end, is_line_feed}
 
-pub cut_nowhere : (byte : ℕ) (text : List ℕ) → ((k : ℕ) → k < length text → get_or text k 0 ≡ byte → ⊥)
+pub cut_nowhere : (byte : ℕ) (text : List ℕ)
+    → ((k : ℕ) → k < length text → get_or text k 0 ≡ byte → ⊥)
     → slice_split (λ b. b == byte) text ≡ text ∷ []
 cut_nowhere byte text none = slice_split_none (λ b. b == byte) text
-    (λ k d h. ap (λ x. x == byte) (get_or_default text k d 0 h) ∙ false_from_ne_true _ (λ here. none k h (eqb-true _ _ here)))
+    (λ k d h. ap (λ x. x == byte) (get_or_default text k d 0 h)
+    ∙ false_from_ne_true _ (λ here. none k h (eqb-true _ _ here)))
 
-pub cut_first : (byte : ℕ) (text : List ℕ) (at : ℕ) → ((k : ℕ) → k < at → get_or text k 0 ≡ byte → ⊥) → at < length text → get_or text at 0 ≡ byte
-    → slice_split (λ b. b == byte) text ≡ take at text ∷ slice_split (λ b. b == byte) (take (length text - (at + 1)) (drop (at + 1) text))
+pub cut_first : (byte : ℕ) (text : List ℕ) (at : ℕ)
+    → ((k : ℕ) → k < at → get_or text k 0 ≡ byte → ⊥) → at < length text → get_or text at 0 ≡ byte
+    → slice_split (λ b. b == byte) text
+    ≡ take at text
+    ∷ slice_split (λ b. b == byte) (take (length text - (at + 1)) (drop (at + 1) text))
 cut_first byte text at none within here =
     let p : ℕ → Bool = λ b. b == byte in
     let size : length (take at text) ≡ at = length-take-le at text (omega arith) in
@@ -21,23 +28,32 @@ cut_first byte text at none within here =
     ap p (get_or-take at text k d below ∙ get_or_default text k d 0 (omega arith))
     ∙ false_from_ne_true _ (λ same. none k below (eqb-true _ _ same)) in
     let whole : text ≡ take at text ++ (get_or text at 0 ∷ drop (at + 1) text) =
-    sym (take-append-drop at text) ∙ ap (λ l. take at text ++ l) (drop-cons text at 0 within ∙ rw add-one refl) in
-    ap (slice_split p) whole ∙ slice_split_at p (take at text) (get_or text at 0) (drop (at + 1) text) clear (eq-eqb _ _ here)
+    sym (take-append-drop at text)
+    ∙ ap (λ l. take at text ++ l) (drop-cons text at 0 within ∙ rw add-one refl) in
+    ap (slice_split p) whole
+    ∙ slice_split_at p (take at text) (get_or text at 0) (drop (at + 1) text) clear
+    (eq-eqb _ _ here)
     ∙ ap (λ l. take at text ∷ slice_split p l) (sym (take_rest text (at + 1)))
 
 -- a text has at least one piece
 pub has_piece : (p : ℕ → Bool) (text : List ℕ) → 0 < length (slice_split p text)
 has_piece p text = omega (arith, length-slice_split p text)
 
-pub before_pieces : (piece : List ℕ) (pieces : List (List ℕ)) → 0 < length pieces → without_empty_end (piece ∷ pieces) ≡ piece ∷ without_empty_end pieces
+pub before_pieces : (piece : List ℕ) (pieces : List (List ℕ)) → 0 < length pieces
+    → without_empty_end (piece ∷ pieces) ≡ piece ∷ without_empty_end pieces
 before_pieces piece [] h = absurd (omega arith)
 before_pieces piece (next ∷ pieces) h = refl
 
-pub line_first : (text line rest : List ℕ) → slice_split is_line_feed text ≡ line ∷ slice_split is_line_feed rest → lines_of text ≡ line ∷ lines_of rest
+pub line_first : (text line rest : List ℕ)
+    → slice_split is_line_feed text ≡ line ∷ slice_split is_line_feed rest
+    → lines_of text ≡ line ∷ lines_of rest
 unfolding lines_of
-line_first text line rest cut = ap without_empty_end cut ∙ before_pieces line (slice_split is_line_feed rest) (has_piece is_line_feed rest)
+line_first text line rest cut =
+    ap without_empty_end cut
+    ∙ before_pieces line (slice_split is_line_feed rest) (has_piece is_line_feed rest)
 
-pub line_last : (text : List ℕ) → 0 < length text → slice_split is_line_feed text ≡ text ∷ [] → lines_of text ≡ text ∷ lines_of []
+pub line_last : (text : List ℕ) → 0 < length text → slice_split is_line_feed text ≡ text ∷ []
+    → lines_of text ≡ text ∷ lines_of []
 unfolding lines_of
 line_last [] h cut = absurd (omega arith)
 line_last (b ∷ bs) h cut = ap without_empty_end cut

@@ -1,5 +1,6 @@
 -- What the first line says.
-use Rattle.std.proofs.Common.{◌≡◌, ℕ, ◌+◌, ◌<◌, ◌≤◌, List, [], ◌∷◌, length, None, Result, Ok, Err, ◌==◌, true, false, sym, ap, ◌∙◌, arith, refl}
+use Rattle.std.proofs.Common.{◌≡◌, ℕ, ◌+◌, ◌<◌, ◌≤◌, List, [], ◌∷◌, length, None, Result, Ok, Err}
+use Rattle.std.proofs.Common.{◌==◌, true, false, sym, ap, ◌∙◌, arith, refl}
 use Rattle.std.proofs.lemmas.Bool.{eqb-true, cond-false, le-ltb}
 use Rattle.lk_replay.specs.Lines.{lines_of, is_skipped}
 use Rattle.lk_replay.specs.Faults.{Fault, NoHeader}
@@ -11,30 +12,39 @@ use Rattle.lk_replay.specs.declared.schedule.ReadFault.{ReadFault}
 use Rattle.lk_replay.specs.declared.schedule.ReadFault.TheVariants as read
 
 -- a word behind the number of bits
-pub more_words : (count bits number : List ℕ) (words : List (List ℕ)) → 0 < length words → size_of_words (count ∷ bits ∷ number ∷ words) ≡ None
+pub more_words : (count bits number : List ℕ) (words : List (List ℕ)) → 0 < length words
+    → size_of_words (count ∷ bits ∷ number ∷ words) ≡ None
 more_words count bits number [] some = absurd (omega arith)
 more_words count bits number (word ∷ words) some = refl
 
-empty_plan : (number : ℕ) (rest : List ℕ) → (length rest == 0) ≡ true → plan_from number (lines_of rest) ≡ Err (NoHeader number)
+empty_plan : (number : ℕ) (rest : List ℕ) → (length rest == 0) ≡ true
+    → plan_from number (lines_of rest) ≡ Err (NoHeader number)
 unfolding lines_of
 empty_plan number [] empty = refl
 empty_plan number (b ∷ bs) empty = absurd (omega (arith, eqb-true _ _ empty))
 
 -- no line but such as are skipped
-pub no_header : (text rest : List ℕ) (number : ℕ) → length text ≤ 1048576 → (length rest == 0) ≡ true → plan_from number (lines_of rest) ≡ plan_from 1 (lines_of text) → plan_of text ≡ Err (NoHeader number)
+pub no_header : (text rest : List ℕ) (number : ℕ) → length text ≤ 1048576
+    → (length rest == 0) ≡ true → plan_from number (lines_of rest) ≡ plan_from 1 (lines_of text)
+    → plan_of text ≡ Err (NoHeader number)
 unfolding plan_of
-no_header text rest number small empty same = cond-false _ _ _ (le-ltb _ _ small) ∙ sym same ∙ empty_plan number rest empty
+no_header text rest number small empty same =
+    cond-false _ _ _ (le-ltb _ _ small) ∙ sym same ∙ empty_plan number rest empty
 
-header_first : (header : Result Header Fault) (moves : Result (List Line) Fault) (fault : Fault) → header ≡ Err fault → with_header header moves ≡ Err fault
+header_first : (header : Result Header Fault) (moves : Result (List Line) Fault) (fault : Fault)
+    → header ≡ Err fault → with_header header moves ≡ Err fault
 header_first header moves fault e = ap (λ h. with_header h moves) e
 
-wants_both : (header : Result Header Fault) (moves : Result (List Line) Fault) → WantsMemory header → WantsMemory moves → WantsMemory (with_header header moves)
+wants_both : (header : Result Header Fault) (moves : Result (List Line) Fault) → WantsMemory header
+    → WantsMemory moves → WantsMemory (with_header header moves)
 wants_both (Ok header) (Ok moves) h m = tt
 wants_both (Ok header) (Err fault) h m = m
 wants_both (Err fault) moves h m = h
 
 -- the header's fault is the text's
-pub fails_first : (fault : ReadFault) (header : Result Header Fault) (moves : Result (List Line) Fault) → WantsMemory moves → Fails fault header → Fails fault (with_header header moves)
+pub fails_first : (fault : ReadFault) (header : Result Header Fault)
+    (moves : Result (List Line) Fault)
+    → WantsMemory moves → Fails fault header → Fails fault (with_header header moves)
 fails_first read.TooLong header moves m e = header_first header moves _ e
 fails_first (read.NoHeader n) header moves m e = header_first header moves _ e
 fails_first (read.BadHeader n) header moves m e = header_first header moves _ e
@@ -44,11 +54,13 @@ fails_first (read.TooManyMoves n) header moves m e = header_first header moves _
 fails_first (read.WordsTooNarrow n) header moves m e = header_first header moves _ e
 fails_first read.OutOfMemory header moves m e = wants_both header moves e m
 
-moves_next : (header : Header) (moves : Result (List Line) Fault) (fault : Fault) → moves ≡ Err fault → with_header (Ok header) moves ≡ Err fault
+moves_next : (header : Header) (moves : Result (List Line) Fault) (fault : Fault)
+    → moves ≡ Err fault → with_header (Ok header) moves ≡ Err fault
 moves_next header moves fault e = ap (with_header (Ok header)) e
 
 -- the moves' fault is the text's
-pub fails_next : (fault : ReadFault) (header : Header) (moves : Result (List Line) Fault) → Fails fault moves → Fails fault (with_header (Ok header) moves)
+pub fails_next : (fault : ReadFault) (header : Header) (moves : Result (List Line) Fault)
+    → Fails fault moves → Fails fault (with_header (Ok header) moves)
 fails_next read.TooLong header moves e = moves_next header moves _ e
 fails_next (read.NoHeader n) header moves e = moves_next header moves _ e
 fails_next (read.BadHeader n) header moves e = moves_next header moves _ e
@@ -59,7 +71,11 @@ fails_next (read.WordsTooNarrow n) header moves e = moves_next header moves _ e
 fails_next read.OutOfMemory header moves e = wants_both (Ok header) moves tt e
 
 -- the first line that is not skipped is the header
-pub header_here : (text rest line : List ℕ) (others : List (List ℕ)) (number : ℕ) → length text ≤ 1048576 → lines_of rest ≡ line ∷ others → is_skipped line ≡ false
-    → plan_from number (lines_of rest) ≡ plan_from 1 (lines_of text) → plan_of text ≡ with_header (header_of number line) (moves_from (number + 1) 0 others)
+pub header_here : (text rest line : List ℕ) (others : List (List ℕ)) (number : ℕ)
+    → length text ≤ 1048576 → lines_of rest ≡ line ∷ others → is_skipped line ≡ false
+    → plan_from number (lines_of rest) ≡ plan_from 1 (lines_of text)
+    → plan_of text ≡ with_header (header_of number line) (moves_from (number + 1) 0 others)
 unfolding plan_of
-header_here text rest line others number small first read same = cond-false _ _ _ (le-ltb _ _ small) ∙ sym same ∙ ap (plan_from number) first ∙ cond-false _ _ _ read
+header_here text rest line others number small first read same =
+    cond-false _ _ _ (le-ltb _ _ small) ∙ sym same ∙ ap (plan_from number) first
+    ∙ cond-false _ _ _ read

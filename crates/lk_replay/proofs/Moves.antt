@@ -1,5 +1,7 @@
 -- What one line does to what is read.
-use Rattle.std.proofs.Common.{◌≡◌, ℕ, ◌+◌, List, [], ◌∷◌, ◌++◌, length, Option, Some, None, Result, Ok, Err, Bool, true, false, ◌==◌, cond, refl, sym, ap, ◌∙◌, append_assoc, append-nil, arith}
+use Rattle.std.proofs.Common.{◌≡◌, ℕ, ◌+◌, List, [], ◌∷◌, ◌++◌, length, Option, Some, None, Result}
+use Rattle.std.proofs.Common.{Ok, Err, Bool, true, false, ◌==◌, cond, refl, sym, ap, ◌∙◌}
+use Rattle.std.proofs.Common.{append_assoc, append-nil, arith}
 use Rattle.std.proofs.lemmas.Bool.{cond-true, cond-false, eqb-true}
 use Rattle.lk_replay.specs.declared.schedule.Line.{Line}
 use Rattle.lk_locks.specs.declared.kinds.Move.{Move}
@@ -17,52 +19,83 @@ pub with_lines-nil : (read : Result (List Line) Fault) → with_lines [] read �
 with_lines-nil (Ok lines) = refl
 with_lines-nil (Err fault) = refl
 
-with_lines-more : (prefix : List Line) (line : Line) (read : Result (List Line) Fault) → with_lines prefix (with_line line read) ≡ with_lines (prefix ++ line ∷ []) read
+with_lines-more : (prefix : List Line) (line : Line) (read : Result (List Line) Fault)
+    → with_lines prefix (with_line line read) ≡ with_lines (prefix ++ line ∷ []) read
 with_lines-more prefix line (Ok lines) = ap Ok (sym (append_assoc prefix (line ∷ []) lines))
 with_lines-more prefix line (Err fault) = refl
 
-pub line_skipped : (number taken : ℕ) (lines : List (List ℕ)) (line : List ℕ) (others : List (List ℕ)) → lines ≡ line ∷ others → is_skipped line ≡ true
+pub line_skipped : (number taken : ℕ) (lines : List (List ℕ)) (line : List ℕ)
+    (others : List (List ℕ))
+    → lines ≡ line ∷ others → is_skipped line ≡ true
     → moves_from number taken lines ≡ moves_from (number + 1) taken others
-line_skipped number taken lines line others first skipped = ap (moves_from number taken) first ∙ cond-true _ _ _ skipped
+line_skipped number taken lines line others first skipped =
+    ap (moves_from number taken) first ∙ cond-true _ _ _ skipped
 
-line_read : (number taken : ℕ) (lines : List (List ℕ)) (line : List ℕ) (others : List (List ℕ)) → lines ≡ line ∷ others → is_skipped line ≡ false
-    → moves_from number taken lines ≡ moves_after (move_of line) number (taken == 65536) (moves_from (number + 1) (taken + 1) others)
-line_read number taken lines line others first read = ap (moves_from number taken) first ∙ cond-false _ _ _ read
+line_read : (number taken : ℕ) (lines : List (List ℕ)) (line : List ℕ) (others : List (List ℕ))
+    → lines ≡ line ∷ others → is_skipped line ≡ false
+    → moves_from number taken lines
+    ≡ moves_after (move_of line) number (taken == 65536)
+    (moves_from (number + 1) (taken + 1) others)
+line_read number taken lines line others first read =
+    ap (moves_from number taken) first ∙ cond-false _ _ _ read
 
-pub line_bad : (number taken : ℕ) (lines : List (List ℕ)) (line : List ℕ) (others : List (List ℕ)) → lines ≡ line ∷ others → is_skipped line ≡ false → move_of line ≡ None
+pub line_bad : (number taken : ℕ) (lines : List (List ℕ)) (line : List ℕ) (others : List (List ℕ))
+    → lines ≡ line ∷ others → is_skipped line ≡ false → move_of line ≡ None
     → moves_from number taken lines ≡ Err (BadLine number)
-line_bad number taken lines line others first read none = line_read number taken lines line others first read ∙ ap (λ m. moves_after m number (taken == 65536) (moves_from (number + 1) (taken + 1) others)) none
+line_bad number taken lines line others first read none =
+    line_read number taken lines line others first read
+    ∙ ap (λ m. moves_after m number (taken == 65536) (moves_from (number + 1) (taken + 1) others))
+    none
 
-pub line_over : (number taken : ℕ) (lines : List (List ℕ)) (line : List ℕ) (others : List (List ℕ)) (move : ℕ × Move) → lines ≡ line ∷ others → is_skipped line ≡ false → move_of line ≡ Some move
+pub line_over : (number taken : ℕ) (lines : List (List ℕ)) (line : List ℕ) (others : List (List ℕ))
+    (move : ℕ × Move)
+    → lines ≡ line ∷ others → is_skipped line ≡ false → move_of line ≡ Some move
     → (taken == 65536) ≡ true → moves_from number taken lines ≡ Err (TooManyMoves number)
 line_over number taken lines line others move first read some full =
-    line_read number taken lines line others first read ∙ ap (λ m. moves_after m number (taken == 65536) (moves_from (number + 1) (taken + 1) others)) some ∙ cond-true _ _ _ full
+    line_read number taken lines line others first read ∙ ap (λ m. moves_after m number
+    (taken == 65536) (moves_from (number + 1) (taken + 1) others)) some ∙ cond-true _ _ _ full
 
-pub line_taken : (prefix : List Line) (number taken : ℕ) (lines : List (List ℕ)) (line : List ℕ) (others : List (List ℕ)) (move : ℕ × Move) → lines ≡ line ∷ others → is_skipped line ≡ false → move_of line ≡ Some move
-    → (taken == 65536) ≡ false → with_lines prefix (moves_from number taken lines) ≡ with_lines (prefix ++ record { number = number; thread = move.0; action = move.1 } ∷ []) (moves_from (number + 1) (taken + 1) others)
+pub line_taken : (prefix : List Line) (number taken : ℕ) (lines : List (List ℕ)) (line : List ℕ)
+    (others : List (List ℕ)) (move : ℕ × Move)
+    → lines ≡ line ∷ others → is_skipped line ≡ false → move_of line ≡ Some move
+    → (taken == 65536) ≡ false
+    → with_lines prefix (moves_from number taken lines)
+    ≡ with_lines (prefix ++ record { number = number; thread = move.0; action = move.1 } ∷ [])
+    (moves_from (number + 1) (taken + 1) others)
 line_taken prefix number taken lines line others move first read some room =
-    ap (with_lines prefix) (line_read number taken lines line others first read ∙ ap (λ m. moves_after m number (taken == 65536) (moves_from (number + 1) (taken + 1) others)) some ∙ cond-false _ _ _ room)
+    ap (with_lines prefix)
+    (line_read number taken lines line others first read ∙ ap (λ m. moves_after m number
+    (taken == 65536) (moves_from (number + 1) (taken + 1) others)) some ∙ cond-false _ _ _ room)
     ∙ with_lines-more prefix _ _
 
 -- no text is left
-pub text_done : (prefix : List Line) (number taken : ℕ) (rest : List ℕ) → (length rest == 0) ≡ true → with_lines prefix (moves_from number taken (lines_of rest)) ≡ Ok prefix
+pub text_done : (prefix : List Line) (number taken : ℕ) (rest : List ℕ) → (length rest == 0) ≡ true
+    → with_lines prefix (moves_from number taken (lines_of rest)) ≡ Ok prefix
 unfolding lines_of
 text_done prefix number taken [] empty = ap Ok (append-nil prefix)
 text_done prefix number taken (b ∷ bs) empty = absurd (omega (arith, eqb-true _ _ empty))
 
-pick : (b : Bool) (x y : Result (List Line) Fault) → WantsMemory x → WantsMemory y → WantsMemory (cond b x y)
+pick : (b : Bool) (x y : Result (List Line) Fault) → WantsMemory x → WantsMemory y
+    → WantsMemory (cond b x y)
 pick true x y p q = p
 pick false x y p q = q
 
-behind : (line : Line) (read : Result (List Line) Fault) → WantsMemory read → WantsMemory (with_line line read)
+behind : (line : Line) (read : Result (List Line) Fault) → WantsMemory read
+    → WantsMemory (with_line line read)
 behind line (Ok lines) w = w
 behind line (Err fault) w = w
 
-wanted_after : (move : Option (ℕ × Move)) (number : ℕ) (full : Bool) (others : Result (List Line) Fault) → WantsMemory others → WantsMemory (moves_after move number full others)
+wanted_after : (move : Option (ℕ × Move)) (number : ℕ) (full : Bool)
+    (others : Result (List Line) Fault)
+    → WantsMemory others → WantsMemory (moves_after move number full others)
 wanted_after None number full others w = tt
 wanted_after (Some move) number full others w = pick full _ _ tt (behind _ others w)
 
 -- what the moves give may take memory
-pub moves_want : (number taken : ℕ) (lines : List (List ℕ)) → WantsMemory (moves_from number taken lines)
+pub moves_want : (number taken : ℕ) (lines : List (List ℕ))
+    → WantsMemory (moves_from number taken lines)
 moves_want number taken [] = tt
-moves_want number taken (line ∷ lines) = pick (is_skipped line) _ _ (moves_want (number + 1) taken lines) (wanted_after (move_of line) number (taken == 65536) _ (moves_want (number + 1) (taken + 1) lines))
+moves_want number taken (line ∷ lines) =
+    pick (is_skipped line) _ _ (moves_want (number + 1) taken lines)
+    (wanted_after (move_of line) number (taken == 65536) _
+    (moves_want (number + 1) (taken + 1) lines))

@@ -1,5 +1,7 @@
 -- What is played of a schedule is a run of its lock, and so it is as promised.
-use Rattle.std.proofs.Common.{◌≡◌, ℕ, ◌+◌, ◌<◌, ◌≤◌, ◌^◌, List, [], ◌∷◌, ◌++◌, length, map, nat_le, nat_lt, ◌&&◌, replicate, Option, None, Some, Result, Ok, Err, refl, sym, ap, ◌∙◌, subst, arith, append_assoc, append-nil, inl, inr}
+use Rattle.std.proofs.Common.{◌≡◌, ℕ, ◌+◌, ◌<◌, ◌≤◌, ◌^◌, List, [], ◌∷◌, ◌++◌, length, map, nat_le}
+use Rattle.std.proofs.Common.{nat_lt, ◌&&◌, replicate, Option, None, Some, Result, Ok, Err, refl}
+use Rattle.std.proofs.Common.{sym, ap, ◌∙◌, subst, arith, append_assoc, append-nil, inl, inr}
 use Rattle.std.specs.List.{flat_map}
 use Rattle.std.proofs.lemmas.Bool.{and_parts, cases_Bool, cond-false, cond-true, leb-true, ltb-true}
 use Rattle.std.proofs.lemmas.List.{get_or-replicate, length-replicate}
@@ -14,9 +16,11 @@ use Rattle.lk_locks.specs.declared.kinds.Entry.{Entry}
 use Rattle.lk_locks.specs.declared.kinds.Move.{Move}
 use Rattle.lk_locks.specs.declared.kinds.Refusal.{Refusal}
 use Rattle.lk_replay.specs.Faults.{Fault, TooLong, WordsTooNarrow}
-use Rattle.lk_replay.specs.Header.{Header, Shape, header_of, header_of_shape, shape_of_words, with_threads}
+use Rattle.lk_replay.specs.Header.{Header, Shape, header_of, header_of_shape, shape_of_words}
+use Rattle.lk_replay.specs.Header.{with_threads}
 use Rattle.lk_replay.specs.Lines.{is_skipped, lines_of, words_of}
-use Rattle.lk_replay.specs.Replay.{Made, Replay, Replayed, made_by, refused_or, replay_from, replay_of, replayed_of, with_move}
+use Rattle.lk_replay.specs.Replay.{Made, Replay, Replayed, made_by, refused_or, replay_from}
+use Rattle.lk_replay.specs.Replay.{replay_of, replayed_of, with_move}
 use Rattle.lk_replay.specs.Report.{plan_text, report_text}
 use Rattle.lk_replay.specs.Vocabulary.{is_plain_number, number_of, value_from}
 use Rattle.lk_replay.specs.declared.played.Accepted.{Accepted}
@@ -34,18 +38,27 @@ abbrev pub added_entries : List Made → List Entry
 added_entries ms = flat_map (λ m. m.entries) ms
 
 -- an accepted move, and then the rest
-one_run : (k : RecordedLock) (l : Line) (ls : List Line) (r : Option Refusal) → refusal_of k.state l.thread l.action ≡ r
-    → ((j : RecordedLock) → (after_moves j (moves_made (replay_from j.state ls).made)).entries ≡ j.entries ++ added_entries (replay_from j.state ls).made)
-    → let next : Replay = refused_or r l.number (with_move (made_by k.state l) (replay_from (after_play k l.thread l.action).state ls)) in
+one_run : (k : RecordedLock) (l : Line) (ls : List Line) (r : Option Refusal)
+    → refusal_of k.state l.thread l.action ≡ r
+    → ((j : RecordedLock) → (after_moves j (moves_made (replay_from j.state ls).made)).entries
+    ≡ j.entries ++ added_entries (replay_from j.state ls).made)
+    → let next : Replay =
+    refused_or r l.number
+    (with_move (made_by k.state l) (replay_from (after_play k l.thread l.action).state ls)) in
     (after_moves k (moves_made next.made)).entries ≡ k.entries ++ added_entries next.made
 one_run k l ls None e rest =
     let next : RecordedLock = after_play k l.thread l.action in
-    ap (λ (x : Option Refusal). (after_moves (unless_refused x next k) (moves_made (replay_from next.state ls).made)).entries) e
-    ∙ rest next ∙ append_assoc k.entries (entries_of k.state l.thread l.action) (added_entries (replay_from next.state ls).made)
+    ap (λ (x : Option Refusal). (after_moves (unless_refused x next k)
+    (moves_made (replay_from next.state ls).made)).entries) e
+    ∙ rest next
+    ∙ append_assoc k.entries (entries_of k.state l.thread l.action)
+    (added_entries (replay_from next.state ls).made)
 one_run k l ls (Some x) e rest = sym (append-nil k.entries)
 
 -- the entries of the accepted moves are those that they leave
-run_of : (ls : List Line) (k : RecordedLock) → (after_moves k (moves_made (replay_from k.state ls).made)).entries ≡ k.entries ++ added_entries (replay_from k.state ls).made
+run_of : (ls : List Line) (k : RecordedLock)
+    → (after_moves k (moves_made (replay_from k.state ls).made)).entries
+    ≡ k.entries ++ added_entries (replay_from k.state ls).made
 run_of [] k = sym (append-nil k.entries)
 run_of (l ∷ ls) k = one_run k l ls (refusal_of k.state l.thread l.action) refl (run_of ls)
 
@@ -53,8 +66,10 @@ pub history_of : (p : Plan) → IsHistoryOf p (replayed_of p).accepted (replayed
 history_of p = sym (run_of p.moves (lock_of p))
 
 -- so it is of what was played
-pub history_as_played : (p : Plan) (r : Replayed) → r ≡ replayed_of p → IsHistoryOf p r.accepted r.entries
-history_as_played p r is = subst (λ (x : Replayed). IsHistoryOf p x.accepted x.entries) (sym is) (history_of p)
+pub history_as_played : (p : Plan) (r : Replayed) → r ≡ replayed_of p
+    → IsHistoryOf p r.accepted r.entries
+history_as_played p r is =
+    subst (λ (x : Replayed). IsHistoryOf p x.accepted x.entries) (sym is) (history_of p)
 
 -- ---- what the header promises
 
@@ -64,43 +79,60 @@ record Fits (threads bits : ℕ) : Type 0 where
 
 number_most : (least most n : ℕ) (text : List ℕ) → number_of least most text ≡ Some n → n ≤ most
 unfolding number_of
-number_most least most n text is = elim (cases_Bool (is_plain_number text && (nat_le least (value_from 0 text) && nat_le (value_from 0 text) most))) [
-  | inl h ↦ let both = and_parts (nat_le least (value_from 0 text)) (nat_le (value_from 0 text) most) (and_parts (is_plain_number text) (nat_le least (value_from 0 text) && nat_le (value_from 0 text) most) h).1 in
-      let value : Some (value_from 0 text) ≡ Some n = sym (cond-true _ _ _ h) ∙ is in
-      let same : value_from 0 text ≡ n = cc in
-      omega (arith, leb-true (value_from 0 text) most both.1, same)
-  | inr h ↦ let none : None ≡ Some n = sym (cond-false _ _ _ h) ∙ is in absurd (cc)
-]
+number_most least most n text is =
+    let low = nat_le least (value_from 0 text) in
+    let high = nat_le (value_from 0 text) most in
+    elim (cases_Bool (is_plain_number text && (low && high))) [
+      | inl h ↦
+          let both = and_parts low high (and_parts (is_plain_number text) (low && high) h).1 in
+          let value : Some (value_from 0 text) ≡ Some n = sym (cond-true _ _ _ h) ∙ is in
+          let same : value_from 0 text ≡ n = cc in
+          omega (arith, leb-true (value_from 0 text) most both.1, same)
+      | inr h ↦ let none : None ≡ Some n = sym (cond-false _ _ _ h) ∙ is in absurd (cc)
+    ]
 
-threads_fit : (number : ℕ) (s : Shape) (r : Option ℕ) (h : Header) → ((n : ℕ) → r ≡ Some n → n ≤ 64) → with_threads number s r ≡ Ok h → Fits h.threads h.bits
+threads_fit : (number : ℕ) (s : Shape) (r : Option ℕ) (h : Header) → ((n : ℕ) → r ≡ Some n → n ≤ 64)
+    → with_threads number s r ≡ Ok h → Fits h.threads h.bits
 threads_fit number s None h few is = absurd (cc)
 threads_fit number s (Some n) h few is = elim (cases_Bool (nat_lt n (2 ^ s.size.bits))) [
-  | inl low ↦ let same : Ok (record { kind = s.kind; threads = n; bits = s.size.bits }) ≡ Ok h = sym (cond-true _ _ _ low) ∙ is in
+  | inl low ↦ let same : Ok (record { kind = s.kind; threads = n; bits = s.size.bits }) ≡ Ok h =
+      sym (cond-true _ _ _ low) ∙ is in
       let header : record { kind = s.kind; threads = n; bits = s.size.bits } ≡ h = cc in
-      subst (λ (x : Header). Fits x.threads x.bits) header (record { few = few n refl; narrow = ltb-true _ _ low })
-  | inr high ↦ let none : Err (WordsTooNarrow number) ≡ Ok h = sym (cond-false _ _ _ high) ∙ is in absurd (cc)
+      subst (λ (x : Header). Fits x.threads x.bits) header
+      (record { few = few n refl; narrow = ltb-true _ _ low })
+  | inr high ↦ let none : Err (WordsTooNarrow number) ≡ Ok h = sym (cond-false _ _ _ high) ∙ is in
+      absurd (cc)
 ]
 
-shape_fits : (number : ℕ) (s : Option Shape) (h : Header) → header_of_shape number s ≡ Ok h → Fits h.threads h.bits
+shape_fits : (number : ℕ) (s : Option Shape) (h : Header) → header_of_shape number s ≡ Ok h
+    → Fits h.threads h.bits
 shape_fits number None h is = absurd (cc)
-shape_fits number (Some s) h is = threads_fit number s (number_of 1 64 s.size.count) h (λ n e. number_most 1 64 n s.size.count e) is
+shape_fits number (Some s) h is =
+    threads_fit number s (number_of 1 64 s.size.count) h
+    (λ n e. number_most 1 64 n s.size.count e) is
 
-header_fits : (number : ℕ) (line : List ℕ) (h : Header) → header_of number line ≡ Ok h → Fits h.threads h.bits
+header_fits : (number : ℕ) (line : List ℕ) (h : Header) → header_of number line ≡ Ok h
+    → Fits h.threads h.bits
 unfolding header_of
 header_fits number line h is = shape_fits number (shape_of_words (words_of line)) h is
 
-both_fit : (header : Result Header Fault) (moves : Result (List Line) Fault) (p : Plan) → ((h : Header) → header ≡ Ok h → Fits h.threads h.bits) → with_header header moves ≡ Ok p → Fits p.threads p.bits
+both_fit : (header : Result Header Fault) (moves : Result (List Line) Fault) (p : Plan)
+    → ((h : Header) → header ≡ Ok h → Fits h.threads h.bits) → with_header header moves ≡ Ok p
+    → Fits p.threads p.bits
 both_fit (Ok h) (Ok ms) p fits is =
     let same : record { kind = h.kind; threads = h.threads; bits = h.bits; moves = ms } ≡ p = cc in
     subst (λ (x : Plan). Fits x.threads x.bits) same (fits h refl)
 both_fit (Ok h) (Err fault) p fits is = absurd (cc)
 both_fit (Err fault) moves p fits is = absurd (cc)
 
-lines_fit : (number : ℕ) (lines : List (List ℕ)) (p : Plan) → plan_from number lines ≡ Ok p → Fits p.threads p.bits
+lines_fit : (number : ℕ) (lines : List (List ℕ)) (p : Plan) → plan_from number lines ≡ Ok p
+    → Fits p.threads p.bits
 lines_fit number [] p is = absurd (cc)
 lines_fit number (line ∷ lines) p is = elim (cases_Bool (is_skipped line)) [
   | inl h ↦ lines_fit (number + 1) lines p (sym (cond-true _ _ _ h) ∙ is)
-  | inr h ↦ both_fit (header_of number line) (moves_from (number + 1) 0 lines) p (header_fits number line) (sym (cond-false _ _ _ h) ∙ is)
+  | inr h ↦
+      both_fit (header_of number line) (moves_from (number + 1) 0 lines) p (header_fits number line)
+      (sym (cond-false _ _ _ h) ∙ is)
 ]
 
 plan_fits : (bytes : List ℕ) (p : Plan) → plan_of bytes ≡ Ok p → Fits p.threads p.bits
@@ -117,7 +149,8 @@ unfolding report_text
 every_report_is_as_promised bytes p is =
     let fits : Fits p.threads p.bits = plan_fits bytes p is in
     let words : List ℕ = replicate (word_count p.kind p.threads) 0 in
-    let size : length words ≡ word_count p.kind p.threads = length-replicate (word_count p.kind p.threads) 0 in
+    let size : length words ≡ word_count p.kind p.threads =
+    length-replicate (word_count p.kind p.threads) 0 in
     let made : List Made = (replay_of p).made in
     record {
       made = made;
@@ -125,5 +158,7 @@ every_report_is_as_promised bytes p is =
       text = ap plan_text is;
       history = history_of p;
       promised = subst (λ (es : List Entry). IsAsPromised p.kind p.threads es) (sym (history_of p))
-          (every_run_is_as_promised p.kind p.bits words p.threads (moves_made made) fits.few fits.narrow (omega (arith, size)) (λ i low. get_or-replicate (word_count p.kind p.threads) i 0 0 (omega (arith, size, low))));
+          (every_run_is_as_promised p.kind p.bits words p.threads
+          (moves_made made) fits.few fits.narrow (omega (arith, size)) (λ i low.
+          get_or-replicate (word_count p.kind p.threads) i 0 0 (omega (arith, size, low))));
     }

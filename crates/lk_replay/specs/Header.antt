@@ -1,5 +1,7 @@
--- Definitions: the first line of a schedule text, `lock NAME threads N` or `lock NAME threads N bits B`. This project's own.
-use Rattle.std.specs.Prelude.{ℕ, ◌^◌, List, [], ◌∷◌, Option, Some, None, if◌then◌else◌, ◌&&◌, nat_lt, codes, Result, Ok, Err}
+-- Definitions: the first line of a schedule text, `lock NAME threads N` or `lock NAME threads N
+-- bits B`. This project's own.
+use Rattle.std.specs.Prelude.{ℕ, ◌^◌, List, [], ◌∷◌, Option, Some, None, if◌then◌else◌, ◌&&◌}
+use Rattle.std.specs.Prelude.{nat_lt, codes, Result, Ok, Err}
 use Rattle.std.specs.Str.{bytes_eq}
 use Rattle.lk_locks.specs.declared.kinds.LockKind.{LockKind}
 use Rattle.lk_replay.specs.Lines.{words_of}
@@ -18,7 +20,8 @@ with_bits count (Some bits) = Some (record { count = count; bits = bits })
 -- `N` or `N bits B`. Without B the words have 64 bits
 abbrev pub size_of_words : List (List ℕ) → Option Size
 size_of_words (count ∷ []) = with_bits count (Some 64)
-size_of_words (count ∷ bits ∷ number ∷ []) = if bytes_eq bits (codes "bits") then with_bits count (number_of 2 64 number) else None
+size_of_words (count ∷ bits ∷ number ∷ []) =
+    if bytes_eq bits (codes "bits") then with_bits count (number_of 2 64 number) else None
 size_of_words _ = None
 
 -- a lock, and its size
@@ -34,7 +37,8 @@ with_size None size = None
 -- all words but the number of threads
 abbrev pub shape_of_words : List (List ℕ) → Option Shape
 shape_of_words (lock ∷ name ∷ threads ∷ size) =
-    if bytes_eq lock (codes "lock") && bytes_eq threads (codes "threads") then with_size (lock_named name) (size_of_words size) else None
+    if bytes_eq lock (codes "lock") && bytes_eq threads (codes "threads") then with_size
+    (lock_named name) (size_of_words size) else None
 shape_of_words _ = None
 
 -- What a header says.

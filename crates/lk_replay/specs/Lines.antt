@@ -1,4 +1,5 @@
--- Definitions: the lines of a text and the words of a line. This project's own; the cut at each line feed is POSIX's.
+-- Definitions: the lines of a text and the words of a line. This project's own; the cut at each
+-- line feed is POSIX's.
 use Rattle.std.specs.Prelude.{ℕ, List, [], ◌∷◌, Bool, ◌==◌, ◌||◌, length, slice_index}
 use Rattle.std.specs.List.{slice_split}
 

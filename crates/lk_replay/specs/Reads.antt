@@ -1,11 +1,16 @@
--- Definitions: how the answer of a call that reads a text relates to what the text says. This project's own.
+-- Definitions: how the answer of a call that reads a text relates to what the text says. This
+-- project's own.
 use Rattle.std.specs.Prelude.{◌≡◌, Result, Ok, Err}
 use Rattle.lk_replay.specs.Faults.{Fault}
 use Rattle.lk_replay.specs.Faults as text
 use Rattle.lk_replay.specs.declared.schedule.ReadFault.{ReadFault}
-use Rattle.lk_replay.specs.declared.schedule.ReadFault.TheVariants.{TooLong, NoHeader, BadHeader, BadThreads, BadLine, TooManyMoves, WordsTooNarrow, OutOfMemory}
+use Rattle.lk_replay.specs.declared.schedule.ReadFault.TheVariants.{TooLong, NoHeader, BadHeader}
+use Rattle.lk_replay.specs.declared.schedule.ReadFault.TheVariants.{BadThreads, BadLine}
+use Rattle.lk_replay.specs.declared.schedule.ReadFault.TheVariants.{TooManyMoves, WordsTooNarrow}
+use Rattle.lk_replay.specs.declared.schedule.ReadFault.TheVariants.{OutOfMemory}
 
--- Memory is wanted for the moves alone: each fault of the length and of the header is answered without it.
+-- Memory is wanted for the moves alone: each fault of the length and of the header is answered
+-- without it.
 abbrev pub WantsMemory : {Y : Type 0} → Result Y Fault → Type 0
 WantsMemory (Ok y) = Unit {0}
 WantsMemory (Err (text.BadLine n)) = Unit {0}

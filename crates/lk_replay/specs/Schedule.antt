@@ -1,5 +1,6 @@
 -- Definitions: the schedule that a text has, or else its one fault. This project's own.
-use Rattle.std.specs.Prelude.{ℕ, ◌+◌, List, [], ◌∷◌, Option, Some, None, Bool, if◌then◌else◌, ◌==◌, length, nat_lt, Result, Ok, Err}
+use Rattle.std.specs.Prelude.{ℕ, ◌+◌, List, [], ◌∷◌, Option, Some, None, Bool, if◌then◌else◌, ◌==◌}
+use Rattle.std.specs.Prelude.{length, nat_lt, Result, Ok, Err}
 use Rattle.lk_locks.specs.declared.kinds.LockKind.{LockKind}
 use Rattle.lk_locks.specs.declared.kinds.Move.{Move}
 use Rattle.lk_replay.specs.declared.schedule.Line.{Line}
@@ -28,17 +29,20 @@ with_line line (Ok lines) = Ok (line ∷ lines)
 with_line line (Err fault) = Err fault
 
 -- a move that stands in line `number`, and then the moves of the other lines
-abbrev pub moves_after : Option (ℕ × Move) → ℕ → Bool → Result (List Line) Fault → Result (List Line) Fault
+abbrev pub moves_after : Option (ℕ × Move) → ℕ → Bool → Result (List Line) Fault
+    → Result (List Line) Fault
 moves_after None number full others = Err (BadLine number)
 moves_after (Some move) number full others =
-    if full then Err (TooManyMoves number) else with_line (record { number = number; thread = move.0; action = move.1 }) others
+    if full then Err (TooManyMoves number) else with_line
+    (record { number = number; thread = move.0; action = move.1 }) others
 
 -- the moves of the lines from line `number` on, where `taken` came before them
 abbrev pub moves_from : ℕ → ℕ → List (List ℕ) → Result (List Line) Fault
 moves_from number taken [] = Ok []
 moves_from number taken (line ∷ lines) =
     if is_skipped line then moves_from (number + 1) taken lines
-    else moves_after (move_of line) number (taken == 65536) (moves_from (number + 1) (taken + 1) lines)
+    else moves_after (move_of line) number (taken == 65536)
+    (moves_from (number + 1) (taken + 1) lines)
 
 -- What a schedule text says.
 pub record Plan : Type 0 where
@@ -48,7 +52,8 @@ pub record Plan : Type 0 where
   pub moves : List Line
 
 abbrev pub with_header : Result Header Fault → Result (List Line) Fault → Result Plan Fault
-with_header (Ok header) (Ok moves) = Ok (record { kind = header.kind; threads = header.threads; bits = header.bits; moves = moves })
+with_header (Ok header) (Ok moves) =
+    Ok (record { kind = header.kind; threads = header.threads; bits = header.bits; moves = moves })
 with_header (Ok header) (Err fault) = Err fault
 with_header (Err fault) moves = Err fault
 

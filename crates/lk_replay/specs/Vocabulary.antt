@@ -1,10 +1,14 @@
--- Definitions: the numbers and the names of a schedule text, and what they stand for. This project's own.
-use Rattle.std.specs.Prelude.{ℕ, ◌+◌, ◌-◌, ◌*◌, List, [], ◌∷◌, Option, Some, None, Bool, if◌then◌else◌, ◌==◌, ◌&&◌, ◌||◌, not, length, nat_lt, nat_le, slice_index, codes, find}
+-- Definitions: the numbers and the names of a schedule text, and what they stand for. This
+-- project's own.
+use Rattle.std.specs.Prelude.{ℕ, ◌+◌, ◌-◌, ◌*◌, List, [], ◌∷◌, Option, Some, None, Bool}
+use Rattle.std.specs.Prelude.{if◌then◌else◌, ◌==◌, ◌&&◌, ◌||◌, not, length, nat_lt, nat_le}
+use Rattle.std.specs.Prelude.{slice_index, codes, find}
 use Rattle.std.specs.Str.{all_ascii_digits, bytes_eq}
 use Rattle.lk_locks.specs.declared.kinds.LockKind.{LockKind}
 use Rattle.lk_locks.specs.declared.kinds.LockKind.TheVariants.{Ticket, Mcs, RwSimple, RwFifo}
 use Rattle.lk_locks.specs.declared.kinds.Op.{Op}
-use Rattle.lk_locks.specs.declared.kinds.Op.TheVariants.{Acquire, Release, ReadLock, ReadUnlock, WriteLock, WriteUnlock, Downgrade}
+use Rattle.lk_locks.specs.declared.kinds.Op.TheVariants.{Acquire, Release, ReadLock, ReadUnlock}
+use Rattle.lk_locks.specs.declared.kinds.Op.TheVariants.{WriteLock, WriteUnlock, Downgrade}
 use Rattle.lk_locks.specs.declared.kinds.StepKind.{StepKind}
 use Rattle.lk_locks.specs.declared.kinds.StepKind.TheVariants.{Read, Write, Swap, Cas, Add, Section}
 use Rattle.lk_locks.specs.declared.kinds.Move.{Move}
@@ -12,7 +16,9 @@ use Rattle.lk_locks.specs.declared.kinds.Move.TheVariants.{Call, Step}
 
 -- decimal digits, with no leading zero but in `0` itself
 abbrev pub is_plain_number : List ℕ → Bool
-is_plain_number text = all_ascii_digits text && (length text == 1 || (nat_lt 1 (length text) && not (slice_index text 0 == 48)))
+is_plain_number text =
+    all_ascii_digits text
+    && (length text == 1 || (nat_lt 1 (length text) && not (slice_index text 0 == 48)))
 
 -- what the digits write, after a number
 abbrev pub value_from : ℕ → List ℕ → ℕ
@@ -22,7 +28,8 @@ value_from n (c ∷ cs) = value_from (n * 10 + (c - 48)) cs
 -- the number that the text writes, where that is at least `least` and at most `most`
 unfoldable pub number_of : ℕ → ℕ → List ℕ → Option ℕ
 number_of least most text =
-    if is_plain_number text && (nat_le least (value_from 0 text) && nat_le (value_from 0 text) most) then Some (value_from 0 text) else None
+    if is_plain_number text && (nat_le least (value_from 0 text) && nat_le (value_from 0 text) most)
+    then Some (value_from 0 text) else None
 
 -- the name of a lock
 abbrev pub lock_name : LockKind → List ℕ
@@ -33,7 +40,8 @@ lock_name RwFifo = codes "rw-fifo"
 
 -- the lock of that name
 unfoldable pub lock_named : List ℕ → Option LockKind
-lock_named name = find (λ kind. bytes_eq name (lock_name kind)) (Ticket ∷ Mcs ∷ RwSimple ∷ RwFifo ∷ [])
+lock_named name =
+    find (λ kind. bytes_eq name (lock_name kind)) (Ticket ∷ Mcs ∷ RwSimple ∷ RwFifo ∷ [])
 
 -- the word of a call
 abbrev pub op_word : Op → List ℕ
@@ -60,7 +68,8 @@ move_word (Step kind) = step_word kind
 
 abbrev pub every_move : List Move
 every_move =
-    Call Acquire ∷ Call Release ∷ Call ReadLock ∷ Call ReadUnlock ∷ Call WriteLock ∷ Call WriteUnlock ∷ Call Downgrade
+    Call Acquire ∷ Call Release ∷ Call ReadLock ∷ Call ReadUnlock ∷ Call WriteLock
+    ∷ Call WriteUnlock ∷ Call Downgrade
     ∷ Step Read ∷ Step Write ∷ Step Swap ∷ Step Cas ∷ Step Add ∷ Step Section ∷ []
 
 -- the move of that word

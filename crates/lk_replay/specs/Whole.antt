@@ -1,4 +1,5 @@
--- Definitions: the theorem from bytes to bytes. What a report says is told of a history that keeps the whole theorem. This project's own.
+-- Definitions: the theorem from bytes to bytes. What a report says is told of a history that keeps
+-- the whole theorem. This project's own.
 use Rattle.std.specs.Prelude.{◌≡◌, ℕ, List, [], map, Option, Ok, replicate}
 use Rattle.std.specs.List.{flat_map}
 use Rattle.lk_locks.specs.MainTheorem.{IsAsPromised}
@@ -18,10 +19,12 @@ lock_of p = new_lock p.kind p.bits (replicate (word_count p.kind p.threads) 0) p
 
 -- these are the entries that these moves leave on it
 abbrev pub IsHistoryOf : Plan → List Accepted → List Entry → Type 0
-IsHistoryOf p accepted es = es ≡ (after_moves (lock_of p) (map (λ a. (a.thread, a.action)) accepted)).entries
+IsHistoryOf p accepted es =
+    es ≡ (after_moves (lock_of p) (map (λ a. (a.thread, a.action)) accepted)).entries
 
--- A report of a schedule tells of accepted moves, each with its entries, up to the refused one. `lines_text` shows in each line who
--- holds and who waits after the entries so far, and all entries together are the history that the moves leave, which is as promised.
+-- A report of a schedule tells of accepted moves, each with its entries, up to the refused one.
+-- `lines_text` shows in each line who holds and who waits after the entries so far, and all entries
+-- together are the history that the moves leave, which is as promised.
 pub record IsReportOf (p : Plan) (report : List ℕ) : Type 0 where
   pub made : List Made
   pub refused : Option (ℕ × Refusal)
@@ -31,4 +34,5 @@ pub record IsReportOf (p : Plan) (report : List ℕ) : Type 0 where
 
 -- of every text that is a schedule
 abbrev pub EveryReportIsAsPromised : Type 0
-EveryReportIsAsPromised = (bytes : List ℕ) (p : Plan) → plan_of bytes ≡ Ok p → IsReportOf p (report_text bytes)
+EveryReportIsAsPromised =
+    (bytes : List ℕ) (p : Plan) → plan_of bytes ≡ Ok p → IsReportOf p (report_text bytes)

@@ -23,23 +23,26 @@ pub enum RunFault {
     OutOfMemory,
 }
 
-/// The most bytes that are read: one more than a schedule may have, so that a longer text is known as such.
+/// The most bytes that are read: one more than a schedule may have, so that a longer text is known
+/// as such.
 const READ_LIMIT: usize = MOST_BYTES + 1;
 
 // Bytes asked of a reader at once. A small file costs the clearing of so many.
 const CHUNK: usize = 4_096;
 
-/// Reads to the end of the input, or up to 1,048,577 bytes and leaves the rest unread. The text has no more memory than its bytes:
-/// a batch holds many.
+/// Reads to the end of the input, or up to 1,048,577 bytes and leaves the rest unread. The text has
+/// no more memory than its bytes: a batch holds many.
 ///
 /// # Errors
 ///
-/// A read that fails, for whatever kind of error, is `Read`: there is no second try. `OutOfMemory` where there was no memory
-/// for the text.
+/// A read that fails, for whatever kind of error, is `Read`: there is no second try. `OutOfMemory`
+/// where there was no memory for the text.
 pub fn read_text<R: Read>(alloc: Global, input: &mut R) -> Result<Vec<u8>, RunFault>
-    ensures taken { IfOk result (λ text. Consumes (R.remaining input.old) (R.remaining input.new) text.items) }
+    ensures taken { IfOk result
+        (λ text. Consumes (R.remaining input.old) (R.remaining input.new) text.items) }
     ensures bounded { IfOk result (λ text. length text.items ≤ 1048577) }
-    ensures whole { IfOk result (λ text. length text.items < 1048577 → IsAtEnd (R.remaining input.new)) }
+    ensures whole { IfOk result
+        (λ text. length text.items < 1048577 → IsAtEnd (R.remaining input.new)) }
     ensures fault { IfErr result (λ e. e ≢ RunFault.Write) }
 {
     let mut text = Vec::new(alloc);
@@ -69,8 +72,10 @@ pub fn read_text<R: Read>(alloc: Global, input: &mut R) -> Result<Vec<u8>, RunFa
 ///
 /// A write that fails or takes nothing is `Write`. What was written then is a prefix of the bytes.
 pub(crate) fn write_whole<W: Write>(output: &mut W, bytes: &[u8]) -> Result<(), RunFault>
-    ensures written { OnOk result (Appends (W.contents output.old) (W.contents output.new) bytes.now) }
-    ensures prefix { OnErr result (AppendsPrefix (W.contents output.old) (W.contents output.new) bytes.now) }
+    ensures written { OnOk result
+        (Appends (W.contents output.old) (W.contents output.new) bytes.now) }
+    ensures prefix { OnErr result
+        (AppendsPrefix (W.contents output.old) (W.contents output.new) bytes.now) }
     ensures fault { IfErr result (λ e. e ≡ RunFault.Write) }
 {
     let mut sent: usize = 0;
@@ -88,10 +93,13 @@ pub(crate) fn write_whole<W: Write>(output: &mut W, bytes: &[u8]) -> Result<(), 
 ///
 /// # Errors
 ///
-/// A write that fails or takes nothing, or a flush that fails, is `Write`. What was written then is a prefix of the bytes.
+/// A write that fails or takes nothing, or a flush that fails, is `Write`. What was written then is
+/// a prefix of the bytes.
 pub fn send<W: Write>(output: &mut W, bytes: &[u8]) -> Result<(), RunFault>
-    ensures written { OnOk result (Appends (W.contents output.old) (W.contents output.new) bytes.now) }
-    ensures prefix { OnErr result (AppendsPrefix (W.contents output.old) (W.contents output.new) bytes.now) }
+    ensures written { OnOk result
+        (Appends (W.contents output.old) (W.contents output.new) bytes.now) }
+    ensures prefix { OnErr result
+        (AppendsPrefix (W.contents output.old) (W.contents output.new) bytes.now) }
     ensures fault { IfErr result (λ e. e ≡ RunFault.Write) }
 {
     write_whole(output, bytes)?;

@@ -1,6 +1,7 @@
 //! How a report ends.
 
-ghost use Rattle.std.specs.Prelude.{◌≡◌, ℕ, ◌-◌, ◌<◌, ◌≤◌, List, [], ◌∷◌, ◌++◌, length, slice_index};
+ghost use Rattle.std.specs.Prelude.{◌≡◌, ℕ, ◌-◌, ◌<◌, ◌≤◌, List, [], ◌∷◌, ◌++◌, length};
+ghost use Rattle.std.specs.Prelude.{slice_index};
 ghost use Rattle.std.specs.List.{slice_split};
 ghost use Rattle.lk_replay.specs.Lines.{lines_of, is_line_feed};
 ghost use Rattle.lk_replay.specs.Ending.{last_of, ending_of};
@@ -20,8 +21,10 @@ pub enum Ending {
 
 // What stands behind the last line feed of a text.
 fn last_piece(text: &[u8]) -> &[u8]
-    ensures pieces { (prefix : List (List ℕ)) × (slice_split is_line_feed text.now ≡ prefix ++ result.now ∷ []) }
-    ensures open { length result.now ≡ 0 → 0 < length text.now → slice_index text.now (length text.now - 1) ≡ 10 }
+    ensures pieces { (prefix : List (List ℕ))
+        × (slice_split is_line_feed text.now ≡ prefix ++ result.now ∷ []) }
+    ensures open { length result.now ≡ 0 → 0 < length text.now
+        → slice_index text.now (length text.now - 1) ≡ 10 }
     ensures short { length result.now ≤ length text.now }
 {
     match memrchr(b'\n', text) {

@@ -1,6 +1,8 @@
-//! The header of a schedule text: `lock NAME threads N`, and `bits B` where words have fewer than 64 bits.
+//! The header of a schedule text: `lock NAME threads N`, and `bits B` where words have fewer than
+//! 64 bits.
 
-ghost use Rattle.std.specs.Prelude.{◌≡◌, ◌<◌, ◌≤◌, ◌^◌, MatchOption, IfSome, IfOk, IfErr, None, Some};
+ghost use Rattle.std.specs.Prelude.{◌≡◌, ◌<◌, ◌≤◌, ◌^◌, MatchOption, IfSome, IfOk, IfErr, None};
+ghost use Rattle.std.specs.Prelude.{Some};
 ghost use Rattle.lk_replay.specs.Lines.{words_of};
 ghost use Rattle.lk_replay.specs.Header.{size_of_words, shape_of_words, with_size, header_of};
 ghost use Rattle.lk_replay.specs.Reads.{Gives};
@@ -22,7 +24,8 @@ pub struct Header {
 // The word that counts the threads, and the bits of a word.
 fn size_of(words: &[u8]) -> Option<(&[u8], u8)>
     ensures size { MatchOption result (size_of_words (words_of words.now) ≡ None)
-        (λ size. size_of_words (words_of words.now) ≡ Some (record { count = size.0.now; bits = size.1 })) }
+        (λ size. size_of_words (words_of words.now)
+        ≡ Some (record { count = size.0.now; bits = size.1 })) }
     ensures least { IfSome result (λ size. 2 ≤ size.1) }
     ensures most { IfSome result (λ size. size.1 ≤ 64) }
 {
@@ -43,7 +46,8 @@ fn size_of(words: &[u8]) -> Option<(&[u8], u8)>
 // The lock, and the words behind `threads`.
 fn named_lock(line: &[u8]) -> Option<(LockKind, &[u8])>
     ensures { MatchOption result (shape_of_words (words_of line.now) ≡ None)
-        (λ lock. shape_of_words (words_of line.now) ≡ with_size (Some lock.0) (size_of_words (words_of lock.1.now))) }
+        (λ lock. shape_of_words (words_of line.now)
+        ≡ with_size (Some lock.0) (size_of_words (words_of lock.1.now))) }
 {
     let (lock, rest) = cut_word(line)?;
     let (name, rest) = cut_word(rest)?;
@@ -63,7 +67,9 @@ pub fn header_of(line: &[u8], number: u32) -> Result<Header, ReadFault>
     ensures narrow { IfOk result (λ header. header.threads < 2 ^ header.bits) }
     ensures least { IfOk result (λ header. 2 ≤ header.bits) }
     ensures most { IfOk result (λ header. header.bits ≤ 64) }
-    ensures read { Gives (λ header. record { kind = header.kind; threads = header.threads; bits = header.bits }) result (header_of number line.now) }
+    ensures read { Gives
+        (λ header. record { kind = header.kind; threads = header.threads; bits = header.bits })
+        result (header_of number line.now) }
     ensures no_memory { IfErr result IsOfText }
 {
     let Some((kind, words)) = named_lock(line) else {

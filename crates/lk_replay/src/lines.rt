@@ -4,10 +4,12 @@ ghost use Rattle.std.specs.Prelude.{◌≡◌, [], ◌==◌, ◌∷◌, ◌<◌,
 ghost use Rattle.std.specs.List.{slice_split};
 ghost use Rattle.lk_replay.specs.Lines.{lines_of, words_of, is_skipped};
 
-// The text before the first such byte, and the text after it. Lines and words are short, so one byte after another is looked at.
+// The text before the first such byte, and the text after it. Lines and words are short, so one
+// byte after another is looked at.
 fn cut_at(text: &[u8], byte: u8) -> Option<(&[u8], &[u8])>
     ensures pieces { MatchOption result (slice_split (λ b. b == byte) text.now ≡ text.now ∷ [])
-        (λ cut. slice_split (λ b. b == byte) text.now ≡ cut.0.now ∷ slice_split (λ b. b == byte) cut.1.now) }
+        (λ cut. slice_split (λ b. b == byte) text.now
+        ≡ cut.0.now ∷ slice_split (λ b. b == byte) cut.1.now) }
     ensures shorter { IfSome result (λ cut. length cut.1.now < length text.now) }
 {
     for (at, found) in text.iter().enumerate() {

@@ -1,4 +1,5 @@
-//! The parts of a schedule text, for texts that are read line by line: its lines, its words, its header and its names.
+//! The parts of a schedule text, for texts that are read line by line: its lines, its words, its
+//! header and its names.
 
 pub use crate::header::{Header, header_of};
 pub use crate::lines::{cut_line, cut_word, is_skipped};

@@ -77,9 +77,11 @@ impl Model for Schedule {
 
     ghost Value = { Plan };
 
-    ghost view = { λ a. record { kind = a.kind; threads = a.threads; bits = a.bits; moves = a.moves.items } };
+    ghost view = { λ a.
+        record { kind = a.kind; threads = a.threads; bits = a.bits; moves = a.moves.items } };
 
-    ghost invariant = { λ a. (0 < a.threads) × (a.threads ≤ 64) × (a.threads < 2 ^ a.bits) × (2 ≤ a.bits) × (a.bits ≤ 64) × (length a.moves.items ≤ 65536) };
+    ghost invariant = { λ a. (0 < a.threads) × (a.threads ≤ 64) × (a.threads < 2 ^ a.bits)
+        × (2 ≤ a.bits) × (a.bits ≤ 64) × (length a.moves.items ≤ 65536) };
 }
 
 impl Schedule {
@@ -171,8 +173,8 @@ fn read_moves(alloc: Global, text: &[u8], first: u32) -> Result<Vec<Line>, ReadF
 ///
 /// # Errors
 ///
-/// Those of the length and of the header are answered without taking memory. Where a request for memory was refused,
-/// `OutOfMemory` may stand in place of a later one.
+/// Those of the length and of the header are answered without taking memory. Where a request for
+/// memory was refused, `OutOfMemory` may stand in place of a later one.
 #[tactic(auto, unfolding(crate::specs::Schedule::plan_of))]
 pub fn read_schedule(alloc: Global, bytes: &[u8]) -> Result<Schedule, ReadFault>
     ensures { Gives (λ schedule. schedule) result (plan_of bytes.now) }

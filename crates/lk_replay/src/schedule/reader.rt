@@ -1,5 +1,6 @@
-//! A schedule text that is read where it stands, move after move, for who may take no memory. This project's own: the text is gone
-//! through once before its first move, so that each fault is known by then, and its moves are read again as they are asked for.
+//! A schedule text that is read where it stands, move after move, for who may take no memory. This
+//! project's own: the text is gone through once before its first move, so that each fault is known
+//! by then, and its moves are read again as they are asked for.
 
 ghost use Rattle.std.specs.Prelude.{◌≡◌, ◌+◌, ◌<◌, ◌≤◌, ◌^◌, length, IfOk, IfErr};
 ghost use Rattle.lk_replay.specs.Lines.{lines_of};
@@ -35,11 +36,18 @@ impl<'a> Model for ScheduleReader<'a> {
 
     ghost Value = { Plan };
 
-    ghost view = { λ a. record { kind = a.kind; threads = a.threads; bits = a.bits; moves = moves_in (moves_from a.number a.taken (lines_of a.rest.now)) } };
+    ghost view = { λ a. record {
+      kind = a.kind;
+      threads = a.threads;
+      bits = a.bits;
+      moves = moves_in (moves_from a.number a.taken (lines_of a.rest.now));
+    } };
 
-    ghost invariant = { λ a. (0 < a.threads) × (a.threads ≤ 64) × (a.threads < 2 ^ a.bits) × (2 ≤ a.bits) × (a.bits ≤ 64)
+    ghost invariant = { λ a.
+        (0 < a.threads) × (a.threads ≤ 64) × (a.threads < 2 ^ a.bits) × (2 ≤ a.bits) × (a.bits ≤ 64)
         × (a.number + length a.rest.now < 2 ^ 32) × (a.taken + a.left ≤ 65536)
-        × (moves_from a.number a.taken (lines_of a.rest.now) ≡ Ok (moves_in (moves_from a.number a.taken (lines_of a.rest.now))))
+        × (moves_from a.number a.taken (lines_of a.rest.now)
+        ≡ Ok (moves_in (moves_from a.number a.taken (lines_of a.rest.now))))
         × (a.left ≡ length (moves_in (moves_from a.number a.taken (lines_of a.rest.now)))) };
 }
 
@@ -152,7 +160,8 @@ impl<'a> ScheduleReader<'a> {
 fn count_moves(text: &[u8], first: u32) -> Result<usize, ReadFault>
     requires { first + length text.now < 2 ^ 32 }
     ensures few { IfOk result (λ count. count ≤ 65536) }
-    ensures read { Gives (λ count. count) result (counted (moves_from first 0 (lines_of text.now))) }
+    ensures read { Gives (λ count. count) result
+        (counted (moves_from first 0 (lines_of text.now))) }
     ensures no_memory { IfErr result IsOfText }
 {
     let mut taken: usize = 0;

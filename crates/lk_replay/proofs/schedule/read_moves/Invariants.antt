@@ -7,7 +7,8 @@ use Rattle.lk_replay.proofs.schedule.read_moves.Given as goal
 
 abbrev pub invariant-loop-rest : goal.invariant-loop-rest
 invariant-loop-rest l = record {
-  read : with_lines l.moves.items (moves_from l.number (length l.moves.items) (lines_of l.rest)) ≡ moves_from l.initial.number 0 (lines_of l.initial.rest);
+  read : with_lines l.moves.items (moves_from l.number (length l.moves.items) (lines_of l.rest))
+      ≡ moves_from l.initial.number 0 (lines_of l.initial.rest);
   small : length l.moves.items ≤ 65536;
   fits : l.number + length l.rest < 2 ^ 32;
 }

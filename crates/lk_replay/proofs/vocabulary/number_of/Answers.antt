@@ -6,4 +6,5 @@ use Rattle.lk_replay.proofs.vocabulary.number_of.Goals as goal
 pub returns-then-value-from-clause-number : goal.returns-then-value-from-clause-number
 returns-then-value-from-clause-number c =
     let step = value_from_step c.loop-b.value c.loop-b.b-index c.args.text.now c.loop-b-test.true in
-    sym (too_large _ _ _ (omega (arith, step, c.loop-b.invariant.value, c.if-value-from.true, value_from_least)))
+    sym (too_large _ _ _
+    (omega (arith, step, c.loop-b.invariant.value, c.if-value-from.true, value_from_least)))

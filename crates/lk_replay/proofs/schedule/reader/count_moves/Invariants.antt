@@ -8,7 +8,8 @@ use Rattle.lk_replay.proofs.schedule.reader.count_moves.Given as goal
 
 abbrev pub invariant-loop-rest : goal.invariant-loop-rest
 invariant-loop-rest l = record {
-  read : more l.taken (counted (moves_from l.number l.taken (lines_of l.rest))) ≡ more 0 (counted (moves_from l.initial.number 0 (lines_of l.initial.rest)));
+  read : more l.taken (counted (moves_from l.number l.taken (lines_of l.rest)))
+      ≡ more 0 (counted (moves_from l.initial.number 0 (lines_of l.initial.rest)));
   small : l.taken ≤ 65536;
   fits : l.number + length l.rest < 2 ^ 32;
 }
