@@ -14,7 +14,8 @@ returns-then-all c =
     all_from_yields_List (λ r. is_accepted (ending_of r.items)) _ _ c.all.result
     c.all.ensures.ran (YieldsList-from_slice xs cc) (λ x b q k. search (rules, tests)) in
     sym (ap (λ b. if b then 0 else 1)
-    (list_all-map (λ r. is_accepted (ending_of r)) (λ r. r.items) xs ∙ sym all ∙ c.if-all.true))
+    (list_all-map (λ r. is_accepted (ending_of r)) (λ r. r.items) xs ∙ sym all ∙ c.if-all.true)
+    ∙ search rules)
 
 pub returns-else-all : goal.returns-else-all
 returns-else-all c =
