@@ -3,7 +3,8 @@
 
     style.py [--all] [FILE...]
 
-- A line has at most 100 columns. Rows of tables and lines of links in documents may be longer.
+- A line has at most 100 columns. Rows of tables and lines of links in documents may be longer, and
+  in a proof the path of a module.
 - A file has at most 400 lines, and the body of a function at most 40.
 - A file opens with what it is: a comment or a docstring. Lists of modules, and the answers and
   invariants of one function's proof, are named by their place.
@@ -25,9 +26,30 @@ COLUMNS, LINES, BODY = 100, 400, 40
 # A pattern of paths, and the rule that is not looked at there. The header is one file on purpose:
 # who records a lock copies it and builds nothing else.
 NOT_YET = [
-    ("crates/*.antt", "columns"),
     ("crates/*.antt", "lines"),
-    ("crates/*.rt", "columns"),
+    ("crates/lk_locks/proofs/tracker/*", "columns"),
+    ("crates/lk_locks/src/tracker.rt", "columns"),
+    ("crates/lk_replay/proofs/engine/*", "columns"),
+    ("crates/lk_replay/proofs/output_buffer/*", "columns"),
+    ("crates/lk_replay/proofs/played/*", "columns"),
+    ("crates/lk_replay/proofs/report/*", "columns"),
+    ("crates/lk_replay/proofs/Changes.antt", "columns"),
+    ("crates/lk_replay/proofs/Digits.antt", "columns"),
+    ("crates/lk_replay/proofs/Listing.antt", "columns"),
+    ("crates/lk_replay/proofs/Lists.antt", "columns"),
+    ("crates/lk_replay/proofs/Passed.antt", "columns"),
+    ("crates/lk_replay/proofs/Printed.antt", "columns"),
+    ("crates/lk_replay/proofs/Reports.antt", "columns"),
+    ("crates/lk_replay/proofs/Sofar.antt", "columns"),
+    ("crates/lk_replay/proofs/Texts.antt", "columns"),
+    ("crates/lk_replay/specs/Following.antt", "columns"),
+    ("crates/lk_replay/specs/Printing.antt", "columns"),
+    ("crates/lk_replay/specs/Replay.antt", "columns"),
+    ("crates/lk_replay/specs/Report.antt", "columns"),
+    ("crates/lk_replay/src/engine.rt", "columns"),
+    ("crates/lk_replay/src/output_buffer.rt", "columns"),
+    ("crates/lk_replay/src/played.rt", "columns"),
+    ("crates/lk_replay/src/report*", "columns"),
     ("crates/lockreplay/src/command_line/tests.rt", "body"),
     ("record/lockreplay_record.h", "lines"),
     ("docs/BENCHMARKS.md", "columns"),
@@ -52,11 +74,19 @@ FUNCTION[".mjs"], FUNCTION[".h"] = FUNCTION[".js"], FUNCTION[".c"]
 NO_FUNCTION = {"if", "for", "while", "switch", "catch"}
 
 
+# Lines that cannot be broken: rows of tables and links in documents, and in a proof the path of a
+# module, which the language takes on one line.
+UNBROKEN = {
+    ".md": re.compile(r"\s*\||\[[^\]]*\]: |!\["),
+    ".antt": re.compile(r"use \S+( as \w+)?$|use \S+\.\{\S+\}$"),
+}
+
+
 def long_lines(path, lines):
     """Lines of too many columns."""
+    unbroken = UNBROKEN.get(path.suffix)
     for number, line in enumerate(lines, 1):
-        is_row = path.suffix == ".md" and re.match(r"\s*\||\[[^\]]*\]: |!\[", line)
-        if len(line) > COLUMNS and not is_row:
+        if len(line) > COLUMNS and not (unbroken and unbroken.match(line)):
             yield number, "columns", f"{len(line)} columns"
 
 
