@@ -21,7 +21,7 @@ pub fn put_u16<const N: usize>(out: &mut ArrayVec<u8, N>, number: u16)
     ensures bytes { out.new.items ≡ out.old.items ++ to_le_bytes w16 number }
     ensures size { length out.new.items ≡ length out.old.items + 2 }
 {
-    put_bytes(out, &number.to_le_bytes());
+    put_bytes(out, &u16::to_le_bytes(number));
 }
 
 /// Appends a number of 4 bytes.
@@ -30,7 +30,7 @@ pub fn put_u32<const N: usize>(out: &mut ArrayVec<u8, N>, number: u32)
     ensures bytes { out.new.items ≡ out.old.items ++ to_le_bytes w32 number }
     ensures size { length out.new.items ≡ length out.old.items + 4 }
 {
-    put_bytes(out, &number.to_le_bytes());
+    put_bytes(out, &u32::to_le_bytes(number));
 }
 
 /// Appends a number of 8 bytes.
@@ -39,7 +39,7 @@ pub fn put_u64<const N: usize>(out: &mut ArrayVec<u8, N>, number: u64)
     ensures bytes { out.new.items ≡ out.old.items ++ to_le_bytes w64 number }
     ensures size { length out.new.items ≡ length out.old.items + 8 }
 {
-    put_bytes(out, &number.to_le_bytes());
+    put_bytes(out, &u64::to_le_bytes(number));
 }
 
 /// Appends numbers of 4 bytes.
