@@ -94,7 +94,28 @@ function tooNarrow(words) {
   };
 }
 
+// The move that a line means which has the number of a thread, one word and signs: `acquire 0`,
+// `0: acquire`, `thread 0 acquire()`. Null where it is not plain.
+const SIGNS = /^[a-z0-9 .,:;()]+$/i;
+const THREAD_WORD = /^(t|thread)$/i;
+
+function moveMeant(line, ownWords) {
+  if (!SIGNS.test(line)) return null;
+  const numbers = line.match(/[0-9]+/g) ?? [];
+  const names = (line.match(/[a-z]+/gi) ?? []).filter((name) => !THREAD_WORD.test(name));
+  if (numbers.length !== 1 || names.length !== 1) return null;
+  const [number, name] = [numbers[0].replace(/^0+(?=.)/, ''), names[0].toLowerCase()];
+  const word = WORDS.includes(name) ? name : nearest(name, ownWords);
+  return word && Number(number) <= LAST_THREAD_NUMBER ? `${number} ${word}` : null;
+}
+
 function moveFault(words, ownWords) {
+  const fault = partFault(words, ownWords);
+  const meant = fault.mended ? null : moveMeant(words.join(' '), ownWords);
+  return meant ? { say: [T.moveShape, say(T.meant, { meant })], mended: meant } : fault;
+}
+
+function partFault(words, ownWords) {
   if (words.length !== 2) {
     const begins = words.length > 2 && WORDS.includes(words[1]);
     return { say: [T.moveShape], mended: begins ? words.slice(0, 2).join(' ') : null };

@@ -31,7 +31,7 @@ export function measured() {
 export function drawTime(page, view, room) {
   const box = byId('lanes');
   const lanes = lanesOf(view.run, page.mode === 'play');
-  const layout = layOutLanes(view.run, view.move, lanes, room, page.zoomed);
+  const layout = layOutLanes(view, lanes, room, page.zoomed);
   box.style.height = `${Math.min(layout.height, room.height)}px`;
   if (page.moved) revealLane(box, view, layout);
   page.moved = false;

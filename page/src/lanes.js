@@ -2,7 +2,8 @@
 
 import { ACTION, CAS, OUTCOME, wordOf } from './codes.js';
 import { arrowsBetween } from './arrows.js';
-import { columnX, laneMiddle, LOW_LANE } from './layout.js';
+import { fitted } from './fitting.js';
+import { columnX, laneMiddle, LOW_LANE, NAME_EDGES } from './layout.js';
 import { lockOf } from './locks.js';
 import { html } from './markup.js';
 import { fillOf } from './shapes.js';
@@ -15,17 +16,12 @@ const NAMED_SPANS = ['reads', 'writes'];
 const ROOM_FOR_WORD = 84;
 const ROOM_FOR_UNLINKED = 170;
 const NARROW = 34;
-const NAME_ROOM = 108;
-const LETTER = 6.2;
+// What a mark found may stand a little over its column.
+const FOUND_ROOM = 1.15;
 const LOOKS = ['read', 'swap', 'add', 'section'];
 
 const rounded = (number) => Math.round(number * 10) / 10;
 const future = (layout, move) => (move > layout.now ? 'future' : '');
-
-function fitted(text, room) {
-  const most = Math.max(3, Math.floor(room / LETTER));
-  return text.length > most ? `${text.slice(0, most - 1)}…` : text;
-}
 
 // A stretch in two parts: up to the current move, and the rest, which is drawn faint.
 function parts(layout, span) {
@@ -127,8 +123,10 @@ function label(view, layout, move, at, tall) {
 
 function found(view, layout, move, at) {
   const fails = casFails(view.run.records, move);
+  const text = foundText(view, move);
   return html`<text class="found ${fails && 'fails'} ${move === layout.now && 'here'}" x="${at.x}"
-    y="${at.y + 27}" text-anchor="middle">${fitted(foundText(view, move), layout.column)}</text>`;
+    y="${at.y + 27}" text-anchor="middle"><title>${text}</title>${
+  fitted(text, layout.column * FOUND_ROOM, 'small')}</text>`;
 }
 
 function moveMark(view, layout, move, middle) {
@@ -158,9 +156,12 @@ function lane(view, layout, index) {
   const middle = rounded(laneMiddle(layout, index));
   const shown = view.hidden ? { ...layout, last: layout.now } : layout;
   const two = view.names.has(thread) && layout.laneHeight >= LOW_LANE;
-  const name = fitted(view.names.of(thread), NAME_ROOM);
-  return html`<text class="lane-name" x="20" y="${middle + (two ? 0 : 5)}">${name}</text>
-    ${two && html`<text class="note" x="20" y="${middle + 18}">${texts.thread(thread)}</text>`}
+  const whole = view.names.of(thread);
+  const name = fitted(whole, layout.gutter - NAME_EDGES.left - NAME_EDGES.right, 'lane');
+  return html`<text class="lane-name" x="${NAME_EDGES.left}"
+      y="${middle + (two ? 0 : 5)}"><title>${whole}</title>${name}</text>
+    ${two && html`<text class="note" x="${NAME_EDGES.left}"
+      y="${middle + 18}">${texts.thread(thread)}</text>`}
     <path class="lane-line" d="M${layout.gutter - 4} ${middle}H${layout.width - 12}"/>
     ${spanBars(view, shown, thread, middle)}${unlinkedLines(view, shown, thread, middle)}
     ${laneMoves(view, layout, thread, middle)}`;

@@ -2,8 +2,12 @@
 // step costs the same in a schedule of 65,536 moves as in one of ten.
 
 import { LOCKS } from './codes.js';
+import { widthOf } from './fitting.js';
 
-const GUTTER = 122;
+// Where the names of threads stand: how wide, which share of the lanes at most, and what stands
+// beside a name there.
+const GUTTER = { least: 122, share: 0.16 };
+export const NAME_EDGES = { left: 20, right: 10 };
 const COLUMN = { narrowest: 16, least: 44, most: 66, widest: 120 };
 const WIDE_WORDS = 56;
 const LANE = { tallest: 85, lowest: 38 };
@@ -35,14 +39,22 @@ function firstMove(run, move, visible) {
   return Math.min(Math.max(1, wanted), run.count - visible + 1);
 }
 
+// As wide as the longest name that a thread was given, where there is so much room.
+export function gutterOf(names, width) {
+  const longest = Math.max(0, ...[...names.given.values()].map((name) => widthOf(name, 'lane')));
+  const wanted = Math.ceil(longest) + NAME_EDGES.left + NAME_EDGES.right;
+  return Math.max(GUTTER.least, Math.min(wanted, Math.floor(GUTTER.share * width)));
+}
+
 // `room` has the width and the height that the lanes may take.
-export function layOutLanes(run, move, lanes, room, zoom) {
-  const column = columnWidth(run, room.width - GUTTER - 12, zoom);
-  const visible = Math.max(1, Math.floor((room.width - GUTTER - 8) / column));
+export function layOutLanes({ run, move, names }, lanes, room, zoom) {
+  const gutter = gutterOf(names, room.width);
+  const column = columnWidth(run, room.width - gutter - 12, zoom);
+  const visible = Math.max(1, Math.floor((room.width - gutter - 8) / column));
   const first = firstMove(run, move, visible);
   const laneHeight = Math.min(LANE.tallest, Math.max(LANE.lowest, room.height / lanes.length));
   return {
-    gutter: GUTTER, column, first, last: Math.min(run.count, first + visible - 1), laneHeight,
+    gutter, column, first, last: Math.min(run.count, first + visible - 1), laneHeight,
     width: room.width, now: move, lanes, height: laneHeight * lanes.length,
   };
 }

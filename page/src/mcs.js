@@ -2,8 +2,9 @@
 // machine names. A link is drawn where the word says so; one that is missing is drawn as missing.
 
 import { PHASE, PHASES } from './codes.js';
+import { fitted, widthOf } from './fitting.js';
 import { html } from './markup.js';
-import { picture, standingOf, useOf, wordBox } from './shapes.js';
+import { BOX_EDGES, picture, standingOf, useOf, wordBox } from './shapes.js';
 import { say, texts } from './texts.js';
 
 const TAIL = 0;
@@ -18,8 +19,11 @@ const RECORD = { narrowest: 130, widest: 156, height: 108, gap: 52, top: 96, row
 // So many records beside one another are not broken into rows for a larger picture's sake.
 const BESIDE = 4;
 const MOST_NAMED = 8;
-// So many letters of a name leave room beside them for the thread's standing.
-const MOST_LETTERS = 5;
+// Records and the tail's box grow for names that threads were given, up to so much.
+const WIDEST = 240;
+const HEAD = { left: 14, right: 13, between: 9 };
+const FIELD = { left: 76, right: 12 };
+const TAIL_BOX = { left: 70, width: 86, widest: 170 };
 
 function valueText(word, value, names) {
   if (isLocked(word)) return String(value);
@@ -44,12 +48,27 @@ function order(view, state, most) {
   return { shown: fits ? [...busy, ...resting] : busy, hidden: fits ? [] : resting };
 }
 
+const standingWidth = (standing) => widthOf(texts.standing[standing], 'small');
+const STANDINGS = ['holds', 'line', 'call', 'rest'];
+
+// As wide as the longest name needs as a word's value.
+const valueWidth = (names) => Math.max(0,
+  ...[...names.given.keys()].map((thread) => widthOf(names.short(thread), 'word') + BOX_EDGES));
+
+// As wide as it needs in the head of a record or in its next.
+function widestRecord(names) {
+  const beside = HEAD.left + HEAD.between + HEAD.right + Math.max(...STANDINGS.map(standingWidth));
+  const heads = [...names.given.values()].map((name) => widthOf(name, 'name') + beside);
+  const wanted = Math.max(...heads, valueWidth(names) + FIELD.left + FIELD.right);
+  return Math.min(WIDEST, Math.max(RECORD.widest, wanted));
+}
+
 function layOut(view, state) {
   const room = view.width - 2 * RECORD.left;
   const most = Math.max(1, Math.floor((room + RECORD.gap) / (RECORD.narrowest + RECORD.gap)));
   const { shown, hidden } = order(view, state, most);
   const inRow = Math.min(most, Math.max(1, shown.length));
-  const width = Math.min(RECORD.widest, (room - (inRow - 1) * RECORD.gap) / inRow);
+  const width = Math.min(widestRecord(view.names), (room - (inRow - 1) * RECORD.gap) / inRow);
   const gap = inRow > 1 ? Math.min(88, (room - inRow * width) / (inRow - 1)) : RECORD.gap;
   const places = new Map(shown.map((thread, i) => [thread, {
     x: RECORD.left + (i % inRow) * (width + gap), row: Math.floor(i / inRow),
@@ -62,37 +81,42 @@ function recordField(view, y, label, word, state, width) {
   const value = valueText(word, state.word(word), view.names);
   const use = useOf(view.run, view.move, word);
   return html`<text class="mono field" x="14" y="${y + 19}">${label}</text>
-    ${wordBox(76, y, width - 88, value, use)}`;
+    ${wordBox(FIELD.left, y, width - FIELD.left - FIELD.right, value, use)}`;
 }
 
 function ownVariable(view, state, thread, width) {
   const name = OWN_VARIABLE[PHASES[state.phase(thread)]];
   if (!name) return null;
   const value = view.names.short(Number(state.phaseNumber(thread)));
+  const held = `${name} = ${value}`;
   const whose = texts.ownVariable(view.names.of(thread));
-  return html`<g transform="translate(0,${RECORD.height + 12})">
+  return html`<g transform="translate(0,${RECORD.height + 12})"><title>${whose}: ${held}</title>
     <rect class="own" x=".5" width="${width - 1}" height="28" rx="8"/>
-    <text class="mono value" x="${width / 2}" y="19" text-anchor="middle">${name} = ${value}</text>
-    <text class="note" x="${width / 2}" y="45" text-anchor="middle">${whose}</text>
+    <text class="mono value" x="${width / 2}" y="19"
+      text-anchor="middle">${fitted(held, width - BOX_EDGES, 'word')}</text>
+    <text class="note" x="${width / 2}" y="45"
+      text-anchor="middle">${fitted(whose, width + RECORD.gap - BOX_EDGES, 'small')}</text>
   </g>`;
 }
 
-function headName(names, thread) {
-  const letters = [...names.short(thread)];
-  const fits = letters.length <= MOST_LETTERS;
-  return fits ? letters.join('') : `${letters.slice(0, MOST_LETTERS - 1).join('')}…`;
+// What the thread's standing leaves room for.
+function headName(names, thread, standing, width) {
+  const room = width - HEAD.left - HEAD.between - standingWidth(standing) - HEAD.right;
+  return fitted(names.short(thread), room, 'name');
 }
 
 function record(view, state, thread, place, width) {
   const standing = standingOf(view.run, view.move, thread);
   const label = texts.standing[standing];
+  const name = headName(view.names, thread, standing, width);
   return html`<g class="record ${standing}" transform="translate(${place.x},${place.y})">
+    <title>${view.names.of(thread)}</title>
     <rect class="frame" width="${width}" height="${RECORD.height}" rx="10"/>
     <path class="head" d="M0 10a10 10 0 0 1 10 -10h${width - 20}a10 10 0 0 1 10 10v22h-${width}z"/>
     ${standing === 'line' && html`<rect class="plate" x="6" y="4" width="${width - 12}"
       height="23" rx="6"/>`}
-    <text class="name" x="14" y="21">${headName(view.names, thread)}</text>
-    <text class="standing" x="${width - 13}" y="21" text-anchor="end">${label}</text>
+    <text class="name" x="${HEAD.left}" y="21">${name}</text>
+    <text class="standing" x="${width - HEAD.right}" y="21" text-anchor="end">${label}</text>
     ${recordField(view, 40, 'next', nextOf(thread), state, width)}
     ${recordField(view, 73, 'locked', lockedOf(thread), state, width)}
     ${ownVariable(view, state, thread, width)}</g>`;
@@ -124,14 +148,17 @@ function links(view, state, layout) {
 }
 
 // Straight down to a record below the box, else along and down.
-const tailPath = (x, y) => (x < 160 ? `M${x} 52V${y}` : `M156 38H${x - 10}q10 0 10 10V${y}`);
+const tailPath = (right, x, y) => (x < right + 4
+  ? `M${x} 52V${y}` : `M${right} 38H${x - 10}q10 0 10 10V${y}`);
 
 function tail(view, state, layout) {
   const place = layout.places.get(named(state.word(TAIL)));
   const value = valueText(TAIL, state.word(TAIL), view.names);
-  const path = place && tailPath(place.x + layout.width / 2, place.y - 4);
+  const { left, widest } = TAIL_BOX;
+  const wide = Math.min(widest, Math.max(TAIL_BOX.width, valueWidth(view.names)));
+  const path = place && tailPath(left + wide, place.x + layout.width / 2, place.y - 4);
   return html`<text class="mono word-name strong" x="24" y="43">tail</text>
-    ${wordBox(70, 24, 86, value, useOf(view.run, view.move, TAIL))}
+    ${wordBox(left, 24, wide, value, useOf(view.run, view.move, TAIL))}
     ${path && html`<path class="link" d="${path}"/>`}`;
 }
 

@@ -2,7 +2,7 @@
 
 import { OUTCOMES, wordOf } from './codes.js';
 import { lanesPicture, numbersPicture } from './lanes.js';
-import { lanesOf } from './layout.js';
+import { gutterOf, lanesOf } from './layout.js';
 import { legend } from './legend.js';
 import { html } from './markup.js';
 import { holdersText, queueText } from './report.js';
@@ -10,7 +10,7 @@ import { sentence } from './sentences.js';
 import { texts } from './texts.js';
 
 const T = texts.print;
-const STRIP = { width: 1040, gutter: 122, column: 56, lane: 78 };
+const STRIP = { width: 1040, column: 56, lane: 78 };
 // More than fit on some twenty sheets is cut to those around the current move.
 const MOST_PRINTED = 400;
 
@@ -20,9 +20,9 @@ export function printedMoves(run, move) {
   return { from, to: from + MOST_PRINTED - 1 };
 }
 
-function strip(view, lanes, first, last) {
+function strip(view, lanes, gutter, first, last) {
   const layout = {
-    gutter: STRIP.gutter, column: STRIP.column, width: STRIP.width, laneHeight: STRIP.lane,
+    gutter, column: STRIP.column, width: STRIP.width, laneHeight: STRIP.lane,
     height: STRIP.lane * lanes.length, now: Infinity, first, last, lanes,
   };
   const drawn = lanesPicture(view, layout, 0, lanes.length - 1);
@@ -63,10 +63,11 @@ export function paper(view) {
   const { run } = view;
   const { from, to } = printedMoves(run, view.move);
   const lanes = lanesOf(run, false);
-  const inStrip = Math.floor((STRIP.width - STRIP.gutter - 20) / STRIP.column);
+  const gutter = gutterOf(view.names, STRIP.width);
+  const inStrip = Math.floor((STRIP.width - gutter - 20) / STRIP.column);
   const strips = [];
   for (let first = from; first <= to; first += inStrip) {
-    strips.push(strip(view, lanes, first, Math.min(to, first + inStrip - 1)));
+    strips.push(strip(view, lanes, gutter, first, Math.min(to, first + inStrip - 1)));
   }
   const part = to - from + 1 < run.count && html`<p>${T.part(from, to, run.count)}</p>`;
   return html`${part}${strips}<div class="legend"><span>${legend(run)}</span></div>

@@ -1,5 +1,6 @@
 // Shapes that more than one picture uses.
 
+import { fitted } from './fitting.js';
 import { html } from './markup.js';
 import { standingAfter } from './spans.js';
 
@@ -13,16 +14,22 @@ export const fillOf = (standing) => (HATCHED[standing] ? `url(#${HATCHED[standin
 // A thread as a disc with its mark.
 export function token(x, y, view, thread, radius = 13) {
   const standing = standingOf(view.run, view.move, thread);
-  return html`<g class="token ${standing}"><circle cx="${x}" cy="${y}" r="${radius}"/>
+  return html`<g class="token ${standing}"><title>${view.names.of(thread)}</title>
+    <circle cx="${x}" cy="${y}" r="${radius}"/>
     <text x="${x}" y="${y + 4.5}" text-anchor="middle">${view.names.mark(thread)}</text></g>`;
 }
 
-// A word of memory as a box: plain, read by this move, or changed by it.
+// What a word's box has beside its value.
+export const BOX_EDGES = 12;
+
+// A word of memory as a box: plain, read by this move, or changed by it. A name that is too long
+// for it is cut, and shown whole where one points at it.
 export function wordBox(x, y, width, value, use, label = '') {
   return html`${label && html`<text class="mono word-name" x="${x}" y="${y - 7}">${label}</text>`}
+    <g><title>${value}</title>
     <rect class="word ${use}" x="${x}" y="${y}" width="${width}" height="28" rx="6"/>
     <text class="mono value" x="${x + width / 2}" y="${y + 19}"
-      text-anchor="middle">${value}</text>`;
+      text-anchor="middle">${fitted(value, width - BOX_EDGES, 'word')}</text></g>`;
 }
 
 // How the move used a word: 'changed', 'read' or ''.

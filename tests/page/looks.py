@@ -134,6 +134,59 @@ def heads_have_room(driver, _):
         assert shown == [True, True], (names, shown)
 
 
+NAMES_DRAWN = """
+const { page } = window.lockreplay;
+page.openOwn(new TextEncoder().encode(arguments[0]));
+page.setMode('lessons');
+page.go(page.session.run.count);
+const box = (one) => one.getBoundingClientRect();
+const drawn = (one) => one.lastChild.textContent;
+const pointed = (one) => one.closest('g').querySelector('title').textContent;
+const inside = (one) => {
+  const [text, frame] = [box(one), box(one.parentNode.querySelector('.word, .own'))];
+  return text.left >= frame.left && text.right <= frame.right;
+};
+const all = (selector) => [...document.querySelectorAll(selector)];
+const line = box(document.querySelector('.lane-line')).left;
+return {
+  lanes: all('.lane-name').map(drawn),
+  lanesWhole: all('.lane-name title').map((one) => one.textContent),
+  heads: all('.record > .name').map(drawn), headsWhole: all('.record > .name').map(pointed),
+  next: drawn(document.querySelector('.record .value')),
+  nextWhole: pointed(document.querySelector('.record .value')),
+  valuesInside: all('#memory-picture .value').every(inside),
+  lanesInside: all('.lane-name').every((one) => box(one).right <= line),
+};
+"""
+LONG_NAMES = "#! name 0 Wilhelmina\n#! name 1 Montgomery\n"
+LONGER_NAMES = "#! name 0 Wilhelmina of the second row\n#! name 1 Montgomery of the first row\n"
+LINKED = f"{MOVES}1 write\n1 write\n2 acquire\n2 write\n2 swap\n"
+
+
+def names_are_whole(driver, _):
+    """A long name is whole where there is room for it, else where one points at it."""
+    open_page(driver)
+    whole = ["Wilhelmina", "Montgomery"]
+    text = f"{LONG_NAMES}lock mcs threads 2\n{MOVES}1 write\n1 write\n"
+    shown = run(driver, NAMES_DRAWN, text)
+    assert shown["lanes"] == shown["heads"] == whole, shown
+    assert shown["next"] == "Montgomery", shown
+    assert shown["valuesInside"] and shown["lanesInside"], shown
+
+
+def names_that_are_cut(driver, _):
+    open_page(driver)
+    whole = ["Wilhelmina of the second row", "Montgomery of the first row"]
+    shown = run(driver, NAMES_DRAWN, f"{LONGER_NAMES}lock mcs threads 4\n{LINKED}")
+    for part in ["lanes", "heads"]:
+        for cut, name in zip(shown[part], whole):
+            assert cut.endswith("…") and name.startswith(cut[:-1]), (part, shown)
+            assert len(cut) >= 4, (part, shown)
+        assert shown[f"{part}Whole"][:2] == whole, (part, shown)
+    assert shown["next"].endswith("…") and shown["nextWhole"] == whole[1], shown
+    assert shown["valuesInside"] and shown["lanesInside"], shown
+
+
 def sentences_begin_so(driver, _):
     """Each sentence on a move begins with a capital letter, also with a thread that has no name."""
     open_page(driver)
@@ -144,4 +197,13 @@ def sentences_begin_so(driver, _):
     ), said
 
 
-CHECKS = [themes, motion, without_colour, labels, heads_have_room, sentences_begin_so]
+CHECKS = [
+    themes,
+    motion,
+    without_colour,
+    labels,
+    heads_have_room,
+    names_are_whole,
+    names_that_are_cut,
+    sentences_begin_so,
+]

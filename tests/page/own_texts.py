@@ -72,6 +72,8 @@ FAULTS = [
     (HEADER + "0 acquire\n00 add\n", 3, ["no leading zero"], 1),
     (HEADER + "256 acquire\n", 2, ["“256” is no thread’s number", "from 0 to 255"], 0),
     (HEADER + "acquire\n", 2, ["This is no move"], 0),
+    (HEADER + "0: acquire\n", 2, ["This is no move", "Did you mean “0 acquire”?"], 0),
+    (HEADER + "0 acquire 1\n", 2, ["This is no move", "Write “0 acquire”"], 0),
     (
         "lock mcs threads 2\n0 lock\n",
         2,
@@ -133,6 +135,45 @@ def mended(driver, _):
     assert "\u240d" in run(driver, SHOWN)["area"]
     driver.find_element(By.CSS_SELECTOR, "#verdict [data-returns]").click()
     wait(driver, lambda _: run(driver, SHOWN)["verdict"].endswith("end 1"))
+
+
+OFFERED = """
+const { page } = window.lockreplay;
+page.openOwn(new TextEncoder().encode(arguments[0]));
+return document.querySelector('#verdict [data-mend]')?.dataset.mend ?? null;
+"""
+
+# A line that is no move, and the move that is offered in its place.
+NEAR_MISSES = {
+    "0: acquire": "0 acquire",
+    "0:acquire": "0 acquire",
+    "acquire 0": "0 acquire",
+    "acquire(1)": "1 acquire",
+    "1 acquire()": "1 acquire",
+    "thread 1 acquire": "1 acquire",
+    "T1: Aquire.": "1 acquire",
+    "acquire 01": "1 acquire",
+    "rlock 0": "0 rlock",
+    "acquire": None,
+    "acquire 256": None,
+    "acquire 0 1": None,
+    "0 acquire, 1 acquire": None,
+    "-1 acquire": None,
+    "0 acquires the lock": None,
+    "lock 0": None,
+}
+
+
+def near_misses(driver, _):
+    """A move in another order or with other signs is offered as it should be, if it is plain."""
+    open_page(driver)
+    for line, due in NEAR_MISSES.items():
+        offered = run(driver, OFFERED, f"{HEADER}{line}\n")
+        assert offered == due, (line, offered)
+    run(driver, OPEN, f"{HEADER}acquire 0\n")
+    driver.find_element(By.CSS_SELECTOR, "#verdict [data-mend]").click()
+    wait(driver, lambda _: run(driver, SHOWN)["verdict"].endswith("end 1"))
+    assert run(driver, SHOWN)["area"] == f"{HEADER}0 acquire\n"
 
 
 def typed(driver, _):
@@ -254,4 +295,4 @@ def markup_is_text(driver, _):
         assert part in page, part
 
 
-CHECKS = [said, mended, typed, files, dropped_and_pasted, saved, markup_is_text]
+CHECKS = [said, mended, near_misses, typed, files, dropped_and_pasted, saved, markup_is_text]

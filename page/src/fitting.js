@@ -1,0 +1,38 @@
+// Texts of pictures that fit their room: measured as they are drawn, and cut where the room ends.
+
+const MEASURED = 5000;
+const LONGEST = 200;
+// The fonts of `style`, by what is written in them.
+const FONTS = {
+  lane: ['660 16px', '--letters'],
+  name: ['660 15px', '--letters'],
+  small: ['600 13px', '--letters'],
+  word: ['560 14.5px', '--mono'],
+};
+
+const pen = document.createElement('canvas').getContext('2d');
+const widths = new Map();
+
+function fontOf(kind) {
+  const [size, family] = FONTS[kind];
+  return `${size} ${getComputedStyle(document.documentElement).getPropertyValue(family)}`;
+}
+
+export function widthOf(text, kind) {
+  const key = `${kind} ${text}`;
+  if (!widths.has(key)) {
+    if (widths.size === MEASURED) widths.clear();
+    pen.font = fontOf(kind);
+    widths.set(key, pen.measureText(text).width);
+  }
+  return widths.get(key);
+}
+
+// The text where it fits the room, else as much of its beginning as does, and `…`.
+export function fitted(text, room, kind) {
+  if (text.length <= LONGEST && widthOf(text, kind) <= room) return text;
+  const letters = [...text.slice(0, LONGEST)];
+  let most = letters.length;
+  while (most > 1 && widthOf(`${letters.slice(0, most).join('')}…`, kind) > room) most -= 1;
+  return `${letters.slice(0, most).join('')}…`;
+}
