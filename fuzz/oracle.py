@@ -7,14 +7,14 @@
 It takes the command lines of `lockreplay` and must print the same bytes and end with the same
 status (0: every move accepted, 1: some report ends with a refusal or a fault).
 
-It stands apart from the program on purpose. The program's machines hold words and phases: counters,
-tails, links, flags. Here there are none. A queue lock is a list of requests, an MCS lock has in
-addition the set of the threads that have linked, a read-write lock is a set of readers and at most
-one writer. The code of a call is written down as the books print it, as a generator that stops
-before each atomic step. Whatever the two agree on was so found in two ways.
+It is made in another way than the program, on purpose. The program's machines have words and
+phases: counters, tails, links, flags. Here there are none. A queue lock is a list of requests, an
+MCS lock has in addition the set of the threads that have linked, a read-write lock is a set of
+readers and at most one writer. The code of a call is that of the books, as a generator that stops
+before each atomic step. So where the two agree, the result was found in two ways.
 
 Words of B bits appear in the header only. With fewer threads than 2^B, tickets in use differ and
-the count of readers is 0 exactly where there is none, so no width shows in a report.
+the count of readers is 0 exactly where there is no reader, so the width does not show in a report.
 
 Sources: ticket lock and MCS lock, Mellor-Crummey and Scott, ACM TOCS 9(1), 1991; read-write locks
 after Herlihy and Shavit, The Art of Multiprocessor Programming, chapter 8. The texts of schedules

@@ -1,10 +1,10 @@
 #!/usr/bin/env bash
-# The proofs of `make test`: `rt ci`, and beside it what `rt ci` builds nothing of, the page's
-# module and the static library for C.
+# The proofs of `make test`: `rt ci`, and in parallel the page's module and the static library for
+# C, which `rt ci` does not build.
 #
-# `rt ci` takes what its tree has built aside, so the two are built in a copy of the tree. Towards
+# `rt ci` moves away what its tree has built, so the two are built in a copy of the tree. Towards
 # its end `rt ci` leaves processors idle, since the wrong bodies of one crate are tried one after
-# another: the copy is built with what it leaves. Fails where either fails, and says which.
+# another: the copy is built on these. Fails where either fails, and says which.
 set -euo pipefail
 cd "$(dirname "$0")/.."
 readonly MODULE=crates/lk_page/out/lockreplay.wasm

@@ -4,12 +4,12 @@
     refusals.py PROGRAM
 
 Each command is run under the allocator of refuse/refuse.c, which refuses the Nth request, for
-N = 1, 2, 3 and so on until a run makes fewer. Each run gives the answer with ample memory, or
-writes nothing but the line of want of memory and ends with 3. The last run, in which nothing was
-refused, gives the answer; of those before it some are want of memory. Every row is replayed from
-standard input and as a batch of one file; a batch of three files goes to one, two and eight
-workers. What is asked for before a schedule is read is the same for every row, so it is refused
-with the command lines alone.
+N = 1, 2, 3 and so on until a run makes fewer. Each run writes what it writes with ample memory, or
+nothing but the line `lockreplay: out of memory`, and then ends with 3. The last run, in which
+nothing was refused, does the first; at least one of those before it does the second. Every row is
+replayed from standard input and as a batch of one file; a batch of three files goes to one, two and
+eight workers. The requests made before a schedule is read are the same for every row, so they are
+refused with the command lines only.
 
 Prints `N passed, M failed` last, and ends with 1 where one failed.
 """
