@@ -1,8 +1,9 @@
 //! Which words a move touched: the words before and after it are compared.
 
 ghost use Rattle.std.specs.Prelude.{◌≡◌, ◌+◌, ◌<◌, ◌≤◌, ℕ, length, slice_index, MatchOption, None};
+ghost use Rattle.std.specs.Prelude.{Some};
 ghost use Rattle.lk_page.specs.Told.{AreTouched};
-ghost use Rattle.lk_page.specs.Changes.{AreTwoAtMost};
+ghost use Rattle.lk_page.specs.Changes.{AreTwoAtMost, touch_at};
 
 use crate::told::Touch;
 
@@ -49,6 +50,9 @@ pub fn touches(before: &[u64], after: &[u64], seen: Option<usize>) -> (Option<To
     ensures untouched { seen ≡ None
         → ((i : ℕ) → i < length before.now → slice_index after.now i ≡ slice_index before.now i)
         → result.0 ≡ None }
+    ensures looked_at { (word : ℕ) → seen ≡ Some word → word < length before.now
+        → ((i : ℕ) → i < length before.now → slice_index after.now i ≡ slice_index before.now i)
+        → result.0 ≡ Some (touch_at before.now after.now word) }
 {
     let Some(first) = changed_from(before, after, 0) else {
         return match seen {

@@ -22,3 +22,12 @@ returns-in-Some-changed_from-clause-untouched c =
 pub returns-in-None-clause-untouched : goal.returns-in-None-clause-untouched
 returns-in-None-clause-untouched c =
     λ none same. absurd (c.in-Some.ensures.3 (same c.in-Some.first c.in-Some.ensures.1))
+
+pub returns-in-Some-changed_from-clause-looked_at
+    : goal.returns-in-Some-changed_from-clause-looked_at
+returns-in-Some-changed_from-clause-looked_at c =
+    λ word seen low same. absurd (c.in-Some.ensures.3 (same c.in-Some.first c.in-Some.ensures.1))
+
+pub returns-in-None-clause-looked_at : goal.returns-in-None-clause-looked_at
+returns-in-None-clause-looked_at c =
+    λ word seen low same. absurd (c.in-Some.ensures.3 (same c.in-Some.first c.in-Some.ensures.1))
