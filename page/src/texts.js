@@ -250,7 +250,7 @@ export const texts = {
       SetLocked: { moved: '{who} sets {whose} own locked to 1.' },
       LinkTo: { moved: '{who} writes the link: {otherWhose} next now points to {whom}.' },
       AwaitGrant: {
-        waits: '{who} looks at {whose} own locked: still {found}.',
+        waits: '{who} polls {whose} own locked and waits: it is still {found}.',
         entered: '{who} finds {whose} own locked at {found}, and enters.',
       },
       ReadNext: {
@@ -264,12 +264,12 @@ export const texts = {
           + 'left.',
       },
       AwaitLink: {
-        waits: '{who} looks again: {whose} next is still nil. {who} has to wait for the link.',
+        waits: '{who} polls: {whose} next is still nil. {who} has to wait for the link.',
         moved: 'The link is there: {who} finds {foundName}.',
       },
       Grant: {
-        left: '{who} clears {otherWhose} locked, and has left. {other} is next, and has not '
-          + 'looked yet.',
+        left: '{who} clears {otherWhose} locked, and has left. {other} is next, and enters with '
+          + 'its next poll.',
       },
     },
     'rw-simple': {

@@ -1,5 +1,6 @@
 #!/usr/bin/python3
 """Takes the pictures of the documents: writes docs/pictures/*.png, each below 200 KB."""
+import shutil
 import subprocess
 import sys
 
@@ -29,6 +30,8 @@ SHOTS = [
 
 def shrink(path):
     """Fewer colours, where the tool for it is there: flat pictures lose nothing by it."""
+    if not shutil.which("pngquant"):
+        return
     subprocess.run(
         [
             "pngquant",
