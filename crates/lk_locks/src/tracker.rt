@@ -37,6 +37,7 @@ impl<W: Words> Tracker<W> {
     ghost use Rattle.lk_locks.specs.State.{start, word_count};
     ghost use Rattle.lk_locks.specs.Steps.{answer_to, change_of, next_state, refusal_of};
     ghost use Rattle.lk_locks.specs.Entries.{entries_of};
+    ghost use Rattle.lk_locks.specs.Legal.{AreEnabled};
     ghost use Rattle.lk_locks.specs.Holding.{holding, IsListed};
     ghost use Rattle.lk_locks.specs.Tracked.{tracked, followed, after_tracked, holding_in, waiting_in};
 
@@ -56,14 +57,16 @@ impl<W: Words> Tracker<W> {
         }
     }
 
-    // Makes a move that is not refused, and fills in the entries that it adds.
+    /// Makes a move that is not refused, and fills in the entries that it adds. They may come, one
+    /// after another.
     #[inline]
-    pub(crate) fn make(&mut self, t: u8, m: Move, added: &mut Added) -> Outcome
+    pub fn make(&mut self, t: u8, m: Move, added: &mut Added) -> Outcome
         requires accepted { refusal_of self.old.state t m ≡ None }
         requires none { added.old ≡ [] }
         ensures outcome { result ≡ (change_of self.old.state t m).outcome }
         ensures after { self.new ≡ followed self.old (next_state self.old.state t m) (entries_of self.old.state t m) }
         ensures entries { added.new ≡ entries_of self.old.state t m }
+        ensures enabled { AreEnabled self.old.sequential (entries_of self.old.state t m) }
     {
         let kind = self.machine.kind();
         let phase = self.machine.phase(t);
