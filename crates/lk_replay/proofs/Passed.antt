@@ -54,7 +54,7 @@ prefix_after waited a between b old mid new (sent, appended, first) (n, within, 
 
 -- ---- the same of what a call answers
 
-pub told : (r : Result (Unit {0}) RunFault) (P : Type 0) → P → OnErr r P
+pub told : {T : Type 0} (r : Result T RunFault) (P : Type 0) → P → OnErr r P
 told (Ok _) P fact = tt
 told (Err _) P fact = fact
 

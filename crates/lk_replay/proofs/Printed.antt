@@ -1,32 +1,31 @@
--- The lines that are printed from what was played are those of the report.
-use Rattle.std.proofs.Common.{◌≡◌, ℕ, ◌+◌, ◌<◌, List, [], ◌∷◌, ◌++◌, ◌-◌, length, map, take, drop, get_or, codes, Option, Some, refl, sym, ap, ◌∙◌, subst, arith, append_assoc, append-nil, length-append, take-append-drop}
-use Rattle.std.specs.List.{flat_map, join_with_byte, slice_split, sum}
-use Rattle.std.proofs.Math.Seq.{drop-append_seam, take-append_seam}
-use Rattle.std.proofs.lemmas.List.{drop-drop, drop_more, length-map}
-use Rattle.std.proofs.lemmas.List.Sums.{sum_by-drop_more}
+-- The lines that are printed as the moves are played are those of the report.
+use Rattle.std.proofs.Common.{◌≡◌, ℕ, ◌+◌, ◌<◌, List, [], ◌∷◌, ◌++◌, length, drop, get_or, codes, Option, None, Some, IsTrue, ◌↔◌, Bool, true, false, not, is_some, inl, inr, refl, sym, ap, ◌∙◌, subst, arith, append_assoc, append-nil, length-append, length-drop}
+use Rattle.std.specs.List.{join_with_byte, slice_split}
+use Rattle.std.specs.Option.{option_map}
+use Rattle.std.proofs.lemmas.Bool.{cases_lt}
+use Rattle.std.proofs.lemmas.List.{drop_more}
+use Rattle.std.proofs.lemmas.Option.{none-some}
 use Rattle.std.proofs.lemmas.List.Splits.{join_with_byte-slice_split}
-use Rattle.lk_locks.specs.Legal.{AreEnabled, after_entries}
-use Rattle.lk_locks.specs.Sequential.{Sequential, after_entry}
+use Rattle.lk_locks.specs.Entries.{entries_of}
+use Rattle.lk_locks.specs.State.{State}
+use Rattle.lk_locks.specs.Tracked.{Tracked, tracked}
+use Rattle.lk_locks.specs.Steps.{change_of, next_state, refusal_of}
 use Rattle.lk_locks.specs.declared.kinds.Entry.{Entry}
 use Rattle.lk_locks.specs.declared.kinds.LockKind.{LockKind}
+use Rattle.lk_locks.specs.declared.kinds.Outcome.{Outcome}
 use Rattle.lk_locks.specs.declared.kinds.Refusal.{Refusal}
-use Rattle.lk_replay.proofs.Changes.{allowed_rest, followed_more, text_of}
+use Rattle.lk_replay.proofs.Changes.{followed_more, text_of}
 use Rattle.lk_replay.proofs.Cuts.{before_pieces, has_piece}
 use Rattle.lk_replay.proofs.LastLines.{split_append}
 use Rattle.lk_replay.specs.Ending.{ending_of, ending_of_line, last_of}
 use Rattle.lk_replay.specs.Following.{Following, followed_by, followed_text, following, holding_in, waiting_in}
 use Rattle.lk_replay.specs.Lines.{is_line_feed, lines_of, without_empty_end}
-use Rattle.lk_replay.specs.Printing.{IsPrinting, lines_from, made_from, prepared_text}
-use Rattle.lk_replay.specs.Replay.{Made, Replay, replayed}
+use Rattle.lk_replay.specs.Printing.{lines_from, next_refused}
+use Rattle.lk_replay.specs.Replay.{Made, Replay, made_by, refused_or, replay_from, replay_of, start_of, with_move}
 use Rattle.lk_replay.specs.Report.{holding_text, last_line, lines_text, move_text, queue_text, replay_text, state_text}
+use Rattle.lk_replay.specs.Schedule.{Plan}
 use Rattle.lk_replay.specs.declared.played.Accepted.{Accepted}
-
--- the moves with their entries, taken apart and put together again
-made_again : (ms : List Made) → made_from (map (λ m. m.accepted) ms) (map (λ m. length m.entries) ms) (flat_map (λ m. m.entries) ms) ≡ ms
-made_again [] = refl
-made_again (m ∷ ms) =
-    let rest : List Entry = flat_map (λ (x : Made). x.entries) ms in
-    rw (take-append_seam m.entries rest, drop-append_seam m.entries rest) (ap (λ (xs : List Made). m ∷ xs) (made_again ms))
+use Rattle.lk_replay.specs.declared.schedule.Line.{Line}
 
 -- the lines, and then the last line
 lines_are : (kind : LockKind) (count : ℕ) (es : List Entry) (ms : List Made) (refused : Option (ℕ × Refusal))
@@ -43,52 +42,144 @@ lines_are kind count es (m ∷ ms) refused =
     ∙ ap (λ (k : ℕ). line ++ (rest ++ last_line k refused)) (omega arith)
     ∙ ap (λ (ys : List ℕ). line ++ ys) (lines_are kind (count + 1) new ms refused)
 
--- what was played gives the report of the schedule
-pub prepared_replay : (kind : LockKind) (threads : ℕ) (r : Replay) → prepared_text (Some (replayed kind threads r)) (last_line (length (map (λ m. m.accepted) r.made)) r.refused) ≡ replay_text kind r
-prepared_replay kind threads r =
-    ap (λ (ms : List Made). lines_from (following kind []) 0 ms ++ last_line (length (map (λ (m : Made). m.accepted) r.made)) r.refused) (made_again r.made)
-    ∙ ap (λ (k : ℕ). lines_from (following kind []) 0 r.made ++ last_line k r.refused) (length-map r.made (λ (m : Made). m.accepted) ∙ omega arith)
-    ∙ lines_are kind 0 [] r.made r.refused
+-- what a new printer prints is the report of the schedule
+pub replay_printed : (p : Plan) (f : Following) (k : Tracked) (moves : List Line) → f ≡ following p.kind []
+    → k ≡ tracked (start_of p) [] → moves ≡ p.moves → let rest : Replay = replay_from k.state moves in
+    lines_from f 0 rest.made ++ last_line (0 + length rest.made) rest.refused ≡ replay_text p.kind (replay_of p)
+replay_printed p f k moves follows starts are =
+    rw (follows, starts, are) (lines_are p.kind 0 [] (replay_of p).made (replay_of p).refused)
 
--- ---- one line
+-- ---- the next move
 
--- the next line, and the rest
-pub one_line : (f : Following) (moves : List Accepted) (added : List ℕ) (entries : List Entry) (i j : ℕ) (d : Accepted) → i < length moves → i < length added
-    → let n : ℕ = get_or added i 0 in let new : List Entry = take n (drop j entries) in
-    lines_from f i (made_from (drop i moves) (drop i added) (drop j entries))
-    ≡ (move_text (i + 1) (get_or moves i d) ++ followed_text (followed_by f new)) ++ lines_from (followed_by f new) (i + 1) (made_from (drop (i + 1) moves) (drop (i + 1) added) (drop (j + n) entries))
-one_line f moves added entries i j d a b =
-    let n : ℕ = get_or added i 0 in
-    let g : Following = followed_by f (take n (drop j entries)) in
-    ap (λ (ms : List Accepted). lines_from f i (made_from ms (drop i added) (drop j entries))) (drop_more moves i d a)
-    ∙ ap (λ (ns : List ℕ). lines_from f i (made_from (get_or moves i d ∷ drop (i + 1) moves) ns (drop j entries))) (drop_more added i 0 b)
-    ∙ ap (λ (es : List Entry). (move_text (i + 1) (get_or moves i d) ++ followed_text g) ++ lines_from g (i + 1) (made_from (drop (i + 1) moves) (drop (i + 1) added) es)) (drop-drop n j entries)
+pub some_made : (s : State) (ls : List Line) → 0 < length (replay_from s ls).made → 0 < length ls
+some_made s [] some = some
+some_made s (l ∷ ls) some = omega arith
 
--- no line is left
-pub no_lines : (f : Following) (moves : List Accepted) (added : List ℕ) (entries : List Entry) (i : ℕ) → length moves ≡ 0 → lines_from f i (made_from moves added entries) ≡ []
-no_lines f [] added entries i none = refl
-no_lines f (m ∷ ms) added entries i none = absurd (omega arith)
+accepted_of : (r : Option Refusal) (number : ℕ) (m : Made) (rest : Replay)
+    → 0 < length (refused_or r number (with_move m rest)).made → r ≡ None
+accepted_of None number m rest some = refl
+accepted_of (Some x) number m rest some = absurd (omega arith)
 
-allowed_prefix : (q : Sequential) (xs ys : List Entry) → AreEnabled q (xs ++ ys) → AreEnabled q xs
-allowed_prefix q [] ys a = tt
-allowed_prefix q (x ∷ xs) ys (b, a) = (b, allowed_prefix (after_entry q x) xs ys a)
+-- the next move is accepted, and then come those behind it
+pub record IsNext (s : State) (moves : List Line) (i : ℕ) (l : Line) : Type 0 where
+  pub within : i < length moves
+  pub accepted : refusal_of s l.thread l.action ≡ None
+  pub rest : replay_from s (drop i moves)
+      ≡ with_move (made_by s l) (replay_from (next_state s l.thread l.action) (drop (i + 1) moves))
 
--- the next entries may come, and then the rest
-pub record IsSplit (q : Sequential) (entries : List Entry) (j n : ℕ) : Type 0 where
-  pub next : AreEnabled q (take n (drop j entries))
-  pub rest : AreEnabled (after_entries q (take n (drop j entries))) (drop (j + n) entries)
-
-pub next_enabled : (q : Sequential) (entries : List Entry) (j n : ℕ) → AreEnabled q (drop j entries) → IsSplit q entries j n
-next_enabled q entries j n a =
-    let parts : AreEnabled q (take n (drop j entries) ++ drop n (drop j entries)) = subst (AreEnabled q) (sym (take-append-drop n (drop j entries))) a in
+pub next_of : (s : State) (moves : List Line) (i : ℕ) (d : Line) → 0 < length (replay_from s (drop i moves)).made
+    → IsNext s moves i (get_or moves i d)
+next_of s moves i d some =
+    let within : i < length moves = omega (arith, some_made s (drop i moves) some, length-drop i moves) in
+    let l : Line = get_or moves i d in
+    let after : Replay = replay_from (next_state s l.thread l.action) (drop (i + 1) moves) in
+    let parts : drop i moves ≡ l ∷ drop (i + 1) moves = drop_more moves i d within in
+    let accepted : refusal_of s l.thread l.action ≡ None = accepted_of (refusal_of s l.thread l.action) l.number (made_by s l) after
+    (subst (λ (ls : List Line). 0 < length (replay_from s ls).made) parts some) in
     record {
-      next = allowed_prefix q (take n (drop j entries)) (drop n (drop j entries)) parts;
-      rest = subst (AreEnabled (after_entries q (take n (drop j entries)))) (drop-drop n j entries) (allowed_rest q (take n (drop j entries)) (drop n (drop j entries)) parts);
+      within = within;
+      accepted = accepted;
+      rest = ap (replay_from s) parts
+          ∙ ap (λ (r : Option Refusal). refused_or r l.number (with_move (made_by s l) after)) accepted;
     }
 
--- the entries that a move added are among those that are left
-pub next_added : (added : List ℕ) (i : ℕ) → i < length added → sum (drop i added) ≡ get_or added i 0 + sum (drop (i + 1) added)
-next_added added i within = sum_by-drop_more (λ (x : ℕ). x) added i 0 within
+goes_on : (r : Option Refusal) (number : ℕ) (m : Made) (rest : Replay) → option_map {U = ℕ × Refusal} (λ x. (number, x)) r ≡ None
+    → 0 < length (refused_or r number (with_move m rest)).made
+goes_on None number m rest none = omega arith
+goes_on (Some x) number m rest none = absurd (cc)
+
+-- a move is left that is not refused
+line_left : (s : State) (ls : List Line) → 0 < length ls → next_refused s ls ≡ None → 0 < length (replay_from s ls).made
+line_left s [] some none = some
+line_left s (l ∷ ls) some none = goes_on (refusal_of s l.thread l.action) l.number (made_by s l) _ none
+
+not_refused : (s : State) (ls : List Line) → 0 < length (replay_from s ls).made → next_refused s ls ≡ None
+not_refused s [] some = refl
+not_refused s (l ∷ ls) some =
+    ap (option_map {U = ℕ × Refusal} (λ x. (l.number, x))) (accepted_of (refusal_of s l.thread l.action) l.number (made_by s l) _ some)
+
+-- so it is told by whether the next is refused
+pub line_told : (s : State) (ls : List Line) (r : Option (ℕ × Refusal)) (b : Bool) → 0 < length ls → r ≡ next_refused s ls
+    → is_some r ≡ not b → IsTrue b ↔ (0 < length (replay_from s ls).made)
+line_told s ls None true some is told = (λ _. line_left s ls some (sym is), λ _. refl)
+line_told s ls None false some is told = absurd (cc)
+line_told s ls (Some x) true some is told = absurd (cc)
+line_told s ls (Some x) false some is told = (λ yes. let h : false ≡ true = yes in absurd (cc), λ made. absurd (none-some x (sym (is ∙ not_refused s ls made))))
+
+stops : (r : Option Refusal) (number : ℕ) (m : Made) (rest : Replay) → length (refused_or r number (with_move m rest)).made ≡ 0
+    → (refused_or r number (with_move m rest)).refused ≡ option_map {U = ℕ × Refusal} (λ x. (number, x)) r
+stops None number m rest none = absurd (omega arith)
+stops (Some x) number m rest none = refl
+
+-- where no line is left, the next move is refused, or there is none
+pub none_left : (s : State) (ls : List Line) → length (replay_from s ls).made ≡ 0 → (replay_from s ls).refused ≡ next_refused s ls
+none_left s [] none = refl
+none_left s (l ∷ ls) none = stops (refusal_of s l.thread l.action) l.number (made_by s l) _ none
+
+no_made : (f : Following) (count : ℕ) (ms : List Made) → length ms ≡ 0 → lines_from f count ms ≡ []
+no_made f count [] none = refl
+no_made f count (m ∷ ms) none = absurd (omega arith)
+
+-- then no line is printed, and the last is that of the next move
+pub no_lines : (f : Following) (s : State) (i : ℕ) (ls : List Line) (b : Bool) → IsTrue b ↔ (0 < length (replay_from s ls).made)
+    → b ≡ false → lines_from f i (replay_from s ls).made ≡ []
+no_lines f s i ls b told is = elim (cases_lt 0 (length (replay_from s ls).made)) [
+  | inl some ↦ let h : false ≡ true = sym is ∙ told.1 some in absurd (cc)
+  | inr none ↦ no_made f i (replay_from s ls).made (omega (arith, none))
+]
+
+pub last_is : (s : State) (i : ℕ) (ls : List Line) (refused : Option (ℕ × Refusal)) → length (replay_from s ls).made ≡ 0
+    → refused ≡ next_refused s ls → last_line i refused ≡ last_line (i + length (replay_from s ls).made) (replay_from s ls).refused
+last_is s i ls refused none is =
+    ap (last_line i) (is ∙ sym (none_left s ls none))
+    ∙ ap (λ (k : ℕ). last_line k (replay_from s ls).refused) (omega (arith, none))
+
+-- ---- one step of the printer
+
+-- the line that was printed, and the lines that are left
+pub line_printed : (old prefix : List ℕ) (f g : Following) (s next : State) (moves : List Line) (i count : ℕ) (l : Line)
+    (outcome : Outcome) (es : List Entry) → IsNext s moves i l → outcome ≡ (change_of s l.thread l.action).outcome
+    → es ≡ entries_of s l.thread l.action → g ≡ followed_by f es → next ≡ next_state s l.thread l.action → count ≡ i + 1
+    → prefix ≡ move_text count (record { line = l.number; thread = l.thread; action = l.action; outcome = outcome })
+    → old ≡ lines_from f i (replay_from s (drop i moves)).made
+    → old ≡ (prefix ++ followed_text g) ++ lines_from g (i + 1) (replay_from next (drop (i + 1) moves)).made
+line_printed old prefix f g s next moves i count l outcome es n made added follows is counted written old_is =
+    let a : Outcome → Accepted = λ (o : Outcome). record { line = l.number; thread = l.thread; action = l.action; outcome = o } in
+    let rest : State → List Made = λ (r : State). (replay_from r (drop (i + 1) moves)).made in
+    let after : State = next_state s l.thread l.action in
+    let more : Following = followed_by f (entries_of s l.thread l.action) in
+    let same : g ≡ more = follows ∙ ap (followed_by f) added in
+    let text : prefix ≡ move_text (i + 1) (made_by s l).accepted =
+    written ∙ ap (λ (k : ℕ). move_text k (a outcome)) counted ∙ ap (λ (o : Outcome). move_text (i + 1) (a o)) made in
+    old_is ∙ ap (λ (r : Replay). lines_from f i r.made) n.rest
+    ∙ sym (ap (λ (xs : List ℕ). (xs ++ followed_text g) ++ lines_from g (i + 1) (rest next)) text
+    ∙ ap (λ (h : Following). (move_text (i + 1) (made_by s l).accepted ++ followed_text h) ++ lines_from h (i + 1) (rest next)) same
+    ∙ ap (λ (r : State). (move_text (i + 1) (made_by s l).accepted ++ followed_text more) ++ lines_from more (i + 1) (rest r)) is)
+
+pub left_more : (s next : State) (moves : List Line) (i : ℕ) (l : Line) → IsNext s moves i l → next ≡ next_state s l.thread l.action
+    → length (replay_from next (drop (i + 1) moves)).made + 1 ≡ length (replay_from s (drop i moves)).made
+left_more s next moves i l n is =
+    ap (λ (r : State). length (replay_from r (drop (i + 1) moves)).made + 1) is
+    ∙ sym (ap (λ (r : Replay). length r.made) n.rest ∙ omega arith)
+
+pub last_more : (s next : State) (moves : List Line) (i : ℕ) (l : Line) → IsNext s moves i l → next ≡ next_state s l.thread l.action
+    → let new : Replay = replay_from next (drop (i + 1) moves) in let old : Replay = replay_from s (drop i moves) in
+    last_line (i + 1 + length new.made) new.refused ≡ last_line (i + length old.made) old.refused
+last_more s next moves i l n is =
+    let after : Replay = replay_from (next_state s l.thread l.action) (drop (i + 1) moves) in
+    ap (λ (r : State). last_line (i + 1 + length (replay_from r (drop (i + 1) moves)).made) (replay_from r (drop (i + 1) moves)).refused) is
+    ∙ ap (λ (k : ℕ). last_line k after.refused) (omega arith)
+    ∙ sym (ap (λ (r : Replay). last_line (i + length r.made) r.refused) n.rest)
+
+-- the next line, and then the rest
+pub next_parts : (whole done lines line rest last same : List ℕ) → lines ≡ line ++ rest → same ≡ last → done ++ (lines ++ last) ≡ whole
+    → done ++ (line ++ (rest ++ same)) ≡ whole
+next_parts whole done lines line rest last same is kept parts =
+    rw kept (sym (ap (λ (ys : List ℕ). done ++ ys) (ap (λ (ys : List ℕ). ys ++ last) is ∙ append_assoc line rest last)) ∙ parts)
+
+-- no line is left but the last
+pub last_part : (whole done lines last : List ℕ) → lines ≡ [] → done ++ (lines ++ last) ≡ whole → done ++ (last ++ []) ≡ whole
+last_part whole done lines last none parts = ap (λ (ys : List ℕ). done ++ ys) (append-nil last ∙ sym (ap (λ (ys : List ℕ). ys ++ last) none)) ∙ parts
 
 -- ---- how the report ends
 
@@ -132,6 +223,11 @@ behind_lines f count (m ∷ ms) text some =
     ∙ behind_line (prefix ++ shown) (rest ++ text) (omega (arith, length-append rest text))
     ∙ behind_lines g (count + 1) ms text some
 
+-- the last line is not empty, so it tells how the report ends
+pub last_some : (count : ℕ) (refused : Option (ℕ × Refusal)) → 0 < length (last_line count refused)
+last_some count None = omega arith
+last_some count (Some refused) = omega arith
+
 -- ---- the words of a line
 
 -- each word with the spaces around it
@@ -144,46 +240,3 @@ words_joined count thread word outcome = simp append_assoc
 pub end_joined : (before holding waiting : List ℕ)
     → (((before ++ holding) ++ codes " queue ") ++ waiting) ++ codes "\n" ≡ before ++ (holding ++ codes " queue " ++ waiting ++ codes "\n")
 end_joined before holding waiting = simp append_assoc
-
--- ---- one step of the printer
-
--- the line that was printed, and the lines that are left
-pub line_printed : (old prefix : List ℕ) (f g : Following) (moves : List Accepted) (added : List ℕ) (entries : List Entry) (i j n count : ℕ) (d : Accepted) → i < length moves → i < length added
-    → n ≡ get_or added i 0 → g ≡ followed_by f (take (j + n - j) (drop j entries)) → count ≡ i + 1 → prefix ≡ move_text count (get_or moves i d)
-    → old ≡ lines_from f i (made_from (drop i moves) (drop i added) (drop j entries))
-    → old ≡ (prefix ++ followed_text g) ++ lines_from g (i + 1) (made_from (drop (i + 1) moves) (drop (i + 1) added) (drop (j + n) entries))
-line_printed old prefix f g moves added entries i j n count d a b size is counted written old_is =
-    let a_move : Accepted = get_or moves i d in
-    let rest : Following → ℕ → List ℕ = λ (h : Following) (k : ℕ). lines_from h (i + 1) (made_from (drop (i + 1) moves) (drop (i + 1) added) (drop (j + k) entries)) in
-    let next : Following = followed_by f (take (get_or added i 0) (drop j entries)) in
-    let same : g ≡ next = is ∙ ap (λ (k : ℕ). followed_by f (take k (drop j entries))) (omega (arith, size)) in
-    let text : prefix ≡ move_text (i + 1) a_move = written ∙ ap (λ (k : ℕ). move_text k a_move) counted in
-    old_is ∙ one_line f moves added entries i j d a b
-    ∙ sym (ap (λ (xs : List ℕ). (xs ++ followed_text g) ++ rest g n) text ∙ ap (λ (h : Following). (move_text (i + 1) a_move ++ followed_text h) ++ rest h n) same
-    ∙ ap (λ (k : ℕ). (move_text (i + 1) a_move ++ followed_text next) ++ rest next k) size)
-
-pub printing_next : (f g : Following) (count next i j n : ℕ) (moves : List Accepted) (added : List ℕ) (entries : List Entry) → IsPrinting f count i j moves added entries → i < length moves
-    → n ≡ get_or added i 0 → g ≡ followed_by f (take (j + n - j) (drop j entries)) → next ≡ count + 1 → IsPrinting g next (i + 1) (j + n) moves added entries
-printing_next f g count next i j n moves added entries p within size is counted = record {
-  counted = counted ∙ ap (λ (k : ℕ). k + 1) p.counted;
-  within = omega (arith, within);
-  few = p.few;
-  each = p.each;
-  all = omega (arith, size, next_added added i (omega (arith, within, p.each)), p.all);
-  enabled = subst (λ (q : Sequential). AreEnabled q (drop (j + n) entries))
-      (sym (ap (λ (h : Following). h.sequential) is ∙ ap (λ (k : ℕ). after_entries f.sequential (take k (drop j entries))) (omega arith)))
-      (next_enabled f.sequential entries j n p.enabled).rest;
-}
-
-pub may_be_next : (q : Sequential) (entries : List Entry) (j n : ℕ) → AreEnabled q (drop j entries) → AreEnabled q (take (j + n - j) (drop j entries))
-may_be_next q entries j n a = subst (λ (k : ℕ). AreEnabled q (take k (drop j entries))) (omega arith) (next_enabled q entries j n a).next
-
--- the next line, and then the rest
-pub next_parts : (whole done lines line rest last same : List ℕ) → lines ≡ line ++ rest → same ≡ last → done ++ (lines ++ last) ≡ whole
-    → done ++ (line ++ (rest ++ same)) ≡ whole
-next_parts whole done lines line rest last same is kept parts =
-    rw kept (sym (ap (λ (ys : List ℕ). done ++ ys) (ap (λ (ys : List ℕ). ys ++ last) is ∙ append_assoc line rest last)) ∙ parts)
-
--- no line is left but the last
-pub last_part : (whole done lines last : List ℕ) → lines ≡ [] → done ++ (lines ++ last) ≡ whole → done ++ (last ++ []) ≡ whole
-last_part whole done lines last none parts = ap (λ (ys : List ℕ). done ++ ys) (append-nil last ∙ sym (ap (λ (ys : List ℕ). ys ++ last) none)) ∙ parts

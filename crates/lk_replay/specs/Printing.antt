@@ -1,33 +1,26 @@
--- Invariants: the lines of a report that are still to be printed from what was played.
-use Rattle.std.specs.Prelude.{◌≡◌, ℕ, ◌+◌, ◌≤◌, List, [], ◌∷◌, ◌++◌, Option, None, Some, drop, length, take}
-use Rattle.std.specs.List.{sum}
-use Rattle.lk_locks.specs.Legal.{AreEnabled}
-use Rattle.lk_locks.specs.declared.kinds.Entry.{Entry}
-use Rattle.lk_replay.specs.Following.{Following, followed_by, followed_text, following}
-use Rattle.lk_replay.specs.Replay.{Made, Replayed}
-use Rattle.lk_replay.specs.Report.{move_text}
-use Rattle.lk_replay.specs.declared.played.Accepted.{Accepted}
-
--- the moves, each with its entries, of which it added so many
-abbrev pub made_from : List Accepted → List ℕ → List Entry → List Made
-made_from [] added es = []
-made_from (m ∷ ms) [] es = []
-made_from (m ∷ ms) (n ∷ ns) es = record { accepted = m; entries = take n es } ∷ made_from ms ns (drop n es)
+-- Invariants: the lines of a report that are still to be printed, of moves that are played as they are printed.
+use Rattle.std.specs.Prelude.{◌≡◌, ℕ, ◌+◌, ◌≤◌, List, [], ◌∷◌, ◌++◌, Option, None, length}
+use Rattle.std.specs.Option.{option_map}
+use Rattle.lk_locks.specs.State.{State}
+use Rattle.lk_locks.specs.Steps.{refusal_of}
+use Rattle.lk_locks.specs.declared.kinds.Refusal.{Refusal}
+use Rattle.lk_locks.specs.Tracked.{Tracked}
+use Rattle.lk_replay.specs.Following.{Following, followed_by, followed_text}
+use Rattle.lk_replay.specs.Replay.{Made, Replay}
+use Rattle.lk_replay.specs.Report.{last_line, move_text}
+use Rattle.lk_replay.specs.declared.schedule.Line.{Line}
 
 -- the lines of these moves after `count` others, which are followed to here
 abbrev pub lines_from : Following → ℕ → List Made → List ℕ
 lines_from f count [] = []
 lines_from f count (m ∷ ms) =
-    (move_text (count + 1) m.accepted ++ followed_text (followed_by f m.entries)) ++ lines_from (followed_by f m.entries) (count + 1) ms
+    (move_text (count + 1) m.accepted ++ followed_text (followed_by f m.entries))
+    ++ lines_from (followed_by f m.entries) (count + 1) ms
 
--- the lines of what was played
-abbrev pub played_lines : Replayed → List ℕ
-played_lines r = lines_from (following r.kind []) 0 (made_from r.accepted r.added r.entries)
-
--- the report of a text: the lines of what was played, where it is a schedule, and the last line
-abbrev pub prepared_text : Option Replayed → List ℕ → List ℕ
-prepared_text None last = last
-prepared_text (Some r) last = played_lines r ++ last
+-- the line of the first of these moves, and why it is refused, where there is one and it is
+abbrev pub next_refused : State → List Line → Option (ℕ × Refusal)
+next_refused s [] = None
+next_refused s (l ∷ ls) = option_map (λ r. (l.number, r)) (refusal_of s l.thread l.action)
 
 -- the lines that are left, how many, and the last line
 pub record Printing : Type 0 where
@@ -35,18 +28,17 @@ pub record Printing : Type 0 where
   pub left : ℕ
   pub last : List ℕ
 
-abbrev pub printing : Following → ℕ → List Accepted → List ℕ → List Entry → List ℕ → Printing
-printing line count moves added entries last = record {
-  lines = lines_from line count (made_from moves added entries);
-  left = length moves;
-  last = last;
+-- what is left of a replay after `count` moves, which are followed to here
+abbrev pub printing : Following → ℕ → Replay → Printing
+printing f count rest = record {
+  lines = lines_from f count rest.made;
+  left = length rest.made;
+  last = last_line (count + length rest.made) rest.refused;
 }
 
--- so many moves are printed, and so many entries are followed
-pub record IsPrinting (line : Following) (count printed followed : ℕ) (moves : List Accepted) (added : List ℕ) (entries : List Entry) : Type 0 where
+-- so many of the moves are printed, and what is followed is the lock
+pub record IsPrinting (f : Following) (lock : Tracked) (count printed : ℕ) (moves : List Line) : Type 0 where
   pub counted : count ≡ printed
   pub within : printed ≤ length moves
   pub few : length moves ≤ 65536
-  pub each : length added ≡ length moves
-  pub all : followed + sum (drop printed added) ≡ length entries
-  pub enabled : AreEnabled line.sequential (drop followed entries)
+  pub same : f.sequential ≡ lock.sequential

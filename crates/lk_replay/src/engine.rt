@@ -1,41 +1,69 @@
 //! From a schedule text on a reader to its report on a writer.
 
-ghost use Rattle.std.specs.Prelude.{◌≡◌, ◌++◌, [], OnErr, OnOk, IfErr, IfOk, IfSome, Ok, Err, Result};
+ghost use Rattle.std.specs.Prelude.{◌≡◌, ◌≢◌, ◌++◌, [], OnErr, OnOk, IfErr, IfOk, IfSome, Ok, Err, Result};
 ghost use Rattle.std.specs.Io.KnownBytes.{Appends, Keeps};
 ghost use Rattle.lk_replay.specs.Devices.{AppendsPrefix, IfErrOf};
 ghost use Rattle.lk_replay.specs.Ending.{ending_of, status_of};
 ghost use Rattle.lk_replay.specs.Report.{report_text};
 
-use crate::devices::{RunFault, read_text};
+use crate::devices::{RunFault, read_text, send};
 use crate::ending::{Ending, ending_of};
 use crate::output_buffer::OutputBuffer;
-use crate::report::{Printer, prepare};
+use crate::report::{Printer, fault_text};
+use crate::{ReadFault, read_schedule};
 use std::alloc::Global;
 use std::io::{Read, Write};
 
-// Writes what is printed, through a buffer in which nothing waits.
+// Writes what is printed, through a buffer in which nothing waits, and answers how it ends.
 fn print<W: Write>(
     output: &mut W,
     buffer: &mut OutputBuffer,
     printer: &mut Printer<'_>,
-) -> Result<(), RunFault>
+) -> Result<Ending, RunFault>
     requires { buffer.old ≡ [] }
     ensures written { OnOk result (Appends (W.contents output.old) (W.contents output.new) (printer.old.lines ++ printer.old.last)) }
     ensures prefix { OnErr result (AppendsPrefix (W.contents output.old) (W.contents output.new) (printer.old.lines ++ printer.old.last)) }
-    ensures last { printer.new.last ≡ printer.old.last }
+    ensures ending { IfOk result (λ ending. ending ≡ ending_of printer.old.last) }
     ensures fault { IfErr result (λ e. e ≡ RunFault.Write) }
 {
-    while printer.left() > 0 {
+    while printer.has_line() {
         buffer.print(output, printer)?;
     }
-    buffer.push(output, printer.last())?;
-    buffer.send_whole(output)
+    let last = printer.last();
+    buffer.push(output, last.as_slice())?;
+    buffer.send_whole(output)?;
+    Ok(ending_of(last.as_slice()))
+}
+
+// Writes the report of a text, and answers how it ends.
+#[tactic(auto, unfolding(crate::specs::Report::report_text))]
+fn report<W: Write>(alloc: Global, output: &mut W, text: &[u8]) -> Result<Ending, RunFault>
+    ensures written { OnOk result (Appends (W.contents output.old) (W.contents output.new) (report_text text.now)) }
+    ensures ending { IfOk result (λ ending. ending ≡ ending_of (report_text text.now)) }
+    ensures prefix { IfErrOf result RunFault.Write (AppendsPrefix (W.contents output.old) (W.contents output.new) (report_text text.now)) }
+    ensures no_memory { IfErrOf result RunFault.OutOfMemory (Keeps (W.contents output.old) (W.contents output.new)) }
+    ensures fault { IfErr result (λ e. e ≢ RunFault.Read) }
+{
+    match read_schedule(alloc, text) {
+        Ok(schedule) => {
+            let Ok(mut buffer) = OutputBuffer::new(alloc) else {
+                return Err(RunFault::OutOfMemory);
+            };
+            print(output, &mut buffer, &mut Printer::new(&schedule))
+        }
+        Err(ReadFault::OutOfMemory) => Err(RunFault::OutOfMemory),
+        Err(fault) => {
+            let last = fault_text(fault);
+            send(output, last.as_slice())?;
+            Ok(ending_of(last.as_slice()))
+        }
+    }
 }
 
 /// Reads a schedule text, and writes its report and nothing else.
 ///
-/// All moves are played before the first byte goes out. Then the report is printed, and each 65,536 bytes of it are written, so
-/// that the memory that this takes does not grow with the report.
+/// The whole text is read before the first byte goes out. Then each move is played and its line printed, and each 65,536 bytes
+/// are written, so that the memory that this takes does not grow with the report.
 ///
 /// # Errors
 ///
@@ -56,15 +84,7 @@ pub fn run<R: Read, W: Write>(
     ensures no_memory { IfErrOf result RunFault.OutOfMemory (Keeps (W.contents output.old) (W.contents output.new)) }
 {
     let text = read_text(alloc, input)?;
-    let Ok(prepared) = prepare(alloc, &text) else {
-        return Err(RunFault::OutOfMemory);
-    };
-    let Ok(mut buffer) = OutputBuffer::new(alloc) else {
-        return Err(RunFault::OutOfMemory);
-    };
-    let mut printer = prepared.printer();
-    print(output, &mut buffer, &mut printer)?;
-    Ok(ending_of(printer.last()))
+    report(alloc, output, &text)
 }
 
 /// The exit status of a run: 0 where every move was accepted, 1 where one was refused or the text is no schedule, and 3 after

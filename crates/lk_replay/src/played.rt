@@ -72,8 +72,8 @@ impl Played {
         self.keeper.entries()
     }
 
-    // How many entries each accepted move added.
-    pub(crate) fn added(&self) -> &[u8]
+    /// How many entries each accepted move added.
+    pub fn added(&self) -> &[u8]
         ensures added { result.now ≡ self.now.added }
         ensures each { length result.now ≡ length self.now.accepted }
         ensures all { sum result.now ≡ length self.now.entries }
@@ -81,8 +81,8 @@ impl Played {
         self.added.as_slice()
     }
 
-    // The lock.
-    pub(crate) fn kind(&self) -> LockKind
+    /// The lock.
+    pub fn kind(&self) -> LockKind
         ensures { result ≡ self.now.kind }
     {
         self.kind

@@ -1,41 +1,45 @@
-//! The lines of a report, printed one after another from what was played. No line asks for memory.
+//! The lines of a report, one after another: a move is played where its line is printed. No line asks for memory.
 
-ghost use Rattle.std.specs.Prelude.{◌≡◌, ◌≤◌, length, take};
+ghost use Rattle.std.specs.Prelude.{◌≡◌, ◌≤◌, [], drop, length, take};
+ghost use Rattle.lk_locks.specs.Tracked.{tracked};
+ghost use Rattle.lk_replay.specs.Printing.{next_refused};
+ghost use Rattle.lk_replay.specs.Replay.{start_of};
 ghost use Rattle.lk_replay.specs.Report.{move_text};
 
-use crate::played::{Accepted, Played};
+use crate::played::Accepted;
+use crate::report::closings::last_line;
 use crate::report::followed::Followed;
 use crate::report::numerals::{Numeral, thread_block};
-use crate::report::text::put_block;
+use crate::report::text::{Text, put_block};
 use crate::report::words::{move_block, outcome_block};
-use lk_locks::{Entry, LockKind};
+use crate::{Line, Schedule};
+use lk_locks::{Added, Refusal, Tracker, words_needed};
+use lk_words::WordArray;
 use std::marker::Model;
 
 /// The bytes of a place that has room for any line: 64 for what tells of the move, and 384 for who holds and who waits.
 pub const LINE_ROOM: usize = 448;
 
-/// What was played, and how far it is printed.
+/// The moves of a schedule, how many of them are printed, and the lock on which they were played.
 #[derive(Drop)]
 pub struct Printer<'a> {
-    moves: &'a [Accepted],
-    added: &'a [u8],
-    entries: &'a [Entry],
+    moves: &'a [Line],
     printed: usize,
-    followed: usize,
     count: Numeral,
+    lock: Tracker<WordArray>,
     line: Followed,
-    last: &'a [u8],
 }
 
 impl<'a> Model for Printer<'a> {
     ghost use Rattle.std.specs.Prelude.{drop};
     ghost use Rattle.lk_replay.specs.Printing.{IsPrinting, Printing, printing};
+    ghost use Rattle.lk_replay.specs.Replay.{replay_from};
 
     ghost Value = { Printing };
 
-    ghost view = { λ a. printing a.line a.printed (drop a.printed a.moves.now) (drop a.printed a.added.now) (drop a.followed a.entries.now) a.last.now };
+    ghost view = { λ a. printing a.line a.printed (replay_from a.lock.state (drop a.printed a.moves.now)) };
 
-    ghost invariant = { λ a. IsPrinting a.line a.count a.printed a.followed a.moves.now a.added.now a.entries.now };
+    ghost invariant = { λ a. IsPrinting a.line a.lock a.count a.printed a.moves.now };
 }
 
 // Writes `K T WORD OUTCOME hold ` of an accepted move, and answers where it ends.
@@ -55,75 +59,93 @@ fn write_prefix(line: &mut [u8], count: &Numeral, accepted: &Accepted) -> usize
     put_block(line, move_end, block, len)
 }
 
+// A lock of the schedule's kind, on which nothing was played.
+fn new_lock(schedule: &Schedule) -> Tracker<WordArray>
+    ensures { result ≡ tracked (start_of schedule.now) [] }
+{
+    let kind = schedule.kind();
+    let threads = schedule.threads();
+    let words = WordArray::with_bits(words_needed(kind, threads), schedule.bits());
+    Tracker::new(kind, threads, words)
+}
+
+// The line of the move at a place, and why it is refused, where there is a move and it is.
+#[inline(always)]
+fn refused_at(lock: &Tracker<WordArray>, moves: &[Line], at: usize) -> Option<(u32, Refusal)>
+    requires { at ≤ length moves.now }
+    ensures { result ≡ next_refused lock.now.state (drop at moves.now) }
+{
+    if at == moves.len() {
+        return None;
+    }
+    let line = moves[at];
+    match lock.machine().check(line.thread, line.action) {
+        Ok(()) => None,
+        Err(refusal) => Some((line.number, refusal)),
+    }
+}
+
 impl<'a> Printer<'a> {
-    ghost use Rattle.std.specs.Prelude.{◌≡◌, ◌+◌, ◌<◌, ◌≤◌, ◌++◌, [], length, take};
-    ghost use Rattle.lk_replay.specs.Printing.{played_lines};
+    ghost use Rattle.std.specs.Prelude.{◌≡◌, ◌+◌, ◌<◌, ◌≤◌, ◌↔◌, ◌++◌, [], IsTrue, false, length, take};
+    ghost use Rattle.lk_replay.specs.Ending.{ending_of};
+    ghost use Rattle.lk_replay.specs.Replay.{replay_of};
+    ghost use Rattle.lk_replay.specs.Report.{replay_text};
 
-    /// A printer of what was played, and of the last line.
-    pub fn of_played(played: &'a Played, last: &'a [u8]) -> Printer<'a>
-        ensures lines { result.lines ≡ played_lines played.now }
-        ensures last { result.last ≡ last.now }
+    /// A printer of a schedule's report.
+    pub fn new(schedule: &'a Schedule) -> Printer<'a>
+        ensures text { result.lines ++ result.last ≡ replay_text schedule.now.kind (replay_of schedule.now) }
+        ensures ending { ending_of result.last ≡ ending_of (replay_text schedule.now.kind (replay_of schedule.now)) }
     {
         Printer {
-            moves: played.accepted(),
-            added: played.added(),
-            entries: played.entries(),
+            moves: schedule.moves(),
             printed: 0,
-            followed: 0,
             count: Numeral::of(0),
-            line: Followed::new(played.kind()),
-            last,
+            lock: new_lock(schedule),
+            line: Followed::new(schedule.kind()),
         }
     }
 
-    /// A printer of one line alone.
-    pub fn of_line(last: &'a [u8]) -> Printer<'a>
-        ensures lines { result.lines ≡ [] }
-        ensures last { result.last ≡ last.now }
+    /// Whether there is a line before the last: a move is left, and it is not refused.
+    #[inline]
+    pub fn has_line(&self) -> bool
+        ensures left { IsTrue result ↔ (0 < self.now.left) }
+        ensures none { result ≡ false → self.now.lines ≡ [] }
     {
-        Printer {
-            moves: &[],
-            added: &[],
-            entries: &[],
-            printed: 0,
-            followed: 0,
-            count: Numeral::of(0),
-            line: Followed::new(LockKind::Ticket),
-            last,
-        }
+        self.printed < self.moves.len()
+            && refused_at(&self.lock, self.moves, self.printed).is_none()
     }
 
-    /// How many lines are left before the last.
-    pub fn left(&self) -> usize
-        ensures left { result ≡ self.now.left }
-        ensures none { result ≡ 0 → self.now.lines ≡ [] }
-    {
-        self.moves.len() - self.printed
-    }
-
-    /// Prints the next line at the front of a place, and answers how long it is.
-    pub fn next(&mut self, line: &mut [u8]) -> usize
+    /// Plays the next move, prints its line at the front of a place, and answers how long it is.
+    pub fn next(&mut self, place: &mut [u8]) -> usize
         requires some { 0 < self.old.left }
-        requires room { 448 ≤ length line.old }
-        ensures lines { self.old.lines ≡ take result line.new ++ self.new.lines }
-        ensures fits { result ≤ length line.new }
+        requires room { 448 ≤ length place.old }
+        ensures lines { self.old.lines ≡ take result place.new ++ self.new.lines }
+        ensures fits { result ≤ length place.new }
         ensures left { self.new.left + 1 ≡ self.old.left }
         ensures last { self.new.last ≡ self.old.last }
     {
-        let accepted = self.moves[self.printed];
-        let followed = self.followed + usize::from(self.added[self.printed]);
-        self.line.follow(&self.entries[self.followed..followed]);
-        self.followed = followed;
+        let line = self.moves[self.printed];
+        let mut added = Added::none();
+        let outcome = self.lock.make(line.thread, line.action, &mut added);
+        self.line.follow(added.as_slice());
         self.printed += 1;
         self.count.count_on();
-        let at = write_prefix(line, &self.count, &accepted);
-        self.line.write(line, at)
+        let accepted = Accepted {
+            line: line.number,
+            thread: line.thread,
+            action: line.action,
+            outcome,
+        };
+        let at = write_prefix(place, &self.count, &accepted);
+        self.line.write(place, at)
     }
 
-    /// The last line of the report.
-    pub fn last(&self) -> &'a [u8]
-        ensures { result.now ≡ self.now.last }
+    /// The last line: the refusal of the next move, or the end where there is none.
+    pub fn last(&self) -> Text
+        requires { self.now.left ≡ 0 }
+        ensures { result ≡ self.now.last }
     {
-        self.last
+        let refused = refused_at(&self.lock, self.moves, self.printed);
+        last_line(self.printed as u32, refused)
     }
 }
