@@ -5,7 +5,7 @@ use Rattle.lk_locks.specs.State.{State, phase_at}
 use Rattle.lk_locks.specs.Change.{Change}
 use Rattle.lk_locks.specs.Steps.{move_change, change_of, next_state, refusal_in, refusal_of}
 use Rattle.lk_locks.specs.Steps.{belongs}
-use Rattle.lk_locks.specs.Entries.{step_entries, move_entries, entries_of}
+use Rattle.lk_locks.specs.Entries.{move_entries, entries_of}
 use Rattle.lk_locks.specs.Sequential.{Sequential, thread_of}
 use Rattle.lk_locks.specs.Legal.{AreEnabled, after_entries, Legal}
 use Rattle.lk_locks.specs.invariants.WellFormed.{IsPhaseOf}
@@ -24,9 +24,7 @@ use Rattle.lk_locks.specs.declared.kinds.LockKind.{LockKind}
 use Rattle.lk_locks.specs.declared.kinds.Phase.{Phase}
 use Rattle.lk_locks.specs.declared.kinds.Move.{Move}
 use Rattle.lk_locks.specs.declared.kinds.Move.TheVariants.{Call, Step}
-use Rattle.lk_locks.specs.declared.kinds.StepKind.{StepKind}
 use Rattle.lk_locks.specs.declared.kinds.Entry.{Entry}
-use Rattle.lk_locks.specs.declared.kinds.Outcome.{Outcome}
 
 pub entries_are_own : (kind : LockKind) (bits : ℕ) (ws : List ℕ) (t : ℕ) (p : Phase) (m : Move)
     → AreOf t (move_entries kind t p m (move_change kind bits ws t p m).outcome)
@@ -95,13 +93,6 @@ legal_of s q es k = record {
       k.turns t h in (i.0, owed_of s.kind t (phase_at s.phases t), i.1);
   no_others = k.no_others;
 }
-
--- the entries that the code makes of a step
-pub made_entries : (s : State) (t : ℕ) (m : Move) (k : StepKind) (kind : LockKind) (p : Phase)
-    (o : Outcome) (added slice : List Entry) → m ≡ Step k → kind ≡ s.kind → p ≡ phase_at s.phases t
-    → o ≡ (change_of s t m).outcome → added ≡ step_entries kind t p o → slice ≡ added
-    → slice ≡ entries_of s t m
-made_entries s t m k kind p o added slice d i e f g h = h ∙ g ∙ rw (f, i, e, d) refl
 
 -- a lock and its history go on by an accepted move
 pub recorded_on : (k : Tracked) (es : List Entry) (t : ℕ) (m : Move) → IsRecorded k es

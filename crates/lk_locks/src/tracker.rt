@@ -4,7 +4,7 @@
 ghost use Rattle.std.specs.Prelude.{◌≡◌};
 ghost use Rattle.lk_locks.specs.Holding.{holder_after};
 
-use crate::entries::{Added, add_entries};
+use crate::entries::Added;
 use crate::holders::{alone, copy_of};
 use crate::{Entry, Holders, LockKind, Machine, Move, Op, Outcome, Refusal, SeqLock};
 use arrayvec::ArrayVec;
@@ -27,7 +27,12 @@ impl<W: Words> Model for Tracker<W> {
 
     ghost use Rattle.lk_locks.specs.invariants.Tracking.{IsTracked};
 
-    ghost view = { λ a. record { state = a.machine; sequential = a.sequential; holder = a.holder } };
+    ghost view = { λ a. record {
+      state = a.machine;
+      sequential = a.sequential;
+      holder =
+          a.holder;
+    } };
 
     ghost invariant = { λ a. IsTracked a.machine a.sequential };
 }
@@ -37,7 +42,6 @@ impl<W: Words> Tracker<W> {
     ghost use Rattle.lk_locks.specs.State.{start, word_count};
     ghost use Rattle.lk_locks.specs.Steps.{answer_to, change_of, next_state, refusal_of};
     ghost use Rattle.lk_locks.specs.Entries.{entries_of};
-    ghost use Rattle.lk_locks.specs.Legal.{AreEnabled};
     ghost use Rattle.lk_locks.specs.Holding.{holding, IsListed};
     ghost use Rattle.lk_locks.specs.Tracked.{tracked, followed, after_tracked, holding_in, waiting_in};
 
@@ -57,25 +61,21 @@ impl<W: Words> Tracker<W> {
         }
     }
 
-    /// Makes a move that is not refused, and fills in the entries that it adds. They may come, one
-    /// after another.
+    // Makes a move that is not refused, and fills in the entries that it adds.
     #[inline]
-    pub fn make(&mut self, t: u8, m: Move, added: &mut Added) -> Outcome
+    pub(crate) fn make(&mut self, t: u8, m: Move, added: &mut Added) -> Outcome
         requires accepted { refusal_of self.old.state t m ≡ None }
         requires none { added.old ≡ [] }
         ensures outcome { result ≡ (change_of self.old.state t m).outcome }
-        ensures after { self.new ≡ followed self.old (next_state self.old.state t m) (entries_of self.old.state t m) }
+        ensures after { self.new ≡ followed self.old (next_state self.old.state t m)
+            (entries_of self.old.state t m) }
         ensures entries { added.new ≡ entries_of self.old.state t m }
-        ensures enabled { AreEnabled self.old.sequential (entries_of self.old.state t m) }
     {
-        let kind = self.machine.kind();
-        let phase = self.machine.phase(t);
-        let outcome = self.machine.make(t, m);
+        let outcome = self.machine.make_adding(t, m, added);
         match m {
             // a call is no act, so the sequential object and the holder stay
-            Move::Call(op) => added.one(Entry::Called(t, op)),
+            Move::Call(_) => {}
             Move::Step(_) => {
-                add_entries(added, kind, t, phase, outcome);
                 self.sequential.follow(added.as_slice());
                 self.holder = holder_after(self.holder, added.as_slice());
             }

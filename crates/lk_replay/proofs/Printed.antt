@@ -1,5 +1,5 @@
 -- The lines that are printed as the moves are played are those of the report.
-use Rattle.std.proofs.Common.{◌≡◌, ℕ, ◌+◌, ◌<◌, List, [], ◌∷◌, ◌++◌, length, drop, get_or, codes, Option, None, Some, IsTrue, ◌↔◌, Bool, true, false, not, is_some, inl, inr, refl, sym, ap, ◌∙◌, subst, arith, append_assoc, append-nil, length-append, length-drop}
+use Rattle.std.proofs.Common.{◌≡◌, ℕ, ◌+◌, ◌<◌, ◌≤◌, ◌^◌, replicate, List, [], ◌∷◌, ◌++◌, length, drop, get_or, codes, Option, None, Some, IsTrue, ◌↔◌, Bool, true, false, not, is_some, inl, inr, refl, sym, ap, ◌∙◌, subst, arith, append_assoc, append-nil, length-append, length-drop}
 use Rattle.std.specs.List.{join_with_byte, slice_split}
 use Rattle.std.specs.Option.{option_map}
 use Rattle.std.proofs.lemmas.Bool.{cases_lt}
@@ -7,8 +7,11 @@ use Rattle.std.proofs.lemmas.List.{drop_more}
 use Rattle.std.proofs.lemmas.Option.{none-some}
 use Rattle.std.proofs.lemmas.List.Splits.{join_with_byte-slice_split}
 use Rattle.lk_locks.specs.Entries.{entries_of}
-use Rattle.lk_locks.specs.State.{State}
-use Rattle.lk_locks.specs.Tracked.{Tracked, tracked}
+use Rattle.lk_locks.specs.State.{State, word_count}
+use Rattle.lk_locks.specs.Sequential.{nobody}
+use Rattle.lk_locks.specs.invariants.Tracking.{IsTracked}
+use Rattle.lk_locks.proofs.Starting.{kept_start}
+use Rattle.std.proofs.lemmas.List.{get_or-replicate, length-replicate}
 use Rattle.lk_locks.specs.Steps.{change_of, next_state, refusal_of}
 use Rattle.lk_locks.specs.declared.kinds.Entry.{Entry}
 use Rattle.lk_locks.specs.declared.kinds.LockKind.{LockKind}
@@ -43,11 +46,22 @@ lines_are kind count es (m ∷ ms) refused =
     ∙ ap (λ (ys : List ℕ). line ++ ys) (lines_are kind (count + 1) new ms refused)
 
 -- what a new printer prints is the report of the schedule
-pub replay_printed : (p : Plan) (f : Following) (k : Tracked) (moves : List Line) → f ≡ following p.kind []
-    → k ≡ tracked (start_of p) [] → moves ≡ p.moves → let rest : Replay = replay_from k.state moves in
+pub replay_printed : (p : Plan) (f : Following) (s : State) (moves : List Line) → f ≡ following p.kind []
+    → s ≡ start_of p → moves ≡ p.moves → let rest : Replay = replay_from s moves in
     lines_from f 0 rest.made ++ last_line (0 + length rest.made) rest.refused ≡ replay_text p.kind (replay_of p)
-replay_printed p f k moves follows starts are =
+replay_printed p f s moves follows starts are =
     rw (follows, starts, are) (lines_are p.kind 0 [] (replay_of p).made (replay_of p).refused)
+
+-- a new lock agrees with a sequential object in which nobody is
+pub tracked_start : (p : Plan) → p.threads ≤ 64 → p.threads < 2 ^ p.bits → IsTracked (start_of p) (nobody p.kind)
+tracked_start p few narrow =
+    let n : ℕ = word_count p.kind p.threads in
+    let size : length {A = ℕ} (replicate n 0) ≡ n = length-replicate n 0 in
+    ([], kept_start p.kind p.bits (replicate n 0) p.threads few narrow (omega (arith, size)) (λ i low. get_or-replicate n i 0 0 (omega (arith, size, low))))
+
+pub tracked_new : (p : Plan) (f : Following) (s : State) → f ≡ following p.kind [] → s ≡ start_of p
+    → IsTracked (start_of p) (nobody p.kind) → IsTracked s f.sequential
+tracked_new p f s follows starts tracked = rw (follows, starts) tracked
 
 -- ---- the next move
 

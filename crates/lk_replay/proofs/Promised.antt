@@ -1,8 +1,9 @@
 -- What is played of a schedule is a run of its lock, and so it is as promised.
 use Rattle.std.proofs.Common.{◌≡◌, ℕ, ◌+◌, ◌<◌, ◌≤◌, ◌^◌, List, [], ◌∷◌, ◌++◌, length, map, nat_le}
-use Rattle.std.proofs.Common.{nat_lt, ◌&&◌, replicate, Option, None, Some, Result, Ok, Err, refl}
+use Rattle.std.proofs.Common.{nat_lt, ◌&&◌, replicate, Option, None, Some, IfSome, Result, Ok, Err, refl}
 use Rattle.std.proofs.Common.{sym, ap, ◌∙◌, subst, arith, append_assoc, append-nil, inl, inr}
 use Rattle.std.specs.List.{flat_map}
+use Rattle.std.specs.Io.KnownBytes.{Appends}
 use Rattle.std.proofs.lemmas.Bool.{and_parts, cases_Bool, cond-false, cond-true, leb-true, ltb-true}
 use Rattle.std.proofs.lemmas.List.{get_or-replicate, length-replicate}
 use Rattle.lk_locks.proofs.Runs.{every_run_is_as_promised}
@@ -24,7 +25,7 @@ use Rattle.lk_replay.specs.Replay.{replay_of, replayed_of, with_move}
 use Rattle.lk_replay.specs.Report.{plan_text, report_text}
 use Rattle.lk_replay.specs.Vocabulary.{is_plain_number, number_of, value_from}
 use Rattle.lk_replay.specs.declared.played.Accepted.{Accepted}
-use Rattle.lk_replay.specs.Whole.{EveryReportIsAsPromised, IsHistoryOf, lock_of}
+use Rattle.lk_replay.specs.Whole.{AppendsAsTold, EveryReportIsAsPromised, IsAsTold, IsHistoryOf, IsReportOf, lock_of}
 use Rattle.lk_replay.specs.Schedule.{Plan, moves_from, plan_from, plan_of, with_header}
 use Rattle.lk_replay.specs.declared.schedule.Line.{Line}
 
@@ -162,3 +163,12 @@ every_report_is_as_promised bytes p is =
           (moves_made made) fits.few fits.narrow (omega (arith, size)) (λ i low.
           get_or-replicate (word_count p.kind p.threads) i 0 0 (omega (arith, size, low))));
     }
+
+-- so it is of a report that was made, and of one that went out
+pub as_told : (text report : List ℕ) → report ≡ report_text text → IsAsTold text report
+as_told text report is = λ p plan. subst (IsReportOf p) (sym is) (every_report_is_as_promised text p plan)
+
+pub appended_as_told : (input old new : Option (List ℕ)) → IfSome input (λ text. Appends old new (report_text text))
+    → IfSome input (AppendsAsTold old new)
+appended_as_told None old new appended = tt
+appended_as_told (Some text) old new appended = (report_text text, appended, as_told text (report_text text) refl)

@@ -4,7 +4,7 @@ use Rattle.std.specs.Option.{option_map}
 use Rattle.lk_locks.specs.State.{State}
 use Rattle.lk_locks.specs.Steps.{refusal_of}
 use Rattle.lk_locks.specs.declared.kinds.Refusal.{Refusal}
-use Rattle.lk_locks.specs.Tracked.{Tracked}
+use Rattle.lk_locks.specs.invariants.Tracking.{IsTracked}
 use Rattle.lk_replay.specs.Following.{Following, followed_by, followed_text}
 use Rattle.lk_replay.specs.Replay.{Made, Replay}
 use Rattle.lk_replay.specs.Report.{last_line, move_text}
@@ -36,9 +36,9 @@ printing f count rest = record {
   last = last_line (count + length rest.made) rest.refused;
 }
 
--- so many of the moves are printed, and what is followed is the lock
-pub record IsPrinting (f : Following) (lock : Tracked) (count printed : ℕ) (moves : List Line) : Type 0 where
+-- so many of the moves are printed, and what is followed agrees with the lock
+pub record IsPrinting (f : Following) (s : State) (count printed : ℕ) (moves : List Line) : Type 0 where
   pub counted : count ≡ printed
   pub within : printed ≤ length moves
   pub few : length moves ≤ 65536
-  pub same : f.sequential ≡ lock.sequential
+  pub tracked : IsTracked s f.sequential

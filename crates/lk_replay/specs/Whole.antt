@@ -2,6 +2,7 @@
 -- the whole theorem. This project's own.
 use Rattle.std.specs.Prelude.{◌≡◌, ℕ, List, [], map, Option, Ok, replicate}
 use Rattle.std.specs.List.{flat_map}
+use Rattle.std.specs.Io.KnownBytes.{Appends}
 use Rattle.lk_locks.specs.MainTheorem.{IsAsPromised}
 use Rattle.lk_locks.specs.Play.{RecordedLock}
 use Rattle.lk_locks.specs.Runs.{after_moves, new_lock}
@@ -31,6 +32,14 @@ pub record IsReportOf (p : Plan) (report : List ℕ) : Type 0 where
   pub text : report ≡ lines_text p.kind 0 [] made refused
   pub history : IsHistoryOf p (map (λ m. m.accepted) made) (flat_map (λ m. m.entries) made)
   pub promised : IsAsPromised p.kind p.threads (flat_map (λ m. m.entries) made)
+
+-- the report of this text is told of such a history, where the text is a schedule
+abbrev pub IsAsTold : List ℕ → List ℕ → Type 0
+IsAsTold text report = (p : Plan) → plan_of text ≡ Ok p → IsReportOf p report
+
+-- known bytes grew by such a report of this text
+abbrev pub AppendsAsTold : Option (List ℕ) → Option (List ℕ) → List ℕ → Type 0
+AppendsAsTold old new text = (report : List ℕ) × Appends old new report × IsAsTold text report
 
 -- of every text that is a schedule
 abbrev pub EveryReportIsAsPromised : Type 0

@@ -5,6 +5,7 @@ ghost use Rattle.std.specs.Io.KnownBytes.{Appends, Keeps};
 ghost use Rattle.lk_replay.specs.Devices.{AppendsPrefix, IfErrOf};
 ghost use Rattle.lk_replay.specs.Ending.{ending_of, status_of};
 ghost use Rattle.lk_replay.specs.Report.{report_text};
+ghost use Rattle.lk_replay.specs.Whole.{AppendsAsTold};
 
 use crate::devices::{RunFault, read_text, send};
 use crate::ending::{Ending, ending_of};
@@ -60,7 +61,8 @@ fn report<W: Write>(alloc: Global, output: &mut W, text: &[u8]) -> Result<Ending
     }
 }
 
-/// Reads a schedule text, and writes its report and nothing else.
+/// Reads a schedule text, and writes its report and nothing else. What the report of a schedule tells is the legal history that
+/// its moves leave.
 ///
 /// The whole text is read before the first byte goes out. Then each move is played and its line printed, and each 65,536 bytes
 /// are written, so that the memory that this takes does not grow with the report.
@@ -77,6 +79,7 @@ pub fn run<R: Read, W: Write>(
 ) -> Result<Ending, RunFault>
     ensures written { OnOk result (IfSome (R.remaining input.old)
         (λ text. Appends (W.contents output.old) (W.contents output.new) (report_text text))) }
+    ensures promised { OnOk result (IfSome (R.remaining input.old) (AppendsAsTold (W.contents output.old) (W.contents output.new))) }
     ensures ending { IfOk result (λ ending. IfSome (R.remaining input.old) (λ text. ending ≡ ending_of (report_text text))) }
     ensures prefix { IfErrOf result RunFault.Write (IfSome (R.remaining input.old)
         (λ text. AppendsPrefix (W.contents output.old) (W.contents output.new) (report_text text))) }

@@ -5,6 +5,7 @@
 
 ghost use Rattle.std.specs.Prelude.{◌≡◌, ◌++◌, IfOk, OnOk};
 ghost use Rattle.lk_replay.specs.Report.{report_text};
+ghost use Rattle.lk_replay.specs.Whole.{IsAsTold};
 
 mod closings;
 mod followed;
@@ -38,13 +39,9 @@ fn print_into(out: &mut Vec<u8>, printer: &mut Printer<'_>) -> Result<(), AllocE
     out.extend_from_slice(printer.last().as_slice())
 }
 
-/// The report of a schedule text. A fault of the text is a report, not an error.
-///
-/// # Errors
-///
-/// There was no memory for the schedule or the report.
+// Reads a text, and prints its report.
 #[tactic(auto, unfolding(crate::specs::Report::report_text))]
-pub fn report_of(alloc: Global, bytes: &[u8]) -> Result<Vec<u8>, AllocError>
+fn printed(alloc: Global, bytes: &[u8]) -> Result<Vec<u8>, AllocError>
     ensures { IfOk result (λ report. report.items ≡ report_text bytes.now) }
 {
     match read_schedule(alloc, bytes) {
@@ -63,4 +60,17 @@ pub fn report_of(alloc: Global, bytes: &[u8]) -> Result<Vec<u8>, AllocError>
             Ok(out)
         }
     }
+}
+
+/// The report of a schedule text. A fault of the text is a report, not an error. What the report of a schedule tells is the
+/// legal history that its moves leave.
+///
+/// # Errors
+///
+/// There was no memory for the schedule or the report.
+pub fn report_of(alloc: Global, bytes: &[u8]) -> Result<Vec<u8>, AllocError>
+    ensures report { IfOk result (λ report. report.items ≡ report_text bytes.now) }
+    ensures promised { IfOk result (λ report. IsAsTold bytes.now report.items) }
+{
+    printed(alloc, bytes)
 }

@@ -1,7 +1,8 @@
 //! The lines of a report, one after another: a move is played where its line is printed. No line asks for memory.
 
-ghost use Rattle.std.specs.Prelude.{◌≡◌, ◌≤◌, [], drop, length, take};
-ghost use Rattle.lk_locks.specs.Tracked.{tracked};
+ghost use Rattle.std.specs.Prelude.{◌≡◌, ◌≤◌, drop, length, take};
+ghost use Rattle.lk_locks.specs.Sequential.{nobody};
+ghost use Rattle.lk_locks.specs.invariants.Tracking.{IsTracked};
 ghost use Rattle.lk_replay.specs.Printing.{next_refused};
 ghost use Rattle.lk_replay.specs.Replay.{start_of};
 ghost use Rattle.lk_replay.specs.Report.{move_text};
@@ -13,20 +14,21 @@ use crate::report::numerals::{Numeral, thread_block};
 use crate::report::text::{Text, put_block};
 use crate::report::words::{move_block, outcome_block};
 use crate::{Line, Schedule};
-use lk_locks::{Added, Refusal, Tracker, words_needed};
+use lk_locks::{Added, Machine, Refusal, words_needed};
 use lk_words::WordArray;
 use std::marker::Model;
 
 /// The bytes of a place that has room for any line: 64 for what tells of the move, and 384 for who holds and who waits.
 pub const LINE_ROOM: usize = 448;
 
-/// The moves of a schedule, how many of them are printed, and the lock on which they were played.
+/// The moves of a schedule, how many of them are printed, and the lock on which they were played: its words and phases, and
+/// who holds and who waits.
 #[derive(Drop)]
 pub struct Printer<'a> {
     moves: &'a [Line],
     printed: usize,
     count: Numeral,
-    lock: Tracker<WordArray>,
+    machine: Machine<WordArray>,
     line: Followed,
 }
 
@@ -37,9 +39,9 @@ impl<'a> Model for Printer<'a> {
 
     ghost Value = { Printing };
 
-    ghost view = { λ a. printing a.line a.printed (replay_from a.lock.state (drop a.printed a.moves.now)) };
+    ghost view = { λ a. printing a.line a.printed (replay_from a.machine (drop a.printed a.moves.now)) };
 
-    ghost invariant = { λ a. IsPrinting a.line a.lock a.count a.printed a.moves.now };
+    ghost invariant = { λ a. IsPrinting a.line a.machine a.count a.printed a.moves.now };
 }
 
 // Writes `K T WORD OUTCOME hold ` of an accepted move, and answers where it ends.
@@ -59,27 +61,28 @@ fn write_prefix(line: &mut [u8], count: &Numeral, accepted: &Accepted) -> usize
     put_block(line, move_end, block, len)
 }
 
-// A lock of the schedule's kind, on which nothing was played.
-fn new_lock(schedule: &Schedule) -> Tracker<WordArray>
-    ensures { result ≡ tracked (start_of schedule.now) [] }
+// A lock of the schedule's kind, on which nothing was played. It agrees with a sequential object in which nobody is.
+fn new_machine(schedule: &Schedule) -> Machine<WordArray>
+    ensures state { result ≡ start_of schedule.now }
+    ensures tracked { IsTracked (start_of schedule.now) (nobody schedule.now.kind) }
 {
     let kind = schedule.kind();
     let threads = schedule.threads();
     let words = WordArray::with_bits(words_needed(kind, threads), schedule.bits());
-    Tracker::new(kind, threads, words)
+    Machine::new(kind, threads, words)
 }
 
 // The line of the move at a place, and why it is refused, where there is a move and it is.
 #[inline(always)]
-fn refused_at(lock: &Tracker<WordArray>, moves: &[Line], at: usize) -> Option<(u32, Refusal)>
+fn refused_at(machine: &Machine<WordArray>, moves: &[Line], at: usize) -> Option<(u32, Refusal)>
     requires { at ≤ length moves.now }
-    ensures { result ≡ next_refused lock.now.state (drop at moves.now) }
+    ensures { result ≡ next_refused machine.now (drop at moves.now) }
 {
     if at == moves.len() {
         return None;
     }
     let line = moves[at];
-    match lock.machine().check(line.thread, line.action) {
+    match machine.check(line.thread, line.action) {
         Ok(()) => None,
         Err(refusal) => Some((line.number, refusal)),
     }
@@ -100,7 +103,7 @@ impl<'a> Printer<'a> {
             moves: schedule.moves(),
             printed: 0,
             count: Numeral::of(0),
-            lock: new_lock(schedule),
+            machine: new_machine(schedule),
             line: Followed::new(schedule.kind()),
         }
     }
@@ -112,7 +115,7 @@ impl<'a> Printer<'a> {
         ensures none { result ≡ false → self.now.lines ≡ [] }
     {
         self.printed < self.moves.len()
-            && refused_at(&self.lock, self.moves, self.printed).is_none()
+            && refused_at(&self.machine, self.moves, self.printed).is_none()
     }
 
     /// Plays the next move, prints its line at the front of a place, and answers how long it is.
@@ -126,7 +129,9 @@ impl<'a> Printer<'a> {
     {
         let line = self.moves[self.printed];
         let mut added = Added::none();
-        let outcome = self.lock.make(line.thread, line.action, &mut added);
+        let outcome = self
+            .machine
+            .make_adding(line.thread, line.action, &mut added);
         self.line.follow(added.as_slice());
         self.printed += 1;
         self.count.count_on();
@@ -145,7 +150,7 @@ impl<'a> Printer<'a> {
         requires { self.now.left ≡ 0 }
         ensures { result ≡ self.now.last }
     {
-        let refused = refused_at(&self.lock, self.moves, self.printed);
+        let refused = refused_at(&self.machine, self.moves, self.printed);
         last_line(self.printed as u32, refused)
     }
 }

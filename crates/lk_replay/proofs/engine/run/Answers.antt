@@ -6,6 +6,7 @@ use Rattle.lk_replay.specs.Devices.{AppendsPrefix}
 use Rattle.lk_replay.specs.Ending.{ending_of}
 use Rattle.lk_replay.specs.Report.{report_text}
 use Rattle.lk_replay.specs.declared.ending.Ending.{Ending}
+use Rattle.lk_replay.proofs.Promised.{appended_as_told}
 use Rattle.lk_replay.proofs.Reports.{reported}
 use Rattle.lk_replay.proofs.engine.run.Goals as goal
 
@@ -15,6 +16,10 @@ returns-clause-written g c =
     let text = c.in_ok-text.ensures in
     on_ok_weaker c.report.result (λ written. reported _ _ c.in_ok-text.text.items P text.taken text.bounded text.whole
     (subst P (ap report_text c.deref.ensures.value) written)) c.report.ensures.written
+
+pub returns-clause-promised : goal.returns-clause-promised
+returns-clause-promised g c =
+    on_ok_weaker c.report.result (appended_as_told _ _ _) (returns-clause-written g c)
 
 pub returns-clause-ending : goal.returns-clause-ending
 returns-clause-ending g c =
