@@ -1,7 +1,5 @@
 -- What is played of a schedule is a run of its lock, and so it is as promised.
-use Rattle.std.proofs.Common.{◌≡◌, ℕ, ◌+◌, ◌<◌, ◌≤◌, ◌^◌, List, [], ◌∷◌, ◌++◌, length, map, nat_le}
-use Rattle.std.proofs.Common.{nat_lt, ◌&&◌, replicate, Option, None, Some, IfSome, Result, Ok, Err, refl}
-use Rattle.std.proofs.Common.{sym, ap, ◌∙◌, subst, arith, append_assoc, append-nil, inl, inr}
+use Rattle.std.proofs.Common.{◌≡◌, ℕ, ◌+◌, ◌<◌, ◌≤◌, ◌^◌, List, [], ◌∷◌, ◌++◌, length, map, nat_le, nat_lt, ◌&&◌, replicate, Option, None, Some, IfSome, Result, Ok, Err, refl, sym, ap, ◌∙◌, subst, arith, append_assoc, append-nil, inl, inr}
 use Rattle.std.specs.List.{flat_map}
 use Rattle.std.specs.Io.KnownBytes.{Appends}
 use Rattle.std.proofs.lemmas.Bool.{and_parts, cases_Bool, cond-false, cond-true, leb-true, ltb-true}
@@ -17,11 +15,9 @@ use Rattle.lk_locks.specs.declared.kinds.Entry.{Entry}
 use Rattle.lk_locks.specs.declared.kinds.Move.{Move}
 use Rattle.lk_locks.specs.declared.kinds.Refusal.{Refusal}
 use Rattle.lk_replay.specs.Faults.{Fault, TooLong, WordsTooNarrow}
-use Rattle.lk_replay.specs.Header.{Header, Shape, header_of, header_of_shape, shape_of_words}
-use Rattle.lk_replay.specs.Header.{with_threads}
+use Rattle.lk_replay.specs.Header.{Header, Shape, header_of, header_of_shape, shape_of_words, with_threads}
 use Rattle.lk_replay.specs.Lines.{is_skipped, lines_of, words_of}
-use Rattle.lk_replay.specs.Replay.{Made, Replay, Replayed, made_by, refused_or, replay_from}
-use Rattle.lk_replay.specs.Replay.{replay_of, replayed_of, with_move}
+use Rattle.lk_replay.specs.Replay.{Made, Replay, Replayed, made_by, refused_or, replay_from, replay_of, replayed_of, with_move}
 use Rattle.lk_replay.specs.Report.{plan_text, report_text}
 use Rattle.lk_replay.specs.Vocabulary.{is_plain_number, number_of, value_from}
 use Rattle.lk_replay.specs.declared.played.Accepted.{Accepted}
@@ -49,17 +45,17 @@ one_run : (k : RecordedLock) (l : Line) (ls : List Line) (r : Option Refusal)
     (after_moves k (moves_made next.made)).entries ≡ k.entries ++ added_entries next.made
 one_run k l ls None e rest =
     let next : RecordedLock = after_play k l.thread l.action in
-    ap (λ (x : Option Refusal). (after_moves (unless_refused x next k)
+    ap (λ (x : Option Refusal).
+    (after_moves (unless_refused x next k)
     (moves_made (replay_from next.state ls).made)).entries) e
-    ∙ rest next
-    ∙ append_assoc k.entries (entries_of k.state l.thread l.action)
+    ∙ rest next ∙ append_assoc k.entries (entries_of k.state l.thread l.action)
     (added_entries (replay_from next.state ls).made)
 one_run k l ls (Some x) e rest = sym (append-nil k.entries)
 
 -- the entries of the accepted moves are those that they leave
 run_of : (ls : List Line) (k : RecordedLock)
-    → (after_moves k (moves_made (replay_from k.state ls).made)).entries
-    ≡ k.entries ++ added_entries (replay_from k.state ls).made
+    → (after_moves k (moves_made (replay_from k.state ls).made)).entries ≡ k.entries
+    ++ added_entries (replay_from k.state ls).made
 run_of [] k = sym (append-nil k.entries)
 run_of (l ∷ ls) k = one_run k l ls (refusal_of k.state l.thread l.action) refl (run_of ls)
 
@@ -81,11 +77,12 @@ record Fits (threads bits : ℕ) : Type 0 where
 number_most : (least most n : ℕ) (text : List ℕ) → number_of least most text ≡ Some n → n ≤ most
 unfolding number_of
 number_most least most n text is =
-    let low = nat_le least (value_from 0 text) in
-    let high = nat_le (value_from 0 text) most in
-    elim (cases_Bool (is_plain_number text && (low && high))) [
-      | inl h ↦
-          let both = and_parts low high (and_parts (is_plain_number text) (low && high) h).1 in
+    elim (cases_Bool (is_plain_number text &&
+    (nat_le least (value_from 0 text) && nat_le (value_from 0 text) most))) [
+      | inl h ↦ let both = and_parts (nat_le least (value_from 0 text))
+          (nat_le (value_from 0 text) most)
+          (and_parts (is_plain_number text)
+          (nat_le least (value_from 0 text) && nat_le (value_from 0 text) most) h).1 in
           let value : Some (value_from 0 text) ≡ Some n = sym (cond-true _ _ _ h) ∙ is in
           let same : value_from 0 text ≡ n = cc in
           omega (arith, leb-true (value_from 0 text) most both.1, same)
@@ -109,8 +106,8 @@ shape_fits : (number : ℕ) (s : Option Shape) (h : Header) → header_of_shape 
     → Fits h.threads h.bits
 shape_fits number None h is = absurd (cc)
 shape_fits number (Some s) h is =
-    threads_fit number s (number_of 1 64 s.size.count) h
-    (λ n e. number_most 1 64 n s.size.count e) is
+    threads_fit number s (number_of 1 64 s.size.count) h (λ n e. number_most 1 64 n s.size.count e)
+    is
 
 header_fits : (number : ℕ) (line : List ℕ) (h : Header) → header_of number line ≡ Ok h
     → Fits h.threads h.bits
@@ -131,9 +128,8 @@ lines_fit : (number : ℕ) (lines : List (List ℕ)) (p : Plan) → plan_from nu
 lines_fit number [] p is = absurd (cc)
 lines_fit number (line ∷ lines) p is = elim (cases_Bool (is_skipped line)) [
   | inl h ↦ lines_fit (number + 1) lines p (sym (cond-true _ _ _ h) ∙ is)
-  | inr h ↦
-      both_fit (header_of number line) (moves_from (number + 1) 0 lines) p (header_fits number line)
-      (sym (cond-false _ _ _ h) ∙ is)
+  | inr h ↦ both_fit (header_of number line) (moves_from (number + 1) 0 lines) p
+      (header_fits number line) (sym (cond-false _ _ _ h) ∙ is)
 ]
 
 plan_fits : (bytes : List ℕ) (p : Plan) → plan_of bytes ≡ Ok p → Fits p.threads p.bits
@@ -160,15 +156,19 @@ every_report_is_as_promised bytes p is =
       history = history_of p;
       promised = subst (λ (es : List Entry). IsAsPromised p.kind p.threads es) (sym (history_of p))
           (every_run_is_as_promised p.kind p.bits words p.threads
-          (moves_made made) fits.few fits.narrow (omega (arith, size)) (λ i low.
-          get_or-replicate (word_count p.kind p.threads) i 0 0 (omega (arith, size, low))));
+          (moves_made made) fits.few fits.narrow (omega (arith, size))
+          (λ i low. get_or-replicate (word_count p.kind p.threads) i 0 0
+          (omega (arith, size, low))));
     }
 
 -- so it is of a report that was made, and of one that went out
 pub as_told : (text report : List ℕ) → report ≡ report_text text → IsAsTold text report
-as_told text report is = λ p plan. subst (IsReportOf p) (sym is) (every_report_is_as_promised text p plan)
+as_told text report is =
+    λ p plan. subst (IsReportOf p) (sym is) (every_report_is_as_promised text p plan)
 
-pub appended_as_told : (input old new : Option (List ℕ)) → IfSome input (λ text. Appends old new (report_text text))
+pub appended_as_told : (input old new : Option (List ℕ))
+    → IfSome input (λ text. Appends old new (report_text text))
     → IfSome input (AppendsAsTold old new)
 appended_as_told None old new appended = tt
-appended_as_told (Some text) old new appended = (report_text text, appended, as_told text (report_text text) refl)
+appended_as_told (Some text) old new appended =
+    (report_text text, appended, as_told text (report_text text) refl)

@@ -1,4 +1,5 @@
--- Invariants: the lines of a report that are still to be printed, of moves that are played as they are printed.
+-- Invariants: the lines of a report that are still to be printed, of moves that are played as they
+-- are printed.
 use Rattle.std.specs.Prelude.{◌≡◌, ℕ, ◌+◌, ◌≤◌, List, [], ◌∷◌, ◌++◌, Option, None, length}
 use Rattle.std.specs.Option.{option_map}
 use Rattle.lk_locks.specs.State.{State}
@@ -37,7 +38,8 @@ printing f count rest = record {
 }
 
 -- so many of the moves are printed, and what is followed agrees with the lock
-pub record IsPrinting (f : Following) (s : State) (count printed : ℕ) (moves : List Line) : Type 0 where
+pub record IsPrinting (f : Following) (s : State) (count printed : ℕ)
+    (moves : List Line) : Type 0 where
   pub counted : count ≡ printed
   pub within : printed ≤ length moves
   pub few : length moves ≤ 65536

@@ -43,5 +43,5 @@ AppendsAsTold old new text = (report : List ℕ) × Appends old new report × Is
 
 -- of every text that is a schedule
 abbrev pub EveryReportIsAsPromised : Type 0
-EveryReportIsAsPromised =
-    (bytes : List ℕ) (p : Plan) → plan_of bytes ≡ Ok p → IsReportOf p (report_text bytes)
+EveryReportIsAsPromised = (bytes : List ℕ) (p : Plan) → plan_of bytes ≡ Ok p
+    → IsReportOf p (report_text bytes)

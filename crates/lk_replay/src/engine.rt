@@ -22,8 +22,12 @@ fn print<W: Write>(
     printer: &mut Printer<'_>,
 ) -> Result<Ending, RunFault>
     requires { buffer.old ≡ [] }
-    ensures written { OnOk result (Appends (W.contents output.old) (W.contents output.new) (printer.old.lines ++ printer.old.last)) }
-    ensures prefix { OnErr result (AppendsPrefix (W.contents output.old) (W.contents output.new) (printer.old.lines ++ printer.old.last)) }
+    ensures written { OnOk result
+        (Appends (W.contents output.old) (W.contents output.new)
+        (printer.old.lines ++ printer.old.last)) }
+    ensures prefix { OnErr result
+        (AppendsPrefix (W.contents output.old) (W.contents output.new)
+        (printer.old.lines ++ printer.old.last)) }
     ensures ending { IfOk result (λ ending. ending ≡ ending_of printer.old.last) }
     ensures fault { IfErr result (λ e. e ≡ RunFault.Write) }
 {
@@ -39,10 +43,13 @@ fn print<W: Write>(
 // Writes the report of a text, and answers how it ends.
 #[tactic(auto, unfolding(crate::specs::Report::report_text))]
 fn report<W: Write>(alloc: Global, output: &mut W, text: &[u8]) -> Result<Ending, RunFault>
-    ensures written { OnOk result (Appends (W.contents output.old) (W.contents output.new) (report_text text.now)) }
+    ensures written { OnOk result
+        (Appends (W.contents output.old) (W.contents output.new) (report_text text.now)) }
     ensures ending { IfOk result (λ ending. ending ≡ ending_of (report_text text.now)) }
-    ensures prefix { IfErrOf result RunFault.Write (AppendsPrefix (W.contents output.old) (W.contents output.new) (report_text text.now)) }
-    ensures no_memory { IfErrOf result RunFault.OutOfMemory (Keeps (W.contents output.old) (W.contents output.new)) }
+    ensures prefix { IfErrOf result RunFault.Write
+        (AppendsPrefix (W.contents output.old) (W.contents output.new) (report_text text.now)) }
+    ensures no_memory { IfErrOf result RunFault.OutOfMemory
+        (Keeps (W.contents output.old) (W.contents output.new)) }
     ensures fault { IfErr result (λ e. e ≢ RunFault.Read) }
 {
     match read_schedule(alloc, text) {
@@ -61,17 +68,18 @@ fn report<W: Write>(alloc: Global, output: &mut W, text: &[u8]) -> Result<Ending
     }
 }
 
-/// Reads a schedule text, and writes its report and nothing else. What the report of a schedule tells is the legal history that
-/// its moves leave.
+/// Reads a schedule text, and writes its report and nothing else. What the report of a schedule
+/// tells is the legal history that its moves leave.
 ///
-/// The whole text is read before the first byte goes out. Then each move is played and its line printed, and each 65,536 bytes
-/// are written, so that the memory that this takes does not grow with the report.
+/// The whole text is read before the first byte goes out. Then each move is played and its line
+/// printed, and each 65,536 bytes are written, so that the memory that this takes does not grow
+/// with the report.
 ///
 /// # Errors
 ///
-/// `Read` where the input failed, `OutOfMemory` where a request for memory was refused; nothing was written then, since the last
-/// request is made before the first byte goes out. `Write` where the output failed or took nothing: what was written is a
-/// prefix of the report.
+/// `Read` where the input failed, `OutOfMemory` where a request for memory was refused; nothing was
+/// written then, since the last request is made before the first byte goes out. `Write` where the
+/// output failed or took nothing: what was written is a prefix of the report.
 pub fn run<R: Read, W: Write>(
     alloc: Global,
     input: &mut R,
@@ -79,19 +87,25 @@ pub fn run<R: Read, W: Write>(
 ) -> Result<Ending, RunFault>
     ensures written { OnOk result (IfSome (R.remaining input.old)
         (λ text. Appends (W.contents output.old) (W.contents output.new) (report_text text))) }
-    ensures promised { OnOk result (IfSome (R.remaining input.old) (AppendsAsTold (W.contents output.old) (W.contents output.new))) }
-    ensures ending { IfOk result (λ ending. IfSome (R.remaining input.old) (λ text. ending ≡ ending_of (report_text text))) }
+    ensures promised { OnOk result
+        (IfSome (R.remaining input.old)
+        (AppendsAsTold (W.contents output.old) (W.contents output.new))) }
+    ensures ending { IfOk result
+        (λ ending. IfSome (R.remaining input.old) (λ text. ending ≡ ending_of (report_text text))) }
     ensures prefix { IfErrOf result RunFault.Write (IfSome (R.remaining input.old)
-        (λ text. AppendsPrefix (W.contents output.old) (W.contents output.new) (report_text text))) }
-    ensures unread { IfErrOf result RunFault.Read (Keeps (W.contents output.old) (W.contents output.new)) }
-    ensures no_memory { IfErrOf result RunFault.OutOfMemory (Keeps (W.contents output.old) (W.contents output.new)) }
+        (λ text. AppendsPrefix (W.contents output.old) (W.contents output.new)
+        (report_text text))) }
+    ensures unread { IfErrOf result RunFault.Read
+        (Keeps (W.contents output.old) (W.contents output.new)) }
+    ensures no_memory { IfErrOf result RunFault.OutOfMemory
+        (Keeps (W.contents output.old) (W.contents output.new)) }
 {
     let text = read_text(alloc, input)?;
     report(alloc, output, &text)
 }
 
-/// The exit status of a run: 0 where every move was accepted, 1 where one was refused or the text is no schedule, and 3 after
-/// a fault.
+/// The exit status of a run: 0 where every move was accepted, 1 where one was refused or the text
+/// is no schedule, and 3 after a fault.
 pub fn status_of(ran: &Result<Ending, RunFault>) -> u8
     ensures { result ≡ status_of ran.now }
 {

@@ -48,7 +48,9 @@ impl Model for Played {
       refused = a.refused;
     } };
 
-    ghost invariant = { λ a. (a.kind ≡ a.keeper.state.kind) × (length a.accepted.items ≤ 65536) × (length a.added.items ≡ length a.accepted.items) × (sum a.added.items ≡ length a.keeper.entries) };
+    ghost invariant = { λ a. (a.kind ≡ a.keeper.state.kind) × (length a.accepted.items ≤ 65536)
+        × (length a.added.items ≡ length a.accepted.items)
+        × (sum a.added.items ≡ length a.keeper.entries) };
 }
 
 impl Played {
@@ -64,7 +66,8 @@ impl Played {
         self.accepted.as_slice()
     }
 
-    /// The history that they leave. It is legal for the lock, and so exclusive and in order, whatever the schedule.
+    /// The history that they leave. It is legal for the lock, and so exclusive and in order,
+    /// whatever the schedule.
     pub fn entries(&self) -> &[Entry]
         ensures entries { result.now ≡ self.now.entries }
         ensures promised { IsAsPromised self.now.kind self.now.threads result.now }
@@ -99,7 +102,8 @@ impl Played {
 /// A lock of the schedule's kind, on which nothing was played.
 pub fn new_keeper(alloc: Global, schedule: &Schedule) -> Keeper<WordArray>
     ensures { let plan = schedule.now in
-        result ≡ new_lock plan.kind plan.bits (replicate (word_count plan.kind plan.threads) 0) plan.threads }
+        result ≡ new_lock plan.kind plan.bits (replicate (word_count plan.kind plan.threads) 0)
+        plan.threads }
 {
     let kind = schedule.kind();
     let threads = schedule.threads();
@@ -114,7 +118,8 @@ pub fn new_keeper(alloc: Global, schedule: &Schedule) -> Keeper<WordArray>
 /// There was no memory for the history or the accepted moves.
 pub fn replay(alloc: Global, schedule: &Schedule) -> Result<Played, AllocError>
     ensures played { IfOk result (λ played. played ≡ replayed_of schedule.now) }
-    ensures moves { IfOk result (λ played. IsHistoryOf schedule.now played.accepted played.entries) }
+    ensures moves { IfOk result
+        (λ played. IsHistoryOf schedule.now played.accepted played.entries) }
 {
     let mut keeper = new_keeper(alloc, schedule);
     let moves = schedule.moves();

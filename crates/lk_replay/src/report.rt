@@ -1,7 +1,7 @@
 //! The report of a schedule text.
 //!
-//! The whole text is read first. Then its moves are played, and each is printed as it is played, by one printer: into a `Vec`
-//! here, and into a buffer that goes out in `run`.
+//! The whole text is read first. Then its moves are played, and each is printed as it is played, by
+//! one printer: into a `Vec` here, and into a buffer that goes out in `run`.
 
 ghost use Rattle.std.specs.Prelude.{◌≡◌, ◌++◌, IfOk, OnOk};
 ghost use Rattle.lk_replay.specs.Report.{report_text};
@@ -19,8 +19,8 @@ pub use closings::fault_text;
 pub use printer::{LINE_ROOM, Printer};
 use std::alloc::{AllocError, Global};
 
-// The most bytes of a move's line without its longer list, of holders or of the queue, of a thread in that list, and of the
-// last line.
+// The most bytes of a move's line without its longer list, of holders or of the queue, of a thread
+// in that list, and of the last line.
 const LONGEST_LINE: usize = 44;
 
 const LONGEST_LISTED: usize = 3;
@@ -29,7 +29,8 @@ const LONGEST_LAST: usize = 64;
 
 // Appends what is printed.
 fn print_into(out: &mut Vec<u8>, printer: &mut Printer<'_>) -> Result<(), AllocError>
-    ensures { OnOk result (out.new.items ≡ out.old.items ++ (printer.old.lines ++ printer.old.last)) }
+    ensures { OnOk result
+        (out.new.items ≡ out.old.items ++ (printer.old.lines ++ printer.old.last)) }
 {
     let mut line = [0; LINE_ROOM];
     while printer.has_line() {
@@ -62,8 +63,8 @@ fn printed(alloc: Global, bytes: &[u8]) -> Result<Vec<u8>, AllocError>
     }
 }
 
-/// The report of a schedule text. A fault of the text is a report, not an error. What the report of a schedule tells is the
-/// legal history that its moves leave.
+/// The report of a schedule text. A fault of the text is a report, not an error. What the report of
+/// a schedule tells is the legal history that its moves leave.
 ///
 /// # Errors
 ///

@@ -1,4 +1,5 @@
-//! The lines of a report, one after another: a move is played where its line is printed. No line asks for memory.
+//! The lines of a report, one after another: a move is played where its line is printed. No line
+//! asks for memory.
 
 ghost use Rattle.std.specs.Prelude.{◌≡◌, ◌≤◌, drop, length, take};
 ghost use Rattle.lk_locks.specs.Sequential.{nobody};
@@ -18,11 +19,12 @@ use lk_locks::{Added, Machine, Refusal, words_needed};
 use lk_words::WordArray;
 use std::marker::Model;
 
-/// The bytes of a place that has room for any line: 64 for what tells of the move, and 384 for who holds and who waits.
+/// The bytes of a place that has room for any line: 64 for what tells of the move, and 384 for who
+/// holds and who waits.
 pub const LINE_ROOM: usize = 448;
 
-/// The moves of a schedule, how many of them are printed, and the lock on which they were played: its words and phases, and
-/// who holds and who waits.
+/// The moves of a schedule, how many of them are printed, and the lock on which they were played:
+/// its words and phases, and who holds and who waits.
 #[derive(Drop)]
 pub struct Printer<'a> {
     moves: &'a [Line],
@@ -39,7 +41,8 @@ impl<'a> Model for Printer<'a> {
 
     ghost Value = { Printing };
 
-    ghost view = { λ a. printing a.line a.printed (replay_from a.machine (drop a.printed a.moves.now)) };
+    ghost view = { λ a. printing a.line a.printed
+        (replay_from a.machine (drop a.printed a.moves.now)) };
 
     ghost invariant = { λ a. IsPrinting a.line a.machine a.count a.printed a.moves.now };
 }
@@ -61,7 +64,8 @@ fn write_prefix(line: &mut [u8], count: &Numeral, accepted: &Accepted) -> usize
     put_block(line, move_end, block, len)
 }
 
-// A lock of the schedule's kind, on which nothing was played. It agrees with a sequential object in which nobody is.
+// A lock of the schedule's kind, on which nothing was played. It agrees with a sequential object in
+// which nobody is.
 fn new_machine(schedule: &Schedule) -> Machine<WordArray>
     ensures state { result ≡ start_of schedule.now }
     ensures tracked { IsTracked (start_of schedule.now) (nobody schedule.now.kind) }
@@ -96,8 +100,10 @@ impl<'a> Printer<'a> {
 
     /// A printer of a schedule's report.
     pub fn new(schedule: &'a Schedule) -> Printer<'a>
-        ensures text { result.lines ++ result.last ≡ replay_text schedule.now.kind (replay_of schedule.now) }
-        ensures ending { ending_of result.last ≡ ending_of (replay_text schedule.now.kind (replay_of schedule.now)) }
+        ensures text { result.lines ++ result.last ≡ replay_text schedule.now.kind
+            (replay_of schedule.now) }
+        ensures ending { ending_of result.last
+            ≡ ending_of (replay_text schedule.now.kind (replay_of schedule.now)) }
     {
         Printer {
             moves: schedule.moves(),

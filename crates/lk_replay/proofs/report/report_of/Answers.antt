@@ -4,4 +4,6 @@ use Rattle.lk_replay.proofs.Promised.{as_told}
 use Rattle.lk_replay.proofs.report.report_of.Goals as goal
 
 pub returns-clause-promised : goal.returns-clause-promised
-returns-clause-promised c = IfOk-weaker c.printed.result _ _ (λ report is. as_told c.args.bytes.now report.items is) c.printed.ensures
+returns-clause-promised c =
+    IfOk-weaker c.printed.result _ _ (λ report is. as_told c.args.bytes.now report.items is)
+    c.printed.ensures

@@ -8,14 +8,23 @@ returns-clause-kept c =
     let len : ℕ = c.self.inside.len in
     let bytes : List ℕ = c.deref_mut.result.now in
     let line : List ℕ = take c.next-len.result c.next-len.new.place in
-    let size : length bytes ≡ 65536 = omega (arith, ap length c.deref_mut.ensures.value, c.self.invariant.0) in
+    let size : length bytes ≡ 65536 =
+    omega (arith, ap length c.deref_mut.ensures.value, c.self.invariant.0) in
     let most : c.self.inside.bytes.len ≡ 65536 = omega (arith, size, c.deref_mut.ensures.len) in
     let behind : length (take (length bytes - len) (drop len bytes)) ≡ 65536 - len =
-    omega (arith, length-take-le (length bytes - len) (drop len bytes) (omega (arith, length-drop len bytes)), size) in
+    omega (
+      arith,
+      length-take-le (length bytes - len) (drop len bytes)
+          (omega (arith, length-drop len bytes)),
+      size,
+    ) in
     let room : len + c.next-len.result ≤ c.self.inside.bytes.len =
-    omega (arith, most, behind, c.next-len.auto.place, c.next-len.ensures.fits, c.self.invariant.1) in (
+    omega (arith, most, behind, c.next-len.auto.place, c.next-len.ensures.fits, c.self.invariant.1)
+    in (
       line,
-      written_in bytes c.next-len.new.place _ _ len c.next-len.result c.self.inside.bytes.len (omega (arith, size, c.self.invariant.1)) c.next-len.ensures.fits room
-          ∙ ap (λ (xs : List ℕ). take len xs ++ line) c.deref_mut.ensures.value ∙ ap (λ (xs : List ℕ). xs ++ line) c.self.view_is,
+      written_in bytes c.next-len.new.place _ _ len c.next-len.result c.self.inside.bytes.len
+          (omega (arith, size, c.self.invariant.1)) c.next-len.ensures.fits room
+          ∙ ap (λ (xs : List ℕ). take len xs ++ line) c.deref_mut.ensures.value
+          ∙ ap (λ (xs : List ℕ). xs ++ line) c.self.view_is,
       c.next-len.ensures.lines,
     )

@@ -5,5 +5,6 @@ use Rattle.lk_replay.proofs.report.printer.new_machine.Goals as goal
 
 pub returns-clause-tracked : goal.returns-clause-tracked
 returns-clause-tracked c =
-    tracked_start c.args.schedule.now (omega (arith, c.threads-threads.ensures.threads, c.threads-threads.ensures.few))
+    tracked_start c.args.schedule.now
+    (omega (arith, c.threads-threads.ensures.threads, c.threads-threads.ensures.few))
     (rw (← c.threads-threads.ensures.threads) c.threads-threads.ensures.narrow)

@@ -7,6 +7,7 @@ use Rattle.lk_replay.proofs.report.printer.Printer.last.Goals as goal
 pub returns : goal.returns
 returns c =
     c.last_line.ensures
-    ∙ last_is c.self.inside.machine c.self.inside.printed (drop c.self.inside.printed c.self.inside.moves.now) _
+    ∙ last_is c.self.inside.machine c.self.inside.printed
+    (drop c.self.inside.printed c.self.inside.moves.now) _
     (ap (λ (p : Printing). p.left) c.self.view_is ∙ c.requires) c.refused_at-refused.ensures
     ∙ ap (λ (p : Printing). p.last) c.self.view_is
