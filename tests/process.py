@@ -352,7 +352,8 @@ def memory():
          batch_text([EMPTY_REPORT] * 65_536)),
     ):
         refused = given = 0
-        for megabytes in (4, 5, 6, 8, 12, 16, 24, 32, 48, 64, 80, 96, 128, 160, 256, 512):
+        # 3 MB are enough to load the program, but not with 65,536 names, and a replay takes less than one more
+        for megabytes in (3,) * (what == "replay") + (4, 5, 6, 8, 12, 16, 24, 32, 48, 64, 80, 96, 128, 160, 256, 512):
             got = run(words, stdin=stdin, before=limited(resource.RLIMIT_AS, megabytes << 20))
             wanted = (b"", MEMORY, 3) if got[2] == 3 else (report, b"", 0)
             refused += got[2] == 3

@@ -27,6 +27,10 @@ const LONGEST_LISTED: usize = 3;
 
 const LONGEST_LAST: usize = 64;
 
+// How many lines a report has room for at once. More are seldom, and a schedule of many moves may
+// be refused at its first.
+const FIRST_LINES: usize = 1_024;
+
 // Appends what is printed.
 fn print_into(out: &mut Vec<u8>, printer: &mut Printer<'_>) -> Result<(), AllocError>
     ensures { OnOk result
@@ -48,8 +52,8 @@ fn printed(alloc: Global, bytes: &[u8]) -> Result<Vec<u8>, AllocError>
     match read_schedule(alloc, bytes) {
         Ok(schedule) => {
             let longest = LONGEST_LINE + LONGEST_LISTED * usize::from(schedule.threads());
-            let most = longest * schedule.moves().len() + LONGEST_LAST;
-            let mut out = Vec::with_capacity(alloc, most)?;
+            let lines = schedule.moves().len().min(FIRST_LINES);
+            let mut out = Vec::with_capacity(alloc, longest * lines + LONGEST_LAST)?;
             print_into(&mut out, &mut Printer::new(&schedule))?;
             out.shrink_to_fit();
             Ok(out)
