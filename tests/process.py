@@ -340,7 +340,7 @@ def files():
 
 
 def memory():
-    """Under each limit the answer is the one with ample memory, or the one line; both are met."""
+    """The answer is that of ample memory, or one line; both are met. 3 MB load no 65,536 names."""
     spinning = ["batch", "--workers"]
     for what, words, stdin, report in (
         ("replay", ["replay"], SPINNING, SPINNING_REPORT),
@@ -352,8 +352,7 @@ def memory():
          batch_text([EMPTY_REPORT] * 65_536)),
     ):
         refused = given = 0
-        # 3 MB are enough to load the program, but not with 65,536 names, and a replay takes less than one more
-        for megabytes in (3,) * (what == "replay") + (4, 5, 6, 8, 12, 16, 24, 32, 48, 64, 80, 96, 128, 160, 256, 512):
+        for megabytes in (3, 4, 5, 6, 8, 12, 16, 24, 32, 48, 64, 80, 96, 128, 160, 256, 512)[what != "replay":]:
             got = run(words, stdin=stdin, before=limited(resource.RLIMIT_AS, megabytes << 20))
             wanted = (b"", MEMORY, 3) if got[2] == 3 else (report, b"", 0)
             refused += got[2] == 3
