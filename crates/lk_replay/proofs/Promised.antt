@@ -1,5 +1,7 @@
 -- What is played of a schedule is a run of its lock, and so it is as promised.
-use Rattle.std.proofs.Common.{◌≡◌, ℕ, ◌+◌, ◌<◌, ◌≤◌, ◌^◌, List, [], ◌∷◌, ◌++◌, length, map, nat_le, nat_lt, ◌&&◌, replicate, Option, None, Some, IfSome, Result, Ok, Err, refl, sym, ap, ◌∙◌, subst, arith, append_assoc, append-nil, inl, inr}
+use Rattle.std.proofs.Common.{◌≡◌, ℕ, ◌+◌, ◌<◌, ◌≤◌, ◌^◌, List, [], ◌∷◌, ◌++◌, length, map, nat_le}
+use Rattle.std.proofs.Common.{nat_lt, ◌&&◌, replicate, Option, None, Some, IfSome, Result, Ok, Err}
+use Rattle.std.proofs.Common.{refl, sym, ap, ◌∙◌, subst, arith, append_assoc, append-nil, inl, inr}
 use Rattle.std.specs.List.{flat_map}
 use Rattle.std.specs.Io.KnownBytes.{Appends}
 use Rattle.std.proofs.lemmas.Bool.{and_parts, cases_Bool, cond-false, cond-true, leb-true, ltb-true}
@@ -15,13 +17,16 @@ use Rattle.lk_locks.specs.declared.kinds.Entry.{Entry}
 use Rattle.lk_locks.specs.declared.kinds.Move.{Move}
 use Rattle.lk_locks.specs.declared.kinds.Refusal.{Refusal}
 use Rattle.lk_replay.specs.Faults.{Fault, TooLong, WordsTooNarrow}
-use Rattle.lk_replay.specs.Header.{Header, Shape, header_of, header_of_shape, shape_of_words, with_threads}
+use Rattle.lk_replay.specs.Header.{Header, Shape, header_of, header_of_shape, shape_of_words}
+use Rattle.lk_replay.specs.Header.{with_threads}
 use Rattle.lk_replay.specs.Lines.{is_skipped, lines_of, words_of}
-use Rattle.lk_replay.specs.Replay.{Made, Replay, Replayed, made_by, refused_or, replay_from, replay_of, replayed_of, with_move}
+use Rattle.lk_replay.specs.Replay.{Made, Replay, Replayed, made_by, refused_or, replay_from}
+use Rattle.lk_replay.specs.Replay.{replay_of, replayed_of, with_move}
 use Rattle.lk_replay.specs.Report.{plan_text, report_text}
 use Rattle.lk_replay.specs.Vocabulary.{is_plain_number, number_of, value_from}
 use Rattle.lk_replay.specs.declared.played.Accepted.{Accepted}
-use Rattle.lk_replay.specs.Whole.{AppendsAsTold, EveryReportIsAsPromised, IsAsTold, IsHistoryOf, IsReportOf, lock_of}
+use Rattle.lk_replay.specs.Whole.{AppendsAsTold, EveryReportIsAsPromised, IsAsTold, IsHistoryOf}
+use Rattle.lk_replay.specs.Whole.{IsReportOf, lock_of}
 use Rattle.lk_replay.specs.Schedule.{Plan, moves_from, plan_from, plan_of, with_header}
 use Rattle.lk_replay.specs.declared.schedule.Line.{Line}
 
