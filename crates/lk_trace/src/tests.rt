@@ -254,44 +254,92 @@ fn sections_are_counted(rt: HostRuntime) {
     );
 }
 
-// What the checker takes for the word of a step is the word that the machine's own operation was
-// on.
-#[test]
-fn words_are_those_of_the_operations(rt: HostRuntime) {
-    let mut machine = Machine::new(LockKind::Mcs, 2, RecordingWords::new(WordArray::new(5)));
-    let moves = [
-        (0, Move::Call(Op::Acquire)),
-        (0, Move::Step(StepKind::Write)),
-        (0, SWAP),
-        (1, Move::Call(Op::Acquire)),
-        (1, Move::Step(StepKind::Write)),
-        (1, SWAP),
-        (1, Move::Step(StepKind::Write)),
-        (1, Move::Step(StepKind::Write)),
-        (1, Move::Step(StepKind::Read)),
-        (0, Move::Call(Op::Release)),
-        (0, Move::Step(StepKind::Read)),
-        (0, Move::Step(StepKind::Write)),
-    ];
-    let words = [0, 1, 0, 0, 3, 0, 4, 1, 4, 0, 1, 4];
-    for i in 0..12 {
-        let (thread, action) = moves[i];
+const READ: Move = Move::Step(StepKind::Read);
+
+const WRITE: Move = Move::Step(StepKind::Write);
+
+const CAS: Move = Move::Step(StepKind::Cas);
+
+const ADD: Move = Move::Step(StepKind::Add);
+
+const ACQUIRE: Move = Move::Call(Op::Acquire);
+
+const RELEASE: Move = Move::Call(Op::Release);
+
+// Each step of the run is on the word at its place: so says what the checker takes for its word,
+// and so does the operation that the machine itself made. A call is on none.
+fn is_on_its_words(
+    rt: &impl Abort,
+    kind: LockKind,
+    machine: &mut Machine<RecordingWords<WordArray>>,
+    run: &[(u8, Move, Option<usize>)],
+) {
+    for &(thread, action, place) in run {
         assert!(rt; thread < machine.threads());
-        let word = touched(LockKind::Mcs, thread, machine.phase(thread));
+        let word = touched(kind, thread, machine.phase(thread));
+        assert_eq!(rt; word.map(|word| place_of(kind, word)), place);
         assert!(rt; machine.apply(thread, action).is_ok());
-        if let (Move::Step(_), Some(word)) = (action, word) {
+        if place.is_some() {
             let last = machine.words().last();
-            assert_eq!(rt; last.map(|a| a.word), Some(place_of(LockKind::Mcs, word)));
-            assert_eq!(rt; place_of(LockKind::Mcs, word), words[i]);
+            assert_eq!(rt; last.map(|access| access.word), place);
         }
     }
-    let granted = Access {
-        operation: Operation::Write,
-        word: 4,
-        found: None,
+}
+
+// Each of the four steps: a ticket is taken, looked for in vain and found, read and passed on.
+#[test]
+fn ticket_steps_are_on_their_words(rt: HostRuntime) {
+    let mut machine = Machine::new(LockKind::Ticket, 2, RecordingWords::new(WordArray::new(2)));
+    let run = [
+        (0, ACQUIRE, None),
+        (0, ADD, Some(0)),
+        (0, READ, Some(1)),
+        (1, ACQUIRE, None),
+        (1, ADD, Some(0)),
+        (1, READ, Some(1)),
+        (0, RELEASE, None),
+        (0, READ, Some(1)),
+        (0, WRITE, Some(1)),
+        (1, READ, Some(1)),
+    ];
+    is_on_its_words(&rt, LockKind::Ticket, &mut machine, &run);
+}
+
+// Each of the nine steps: thread 1 sets itself behind thread 0, which finds no link, fails to clear
+// the tail and waits for the link; then thread 1 is granted the lock and clears the tail. The words
+// are the tail, and next and locked of each thread.
+#[test]
+fn mcs_steps_are_on_their_words(rt: HostRuntime) {
+    let mut machine = Machine::new(LockKind::Mcs, 2, RecordingWords::new(WordArray::new(5)));
+    let run = [
+        (0, ACQUIRE, None),
+        (0, WRITE, Some(1)),
+        (0, SWAP, Some(0)),
+        (1, ACQUIRE, None),
+        (1, WRITE, Some(3)),
+        (1, SWAP, Some(0)),
+        (1, WRITE, Some(4)),
+        (0, RELEASE, None),
+        (0, READ, Some(1)),
+        (0, CAS, Some(0)),
+        (0, READ, Some(1)),
+        (1, WRITE, Some(1)),
+        (1, READ, Some(4)),
+        (0, READ, Some(1)),
+        (0, WRITE, Some(4)),
+        (1, READ, Some(4)),
+        (1, RELEASE, None),
+        (1, READ, Some(3)),
+        (1, CAS, Some(0)),
+    ];
+    is_on_its_words(&rt, LockKind::Mcs, &mut machine, &run);
+    let cleared = Access {
+        operation: Operation::CompareAndSwap,
+        word: 0,
+        found: Some(2),
         left: Some(0),
     };
-    assert_eq!(rt; machine.words().last(), Some(granted));
+    assert_eq!(rt; machine.words().last(), Some(cleared));
 }
 
 // The fault of a new trace's first line, where it has one.
