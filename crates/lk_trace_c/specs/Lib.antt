@@ -1,2 +1,4 @@
 pub mod Numbers
 pub mod Ends
+pub mod Records
+pub mod Texts

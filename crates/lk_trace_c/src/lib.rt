@@ -4,9 +4,13 @@
 
 mod numbers;
 
-ghost use Rattle.std.specs.Prelude.{◌≡◌};
+ghost use Rattle.std.specs.Prelude.{◌≡◌, ◌++◌, drop, length, slice_index, take};
+ghost use Rattle.lk_trace.specs.Lines.{trace_line_of};
 ghost use Rattle.lk_trace.specs.Traces.{after_text_line, event_of};
 ghost use Rattle.lk_trace_c.specs.Ends.{end_number, event_number, fault_of_text};
+ghost use Rattle.lk_trace_c.specs.Records.{answer_by, nothing, place_of_line, standing, steps_by};
+ghost use Rattle.lk_trace_c.specs.Records.{told_text};
+ghost use Rattle.lk_trace_c.specs.Texts.{text_of_number};
 
 use lk_replay::parts::cut_line;
 use lk_trace::{Event, TextFault, TraceReader, place_of, read_line, touched};
@@ -41,7 +45,9 @@ pub struct LtAnswer {
 const NO_WORD: u32 = u32::MAX;
 
 // What stands at a place of the words.
-fn value_at(words: &WordArray, place: usize) -> u64 {
+fn value_at(words: &WordArray, place: usize) -> u64
+    ensures { result ≡ slice_index words.now.0 place }
+{
     if place < words.size() {
         words.get(place)
     } else {
@@ -50,7 +56,9 @@ fn value_at(words: &WordArray, place: usize) -> u64 {
 }
 
 // The place of the word that the move of a line is on, where it is on one.
-fn place_in(trace: &TraceReader, line: &[u8]) -> Option<usize> {
+fn place_in(trace: &TraceReader, line: &[u8]) -> Option<usize>
+    ensures { result ≡ place_of_line trace.now (trace_line_of line.now) }
+{
     let checker = trace.checker()?;
     let read = read_line(line)?;
     let phase = checker.phase(read.thread)?;
@@ -64,7 +72,9 @@ fn place_in(trace: &TraceReader, line: &[u8]) -> Option<usize> {
 }
 
 // What stands in a word of the lock now.
-fn standing(trace: &TraceReader, place: Option<usize>) -> u64 {
+fn standing(trace: &TraceReader, place: Option<usize>) -> u64
+    ensures { result ≡ standing trace.now place }
+{
     match (trace.checker(), place) {
         (Some(checker), Some(place)) => value_at(checker.lock().machine().words(), place),
         _ => 0,
@@ -80,6 +90,9 @@ fn take_line(
 ) -> u32
     ensures fault { result ≡ event_number (event_of trace.old line.now) }
     ensures after { trace.new ≡ after_text_line trace.old line.now }
+    ensures answer { answer.new ≡ answer_by (event_of trace.old line.now) answer.old }
+    ensures steps { steps.new ≡ steps_by (event_of trace.old line.now) answer.old
+        (place_of_line trace.old (trace_line_of line.now)) trace.old trace.new steps.old }
 {
     let place = place_in(trace, line);
     let found = standing(trace, place);
@@ -125,7 +138,9 @@ fn end_of(trace: &TraceReader) -> u32
 
 // The number of a text's first fault, 0 where it has none.
 fn fault_in(text: &[u8], steps: &mut [LtStep], answer: &mut LtAnswer) -> u32
-    ensures { result ≡ fault_of_text text.now }
+    ensures fault { result ≡ fault_of_text text.now }
+    ensures answer { answer.new ≡ (told_text answer.old steps.old text.now).answer }
+    ensures steps { steps.new ≡ (told_text answer.old steps.old text.now).steps }
 {
     let mut trace = TraceReader::new();
     let mut rest = text;
@@ -150,7 +165,9 @@ fn fault_in(text: &[u8], steps: &mut [LtStep], answer: &mut LtAnswer) -> u32
 #[unsafe(no_mangle)]
 pub extern "C" fn lt_check(text: &[u8], steps: &mut [LtStep], answer: &mut LtAnswer) -> u32
     ensures fault { result ≡ fault_of_text text.now }
-    ensures told { answer.new.fault ≡ result }
+    ensures answer { answer.new
+        ≡ record (told_text nothing steps.old text.now).answer { fault = fault_of_text text.now } }
+    ensures records { steps.new ≡ (told_text nothing steps.old text.now).steps }
 {
     *answer = LtAnswer {
         line: 0,
@@ -166,7 +183,11 @@ pub extern "C" fn lt_check(text: &[u8], steps: &mut [LtStep], answer: &mut LtAns
 /// Writes the text of a fault's number, without an end, as far as there is room, and answers how
 /// long it is.
 #[unsafe(no_mangle)]
-pub extern "C" fn lt_fault_text(fault: u32, room: &mut [u8]) -> usize {
+pub extern "C" fn lt_fault_text(fault: u32, room: &mut [u8]) -> usize
+    ensures length { result ≡ length (text_of_number fault) }
+    ensures text { room.new ≡ take (length room.old) (text_of_number fault)
+        ++ drop (length (text_of_number fault)) room.old }
+{
     let text = fault_text(fault).as_bytes();
     let taken = text.len().min(room.len());
     room[..taken].copy_from_slice(&text[..taken]);

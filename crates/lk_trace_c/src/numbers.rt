@@ -4,6 +4,7 @@
 ghost use Rattle.std.specs.Prelude.{◌≡◌};
 ghost use Rattle.lk_trace_c.specs.Numbers.{action_number, difference_number, fault_number};
 ghost use Rattle.lk_trace_c.specs.Numbers.{outcome_number, refusal_number};
+ghost use Rattle.lk_trace_c.specs.Texts.{text_of_number};
 
 use lk_locks::{Move, Op, Outcome, Refusal, StepKind};
 use lk_trace::{Difference, TextFault};
@@ -85,7 +86,9 @@ pub fn fault_number(fault: TextFault) -> u32
 }
 
 /// The text of a number.
-pub fn fault_text(fault: u32) -> &'static str {
+pub fn fault_text(fault: u32) -> &'static str
+    ensures { result.now ≡ text_of_number fault }
+{
     match fault {
         0 => "accepted",
         1 => "NoSuchThread: no such thread",

@@ -1,11 +1,17 @@
--- What is left has the fault of the text.
+-- What is left has the fault of the text, and is told as the text is.
 use Rattle.std.proofs.Common.{◌≡◌, length}
 use Rattle.lk_replay.specs.Lines.{lines_of}
 use Rattle.lk_trace_c.specs.Ends.{fault_of_lines, fault_of_text}
+use Rattle.lk_trace_c.specs.Records.{told_lines, told_text}
 use Rattle.lk_trace_c.proofs.fault_in.Given as goal
 
 abbrev pub invariant-loop-rest : goal.invariant-loop-rest
-invariant-loop-rest l = fault_of_lines l.trace (lines_of l.rest) ≡ fault_of_text l.initial.rest
+invariant-loop-rest l = record {
+  fault : fault_of_lines l.trace (lines_of l.rest) ≡ fault_of_text l.initial.rest;
+  told : told_lines (record { reading = l.trace; answer = l.answer; steps = l.steps })
+      (lines_of l.rest)
+      ≡ told_text l.initial.answer l.initial.steps l.initial.rest;
+}
 
 abbrev pub decreases-loop-rest : goal.decreases-loop-rest
 decreases-loop-rest l = length l.rest
