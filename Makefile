@@ -1,7 +1,7 @@
 # make test     the one test command: proves every crate and its tests, tries each wrong body, runs every test, and tries the built
 #               program on rows, failing devices, short and refused memory and random schedules, the page in browsers, and what is
 #               installed and packaged
-# make check    the quick door: builds the program, and tries it on rows, devices, short and refused memory and random schedules
+# make check    the quick check: builds the program, and tries it on rows, devices, short and refused memory and random schedules
 # make check CRATE=NAME                proves one crate; CRATE=lk_tests also runs the tests
 # make test-library                    tries the static library for traces from C and from Python
 # make edits CRATE=NAME [EDIT=NAME]    tries a crate's wrong bodies and their right twins, or one of each

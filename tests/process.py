@@ -339,20 +339,23 @@ def files():
           status=(program.returncode, 3))
 
 
+# In MB. The first is too short for a single replay alone; a batch is not tried with it.
+LIMITS = (3, 4, 5, 6, 8, 12, 16, 24, 32, 48, 64, 80, 96, 128, 160, 256, 512)
+
+
 def memory():
     """The answer is that of ample memory, or one line; both are met. 3 MB load no 65,536 names."""
-    spinning = ["batch", "--workers"]
+    batch, spinning = ["batch", "--workers"], ["spinning"] * 12
+    reports = batch_text([SPINNING_REPORT] * 12)
     for what, words, stdin, report in (
         ("replay", ["replay"], SPINNING, SPINNING_REPORT),
-        ("batch, 1 worker", [*spinning, "1"] + ["spinning"] * 12, b"",
-         batch_text([SPINNING_REPORT] * 12)),
-        ("batch, 8 workers", [*spinning, "8"] + ["spinning"] * 12, b"",
-         batch_text([SPINNING_REPORT] * 12)),
-        ("65,536 names", [*spinning, "2"] + ["empty"] * 65_536, b"",
+        ("batch, 1 worker", [*batch, "1", *spinning], b"", reports),
+        ("batch, 8 workers", [*batch, "8", *spinning], b"", reports),
+        ("65,536 names", [*batch, "2"] + ["empty"] * 65_536, b"",
          batch_text([EMPTY_REPORT] * 65_536)),
     ):
         refused = given = 0
-        for megabytes in (3, 4, 5, 6, 8, 12, 16, 24, 32, 48, 64, 80, 96, 128, 160, 256, 512)[what != "replay":]:
+        for megabytes in LIMITS[what != "replay":]:
             got = run(words, stdin=stdin, before=limited(resource.RLIMIT_AS, megabytes << 20))
             wanted = (b"", MEMORY, 3) if got[2] == 3 else (report, b"", 0)
             refused += got[2] == 3

@@ -1,4 +1,4 @@
-//! Sums of words, which go round at so many bits.
+//! Sums of words of B bits, which wrap at 2^B.
 
 ghost use Rattle.std.specs.Prelude.{◌≡◌, ◌-◌, ◌^◌, ◌<◌, ◌≤◌};
 ghost use Rattle.lk_locks.specs.Change.{plus_one};

@@ -1,4 +1,4 @@
-//! A lock with its sequential object: after each move it is known who holds and who is in line. It
+//! A lock with its sequential object: after each move it is known who holds and who is queued. It
 //! keeps no history and takes no memory; `Keeper` adds the history. This project's own.
 
 ghost use Rattle.std.specs.Prelude.{◌≡◌};
