@@ -339,8 +339,7 @@ def files():
           status=(program.returncode, 3))
 
 
-# In MB. The first is too short for a single replay alone; a batch is not tried with it.
-LIMITS = (3, 4, 5, 6, 8, 12, 16, 24, 32, 48, 64, 80, 96, 128, 160, 256, 512)
+LIMITS = (3, 4, 5, 6, 8, 12, 16, 24, 32, 48, 64, 80, 96, 128, 160, 256, 512)  # in MB
 
 
 def memory():
