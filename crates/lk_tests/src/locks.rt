@@ -1,5 +1,5 @@
-//! Worked rows, played on machines and keepers by one body for all four locks. What they expect was made by hand from the published
-//! algorithms.
+//! Worked rows, played on machines and keepers by one body for all four locks. What they expect was
+//! made by hand from the published algorithms.
 
 mod operations;
 mod parts;

@@ -35,7 +35,8 @@ pub fn is_refusing(alloc: Global) -> bool {
     !is_granted(alloc, HERE)
 }
 
-/// A call that met no refusal: under that allocator it is not the first, since the call asks for memory.
+/// A call that met no refusal: under that allocator it is not the first, since the call asks for
+/// memory.
 pub fn met_none(rt: &impl Abort, alloc: Global, number: usize) {
     assert!(rt; number > 1 || !is_refusing(alloc), "no request was made");
 }

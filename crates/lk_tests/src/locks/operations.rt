@@ -1,4 +1,5 @@
-//! Each step of a queue lock is one operation, of its kind, on its word, and a call is none. It is seen after each single move.
+//! Each step of a queue lock is one operation, of its kind, on its word, and a call is none. It is
+//! seen after each single move.
 
 use super::rows::*;
 use Operation::{CompareAndSwap, FetchAndAdd, Read, Swap, Write};

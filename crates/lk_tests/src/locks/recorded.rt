@@ -1,4 +1,5 @@
-//! What each move of a whole hand-over adds to the history of a queue lock: the acquire acts where it asks, and returns where it enters.
+//! What each move of a whole hand-over adds to the history of a queue lock: the acquire acts where
+//! it asks, and returns where it enters.
 
 use super::rows::*;
 use Entry::{Acted, Called, Returned};

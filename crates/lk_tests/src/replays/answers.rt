@@ -71,7 +71,8 @@ fn entries_of_announced_writer(rt: HostRuntime) -> Result<(), Fail> {
     let schedule = read_schedule(
         alloc,
         b"lock rw-fifo threads 3\n0 rlock\n0 section\n1 wlock\n1 section\n2 rlock\n2 section\n\
-1 section\n0 runlock\n0 section\n2 section\n1 section\n1 wunlock\n2 section\n1 section\n2 section\n",
+          1 section\n0 runlock\n0 section\n2 section\n1 section\n1 wunlock\n2 section\n\
+          1 section\n2 section\n",
     )?;
     assert!(rt;
         schedule.kind() == LockKind::RwFifo && schedule.threads() == 3 && schedule.bits() == 64

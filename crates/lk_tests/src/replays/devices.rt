@@ -6,8 +6,8 @@ use std::io;
 use std::io::{ErrorKind, Read, Write};
 use std::test::Fail;
 
-const TEXT: &[u8] =
-    b"lock ticket threads 2\n0 acquire\n0 add\n0 read\n1 acquire\n1 add\n1 read\n0 release\n0 read\n0 write\n1 read\n";
+const TEXT: &[u8] = b"lock ticket threads 2\n0 acquire\n0 add\n0 read\n1 acquire\n1 add\n1 read\n\
+      0 release\n0 read\n0 write\n1 read\n";
 
 /// Gives one byte a call, and fails in place of the byte after the last.
 #[derive(Drop)]

@@ -10,8 +10,8 @@ use std::io::Write;
 use std::process::Abort;
 use std::test::Fail;
 
-// Whether a call's rounds end here: in this one no request was refused. Where the allocator refuses,
-// one was in the first round, since the call wants memory.
+// Whether a call's rounds end here: in this one no request was refused. Where the allocator
+// refuses, one was in the first round, since the call wants memory.
 fn is_last(rt: &impl Abort, alloc: Global, number: usize, refused: bool) -> bool {
     assert!(rt; number < MOST_REQUESTS - 1);
     if !refused {

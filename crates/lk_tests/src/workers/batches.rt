@@ -11,8 +11,8 @@ const ONE_ENTERS: &str = "lock ticket threads 2\n0 acquire\n0 add\n0 read\n";
 
 const NOT_HOLDER: &str = "lock ticket threads 2\n0 release\n";
 
-const TWO_WRITERS: &str =
-    "lock rw-simple threads 2\n0 wlock\n0 section\n1 wlock\n1 section\n0 wunlock\n0 section\n1 section\n";
+const TWO_WRITERS: &str = "lock rw-simple threads 2\n0 wlock\n0 section\n1 wlock\n1 section\n\
+     0 wunlock\n0 section\n1 section\n";
 
 // The texts whose batch is below.
 pub const FIVE: [&str; 5] = [NO_MOVES, ONE_ENTERS, NOT_HOLDER, "", TWO_WRITERS];

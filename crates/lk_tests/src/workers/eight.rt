@@ -19,7 +19,8 @@ type Two = (LiveSeat, LiveSeat);
 
 fn two_shares(lock: &LiveTicket, all: &mut LiveSeat) -> Two
     requires { IsIdleOf lock.now (2 * TAKES) all.old }
-    ensures kept { (all.new.table ≡ lock.now) × (all.new.state.phase ≡ all.old.state.phase) × (all.new.state.left + 2 * TAKES ≡ all.old.state.left) }
+    ensures kept { (all.new.table ≡ lock.now) × (all.new.state.phase ≡ all.old.state.phase)
+        × (all.new.state.left + 2 * TAKES ≡ all.old.state.left) }
     ensures given { AreIdleOf lock.now TAKES result }
 {
     let first = lock.split(all, TAKES);
@@ -97,18 +98,21 @@ fn in_four_threads<R: Threads + Sync>(
     a: Four,
     b: Four,
 ) -> Option<LiveSeat>
-    requires { AreIdleOf lock.now TAKES a.0 × AreIdleOf lock.now TAKES a.1 × AreIdleOf lock.now TAKES b.0 × AreIdleOf lock.now TAKES b.1 }
+    requires { AreIdleOf lock.now TAKES a.0 × AreIdleOf lock.now TAKES a.1
+        × AreIdleOf lock.now TAKES b.0 × AreIdleOf lock.now TAKES b.1 }
     ensures { IfSome result (λ s. IsIdleOf lock.now 3 s) }
 {
     let (a, b) = join(
         rt,
         move || -> Option<Four>
             requires { IsSync R.row × AreIdleOf lock.now TAKES a.0 × AreIdleOf lock.now TAKES a.1 }
-            ensures { IfSome result (λ p. AreIdleOf lock.entry.now 3 p.0 × AreIdleOf lock.entry.now 3 p.1) }
+            ensures { IfSome result
+                (λ p. AreIdleOf lock.entry.now 3 p.0 × AreIdleOf lock.entry.now 3 p.1) }
         { in_two_threads(rt, lock, a.0, a.1) },
         move || -> Option<Four>
             requires { IsSync R.row × AreIdleOf lock.now TAKES b.0 × AreIdleOf lock.now TAKES b.1 }
-            ensures { IfSome result (λ p. AreIdleOf lock.entry.now 3 p.0 × AreIdleOf lock.entry.now 3 p.1) }
+            ensures { IfSome result
+                (λ p. AreIdleOf lock.entry.now 3 p.0 × AreIdleOf lock.entry.now 3 p.1) }
         { in_two_threads(rt, lock, b.0, b.1) },
     );
     let a = a?;

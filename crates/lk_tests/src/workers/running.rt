@@ -82,7 +82,8 @@ fn round(lock: &LiveTicket, seat: &mut LiveSeat) -> bool
 // This many rounds, or `None` where a turn never came.
 pub fn rounds(lock: &LiveTicket, mut seat: LiveSeat, count: u64) -> Option<LiveSeat>
     requires { IsIdleOf lock.now count seat }
-    ensures { IfSome result (λ s. IsIdleOf lock.now 0 s × (s.state.left + count ≡ seat.state.left)) }
+    ensures { IfSome result
+        (λ s. IsIdleOf lock.now 0 s × (s.state.left + count ≡ seat.state.left)) }
 {
     for _ in 0..count {
         if !round(lock, &mut seat) {
