@@ -1,0 +1,46 @@
+-- Definitions. How a whole text ends: its lines are read one after another, up to the first that
+-- ends it. This project's own.
+use Rattle.std.specs.Prelude.{◌≡◌, ◌≢◌, ◌+◌, ℕ, List, [], ◌∷◌, Option, None, Some}
+use Rattle.lk_replay.specs.Lines.{lines_of}
+use Rattle.lk_trace.specs.Checks.{Checked}
+use Rattle.lk_trace.specs.Traces.{event_of, after_text_line}
+use Rattle.lk_trace.specs.declared.trace.Event.{Event}
+use Rattle.lk_trace.specs.declared.trace.Event.TheVariants.{Differs, Fault}
+use Rattle.locktrace.specs.declared.check.Ending.{Ending}
+use Rattle.locktrace.specs.declared.check.Ending.TheVariants.{Accepted, Refused, Unread, Faulty}
+use Rattle.locktrace.specs.declared.check.Report.{Report}
+
+-- how a text ends, and the line that ends it, from 1; 0 where none does
+pub record Verdict : Type 0 where
+  pub ending : Ending
+  pub line : ℕ
+
+abbrev pub verdict : Ending → ℕ → Verdict
+verdict ending line = record { ending = ending; line = line }
+
+-- behind the last line: a text without a header is no trace
+abbrev pub at_end : ℕ → Option Checked → Verdict
+at_end number None = verdict Faulty number
+at_end number (Some c) = verdict Accepted 0
+
+-- a difference and a fault end the text, and nothing else does
+abbrev pub unless_ended : ℕ → Event → Verdict → Verdict
+unless_ended number (Differs line difference) behind = verdict Refused number
+unless_ended number (Fault fault) behind = verdict Faulty number
+unless_ended number event behind = behind
+
+-- how lines end of which the first has this number, behind those that were read
+unfoldable pub verdict_from : ℕ → Option Checked → List (List ℕ) → Verdict
+verdict_from number reading [] = at_end number reading
+verdict_from number reading (line ∷ lines) = unless_ended number (event_of reading line) (verdict_from (number + 1) (after_text_line reading line) lines)
+
+-- how a text ends
+abbrev pub verdict_of : List ℕ → Verdict
+verdict_of text = verdict_from 1 None (lines_of text)
+
+abbrev pub verdict_in : Report → Verdict
+verdict_in report = verdict report.ending report.line
+
+-- the report is the text's, unless the input failed
+abbrev pub IsOfText : Report → List ℕ → Type 0
+IsOfText report text = report.ending ≢ Unread → verdict_in report ≡ verdict_of text

@@ -1,0 +1,227 @@
+//! The words after the program's name, and the job that they ask for. `clap` reads the words.
+
+use crate::checking::CheckJob;
+use crate::formats::Format;
+use clap::error::ErrorKind;
+use clap::{Arg, ArgAction, ArgMatches, Command, value_parser};
+use std::alloc::{AllocError, AllocFailed, Global};
+
+/// What the program is asked to do. A file `-` is standard input.
+#[derive(Debug, Drop)]
+pub enum Job {
+    Check(CheckJob),
+    Schedule {
+        file: String,
+    },
+    Explain {
+        file: String,
+        /// The first and the last move that are explained, from 1.
+        moves: (u64, u64),
+        names: Vec<String>,
+    },
+}
+
+/// Why there is no job.
+#[derive(Debug, Drop)]
+pub enum ParseFault {
+    /// Help or the version was asked for. This is the text.
+    Told(String),
+    /// The words ask for nothing that the program does.
+    Usage(String),
+    OutOfMemory,
+}
+
+impl From<AllocError> for ParseFault {
+    fn from(_error: AllocError) -> ParseFault {
+        ParseFault::OutOfMemory
+    }
+}
+
+impl<T: Drop> From<AllocFailed<T>> for ParseFault {
+    fn from(_error: AllocFailed<T>) -> ParseFault {
+        ParseFault::OutOfMemory
+    }
+}
+
+/// The most workers of a check.
+pub const MOST_WORKERS: u8 = 64;
+
+const BAD_FORMAT: &str = "error: a format is text, tap or json\n";
+
+const BAD_MOVES: &str = "error: moves are two numbers from 1, as 5..10\n";
+
+fn check_command<'a>(alloc: Global) -> Result<Command<'a>, AllocError> {
+    let format = Arg::new(alloc, "format")
+        .long("format")
+        .value_name("FORMAT")
+        .help("text, tap or json")
+        .action(ArgAction::Set);
+    let summary = Arg::new(alloc, "summary")
+        .long("summary")
+        .help(
+            "Counts threads, moves, waits, failed compare-and-swaps, late links, the longest queue and rounds",
+        )
+        .action(ArgAction::SetTrue);
+    let workers = Arg::new(alloc, "jobs")
+        .short('j')
+        .long("jobs")
+        .value_name("N")
+        .help("How many threads share the files")
+        .action(ArgAction::Set)
+        .value_parser(value_parser!(u8).range(1..=MOST_WORKERS as i64));
+    let files = Arg::new(alloc, "files")
+        .value_name("FILE")
+        .help("Traces or schedules; - is standard input, also where none is named")
+        .num_args(0..)
+        .action(ArgAction::Append);
+    Command::new(alloc, "check")
+        .about("Checks each move, and each value that is given, with the lock's machine")
+        .arg(format)?
+        .arg(summary)?
+        .arg(workers)?
+        .arg(files)
+}
+
+fn file_arg<'a>(alloc: Global) -> Arg<'a> {
+    Arg::new(alloc, "file")
+        .value_name("FILE")
+        .help("A trace or a schedule; - is standard input, also where none is named")
+        .action(ArgAction::Set)
+}
+
+fn explain_command<'a>(alloc: Global) -> Result<Command<'a>, AllocError> {
+    let moves = Arg::new(alloc, "moves")
+        .long("moves")
+        .value_name("FIRST..LAST")
+        .help("Only these moves, counted from 1")
+        .action(ArgAction::Set);
+    let names = Arg::new(alloc, "names")
+        .long("names")
+        .value_name("NAME,NAME")
+        .help("What the threads are called, from thread 0 on")
+        .action(ArgAction::Set);
+    Command::new(alloc, "explain")
+        .about("Tells of each move what it found and left, and why the first wrong one is wrong")
+        .arg(moves)?
+        .arg(names)?
+        .arg(file_arg(alloc))
+}
+
+fn program_command<'a>(alloc: Global) -> Result<Command<'a>, AllocError> {
+    let schedule = Command::new(alloc, "schedule")
+        .about("Writes a trace without its values")
+        .arg(file_arg(alloc))?;
+    Command::new(alloc, "locktrace")
+        .about("Checks runs of locks, explains them, and writes them as schedules")
+        .version("1.0.0")
+        .bin_name("locktrace")?
+        .no_binary_name(true)
+        .subcommand_required(true)
+        .subcommand(check_command(alloc)?)?
+        .subcommand(explain_command(alloc)?)?
+        .subcommand(schedule)
+}
+
+fn copied(alloc: Global, texts: &[&str]) -> Result<Vec<String>, AllocError> {
+    let mut copies = Vec::new(alloc);
+    for text in texts {
+        copies.push(String::from_str(alloc, *text)?)?;
+    }
+    Ok(copies)
+}
+
+fn usage(alloc: Global, text: &str) -> ParseFault {
+    match String::from_str(alloc, text) {
+        Ok(text) => ParseFault::Usage(text),
+        Err(_) => ParseFault::OutOfMemory,
+    }
+}
+
+// The file that was named, or else standard input.
+fn file_given(alloc: Global, matches: &ArgMatches<'_>) -> Result<String, AllocError> {
+    String::from_str(alloc, matches.get_str("file").unwrap_or("-"))
+}
+
+fn check_given(alloc: Global, matches: &ArgMatches<'_>) -> Result<Job, ParseFault> {
+    let format = matches.get_str("format").unwrap_or("text");
+    let format = if format == "text" {
+        Format::Text
+    } else if format == "tap" {
+        Format::Tap
+    } else if format == "json" {
+        Format::Json
+    } else {
+        return Err(usage(alloc, BAD_FORMAT));
+    };
+    let mut files = copied(alloc, matches.get_strs("files").unwrap_or(&[]))?;
+    if files.is_empty() {
+        files.push(String::from_str(alloc, "-")?)?;
+    }
+    Ok(Job::Check(CheckJob {
+        format,
+        summary: matches.get_flag("summary"),
+        workers: matches.get_one::<u8>("jobs").unwrap_or(1),
+        files,
+    }))
+}
+
+// `5..10`: the moves from the fifth to the tenth.
+fn moves_of(text: &str) -> Option<(u64, u64)> {
+    let (first, last) = text.split_once("..")?;
+    let first = first.parse::<u64>().ok()?;
+    let last = last.parse::<u64>().ok()?;
+    if first == 0 || last < first {
+        return None;
+    }
+    Some((first, last))
+}
+
+fn explain_given(alloc: Global, matches: &ArgMatches<'_>) -> Result<Job, ParseFault> {
+    let moves = match matches.get_str("moves") {
+        Some(text) => match moves_of(text) {
+            Some(moves) => moves,
+            None => return Err(usage(alloc, BAD_MOVES)),
+        },
+        None => (1, u64::MAX),
+    };
+    let mut names = Vec::new(alloc);
+    if let Some(text) = matches.get_str("names") {
+        for name in text.split(',') {
+            names.push(String::from_str(alloc, name)?)?;
+        }
+    }
+    Ok(Job::Explain {
+        file: file_given(alloc, matches)?,
+        moves,
+        names,
+    })
+}
+
+// What the parser's error is to the program.
+fn fault_told(alloc: Global, error: &clap::Error) -> ParseFault {
+    match (error.kind(), error.to_string(alloc)) {
+        (ErrorKind::OutOfMemory, _) | (_, Err(_)) => ParseFault::OutOfMemory,
+        (ErrorKind::DisplayHelp | ErrorKind::DisplayVersion, Ok(text)) => ParseFault::Told(text),
+        (_, Ok(text)) => ParseFault::Usage(text),
+    }
+}
+
+/// The job that the words after the program's name ask for. The grammar is `clap`'s, with its
+/// texts.
+pub fn parse_words(alloc: Global, words: &[String]) -> Result<Job, ParseFault> {
+    let command = program_command(alloc)?;
+    let matches = match command.try_get_matches_from(words) {
+        Ok(matches) => matches,
+        Err(error) => return Err(fault_told(alloc, &error)),
+    };
+    match matches.subcommand() {
+        Some((name, check)) if name == "check" => check_given(alloc, check),
+        Some((name, explain)) if name == "explain" => explain_given(alloc, explain),
+        Some((_, schedule)) => Ok(Job::Schedule {
+            file: file_given(alloc, schedule)?,
+        }),
+        None => Ok(Job::Schedule {
+            file: String::from_str(alloc, "-")?,
+        }),
+    }
+}

@@ -1,0 +1,153 @@
+//! `locktrace`: checks traces of locks, explains them, and writes them as schedules.
+//!
+//! Reports, schedules and help go to standard output, every other line to standard error.
+#![tactic(auto)]
+
+mod check;
+mod checking;
+mod command_line;
+mod explain;
+mod failures;
+mod formats;
+mod lines;
+mod scheduling;
+mod sentences;
+mod summary;
+mod texts;
+
+use check::{Ending, worst};
+use checking::check_files;
+use command_line::{Job, ParseFault, parse_words};
+use explain::{Asked, explain_input};
+use failures::Failure;
+use scheduling::{Scheduled, write_schedule};
+use std::alloc::Global;
+use std::io::{Eprint, ErrorKind, IsTerminal, Write};
+use std::process::ExitCode;
+use std::rt::Runtime;
+use std::thread::Threads;
+use std::{env, fs};
+
+/// The status of a command line that asks for nothing that the program does.
+const USAGE_STATUS: u8 = 2;
+
+/// The status where a read or a write failed or memory was refused.
+const FAILED_STATUS: u8 = 3;
+
+/// Of words that are not UTF-8 the parser can read none.
+const FOREIGN_WORDS: &str = "locktrace: the words are not UTF-8 text\n";
+
+// The job that the words after the program's name ask for.
+fn job_given(rt: &HostRuntime) -> Result<Job, ParseFault> {
+    let alloc = rt.alloc();
+    let words = match env::args(rt) {
+        Ok(words) => words,
+        Err(error) if error.kind() == ErrorKind::OutOfMemory => {
+            return Err(ParseFault::OutOfMemory);
+        }
+        Err(_) => return Err(ParseFault::Usage(String::from_str(alloc, FOREIGN_WORDS)?)),
+    };
+    let words: Vec<String> = words.skip(1).collect(alloc)?;
+    parse_words(alloc, &words)
+}
+
+// Writes the schedule of a trace.
+fn write_file<R: Runtime, O: Write>(
+    rt: &R,
+    alloc: Global,
+    file: &str,
+    output: &mut O,
+) -> Result<u8, Failure> {
+    let scheduled = if file == "-" {
+        write_schedule(alloc, rt.reader(), output)?
+    } else {
+        match fs::open(rt, file) {
+            Ok(input) => write_schedule(alloc, input, output)?,
+            Err(error) => Scheduled::Unread(error),
+        }
+    };
+    if !matches!(&scheduled, Scheduled::Whole) {
+        let text = scheduled.text(alloc, file)?;
+        let _ = eprint!(rt; "{text}");
+    }
+    Ok(scheduled.ending().status())
+}
+
+// Explains a trace.
+fn explain_file<R: Runtime, O: Write>(
+    rt: &R,
+    alloc: Global,
+    file: &str,
+    asked: Asked<'_>,
+    output: &mut O,
+) -> Result<u8, Failure> {
+    let ending = if file == "-" {
+        explain_input(alloc, rt.reader(), asked, output)?
+    } else {
+        match fs::open(rt, file) {
+            Ok(input) => explain_input(alloc, input, asked, output)?,
+            Err(error) => {
+                let _ = eprintln!(rt; "{file}: {error}");
+                Ending::Unread
+            }
+        }
+    };
+    Ok(ending.status())
+}
+
+// Does a job, and gives the status that the program ends with.
+fn perform<R: Runtime + Threads + Sync, O: Write>(
+    rt: &R,
+    alloc: Global,
+    job: &Job,
+    told: bool,
+    output: &mut O,
+) -> Result<u8, Failure>
+where
+    R::File: Send,
+{
+    match job {
+        Job::Check(job) => Ok(worst(&check_files(rt, alloc, job, told, output)?)),
+        Job::Schedule { file } => write_file(rt, alloc, file, output),
+        Job::Explain { file, moves, names } => {
+            let asked = Asked {
+                moves: *moves,
+                names,
+            };
+            explain_file(rt, alloc, file, asked, output)
+        }
+    }
+}
+
+// The status of what was done. What kept it from being done is told.
+fn status_told<R: Eprint>(rt: &R, ended: Result<u8, Failure>) -> u8 {
+    match ended {
+        Ok(status) => return status,
+        Err(Failure::Output(error)) => {
+            let _ = eprintln!(rt; "locktrace: cannot write: {error}");
+        }
+        Err(Failure::Memory) => {
+            let _ = eprintln!(rt; "locktrace: out of memory");
+        }
+    }
+    FAILED_STATUS
+}
+
+fn main(rt: HostRuntime) -> ExitCode {
+    let ended = match job_given(&rt) {
+        Ok(job) => {
+            let told = rt.stderr().is_terminal();
+            perform(&rt, rt.alloc(), &job, told, &mut rt.stdout())
+        }
+        Err(ParseFault::Told(text)) => match rt.stdout().write_all(text.as_bytes()) {
+            Ok(()) => Ok(0),
+            Err(error) => Err(Failure::Output(error)),
+        },
+        Err(ParseFault::Usage(text)) => {
+            let _ = rt.stderr().write_all(text.as_bytes());
+            Ok(USAGE_STATUS)
+        }
+        Err(ParseFault::OutOfMemory) => Err(Failure::Memory),
+    };
+    ExitCode::from(status_told(&rt, ended))
+}

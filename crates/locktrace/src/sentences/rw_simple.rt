@@ -1,0 +1,16 @@
+//! What the sections of the simple read-write lock mean.
+
+use lk_locks::{Outcome, Phase};
+
+pub fn sentence(phase: Phase, outcome: Outcome) -> &'static str {
+    match (phase, outcome) {
+        (Phase::TryRead, Outcome::Entered) => "finds no writer: it reads",
+        (Phase::TryRead, _) => "finds a writer inside, and waits",
+        (Phase::LeaveRead, _) => "reads no more",
+        (Phase::TryWrite, Outcome::Entered) => "finds nobody inside: it writes",
+        (Phase::TryWrite, _) => "finds the lock taken, and waits",
+        (Phase::LeaveWrite, _) => "writes no more",
+        (Phase::TryDowngrade, _) => "reads from here on, with nobody between",
+        _ => "takes a step",
+    }
+}

@@ -1,0 +1,14 @@
+//! What the steps of the ticket lock mean.
+
+use lk_locks::{Outcome, Phase};
+
+pub fn sentence(phase: Phase, outcome: Outcome) -> &'static str {
+    match (phase, outcome) {
+        (Phase::TakeTicket, _) => "takes its ticket, and is in line from here on",
+        (Phase::AwaitTurn(_), Outcome::Entered) => "finds its ticket served: it holds the lock",
+        (Phase::AwaitTurn(_), _) => "finds another ticket served, and waits",
+        (Phase::ReadServing(_), _) => "reads the ticket that is served, its own",
+        (Phase::PassOn(_), _) => "serves the next ticket: it holds the lock no more",
+        _ => "takes a step",
+    }
+}
