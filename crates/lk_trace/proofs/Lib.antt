@@ -1,4 +1,4 @@
 mod Large
 mod HeaderFaults
-mod Agreeing
+pub mod Agreeing
 mod Made

@@ -1,6 +1,7 @@
 -- Definitions. How a whole text ends: its lines are read one after another, up to the first that
 -- ends it. This project's own.
-use Rattle.std.specs.Prelude.{◌≡◌, ◌≢◌, ◌+◌, ℕ, List, [], ◌∷◌, Option, None, Some}
+use Rattle.std.specs.Prelude.{◌≡◌, ◌≢◌, ◌+◌, ◌<◌, ℕ, List, [], ◌∷◌, length, slice_index_or, Option, None, Some, IfSome, Result, IfOk}
+use Rattle.std.specs.declared.alloc.AllocError.{AllocError}
 use Rattle.lk_replay.specs.Lines.{lines_of}
 use Rattle.lk_trace.specs.Checks.{Checked}
 use Rattle.lk_trace.specs.Traces.{event_of, after_text_line}
@@ -44,3 +45,8 @@ verdict_in report = verdict report.ending report.line
 -- the report is the text's, unless the input failed
 abbrev pub IsOfText : Report → List ℕ → Type 0
 IsOfText report text = report.ending ≢ Unread → verdict_in report ≡ verdict_of text
+
+-- each report is that of the input at its place
+abbrev pub AreOfTexts : {I : Type 0} → (I → Option (List ℕ)) → List I → List (Result Report AllocError) → Type 0
+AreOfTexts {I} remaining inputs reports = (i : ℕ) (input : I) (d : Result Report AllocError) → i < length inputs → input ≡ slice_index_or inputs i input
+    → IfOk (slice_index_or reports i d) (λ report. IfSome (remaining input) (IsOfText report))

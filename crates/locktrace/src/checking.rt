@@ -1,6 +1,7 @@
 //! The job of checking files, by several threads where asked for. The reports come in the order of
 //! the files.
 
+ghost use Rattle.locktrace.specs.Verdicts.{AreOfTexts};
 ghost use Rattle.std.specs.Prelude.{◌≡◌, ◌+◌, ◌++◌, ◌∷◌, [], IfOk, OnOk, length};
 
 use crate::check::{Ending, NoWatcher, Report, Watcher, check_input, unread};
@@ -11,6 +12,7 @@ use std::fs;
 use std::io::{Read, Write};
 use std::rt::Runtime;
 use std::thread::{Threads, map_vec};
+use std::vec::IntoIter;
 
 /// What a check is asked for. A file `-` is standard input.
 #[derive(Debug, Drop)]
@@ -138,7 +140,9 @@ pub fn check_side_by_side<R: Threads + Sync, I: Read + Send + Drop>(
     rt: &R,
     alloc: Global,
     inputs: Vec<I>,
-) -> Result<Vec<Result<Report, AllocError>>, AllocError> {
+) -> Result<Vec<Result<Report, AllocError>>, AllocError>
+    ensures { IfOk result (λ reports. AreOfTexts I.remaining inputs.items reports.items) }
+{
     map_vec(
         rt,
         inputs,
@@ -180,6 +184,27 @@ fn open_round<R: Runtime>(
     Ok(round)
 }
 
+// The reports of a round that are left.
+#[derive(Drop)]
+struct Checked {
+    early: IntoIter<Option<Report>>,
+    late: IntoIter<Result<Report, AllocError>>,
+}
+
+impl Checked {
+    // The next file's report. There is one for each.
+    fn next(&mut self) -> Result<Report, AllocError> {
+        match self.early.next() {
+            Some(Some(report)) => Ok(report),
+            Some(None) => match self.late.next() {
+                Some(report) => report,
+                None => Err(AllocError),
+            },
+            None => Err(AllocError),
+        }
+    }
+}
+
 // Checks the files of a round side by side, and writes their reports.
 fn check_round<R: Runtime + Threads + Sync, O: Write>(
     rt: &R,
@@ -190,17 +215,15 @@ fn check_round<R: Runtime + Threads + Sync, O: Write>(
 ) -> Result<(), Failure>
 where
     R::File: Send,
+    ensures { OnOk result (length reports.new.endings.items ≡ length reports.old.endings.items + length names.now) }
 {
     let Round { inputs, early } = open_round(rt, alloc, names)?;
-    let mut checked = check_side_by_side(rt, alloc, inputs)?.into_iter();
-    for (name, early) in names.iter().zip(early) {
-        let report = match early {
-            Some(report) => report,
-            None => match checked.next() {
-                Some(report) => report?,
-                None => return Err(Failure::Memory),
-            },
-        };
+    let mut checked = Checked {
+        early: early.into_iter(),
+        late: check_side_by_side(rt, alloc, inputs)?.into_iter(),
+    };
+    for name in names {
+        let report = checked.next()?;
         reports.put(output, name, &report)?;
     }
     Ok(())
@@ -216,9 +239,13 @@ fn check_rounds<R: Runtime + Threads + Sync, O: Write>(
 ) -> Result<(), Failure>
 where
     R::File: Send,
+    ensures { OnOk result (length reports.new.endings.items ≡ length reports.old.endings.items + length job.now.files.items) }
 {
-    for names in job.files.chunks((job.workers as usize).max(1)) {
+    let mut rest = job.files.as_slice();
+    while rest.len() > 0 {
+        let (names, behind) = rest.split_at((job.workers as usize).max(1).min(rest.len()));
         check_round(rt, alloc, names, reports, output)?;
+        rest = behind;
     }
     Ok(())
 }
@@ -252,6 +279,7 @@ pub fn check_files<R: Runtime + Threads + Sync, O: Write>(
 ) -> Result<Vec<Ending>, Failure>
 where
     R::File: Send,
+    ensures { IfOk result (λ endings. length endings.items ≡ length job.now.files.items) }
 {
     let mut reports = Reports::new(alloc, job)?;
     if job.workers > 1 && job.files.len() > 1 {
