@@ -1,0 +1,106 @@
+//! The acquires of an MCS lock, as each thread's log has them: whom the swap found, and whom the
+//! release found.
+
+use lk_locks::{LockKind, Move, Op, StepKind};
+use lk_trace::{Seen, TraceLine, WordName};
+use std::alloc::{AllocError, Global};
+
+/// What is known of a neighbor in the queue.
+#[derive(Clone, Copy, PartialEq, Eq, Debug)]
+pub enum Neighbor {
+    Unknown,
+    Nobody,
+    Thread(u8),
+}
+
+/// An acquire with its release.
+#[derive(Clone, Copy)]
+pub struct Instance {
+    /// Whom the swap found.
+    pub before: Neighbor,
+    /// Whom the release found.
+    pub after: Neighbor,
+    /// How far the log has to be placed before the successor may link itself: behind the last look
+    /// that found no link.
+    pub unlinked: usize,
+}
+
+impl Instance {
+    fn new() -> Instance {
+        Instance {
+            before: Neighbor::Unknown,
+            after: Neighbor::Unknown,
+            unlinked: 0,
+        }
+    }
+}
+
+// The neighbor that a word of the lock names.
+fn named(value: u64) -> Neighbor {
+    if value == 0 {
+        Neighbor::Nobody
+    } else if value <= 64 {
+        Neighbor::Thread((value - 1) as u8)
+    } else {
+        Neighbor::Unknown
+    }
+}
+
+// What a step of a release tells of the instance. `at` is its place in the log.
+fn note(instance: &mut Instance, line: TraceLine, at: usize) {
+    match (line.action, line.seen) {
+        (
+            Move::Step(StepKind::Swap),
+            Seen::OnWord {
+                found: Some(found),
+                ..
+            },
+        ) => {
+            instance.before = named(found);
+        }
+        (
+            Move::Step(StepKind::Read),
+            Seen::OnWord {
+                word: WordName::Next(_),
+                found: Some(found),
+                ..
+            },
+        ) => {
+            if found == 0 {
+                instance.unlinked = at.saturating_add(1);
+            } else {
+                instance.after = named(found);
+            }
+        }
+        (
+            Move::Step(StepKind::Cas),
+            Seen::OnWord {
+                wrote: Some(true),
+                ..
+            },
+        ) => {
+            instance.after = Neighbor::Nobody;
+        }
+        _ => {}
+    }
+}
+
+/// The instances of a log, in order: of another lock there are none.
+pub fn instances_of(
+    alloc: Global,
+    kind: LockKind,
+    moves: &[TraceLine],
+) -> Result<Vec<Instance>, AllocError> {
+    let mut instances: Vec<Instance> = Vec::new(alloc);
+    if kind != LockKind::Mcs {
+        return Ok(instances);
+    }
+    for (at, line) in moves.iter().enumerate() {
+        if let Move::Call(Op::Acquire) = line.action {
+            instances.push(Instance::new())?;
+        } else if let Some(last) = instances.last_mut() {
+            note(last, *line, at);
+        }
+    }
+    Ok(instances)
+}

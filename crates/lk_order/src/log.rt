@@ -1,0 +1,111 @@
+//! A log: what one thread of a run wrote down by itself, read.
+
+ghost use Rattle.std.specs.Prelude.{◌≡◌};
+
+mod reader;
+
+use lk_locks::LockKind;
+use lk_trace::TraceLine;
+pub use reader::{LogFault, LogReader};
+use std::marker::Model;
+
+/// The log of one thread.
+#[derive(Drop)]
+pub struct Log {
+    kind: LockKind,
+    threads: u8,
+    bits: u8,
+    thread: u8,
+    moves: Vec<TraceLine>,
+    // the line of each move in its text
+    lines: Vec<u32>,
+    dropped: Option<u64>,
+}
+
+impl Model for Log {
+    ghost use Rattle.lk_order.specs.Logs.{ThreadLog};
+
+    ghost Value = { ThreadLog };
+
+    ghost use Rattle.lk_order.specs.Logs.{IsSound};
+
+    ghost view = { λ a. record {
+      kind = a.kind;
+      threads = a.threads;
+      bits = a.bits;
+      thread = a.thread;
+      moves = a.moves.items;
+      lines = a.lines.items;
+      dropped = a.dropped;
+    } };
+
+    ghost invariant = { λ a. IsSound a.threads a.bits a.thread a.moves.items };
+}
+
+impl Log {
+    ghost use Rattle.std.specs.Prelude.{◌≡◌, ◌≢◌, ◌<◌, ◌≤◌, ◌^◌, ◌↔◌, IsTrue, Some};
+    ghost use Rattle.std.specs.List.{All, slice_get};
+
+    /// The lock.
+    pub fn kind(&self) -> LockKind
+        ensures { result ≡ self.now.kind }
+    {
+        self.kind
+    }
+
+    /// How many threads the lock has.
+    pub fn threads(&self) -> u8
+        ensures threads { result ≡ self.now.threads }
+        ensures some { 0 < result }
+        ensures few { result ≤ 64 }
+        ensures narrow { result < 2 ^ self.now.bits }
+    {
+        self.threads
+    }
+
+    /// How many bits the lock's words have.
+    pub fn bits(&self) -> u8
+        ensures bits { result ≡ self.now.bits }
+        ensures least { 2 ≤ result }
+        ensures most { result ≤ 64 }
+    {
+        self.bits
+    }
+
+    /// Whose log it is.
+    pub fn thread(&self) -> u8
+        ensures thread { result ≡ self.now.thread }
+        ensures few { result < self.now.threads }
+    {
+        self.thread
+    }
+
+    /// The moves, in order. Each is the thread's own.
+    pub fn moves(&self) -> &[TraceLine]
+        ensures moves { result.now ≡ self.now.moves }
+        ensures own { All (λ line. line.thread ≡ self.now.thread) result.now }
+    {
+        self.moves.as_slice()
+    }
+
+    /// The line of the text in which a move stands, counted from 1.
+    pub fn line_of(&self, at: usize) -> Option<u32>
+        ensures { result ≡ slice_get self.now.lines at }
+    {
+        self.lines.get(at).copied()
+    }
+
+    /// How many further moves the thread made. None where the log ends without saying so.
+    pub fn dropped(&self) -> Option<u64>
+        ensures { result ≡ self.now.dropped }
+    {
+        self.dropped
+    }
+
+    /// Whether the thread made moves that are not in the log, or may have.
+    pub fn is_cut(&self) -> bool
+        ensures { IsTrue result ↔ (self.now.dropped ≢ Some 0) }
+    {
+        self.dropped != Some(0)
+    }
+}

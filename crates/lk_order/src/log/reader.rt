@@ -1,0 +1,252 @@
+//! A log, read line by line: the header, the moves, and how many were dropped.
+
+ghost use Rattle.std.specs.Prelude.{◌≡◌, ◌<◌, ◌≤◌, ◌^◌, ◌++◌, ◌∷◌, [], None, true, false};
+ghost use Rattle.std.specs.Prelude.{MatchOption, IfOk, IfSome, OnOk, OnErr, IfErr, Ok, Err};
+ghost use Rattle.lk_order.specs.Logs.{behind_header, cut_last, dropped_of, empty_log};
+ghost use Rattle.lk_order.specs.Logs.{IsFaultOf, line_read, log_header_of, log_read};
+ghost use Rattle.lk_order.specs.Logs.{short_line_of};
+
+use super::Log;
+use lk_replay::parts::{Header, is_skipped, number_of};
+use lk_trace::{MOST_OF_A_LINE, TraceLine, read_header, read_log_line, whole_number};
+use std::alloc::Global;
+use std::marker::Model;
+
+/// Why a text is no log.
+#[derive(Clone, Copy, PartialEq, Eq, Debug)]
+pub enum LogFault {
+    /// No line but comments and empty ones.
+    NoHeader,
+    /// The first line that is not skipped is no header.
+    BadHeader,
+    /// A later line is no move.
+    BadMove,
+    /// A line that is not skipped behind the last one.
+    BehindTheEnd,
+    /// Line number 4,294,967,295.
+    TooLong,
+    /// A request for memory was refused.
+    OutOfMemory,
+}
+
+/// A log of which some lines were read.
+#[derive(Drop)]
+pub struct LogReader {
+    alloc: Global,
+    log: Option<Log>,
+    number: u32,
+}
+
+impl Model for LogReader {
+    ghost use Rattle.lk_order.specs.Logs.{Reading};
+
+    ghost Value = { Reading };
+
+    ghost view = { λ a. record { log = a.log; number = a.number } };
+}
+
+// The line before its last space, and the word behind that.
+fn cut_last_word(line: &[u8]) -> Option<(&[u8], &[u8])>
+    ensures { MatchOption result (cut_last line.now ≡ None)
+        (λ cut. cut_last line.now ≡ Some (cut.0.now, cut.1.now)) }
+{
+    match line.iter().rposition(|&b| b == b' ') {
+        Some(at) => Some((&line[..at], &line[at + 1..])),
+        None => None,
+    }
+}
+
+// The header of a log: a trace's, and `thread T` behind it.
+fn header_of(line: &[u8]) -> Option<(Header, u8)>
+    ensures header { result ≡ log_header_of line.now }
+    ensures some { IfSome result (λ read. 0 < read.0.threads) }
+    ensures few { IfSome result (λ read. read.0.threads ≤ 64) }
+    ensures narrow { IfSome result (λ read. read.0.threads < 2 ^ read.0.bits) }
+    ensures least { IfSome result (λ read. 2 ≤ read.0.bits) }
+    ensures most { IfSome result (λ read. read.0.bits ≤ 64) }
+    ensures has { IfSome result (λ read. read.1 < read.0.threads) }
+{
+    if line.len() > MOST_OF_A_LINE {
+        return None;
+    }
+    let (front, number) = cut_last_word(line)?;
+    let thread = number_of(number, 0, 63)?;
+    let (front, word) = cut_last_word(front)?;
+    if word != b"thread".as_slice() {
+        return None;
+    }
+    match read_header(front) {
+        Ok(header) if thread < header.threads => Some((header, thread)),
+        _ => None,
+    }
+}
+
+// How many moves were dropped, where the line is the last of a log.
+fn dropped_of(line: &[u8]) -> Option<u64>
+    ensures { result ≡ dropped_of line.now }
+{
+    let number = line.strip_prefix(b"dropped ".as_slice())?;
+    whole_number(number)
+}
+
+// The move of this thread that a line of at most 96 bytes is.
+fn short_line(line: &[u8], thread: u8) -> Option<TraceLine>
+    ensures line { result ≡ short_line_of thread line.now }
+    ensures own { IfSome result (λ line. line.thread ≡ thread) }
+{
+    if line.len() > MOST_OF_A_LINE {
+        return None;
+    }
+    read_log_line(line, thread)
+}
+
+impl Log {
+    // A log without moves.
+    fn begun(alloc: Global, header: Header, thread: u8) -> Log
+        requires some { 0 < header.threads }
+        requires few { header.threads ≤ 64 }
+        requires narrow { header.threads < 2 ^ header.bits }
+        requires least { 2 ≤ header.bits }
+        requires most { header.bits ≤ 64 }
+        requires has { thread < header.threads }
+        ensures { result ≡ empty_log header thread }
+    {
+        Log {
+            kind: header.kind,
+            threads: header.threads,
+            bits: header.bits,
+            thread,
+            moves: Vec::new(alloc),
+            lines: Vec::new(alloc),
+            dropped: None,
+        }
+    }
+
+    // One move more.
+    fn note(&mut self, line: TraceLine, number: u32) -> Result<(), LogFault>
+        requires own { line.thread ≡ self.old.thread }
+        ensures ok { OnOk result (self.new ≡ record self.old {
+          moves = self.old.moves ++ line ∷ [];
+          lines = self.old.lines ++ number ∷ [];
+        }) }
+        ensures err { IfErr result (λ fault. fault ≡ LogFault.OutOfMemory) }
+        ensures same { OnErr result (self.new ≡ self.old) }
+    {
+        if self.lines.push(number).is_err() {
+            return Err(LogFault::OutOfMemory);
+        }
+        if self.moves.push(line).is_err() {
+            self.lines.pop();
+            return Err(LogFault::OutOfMemory);
+        }
+        Ok(())
+    }
+
+    // Reads a line behind the header that is not skipped. A move whose line has no end was cut off.
+    fn take(&mut self, line: &[u8], number: u32, ended: bool) -> Result<(), LogFault>
+        ensures ok { OnOk result (behind_header self.old number ended line.now ≡ Ok self.new) }
+        ensures err { IfErr result (IsFaultOf (behind_header self.old number ended line.now)) }
+        ensures same { OnErr result (self.new ≡ self.old) }
+    {
+        if self.dropped.is_some() {
+            return Err(LogFault::BehindTheEnd);
+        }
+        if let Some(count) = dropped_of(line) {
+            self.dropped = Some(count);
+            return Ok(());
+        }
+        if !ended {
+            return Ok(());
+        }
+        match short_line(line, self.thread) {
+            Some(line) => self.note(line, number),
+            None => Err(LogFault::BadMove),
+        }
+    }
+}
+
+impl LogReader {
+    /// No line was read yet.
+    pub fn new(alloc: Global) -> LogReader
+        ensures { result ≡ record { log = None; number = 0 } }
+    {
+        LogReader {
+            alloc,
+            log: None,
+            number: 0,
+        }
+    }
+
+    /// How many lines were read.
+    pub fn number(&self) -> u32
+        ensures { result ≡ self.now.number }
+    {
+        self.number
+    }
+
+    // Reads the next line.
+    fn take(&mut self, line: &[u8], ended: bool) -> Result<(), LogFault>
+        ensures ok { OnOk result (line_read self.old ended line.now ≡ Ok self.new) }
+        ensures err { IfErr result (IsFaultOf (line_read self.old ended line.now)) }
+        ensures same { OnErr result (self.new ≡ self.old) }
+    {
+        let number = self.number;
+        if number >= u32::MAX - 1 {
+            return Err(LogFault::TooLong);
+        }
+        if !is_skipped(line) {
+            if let Some(log) = self.log.as_mut() {
+                log.take(line, number + 1, ended)?;
+            } else {
+                let Some((header, thread)) = header_of(line) else {
+                    return Err(LogFault::BadHeader);
+                };
+                self.log = Some(Log::begun(self.alloc, header, thread));
+            }
+        }
+        self.number = number + 1;
+        Ok(())
+    }
+
+    /// Reads the next line, without its line feed.
+    ///
+    /// # Errors
+    ///
+    /// Every fault but `NoHeader`. Then nothing has changed, and the fault is in line
+    /// `number() + 1`.
+    pub fn line(&mut self, line: &[u8]) -> Result<(), LogFault>
+        ensures ok { OnOk result (line_read self.old true line.now ≡ Ok self.new) }
+        ensures err { IfErr result (IsFaultOf (line_read self.old true line.now)) }
+        ensures same { OnErr result (self.new ≡ self.old) }
+    {
+        self.take(line, true)
+    }
+
+    /// Reads what stands behind the last line feed, which may be nothing. A move there was cut off
+    /// while it was written, and is not looked at.
+    ///
+    /// # Errors
+    ///
+    /// Those of `line` but `BadMove`.
+    pub fn rest(&mut self, line: &[u8]) -> Result<(), LogFault>
+        ensures ok { OnOk result (line_read self.old false line.now ≡ Ok self.new) }
+        ensures err { IfErr result (IsFaultOf (line_read self.old false line.now)) }
+        ensures same { OnErr result (self.new ≡ self.old) }
+    {
+        self.take(line, false)
+    }
+
+    /// The log.
+    ///
+    /// # Errors
+    ///
+    /// `NoHeader`.
+    pub fn log(self) -> Result<Log, LogFault>
+        ensures { result ≡ log_read self.log }
+    {
+        match self.log {
+            Some(log) => Ok(log),
+            None => Err(LogFault::NoHeader),
+        }
+    }
+}
