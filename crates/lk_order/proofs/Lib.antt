@@ -1,2 +1,6 @@
 mod Own
 mod LastSpace
+mod Placing
+mod Keeping
+mod Beginning
+mod Ends

@@ -1,1 +1,5 @@
 pub mod Logs
+pub mod Runs
+pub mod Orders
+pub mod Picked
+pub mod Endings

@@ -1,6 +1,12 @@
 //! An order of all logs: the next thread is proposed, and what is placed is placed by the checker.
 
-ghost use Rattle.std.specs.Prelude.{◌≡◌};
+ghost use Rattle.std.specs.Prelude.{◌≡◌, ◌<◌, ◌↔◌, ℕ, None, Some, IfOk, IfSome, IsSome, IsTrue};
+ghost use Rattle.std.specs.Prelude.{MatchOption, ◌⊎◌, true, false};
+ghost use Rattle.std.specs.List.{slice_get};
+ghost use Rattle.lk_order.specs.Logs.{ThreadLog};
+ghost use Rattle.lk_order.specs.Runs.{IsOneRun};
+ghost use Rattle.lk_order.specs.Orders.{IsOrder, next_line};
+ghost use Rattle.lk_order.specs.Endings.{EndsAs, EndsWhereCut, IsStuck};
 
 use crate::engine::Engine;
 use crate::{Log, Order, Placed};
@@ -68,7 +74,9 @@ struct Suspect {
 }
 
 // The next step of a thread, where it has one.
-fn suspect_of(order: &Order, thread: u8) -> Option<Suspect> {
+fn suspect_of(order: &Order, thread: u8) -> Option<Suspect>
+    ensures { MatchOption result (next_line order.now thread ≡ None) (λ s. IsStuck order.now s.stuck) }
+{
     let line = order.next(thread)?;
     let difference = order.checker().difference(line);
     Some(Suspect {
@@ -84,7 +92,11 @@ fn suspect_of(order: &Order, thread: u8) -> Option<Suspect> {
 
 // Of two steps that cannot be placed the more certain one: of the same doubt that of the lower
 // count.
-fn more_certain(first: Option<Suspect>, second: Option<Suspect>) -> Option<Suspect> {
+fn more_certain(first: Option<Suspect>, second: Option<Suspect>) -> Option<Suspect>
+    ensures one { (result ≡ first) ⊎ (result ≡ second) }
+    ensures first { result ≡ None → first ≡ None }
+    ensures second { result ≡ None → second ≡ None }
+{
     let (Some(a), Some(b)) = (first, second) else {
         return first.or(second);
     };
@@ -96,7 +108,10 @@ fn more_certain(first: Option<Suspect>, second: Option<Suspect>) -> Option<Suspe
 }
 
 // The step that is most certainly wrong, where one is left.
-fn suspect_in(order: &Order) -> Option<Suspect> {
+fn suspect_in(order: &Order) -> Option<Suspect>
+    ensures stuck { IfSome result (λ s. IsStuck order.now s.stuck) }
+    ensures none { result ≡ None → (t : ℕ) → t < order.now.threads → next_line order.now t ≡ None }
+{
     let mut worst = None;
     for t in 0..order.threads() {
         worst = more_certain(worst, suspect_of(order, t));
@@ -105,7 +120,12 @@ fn suspect_in(order: &Order) -> Option<Suspect> {
 }
 
 // Whether a log is cut short and all of it is placed.
-fn ends_where_cut(order: &Order) -> bool {
+fn ends_where_cut(order: &Order) -> bool
+    ensures order { IsOrder order.now }
+    ensures cut { result ≡ true → EndsWhereCut order.now }
+    ensures uncut { result ≡ false → (t : ℕ) (log : ThreadLog) → slice_get order.now.logs t ≡ Some log
+        → next_line order.now t ≡ None → log.dropped ≡ Some 0 }
+{
     for t in 0..order.threads() {
         if let Some(log) = order.logs().get(t as usize) {
             if log.is_cut() && order.next(t).is_none() {
@@ -116,14 +136,36 @@ fn ends_where_cut(order: &Order) -> bool {
     false
 }
 
-// How the order ends.
-fn ending_of(order: &Order) -> Ending {
+// How the order ends. A step that is certainly wrong is named also where a log is cut short.
+fn ending_of(order: &Order) -> Ending
+    ensures order { IsOrder order.now }
+    ensures ends { EndsAs order.now result }
+{
     let cut = ends_where_cut(order);
-    match suspect_in(order) {
-        Some(suspect) if !cut || suspect.doubt == 0 => Ending::Stuck(suspect.stuck),
-        _ if cut => Ending::Cut,
-        _ => Ending::Whole,
+    let Some(suspect) = suspect_in(order) else {
+        return if cut { Ending::Cut } else { Ending::Whole };
+    };
+    if cut && suspect.doubt > 0 {
+        Ending::Cut
+    } else {
+        Ending::Stuck(suspect.stuck)
     }
+}
+
+// Places one line after another, as long as there is a thread to propose.
+fn place_all(order: &mut Order, engine: &mut Engine) -> Result<(), AllocError>
+    ensures { order.new.logs ≡ order.old.logs }
+{
+    for _ in 0..u64::MAX {
+        let Some(t) = engine.choose(order) else {
+            return Ok(());
+        };
+        match order.place(t)? {
+            Placed::Made(_) => engine.placed(order, t),
+            _ => engine.failed(t),
+        }
+    }
+    Ok(())
 }
 
 /// Puts the logs of all threads of a run into one order. Log t is thread t's, all have one header,
@@ -132,20 +174,17 @@ fn ending_of(order: &Order) -> Ending {
 /// # Errors
 ///
 /// A request for memory was refused.
-pub fn find_order(alloc: Global, logs: Vec<Log>) -> Result<Option<Found>, AllocError> {
+pub fn find_order(alloc: Global, logs: Vec<Log>) -> Result<Option<Found>, AllocError>
+    ensures one_run { IfOk result (λ found. IsSome found ↔ IsOneRun logs.items) }
+    ensures order { IfOk result (λ found. IfSome found (λ f. IsOrder f.order)) }
+    ensures logs { IfOk result (λ found. IfSome found (λ f. f.order.logs ≡ logs.items)) }
+    ensures ending { IfOk result (λ found. IfSome found (λ f. EndsAs f.order f.ending)) }
+{
     let Some(mut order) = Order::new(alloc, logs)? else {
         return Ok(None);
     };
     let mut engine = Engine::new(alloc, &order)?;
-    for _ in 0..u64::MAX {
-        let Some(t) = engine.choose(&order) else {
-            break;
-        };
-        match order.place(t)? {
-            Placed::Made(_) => engine.placed(&order, t),
-            _ => engine.failed(t),
-        }
-    }
+    place_all(&mut order, &mut engine)?;
     let ending = ending_of(&order);
     Ok(Some(Found { order, ending }))
 }

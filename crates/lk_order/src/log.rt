@@ -43,7 +43,7 @@ impl Model for Log {
 }
 
 impl Log {
-    ghost use Rattle.std.specs.Prelude.{◌≡◌, ◌≢◌, ◌<◌, ◌≤◌, ◌^◌, ◌↔◌, IsTrue, Some};
+    ghost use Rattle.std.specs.Prelude.{◌≡◌, ◌≢◌, ◌<◌, ◌≤◌, ◌^◌, MatchBool, Some};
     ghost use Rattle.std.specs.List.{All, slice_get};
 
     /// The lock.
@@ -76,6 +76,7 @@ impl Log {
     pub fn thread(&self) -> u8
         ensures thread { result ≡ self.now.thread }
         ensures few { result < self.now.threads }
+        ensures own { All (λ line. line.thread ≡ result) self.now.moves }
     {
         self.thread
     }
@@ -104,7 +105,7 @@ impl Log {
 
     /// Whether the thread made moves that are not in the log, or may have.
     pub fn is_cut(&self) -> bool
-        ensures { IsTrue result ↔ (self.now.dropped ≢ Some 0) }
+        ensures { MatchBool result (self.now.dropped ≢ Some 0) (self.now.dropped ≡ Some 0) }
     {
         self.dropped != Some(0)
     }

@@ -1,0 +1,24 @@
+-- All is placed where no thread has a next line.
+use Rattle.std.proofs.Common.{◌≡◌, ℕ, ◌<◌, ◌≤◌, List, Option, Some, None, length, take, get_or, sym, ap, ◌∙◌, inl, inr, arith}
+use Rattle.std.specs.List.{All, slice_get}
+use Rattle.std.proofs.lemmas.List.{take_all}
+use Rattle.std.proofs.lemmas.Option.{slice_get_cases, slice_get-get_or}
+use Rattle.lk_trace.specs.declared.line.TraceLine.{TraceLine}
+use Rattle.lk_order.specs.Logs.{ThreadLog}
+use Rattle.lk_order.specs.Runs.{moves_of}
+use Rattle.lk_order.specs.Orders.{Ordered, IsOrder, next_line, placed_of}
+use Rattle.lk_order.specs.Endings.{IsWhole}
+
+past_all : (moves : List TraceLine) (n : ℕ) → slice_get moves n ≡ None → length moves ≤ n
+past_all moves n none =
+    elim ((slice_get_cases moves n).1) [
+      | inl found ↦ absurd (cc (none, found.2))
+      | inr past ↦ past.0
+    ]
+
+pub whole : (o : Ordered) → IsOrder o → ((t : ℕ) → t < o.threads → next_line o t ≡ None)
+    → ((t : ℕ) (log : ThreadLog) → slice_get o.logs t ≡ Some log → next_line o t ≡ None → log.dropped ≡ Some 0) → IsWhole o
+whole o order none uncut = record {
+  all = λ t below. order.each t below ∙ take_all (placed_of o t) (moves_of o.logs t) (past_all (moves_of o.logs t) (placed_of o t) (none t below));
+  uncut = λ k d inside. uncut k (get_or o.logs k d) (slice_get-get_or o.logs k d inside) (none k (omega (arith, order.run.one_each)));
+}

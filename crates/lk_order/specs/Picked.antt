@@ -1,0 +1,32 @@
+-- Definitions. How an order is kept: which line of whose log each step is, and how many lines of
+-- each thread are placed.
+use Rattle.std.specs.Prelude.{◌≡◌, ℕ, ◌<◌, ◌≤◌, List, length, map, slice_index_or}
+use Rattle.std.specs.List.{All}
+use Rattle.lk_locks.specs.declared.kinds.Move.TheVariants.{Step}
+use Rattle.lk_locks.specs.declared.kinds.StepKind.TheVariants.{Read}
+use Rattle.lk_trace.specs.declared.line.Seen.TheVariants.{Nothing}
+use Rattle.lk_trace.specs.declared.line.TraceLine.{TraceLine}
+use Rattle.lk_order.specs.Logs.{ThreadLog}
+use Rattle.lk_order.specs.Runs.{moves_of}
+use Rattle.lk_order.specs.Orders.{Ordered, IsOrder, placed_of}
+use Rattle.lk_order.specs.declared.order.Place.{Place}
+
+-- no place has it: each is within its log
+abbrev pub no_line : TraceLine
+no_line = record { thread = 0; action = Step Read; seen = Nothing }
+
+abbrev pub line_at : List ThreadLog → Place → TraceLine
+line_at logs place = slice_index_or (moves_of logs place.thread) place.at no_line
+
+abbrev pub picked : List ThreadLog → List Place → List TraceLine
+picked logs places = map (line_at logs) places
+
+abbrev pub IsInside : List ThreadLog → Place → Type 0
+IsInside logs place = place.at < length (moves_of logs place.thread)
+
+pub record IsKept (o : Ordered) (places : List Place) (at : List ℕ) : Type 0 where
+  pub order : IsOrder o
+  pub few : o.threads ≤ 64
+  pub own : (t : ℕ) → All (λ line. line.thread ≡ t) (moves_of o.logs t)
+  pub inside : All (IsInside o.logs) places
+  pub counted : (t : ℕ) → t < 256 → slice_index_or at t 0 ≡ placed_of o t
