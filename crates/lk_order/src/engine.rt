@@ -1,11 +1,12 @@
 //! Which thread's step comes next. It is proposed, and no more: a mistake here can only end in an
 //! order that is not found.
 //!
-//! Three rounds take turns. Looks and calls change no word that another thread sees, so each is
+//! Rounds take turns. Looks and calls change no word that another thread sees, so each is
 //! proposed as soon as the machine's word holds what it found: nothing is lost by it. Where none is
 //! left, a step that changes a word is proposed that nobody has still to look at before. Last come
 //! the steps that end what others may look at: the release of a ticket lock, and a swap that finds
-//! nobody. A monitor's sections come in the order of their count.
+//! nobody; of these the one whose chain is not seen to end. A monitor's sections come in the order of
+//! their count.
 //!
 //! A thread whose step was not placed sleeps until a step is placed that it may have waited for: one
 //! on its word, or the section before its own. So each step is asked for as often as its word
@@ -32,6 +33,8 @@ enum Round {
     Look,
     Change,
     Last,
+    /// A swap that finds nobody, and behind which nobody ever does.
+    Open,
     /// The thread's log ends.
     Never,
 }
@@ -263,6 +266,13 @@ impl Engine {
         }
     }
 
+    // Whether a step begins a chain that is not seen to end.
+    fn begins_open(&self, t: usize, next: &Next) -> bool {
+        t < MOST_THREADS
+            && next.kind == Some(StepKind::Swap)
+            && self.chains.is_open(t, self.begun[t])
+    }
+
     // A thread that may make its step in this round. Those that may not sleep.
     fn choose_in(&mut self, order: &Order, round: Round) -> Option<u8> {
         for i in 0..self.threads {
@@ -276,6 +286,10 @@ impl Engine {
                 continue;
             }
             let next = self.next[t];
+            if round == Round::Last && self.begins_open(t, &next) {
+                self.next[t].round = Round::Open;
+                continue;
+            }
             if !has_other_value(order, &next) && !self.waits(order, t, &next) {
                 return Some(t as u8);
             }
@@ -292,7 +306,10 @@ impl Engine {
         if let Some(t) = self.choose_in(order, Round::Change) {
             return Some(t);
         }
-        self.choose_in(order, Round::Last)
+        if let Some(t) = self.choose_in(order, Round::Last) {
+            return Some(t);
+        }
+        self.choose_in(order, Round::Open)
     }
 
     /// The step that was proposed differs from the lock, as it is.

@@ -15,7 +15,7 @@ pub struct Log {
     kind: LockKind,
     threads: u8,
     bits: u8,
-    thread: u8,
+    owner: u8,
     moves: Vec<TraceLine>,
     // the line of each move in its text
     lines: Vec<u32>,
@@ -33,13 +33,13 @@ impl Model for Log {
       kind = a.kind;
       threads = a.threads;
       bits = a.bits;
-      thread = a.thread;
+      thread = a.owner;
       moves = a.moves.items;
       lines = a.lines.items;
       dropped = a.dropped;
     } };
 
-    ghost invariant = { λ a. IsSound a.threads a.bits a.thread a.moves.items };
+    ghost invariant = { λ a. IsSound a.threads a.bits a.owner a.moves.items };
 }
 
 impl Log {
@@ -78,7 +78,7 @@ impl Log {
         ensures few { result < self.now.threads }
         ensures own { All (λ line. line.thread ≡ result) self.now.moves }
     {
-        self.thread
+        self.owner
     }
 
     /// The moves, in order. Each is the thread's own.
@@ -107,6 +107,6 @@ impl Log {
     pub fn is_cut(&self) -> bool
         ensures { MatchBool result (self.now.dropped ≢ Some 0) (self.now.dropped ≡ Some 0) }
     {
-        self.dropped != Some(0)
+        !matches!(self.dropped, Some(0))
     }
 }

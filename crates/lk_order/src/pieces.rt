@@ -1,7 +1,7 @@
 //! An order cut into pieces, each of which is a schedule: it begins where nobody is in a call and
 //! nobody holds.
 
-ghost use Rattle.std.specs.Prelude.{◌≡◌};
+ghost use Rattle.std.specs.Prelude.{◌≡◌, ◌+◌, ◌<◌, ◌≤◌, IfSome, length};
 
 use crate::Order;
 
@@ -90,7 +90,12 @@ impl<'a> Pieces<'a> {
 
     // Where the piece from here on ends, and who is in a call there: at the last moment that has
     // nobody in one, or else where a schedule is full or the order ends.
-    fn end(&self) -> (usize, Busy) {
+    fn end(&self) -> (usize, Busy)
+        requires { self.now.at < length self.now.order.now.trace }
+        ensures some { self.now.at < result.0 }
+        ensures few { result.0 ≤ self.now.at + 65536 }
+        ensures inside { result.0 ≤ length self.now.order.now.trace }
+    {
         let most = self.order.len().min(self.at.saturating_add(MOST_MOVES));
         let mut busy = self.busy;
         let mut quiet = None;
@@ -109,7 +114,10 @@ impl<'a> Pieces<'a> {
     }
 
     /// The next piece. None is left at the end.
-    pub fn next_piece(&mut self) -> Option<Piece> {
+    pub fn next_piece(&mut self) -> Option<Piece>
+        ensures some { IfSome result (λ piece. 0 < piece.moves) }
+        ensures few { IfSome result (λ piece. piece.moves ≤ 65536) }
+    {
         if self.open {
             self.skip_open();
         }

@@ -3,7 +3,8 @@
 //! The m-th instance of x whose successor is y is the predecessor of the m-th instance of y whose
 //! predecessor is x, since both logs are in order. So the instances fall into chains. A chain ends
 //! before the next one begins, and a thread's instances come in its order: a chain may begin where
-//! each of its threads has no earlier instance left but in the chain itself.
+//! each of its threads has no earlier instance left but in the chain itself. A chain that is not
+//! seen to end comes last, since nothing that finds nobody can follow it.
 
 use super::instances::{Instance, Neighbor};
 use std::alloc::{AllocError, Global};
@@ -22,6 +23,8 @@ pub struct Chains {
     chain: Vec<Vec<u32>>,
     /// Of each chain and thread the first instance in it, or `NONE`.
     first: Vec<u32>,
+    /// Of each chain whether it is seen to end.
+    ends: Vec<bool>,
     threads: usize,
 }
 
@@ -133,6 +136,9 @@ impl Chains {
                 None => None,
             };
             let Some(Neighbor::Thread(successor)) = successor else {
+                if let Some(ends) = self.ends.get_mut(number as usize) {
+                    *ends = successor == Some(Neighbor::Nobody);
+                }
                 return;
             };
             if next == NONE {
@@ -150,6 +156,7 @@ impl Chains {
             before,
             chain: blank(alloc, instances)?,
             first: Vec::new(alloc),
+            ends: Vec::new(alloc),
             threads: instances.len(),
         };
         let mut budget: usize = 0;
@@ -163,6 +170,7 @@ impl Chains {
                     for _ in 0..instances.len() {
                         chains.first.push(NONE)?;
                     }
+                    chains.ends.push(false)?;
                     chains.follow(instances, &after, number, thread, instance, budget);
                     number = number.saturating_add(1);
                 }
@@ -175,6 +183,15 @@ impl Chains {
     pub fn is_behind(&self, thread: usize, instance: usize, predecessor: usize) -> bool {
         let matched = at(&self.before, thread, instance);
         matched == NONE || matched as usize == predecessor
+    }
+
+    /// Whether the chain of this instance is known, and not seen to end.
+    pub fn is_open(&self, thread: usize, instance: usize) -> bool {
+        let number = at(&self.chain, thread, instance);
+        match self.ends.get(number as usize) {
+            Some(ends) => !*ends,
+            None => false,
+        }
     }
 
     /// Whether the chain of this instance may begin, where each thread has begun so many instances.

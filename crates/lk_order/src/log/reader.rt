@@ -115,7 +115,7 @@ impl Log {
             kind: header.kind,
             threads: header.threads,
             bits: header.bits,
-            thread,
+            owner: thread,
             moves: Vec::new(alloc),
             lines: Vec::new(alloc),
             dropped: None,
@@ -158,7 +158,7 @@ impl Log {
         if !ended {
             return Ok(());
         }
-        match short_line(line, self.thread) {
+        match short_line(line, self.owner) {
             Some(line) => self.note(line, number),
             None => Err(LogFault::BadMove),
         }
