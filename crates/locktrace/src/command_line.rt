@@ -2,6 +2,7 @@
 
 use crate::checking::CheckJob;
 use crate::formats::Format;
+use crate::ordering::OrderJob;
 use clap::error::ErrorKind;
 use clap::{Arg, ArgAction, ArgMatches, Command, value_parser};
 use std::alloc::{AllocError, AllocFailed, Global};
@@ -19,6 +20,7 @@ pub enum Job {
         moves: (u64, u64),
         names: Vec<String>,
     },
+    Order(OrderJob),
 }
 
 /// Why there is no job.
@@ -42,6 +44,9 @@ impl<T: Drop> From<AllocFailed<T>> for ParseFault {
         ParseFault::OutOfMemory
     }
 }
+
+/// The version of the program, as the file VERSION has it.
+const VERSION: &str = "0.9.0";
 
 /// The most workers of a check.
 pub const MOST_WORKERS: u8 = 64;
@@ -107,18 +112,42 @@ fn explain_command<'a>(alloc: Global) -> Result<Command<'a>, AllocError> {
         .arg(file_arg(alloc))
 }
 
+fn order_command<'a>(alloc: Global) -> Result<Command<'a>, AllocError> {
+    let folder = Arg::new(alloc, "folder")
+        .short('o')
+        .value_name("DIR")
+        .help("Where the trace and the schedules are written")
+        .required(true)
+        .action(ArgAction::Set);
+    let logs = Arg::new(alloc, "logs")
+        .value_name("LOG")
+        .help("The log of each thread")
+        .required(true)
+        .num_args(1..)
+        .action(ArgAction::Append);
+    Command::new(alloc, "order")
+        .about(
+            "Puts the logs of a run's threads into one order in which each step finds what it found",
+        )
+        .arg(folder)?
+        .arg(logs)
+}
+
 fn program_command<'a>(alloc: Global) -> Result<Command<'a>, AllocError> {
     let schedule = Command::new(alloc, "schedule")
         .about("Writes a trace without its values")
         .arg(file_arg(alloc))?;
     Command::new(alloc, "locktrace")
-        .about("Checks runs of locks, explains them, and writes them as schedules")
-        .version("1.0.0")
+        .about(
+            "Checks runs of locks, explains them, and puts the logs of their threads into one order",
+        )
+        .version(VERSION)
         .bin_name("locktrace")?
         .no_binary_name(true)
         .subcommand_required(true)
         .subcommand(check_command(alloc)?)?
         .subcommand(explain_command(alloc)?)?
+        .subcommand(order_command(alloc)?)?
         .subcommand(schedule)
 }
 
@@ -217,6 +246,10 @@ pub fn parse_words(alloc: Global, words: &[String]) -> Result<Job, ParseFault> {
     match matches.subcommand() {
         Some((name, check)) if name == "check" => check_given(alloc, check),
         Some((name, explain)) if name == "explain" => explain_given(alloc, explain),
+        Some((name, order)) if name == "order" => Ok(Job::Order(OrderJob {
+            logs: copied(alloc, order.get_strs("logs").unwrap_or(&[]))?,
+            folder: String::from_str(alloc, order.get_str("folder").unwrap_or("."))?,
+        })),
         Some((_, schedule)) => Ok(Job::Schedule {
             file: file_given(alloc, schedule)?,
         }),

@@ -25,6 +25,7 @@ const CHUNK: usize = 65_536;
 pub struct Line {
     kept: [u8; 97],
     count: usize,
+    whole: bool,
     ghost inside: { count ≤ 97 },
     ghost sized: { length kept ≡ 97 },
 }
@@ -39,6 +40,7 @@ impl Line {
         Line {
             kept: [0; 97],
             count: 0,
+            whole: false,
         }
     }
 
@@ -49,10 +51,18 @@ impl Line {
         &self.kept[..self.count]
     }
 
+    /// Whether its line feed was there.
+    pub fn is_whole(&self) -> bool
+        ensures { result ≡ self.now.whole }
+    {
+        self.whole
+    }
+
     fn clear(&mut self)
         ensures { kept self.new ≡ [] }
     {
         self.count = 0;
+        self.whole = false;
     }
 
     // Keeps as many of these bytes as have room.
@@ -118,6 +128,7 @@ impl<R: Read + Drop> Lines<R> {
         match memchr(b'\n', rest) {
             Some(end) => {
                 line.keep(&rest[..end]);
+                line.whole = true;
                 self.at += end + 1;
                 true
             }

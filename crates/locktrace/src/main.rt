@@ -1,4 +1,5 @@
-//! `locktrace`: checks traces of locks, explains them, and writes them as schedules.
+//! `locktrace`: checks traces of locks, explains them, and puts the logs of a run's threads into
+//! one order.
 //!
 //! Reports, schedules and help go to standard output, every other line to standard error.
 #![tactic(auto)]
@@ -10,6 +11,7 @@ mod explain;
 mod failures;
 mod formats;
 mod lines;
+mod ordering;
 mod scheduling;
 mod sentences;
 mod summary;
@@ -20,6 +22,7 @@ use checking::check_files;
 use command_line::{Job, ParseFault, parse_words};
 use explain::{Asked, explain_input};
 use failures::Failure;
+use ordering::order_logs;
 use scheduling::{Scheduled, write_schedule};
 use std::alloc::Global;
 use std::io::{Eprint, ErrorKind, IsTerminal, Write};
@@ -115,6 +118,12 @@ where
                 names,
             };
             explain_file(rt, alloc, file, asked, output)
+        }
+        Job::Order(job) => {
+            let mut errors = String::new(alloc);
+            let ended = order_logs(rt, alloc, job, &mut errors);
+            let _ = eprint!(rt; "{errors}");
+            ended
         }
     }
 }

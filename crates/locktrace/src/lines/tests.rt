@@ -10,10 +10,12 @@ fn lines_are_cut(rt: HostRuntime) -> Result<(), Fail> {
     let mut line = Line::new();
     assert!(rt; lines.next_line(&mut line)?);
     assert_eq!(rt; line.bytes(), b"one".as_slice());
+    assert!(rt; line.is_whole());
     assert!(rt; lines.next_line(&mut line)?);
     assert_eq!(rt; line.bytes(), b"".as_slice());
     assert!(rt; lines.next_line(&mut line)?);
     assert_eq!(rt; line.bytes(), b"last".as_slice());
+    assert!(rt; !line.is_whole());
     assert!(rt; !lines.next_line(&mut line)?);
     Ok(())
 }

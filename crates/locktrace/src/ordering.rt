@@ -1,0 +1,82 @@
+//! The job of putting the logs of a run into one order, and writing its trace and its schedules.
+
+mod reading;
+mod telling;
+mod writing;
+
+use crate::failures::Failure;
+use lk_order::{Ending, Found, find_order};
+use reading::{Taken, take_logs};
+use std::alloc::Global;
+use std::fmt::Write;
+use std::fs;
+use std::rt::Files;
+use telling::{put_cut, put_stuck};
+use writing::{path_in, write_schedules, write_trace};
+
+/// What is to be put into one order, and the folder for what is found.
+#[derive(Debug, Drop)]
+pub struct OrderJob {
+    pub logs: Vec<String>,
+    pub folder: String,
+}
+
+/// The status where the logs have no order.
+const STUCK_STATUS: u8 = 1;
+
+/// The status where the logs are not those of one run.
+const FAULTY_STATUS: u8 = 4;
+
+// Writes the trace and the schedules of an order.
+fn write_found<R: Files>(
+    rt: &R,
+    alloc: Global,
+    found: &Found,
+    folder: &str,
+    errors: &mut String,
+) -> Result<(), Failure> {
+    fs::create_dir_all(rt, folder)?;
+    let path = path_in(alloc, folder, "run.trace")?;
+    let mut file = fs::create(rt, path.as_str())?;
+    write_trace(alloc, &found.order, &mut file)?;
+    let left_out = write_schedules(rt, alloc, &found.order, folder)?;
+    if left_out > 0 {
+        write!(
+            errors,
+            "locktrace: warning: {left_out} moves stand in no schedule: "
+        )?;
+        errors.push_str(
+            "they are behind 65536 with no moment between at which nobody is in a call\n",
+        )?;
+    }
+    Ok(())
+}
+
+/// Puts the logs into one order and writes its trace and its schedules into the folder. What there
+/// is to say goes into `errors`.
+pub fn order_logs<R: Files>(
+    rt: &R,
+    alloc: Global,
+    job: &OrderJob,
+    errors: &mut String,
+) -> Result<u8, Failure> {
+    let (logs, names) = match take_logs(rt, alloc, &job.logs, errors)? {
+        Taken::Run { logs, names } => (logs, names),
+        Taken::Unfit(status) => return Ok(status),
+    };
+    let Some(found) = find_order(alloc, logs)? else {
+        return Ok(FAULTY_STATUS);
+    };
+    write_found(rt, alloc, &found, &job.folder, errors)?;
+    match found.ending {
+        Ending::Whole => Ok(0),
+        Ending::Cut => {
+            put_cut(errors, &found.order, &names)?;
+            Ok(0)
+        }
+        Ending::Stuck(stuck) => {
+            put_stuck(errors, &found.order, &names, stuck)?;
+            Ok(STUCK_STATUS)
+        }
+    }
+}

@@ -1,0 +1,84 @@
+//! An order as text: its trace, and schedules that are cut where nobody is in a call and nobody
+//! holds.
+
+use crate::failures::Failure;
+use crate::texts::put_line;
+use lk_order::{Order, Piece, Pieces};
+use lk_trace::{lock_text, move_text};
+use std::alloc::{AllocError, Global};
+use std::fmt::Write as _;
+use std::fs;
+use std::io::Write;
+use std::rt::Files;
+
+// Bytes that wait before they are written.
+const MOST_WAITING: usize = 65_536;
+
+/// The path of a file in a folder.
+pub fn path_in(alloc: Global, folder: &str, file: &str) -> Result<String, AllocError> {
+    let mut path = String::from_str(alloc, folder)?;
+    path.push_str("/")?;
+    path.push_str(file)?;
+    Ok(path)
+}
+
+// Writes the header of a trace or a schedule.
+fn put_header(text: &mut String, order: &Order) -> Result<(), AllocError> {
+    let (name, threads, bits) = (lock_text(order.kind()), order.threads(), order.bits());
+    write!(text, "lock {name} threads {threads}")?;
+    if bits < 64 {
+        write!(text, " bits {bits}")?;
+    }
+    text.push_str("\n")
+}
+
+/// Writes the trace of an order.
+pub fn write_trace<O: Write>(alloc: Global, order: &Order, output: &mut O) -> Result<(), Failure> {
+    let mut text = String::new(alloc);
+    put_header(&mut text, order)?;
+    for k in 0..order.len() {
+        if let Some(line) = order.line(k) {
+            put_line(&mut text, &line)?;
+        }
+        if text.len() > MOST_WAITING {
+            output.write_all(text.as_bytes())?;
+            text.clear();
+        }
+    }
+    output.write_all(text.as_bytes())?;
+    output.flush()?;
+    Ok(())
+}
+
+// A piece of an order as a schedule.
+fn schedule_of(alloc: Global, order: &Order, piece: Piece) -> Result<String, AllocError> {
+    let mut text = String::new(alloc);
+    put_header(&mut text, order)?;
+    for k in piece.first..piece.first.saturating_add(piece.moves) {
+        if let Some(line) = order.line(k) {
+            let (thread, word) = (line.thread, move_text(line.action));
+            writeln!(text, "{thread} {word}")?;
+        }
+    }
+    Ok(text)
+}
+
+/// Writes the schedules of an order into a folder, and gives how many moves stand in none.
+pub fn write_schedules<R: Files>(
+    rt: &R,
+    alloc: Global,
+    order: &Order,
+    folder: &str,
+) -> Result<usize, Failure> {
+    let mut pieces = Pieces::new(order);
+    for number in 1..usize::MAX {
+        let Some(piece) = pieces.next_piece() else {
+            break;
+        };
+        let text = schedule_of(alloc, order, piece)?;
+        let file = format!(in alloc; "run-{number:04}.schedule")?;
+        let path = path_in(alloc, folder, &file)?;
+        fs::write(rt, path.as_str(), &text)?;
+    }
+    Ok(pieces.left_out())
+}
