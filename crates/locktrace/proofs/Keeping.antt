@@ -1,5 +1,5 @@
 -- A line keeps its first bytes.
-use Rattle.std.proofs.Common.{◌≡◌, ℕ, ◌-◌, ◌≤◌, zero, suc, min, List, [], ◌∷◌, ◌++◌, length, take, refl, sym, ap, ◌∙◌, arith}
+use Rattle.std.proofs.Common.{◌≡◌, ℕ, ◌-◌, ◌≤◌, zero, suc, min, List, [], ◌∷◌, ◌++◌, length, take, ap, ◌∙◌, arith}
 use Rattle.std.proofs.lemmas.List.{take_min}
 
 pub keeps : (n : ℕ) (xs ys : List ℕ) (taken : ℕ) → length xs ≤ n → taken ≡ min (length ys) (n - length xs) → xs ++ take taken ys ≡ take n (xs ++ ys)

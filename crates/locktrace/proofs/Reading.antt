@@ -1,5 +1,5 @@
 -- What is kept of a line means what the line means, and the verdict is read line by line.
-use Rattle.std.proofs.Common.{◌≡◌, ℕ, ◌+◌, ◌<◌, ◌≤◌, List, [], ◌∷◌, length, get_or, take, Bool, true, false, ◌==◌, ◌||◌, None, Some, Result, Ok, Err, IfOk, IfSome, refl, subst, sym, ap, ap₂, ◌∙◌, arith, length-take-le, get_or-take, inl, inr}
+use Rattle.std.proofs.Common.{◌≡◌, ℕ, ◌+◌, ◌<◌, List, [], ◌∷◌, length, take, Bool, true, false, ◌==◌, ◌||◌, None, Some, Result, Ok, Err, IfOk, IfSome, refl, subst, sym, ap, ap₂, ◌∙◌, arith, length-take-le, get_or-take, inl, inr}
 use Rattle.std.specs.Prelude.{Option, if◌then◌else◌, nat_lt}
 use Rattle.std.specs.Io.KnownBytes.{IsAtEnd, Keeps}
 use Rattle.std.proofs.lemmas.List.{take_all}
@@ -10,6 +10,7 @@ use Rattle.lk_trace.specs.Traces.{event_of, after_text_line, read_header_of, sho
 use Rattle.lk_trace.specs.declared.trace.Event.{Event}
 use Rattle.lk_trace.specs.declared.trace.Event.TheVariants.{Skipped, Began, Made, Differs, Fault}
 use Rattle.lk_trace.specs.declared.trace.TextFault.TheVariants.{BadHeader}
+use Rattle.locktrace.proofs.Accepting.{of_text}
 use Rattle.locktrace.specs.Lines.{TakesLine}
 use Rattle.locktrace.specs.Verdicts.{Verdict, IsOfText, at_end, unless_ended, verdict_from, verdict_in, verdict_of}
 use Rattle.locktrace.specs.invariants.Following.{Follows, Reads}
@@ -103,8 +104,8 @@ pub reads_last : (all old new : Option (List ℕ)) (number : ℕ) (reading : Opt
 reads_last None old new number reading kept report reads taken follows = tt
 reads_last (Some text) None new number reading kept report reads taken follows = absurd reads
 reads_last (Some text) (Some rest) None number reading kept report reads taken follows = absurd taken
-reads_last (Some text) (Some rest) (Some behind) number reading kept report reads taken follows = λ _.
-    stops number (event_of reading kept) report _ follows ∙ sym (reads ∙ step number reading (lines_of rest) (lines_of behind) taken.0 kept taken.1 taken.2)
+reads_last (Some text) (Some rest) (Some behind) number reading kept report reads taken follows = of_text report text (λ _.
+    stops number (event_of reading kept) report _ follows ∙ sym (reads ∙ step number reading (lines_of rest) (lines_of behind) taken.0 kept taken.1 taken.2))
 
 no_lines : lines_of [] ≡ []
 unfolding lines_of
@@ -119,13 +120,13 @@ pub reads_end : (all left : Option (List ℕ)) (number : ℕ) (reading : Option 
     → verdict_in report ≡ at_end number reading → IfSome all (IsOfText report)
 reads_end None left number reading report reads end is = tt
 reads_end (Some text) None number reading report reads end is = absurd reads
-reads_end (Some text) (Some rest) number reading report reads end is = λ _.
-    is ∙ sym (reads ∙ ap (λ l. verdict_from number reading (lines_of l)) end ∙ ap (verdict_from number reading) no_lines ∙ none_left number reading)
+reads_end (Some text) (Some rest) number reading report reads end is = of_text report text (λ _.
+    is ∙ sym (reads ∙ ap (λ l. verdict_from number reading (lines_of l)) end ∙ ap (verdict_from number reading) no_lines ∙ none_left number reading))
 
 -- the input failed
 pub reads_no_more : (all : Option (List ℕ)) (report : Report) → report.ending ≡ Unread → IfSome all (IsOfText report)
 reads_no_more None report unread = tt
-reads_no_more (Some text) report unread = λ read. absurd (read unread)
+reads_no_more (Some text) report unread = of_text report text (λ read. absurd (read unread))
 
 -- the same, as the line is passed on
 pub line_on : (all old new : Option (List ℕ)) (number : ℕ) (reading after : Option Checked) (kept bytes : List ℕ) (on : Bool) (report : Report) → Reads all old number reading

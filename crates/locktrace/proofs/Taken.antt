@@ -13,7 +13,7 @@ use Rattle.memchr.specs.Find.{Nowhere, NoneBefore, Passes, is_byte}
 use Rattle.lk_replay.proofs.Cuts.{line_first, line_last}
 use Rattle.lk_replay.specs.Lines.{lines_of, is_line_feed}
 use Rattle.locktrace.specs.Lines.{TakesLine}
-use Rattle.locktrace.specs.invariants.Taken.{IsFlat, TakesPart, Taken}
+use Rattle.locktrace.specs.invariants.Taken.{TakesPart, Taken}
 
 take_again : (n : ℕ) (xs ys : List ℕ) → take n (take n xs ++ ys) ≡ take n (xs ++ ys)
 take_again zero xs ys = refl

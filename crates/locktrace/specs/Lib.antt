@@ -1,3 +1,4 @@
+pub mod Accepted
 pub mod Endings
 pub mod Lines
 pub mod Verdicts

@@ -1,12 +1,13 @@
 -- Definitions. How a whole text ends: its lines are read one after another, up to the first that
 -- ends it. This project's own.
-use Rattle.std.specs.Prelude.{◌≡◌, ◌≢◌, ◌+◌, ◌<◌, ℕ, List, [], ◌∷◌, length, slice_index_or, Option, None, Some, IfSome, Result, IfOk}
+use Rattle.std.specs.Prelude.{◌≡◌, ◌≢◌, ◌↔◌, ◌+◌, ◌<◌, ℕ, List, [], ◌∷◌, length, slice_index_or, Option, None, Some, IfSome, Result, IfOk}
 use Rattle.std.specs.declared.alloc.AllocError.{AllocError}
 use Rattle.lk_replay.specs.Lines.{lines_of}
 use Rattle.lk_trace.specs.Checks.{Checked}
 use Rattle.lk_trace.specs.Traces.{event_of, after_text_line}
 use Rattle.lk_trace.specs.declared.trace.Event.{Event}
 use Rattle.lk_trace.specs.declared.trace.Event.TheVariants.{Differs, Fault}
+use Rattle.locktrace.specs.Accepted.{IsTrace}
 use Rattle.locktrace.specs.declared.check.Ending.{Ending}
 use Rattle.locktrace.specs.declared.check.Ending.TheVariants.{Accepted, Refused, Unread, Faulty}
 use Rattle.locktrace.specs.declared.check.Report.{Report}
@@ -42,9 +43,11 @@ verdict_of text = verdict_from 1 None (lines_of text)
 abbrev pub verdict_in : Report → Verdict
 verdict_in report = verdict report.ending report.line
 
--- the report is the text's, unless the input failed
-abbrev pub IsOfText : Report → List ℕ → Type 0
-IsOfText report text = report.ending ≢ Unread → verdict_in report ≡ verdict_of text
+-- the report is the text's, unless the input failed: its ending and its line, and `Accepted` exactly
+-- where the text is an accepted trace
+pub record IsOfText (report : Report) (text : List ℕ) : Type 0 where
+  pub verdict_is : report.ending ≢ Unread → verdict_in report ≡ verdict_of text
+  pub accepted : report.ending ≢ Unread → (report.ending ≡ Accepted) ↔ IsTrace (lines_of text)
 
 -- each report is that of the input at its place
 abbrev pub AreOfTexts : {I : Type 0} → (I → Option (List ℕ)) → List I → List (Result Report AllocError) → Type 0

@@ -2,6 +2,7 @@
 //! the first wrong one is wrong.
 
 mod faulty;
+mod grammar;
 
 use crate::check::Ending;
 use crate::failures::Failure;
@@ -179,6 +180,7 @@ fn before_line(trace: &TraceReader, line: &[u8]) -> Option<Before> {
 // What has been told so far.
 #[derive(Drop)]
 struct Telling<'a> {
+    alloc: Global,
     asked: Asked<'a>,
     trace: TraceReader,
     moves: u64,
@@ -193,7 +195,7 @@ impl Telling<'_> {
         let Some(checker) = self.trace.checker() else {
             return match event {
                 Event::Fault(fault) => {
-                    put_fault(&mut self.text, number, bytes, fault)?;
+                    put_fault(&mut self.text, self.alloc, number, bytes, fault)?;
                     Ok(Some(Ending::Faulty))
                 }
                 _ => Ok(None),
@@ -213,7 +215,7 @@ impl Telling<'_> {
                 Ok(Some(Ending::Refused))
             }
             (Event::Fault(fault), _) => {
-                put_fault(&mut self.text, number, bytes, fault)?;
+                put_fault(&mut self.text, self.alloc, number, bytes, fault)?;
                 Ok(Some(Ending::Faulty))
             }
             _ => Ok(None),
@@ -234,6 +236,7 @@ pub fn explain_input<R: Read + Drop, O: Write>(
     let mut lines = Lines::new(alloc, input)?;
     let mut line = Line::new();
     let mut telling = Telling {
+        alloc,
         asked,
         trace: TraceReader::new(),
         moves: 0,

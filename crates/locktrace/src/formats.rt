@@ -139,7 +139,8 @@ fn put_json(
     text.push_str("}\n")
 }
 
-/// Writes the report of an input of this number, from 1, and this name.
+/// Writes the report of an input of this number, from 1, and this name. There is no summary of one
+/// that could not be read.
 pub fn put_report(
     text: &mut String,
     format: Format,
@@ -148,6 +149,7 @@ pub fn put_report(
     report: &Report,
     summary: bool,
 ) -> Result<(), AllocError> {
+    let summary = summary && report.ending != Ending::Unread;
     match format {
         Format::Text => put_text(text, name, report, summary),
         Format::Tap => put_tap(text, number, name, report, summary),

@@ -41,13 +41,12 @@ fn write_found<R: Files>(
     write_trace(alloc, &found.order, &mut file)?;
     let left_out = write_schedules(rt, alloc, &found.order, folder)?;
     if left_out > 0 {
-        write!(
+        writeln!(
             errors,
-            "locktrace: warning: {left_out} moves stand in no schedule: "
+            "locktrace: warning: {left_out} moves stand in no schedule."
         )?;
-        errors.push_str(
-            "they are behind 65536 with no moment between at which nobody is in a call\n",
-        )?;
+        errors.push_str("locktrace: warning: A schedule has at most 65536 moves. ")?;
+        errors.push_str("Behind these somebody was still in a call.\n")?;
     }
     Ok(())
 }

@@ -40,6 +40,12 @@ fn standing(words: &WordArray, place: usize) -> u64 {
     }
 }
 
+// Writes how many there are, in the form of one or of several.
+fn put_count(text: &mut String, count: u64, one: &str, several: &str) -> Result<(), AllocError> {
+    let what = if count == 1 { one } else { several };
+    write!(text, "{count} {what}")
+}
+
 impl Summary {
     pub fn new() -> Summary {
         Summary {
@@ -52,11 +58,6 @@ impl Summary {
             rounds: 0,
             counter: 0,
         }
-    }
-
-    /// How many moves were made.
-    pub fn moves(&self) -> u64 {
-        self.moves
     }
 
     /// Whether some thread waited.
@@ -100,24 +101,28 @@ impl Summary {
 
     /// Writes the counts.
     pub fn put(&self, text: &mut String) -> Result<(), AllocError> {
-        let threads = self.seen.count_ones();
-        let Summary {
-            moves,
-            waits,
-            failed,
-            late,
-            longest,
-            rounds,
-            ..
-        } = *self;
-        write!(text, "{threads} threads, {moves} moves, {waits} waits, ")?;
-        write!(
+        put_count(
             text,
-            "{failed} failed compare-and-swaps, {late} late links, "
+            u64::from(self.seen.count_ones()),
+            "thread, ",
+            "threads, ",
         )?;
-        write!(
+        put_count(text, self.moves, "move, ", "moves, ")?;
+        put_count(text, self.waits, "wait, ", "waits, ")?;
+        put_count(
             text,
-            "longest queue {longest}, {rounds} rounds of the counter"
+            self.failed,
+            "failed compare-and-swap, ",
+            "failed compare-and-swaps, ",
+        )?;
+        put_count(text, self.late, "late link, ", "late links, ")?;
+        let longest = self.longest;
+        write!(text, "longest queue {longest}, ")?;
+        put_count(
+            text,
+            self.rounds,
+            "round of the counter",
+            "rounds of the counter",
         )
     }
 

@@ -1,154 +1,78 @@
 //! A line that is none of a trace: the column, what stands there, what could stand there, and the
 //! nearest word.
 
+use crate::explain::grammar::{Due, Wrong, wrong_place};
 use crate::texts::fault_text;
-use lk_replay::parts::{cut_word, move_named, number_of};
-use lk_trace::{MOST_OF_A_LINE, TextFault, read_line};
-use std::alloc::AllocError;
+use lk_trace::{MOST_OF_A_LINE, TextFault};
+use std::alloc::{AllocError, Global};
 use std::fmt::Write;
+use strsim::levenshtein;
 
-const WORDS: [&str; 24] = [
-    "acquire",
-    "release",
-    "rlock",
-    "runlock",
-    "wlock",
-    "wunlock",
-    "downgrade",
-    "read",
-    "write",
-    "swap",
-    "cas",
-    "add",
-    "section",
-    "next_ticket",
-    "now_serving",
-    "tail",
-    "next",
-    "locked",
-    "found",
-    "left",
-    "done",
-    "failed",
-    "waits",
-    "entered",
-];
+// Of words with more edits between them neither is meant for the other.
+const MOST_EDITS: usize = 2;
 
-// How many bytes of two words differ: those in which they differ at one place, and those that only
-// one has.
-fn distance(a: &[u8], b: &[u8]) -> usize {
-    let mut same: usize = 0;
-    for (x, y) in a.iter().zip(b.iter()) {
-        if x == y {
-            same = same.saturating_add(1);
-        }
-    }
-    a.len().max(b.len()).saturating_sub(same)
-}
-
-// The word that is most like this one, where one is.
-fn nearest(word: &[u8]) -> Option<&'static str> {
+// The word that is most like this one, where one is: most of it has to be the same.
+fn nearest(
+    alloc: Global,
+    word: &str,
+    words: &'static [&'static str],
+) -> Result<Option<&'static str>, AllocError> {
     let mut best: Option<(usize, &'static str)> = None;
-    for known in WORDS {
-        let far = distance(word, known.as_bytes());
+    for known in words {
+        let edits = levenshtein(alloc, word, known)?;
         let nearer = match best {
-            Some((least, _)) => far < least,
+            Some((least, _)) => edits < least,
             None => true,
         };
-        if nearer && far.saturating_mul(2) <= known.len() {
-            best = Some((far, known));
+        if nearer && edits <= MOST_EDITS && edits.saturating_mul(2) <= known.len() {
+            best = Some((edits, *known));
         }
     }
-    best.map(|(_, known)| known)
+    Ok(best.map(|(_, known)| known))
 }
 
-// Where the first word begins that no line of a trace could have there.
-fn wrong_place(line: &[u8]) -> usize {
-    let Some((number, rest)) = cut_word(line) else {
-        return if number_of(line, 0, 255).is_some() {
-            line.len()
-        } else {
-            0
-        };
+// Writes what stands at a place, and what could.
+fn put_wrong(text: &mut String, alloc: Global, wrong: Wrong<'_>) -> Result<(), AllocError> {
+    let (column, due) = (wrong.column, wrong.due.text());
+    write!(text, "  column {column}: ")?;
+    let Some(word) = wrong.word else {
+        return writeln!(text, "the end of the line, expected {due}");
     };
-    if number_of(number, 0, 255).is_none() {
-        return 0;
-    }
-    let start = line.len().saturating_sub(rest.len());
-    let word = match cut_word(rest) {
-        Some((word, _)) => word,
-        None => rest,
+    let Ok(word) = str::from_utf8(word) else {
+        return writeln!(text, "bytes that are no text, expected {due}");
     };
-    if move_named(word).is_none() {
-        return start;
+    writeln!(text, "'{word}', expected {due}")?;
+    match nearest(alloc, word, wrong.due.words())? {
+        Some(near) => writeln!(text, "  did you mean '{near}'?"),
+        None => Ok(()),
     }
-    // the longest front of whole words that is a move: what follows it is wrong
-    let mut place = start;
-    for at in 0..line.len() {
-        if line[at] == b' ' && read_line(&line[..at]).is_some() {
-            place = at.saturating_add(1);
-        }
-    }
-    place
 }
 
-// What could stand at a place of a line.
-fn expected(line: &[u8], place: usize) -> &'static str {
-    if place == 0 {
-        return "a thread's number, from 0 to 255, without leading zeros";
-    }
-    if place >= line.len() {
-        return "a word of a move";
-    }
-    let spaces = line[..place].iter().filter(|b| **b == b' ').count();
-    match spaces {
-        1 => "a call (acquire, rlock ..) or a step (read, write, swap, cas, add, section)",
-        2 =>
-            "the end, a word of the lock (tail, next, locked ..), or of a section its count or outcome",
-        _ => "the end, 'of J', 'found V', 'left V', 'done' or 'failed', in this order",
+// Where a line of this kind of fault begins.
+fn first_due(fault: TextFault) -> Due {
+    match fault {
+        TextFault::BadLine => Due::Thread,
+        _ => Due::Lock,
     }
 }
 
 /// Writes what is wrong with a line.
 pub fn put_fault(
     text: &mut String,
+    alloc: Global,
     number: u64,
     line: &[u8],
     fault: TextFault,
 ) -> Result<(), AllocError> {
     let told = fault_text(fault);
     writeln!(text, "{number}: {told}")?;
-    if fault != TextFault::BadLine {
-        text.push_str(
-            "  expected: lock NAME threads N, and bits B where words have fewer than 64\n",
-        )?;
-        return Ok(());
-    }
     if line.len() > MOST_OF_A_LINE {
-        text.push_str("  no move has more than 96 bytes\n")?;
-        return Ok(());
+        return text.push_str("  no header and no move has more than 96 bytes\n");
     }
-    let place = wrong_place(line);
-    let rest = if place < line.len() {
-        &line[place..]
-    } else {
-        &line[line.len()..]
-    };
-    let word = match cut_word(rest) {
-        Some((word, _)) => word,
-        None => rest,
-    };
-    let column = place.saturating_add(1);
-    write!(text, "  column {column}: ")?;
-    match str::from_utf8(word) {
-        Ok(word) => write!(text, "'{word}'")?,
-        Err(_) => text.push_str("bytes that are no text")?,
+    match wrong_place(line, first_due(fault)) {
+        Some(wrong) => put_wrong(text, alloc, wrong),
+        None => text.push_str(
+            "  expected fewer threads than words of that many bits have values\n",
+        ),
     }
-    text.push_str(", expected ")?;
-    text.push_str(expected(line, place))?;
-    text.push_str("\n")?;
-    if let Some(near) = nearest(word) {
-        writeln!(text, "  did you mean '{near}'?")?;
-    }
-    Ok(())
 }

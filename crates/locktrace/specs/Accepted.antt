@@ -1,0 +1,34 @@
+-- Definitions. What an accepted trace is, line by line. This project's own, over what it is that a
+-- line agrees with the lock.
+use Rattle.std.specs.Prelude.{◌≡◌, ◌⊎◌, ℕ, List, [], ◌∷◌, true, false, Some, Ok}
+use Rattle.lk_replay.specs.Lines.{is_skipped}
+use Rattle.lk_replay.specs.declared.header.Header.{Header}
+use Rattle.lk_trace.specs.Agreement.{Agrees}
+use Rattle.lk_trace.specs.Checks.{Checked, checked}
+use Rattle.lk_trace.specs.Traces.{new_checked, read_header_of, short_line_of}
+use Rattle.lk_trace.specs.declared.line.TraceLine.{TraceLine}
+
+-- the line is a move that the machine accepts and of which each part that is given is the machine's
+pub record IsMove (c : Checked) (line : List ℕ) (Behind : Checked → Type 0) : Type 0 where
+  pub kept : is_skipped line ≡ false
+  pub move : TraceLine
+  pub read : short_line_of line ≡ Some move
+  pub agrees : Agrees c move
+  pub behind : Behind (checked c move)
+
+-- each line is skipped or such a move
+abbrev pub AreMoves : Checked → List (List ℕ) → Type 0
+AreMoves c [] = Unit {0}
+AreMoves c (line ∷ lines) = ((is_skipped line ≡ true) × AreMoves c lines) ⊎ IsMove c line (λ next. AreMoves next lines)
+
+-- the line is the header
+pub record IsHeader (line : List ℕ) (Behind : Checked → Type 0) : Type 0 where
+  pub kept : is_skipped line ≡ false
+  pub header : Header
+  pub read : read_header_of line ≡ Ok header
+  pub behind : Behind (new_checked header)
+
+-- the first line that is not skipped is a header, and each behind it such a move of its lock
+abbrev pub IsTrace : List (List ℕ) → Type 0
+IsTrace [] = ⊥
+IsTrace (line ∷ lines) = ((is_skipped line ≡ true) × IsTrace lines) ⊎ IsHeader line (λ c. AreMoves c lines)
