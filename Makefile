@@ -3,6 +3,7 @@
 #               installed and packaged
 # make check    the quick check: builds the program, and tries it on rows, devices, short and refused memory and random schedules
 # make check CRATE=NAME                proves one crate; CRATE=lk_tests also runs the tests
+# make test-traces                     tries locktrace: its texts, random traces and logs, and locks that note their steps
 # make test-library                    tries the static library for traces from C and from Python
 # make edits CRATE=NAME [EDIT=NAME]    tries a crate's wrong bodies and their right twins, or one of each
 # make twins    shows that the right twin of each wrong body that has one is proved
@@ -19,6 +20,7 @@
 
 PROGRAM := crates/lockreplay/out/lockreplay
 SOURCES := $(shell find crates -name out -prune -o \( -name '*.rt' -o -name '*.antt' \) -print)
+TRACER  := crates/locktrace/out/locktrace
 LESSON  := examples/ticket-hand-over.schedule
 MODULE  := crates/lk_page/out/lockreplay.wasm
 # what the module is made of
@@ -39,15 +41,18 @@ test: tools
 	tests/gate.sh
 	$(MAKE) --no-print-directory tried release-checks FUZZ_SECONDS=$(FUZZ_SECONDS)
 	tests/refuse/run.sh request crates/$(TESTS)/out/$(TESTS)_tests
-	$(MAKE) --no-print-directory test-page test-library
+	$(MAKE) --no-print-directory test-page test-library test-traces
 
 ifdef CRATE
 check: tools
 	cd crates/$(CRATE) && rt check && rt test
 	$(if $(filter $(CRATE),$(TESTS)),tests/refuse/run.sh request crates/$(CRATE)/out/$(CRATE)_tests)
 else
-check: $(PROGRAM) tools
+check: $(PROGRAM) $(TRACER) tools
 	$(MAKE) --no-print-directory tried FUZZ_SECONDS=$(SHORT_FUZZ_SECONDS)
+	tests/locktrace.py $(TRACER)
+	tests/trace_values.py $(TRACER) --runs 1000
+	tests/order_search.py $(TRACER) --runs 500
 endif
 
 # The built program, and the rows by themselves, side by side. Nothing is proved here.
@@ -83,6 +88,14 @@ test-page: $(MODULE) $(PROGRAM) browsers
 test-library: $(LIBRARY) tools
 	tests/trace_library.py $(LIBRARY)
 
+.PHONY: test-traces
+
+test-traces: $(TRACER) $(PROGRAM) tools
+	tests/locktrace.py $(TRACER)
+	tests/trace_values.py $(TRACER)
+	tests/order_search.py $(TRACER)
+	tests/recording.py $(TRACER) $(PROGRAM)
+
 edits: tools
 	tests/edits.py $(wildcard crates/$(CRATE)/must-fail/$(EDIT).edit crates/$(CRATE)/twins/$(EDIT).edit)
 
@@ -103,6 +116,9 @@ include packaging/targets.mk
 
 $(PROGRAM): $(SOURCES)
 	cd crates/lockreplay && rt run -- replay < ../../$(LESSON) > /dev/null
+
+$(TRACER): $(SOURCES)
+	cd crates/locktrace && rt run -- check < stdin > /dev/null
 
 $(MODULE): $(MODULE_SOURCES) page/build-module.sh
 	page/build-module.sh

@@ -45,6 +45,22 @@ CASES = [
     *((f"lockreplay batch --workers {n}", f"lockreplay batch --workers {n}") for n in (0, 9, 10)),
 ]
 
+# Of the second program, where the tree has it.
+TRACE_CASES = [
+    ("locktrace ch", "locktrace check "),
+    ("locktrace sch", "locktrace schedule "),
+    ("locktrace --v", "locktrace --version "),
+    ("locktrace check --su", "locktrace check --summary "),
+    ("locktrace check --format j", "locktrace check --format json "),
+    ("locktrace check hand", "locktrace check handed-on.schedule "),
+    ("locktrace check --summary a.schedule hand",
+     "locktrace check --summary a.schedule handed-on.schedule "),
+    ("locktrace explain --mo", "locktrace explain --moves "),
+    ("locktrace explain hand", "locktrace explain handed-on.schedule "),
+    ("locktrace order hand", "locktrace order handed-on.schedule "),
+    ("locktrace help ord", "locktrace help order "),
+]
+
 # What each shell is told first. Control-T then writes the line as it stands.
 SHELLS = {
     "bash": (["bash", "--norc", "--noprofile", "-i"], """
@@ -121,7 +137,8 @@ def try_completions(tally, name, tree):
         for file in ("handed-on.schedule", "a.schedule"):
             Path(folder, file).write_text("lock ticket threads 1\n")
         shell = Shell(name, tree, folder)
-        for typed, due in CASES:
+        both = Path(tree, "bin", "locktrace").exists()
+        for typed, due in CASES + (TRACE_CASES if both else []):
             tally.check(f"{name}: '{typed}' and Tab", shell.completed(typed), due)
         shell.end()
 

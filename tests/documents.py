@@ -27,12 +27,11 @@ from document_blocks import BadDocument, blocks_of, without_blocks
 from document_names import Names
 
 TOP = pathlib.Path(__file__).resolve().parent.parent
-# All but drafts/README.md, which names what is not there yet.
-DOCUMENTS = ("*.md", "docs/*.md", "[!d]*/README.md", "examples/recording/README.md")
+DOCUMENTS = ("*.md", "docs/*.md", "*/README.md", "examples/recording/README.md")
 # Programs that a document may call besides `lockreplay`.
 OTHERS = {"locktrace": TOP / "crates/locktrace/out/locktrace"}
 # Documents with indented commands that are not looked at yet.
-NOT_YET = {"docs/BENCHMARKS.md", "docs/LOCKTRACE.md", "examples/recording/README.md"}
+NOT_YET = {"docs/BENCHMARKS.md", "examples/recording/README.md"}
 SHELLS = {"bash", "shell", "zsh", "fish", "shell-session"}
 INDENTED = re.compile(r" {4,}(\$ |(make|rt|gcc|git|awk|sed|node|parallel|python3) \S|"
                       r"lockreplay (replay|batch) |(tests|fuzz|bench)/\w+\.(py|sh)\b)")

@@ -53,7 +53,6 @@ NOT_YET = [
     ("crates/lockreplay/src/command_line/tests.rt", "body"),
     ("record/lockreplay_record.h", "lines"),
     ("docs/BENCHMARKS.md", "columns"),
-    ("docs/LOCKTRACE.md", "columns"),
 ]
 # Written by a script from files that are kept to the rules.
 GENERATED = ["crates/lk_replay/src/tests/rows/*"]

@@ -1,0 +1,304 @@
+#!/usr/bin/env python3
+"""The built `locktrace` as a process: statuses, texts and formats, files that fail, inputs that do
+not end, devices that take nothing, little memory, several threads, and a terminal.
+
+    tests/locktrace.py LOCKTRACE
+
+What is wanted is written by hand from docs/LOCKTRACE.md and docs/TRACE.md. The last line counts the
+cases; the status is 1 where one failed.
+"""
+import json
+import os
+import pty
+import re
+import resource
+import subprocess
+import sys
+import tempfile
+import threading
+from pathlib import Path
+
+from tally import Tally
+
+TOP = Path(__file__).resolve().parent.parent
+VERSION = (TOP / "VERSION").read_text().strip()
+PATIENCE = 60  # seconds
+
+GOOD = """# Two threads of an MCS lock
+lock mcs threads 2
+
+0 acquire
+0 write next left 0
+0 swap tail found 0 left 1
+1 acquire
+1 write next left 0
+1 swap tail found 1
+1 write locked left 1
+"""
+SCHEDULE = """
+lock mcs threads 2
+
+0 acquire
+0 write
+0 swap
+1 acquire
+1 write
+1 swap
+1 write
+"""
+OTHER = GOOD.replace("1 swap tail found 1", "1 swap tail found 2")
+OTHER_LINE = ("{}:9: refused: found 2 in tail, where the lock has 1\n"
+              "{}:9: note: held by 0; in line 0\n")
+WRONG = GOOD.replace("1 swap tail found 1", "1 write locked left 1")
+WRONG_LINE = ("{}:9: refused: '1 write', but thread 1's next step is 'swap' (WrongStep)\n"
+              "{}:9: note: held by 0; in line 0\n")
+FAULTY = "lock ticket threads 2\n0 aquire\n"
+FAULTY_LINE = "{}:2: not a move (BadLine)\n"
+TEXTS = {"good": GOOD, "other": OTHER, "wrong": WRONG, "faulty": FAULTY}
+LOGS = {
+    "thread-0.log": "lock ticket threads 2 thread 0\nacquire\nadd next_ticket found 0\n"
+                    "read now_serving found 0\nrelease\nread now_serving found 0\n"
+                    "write now_serving left 1\ndropped 0\n",
+    "thread-1.log": "lock ticket threads 2 thread 1\nacquire\nadd next_ticket found 1\n"
+                    "read now_serving found 0\nread now_serving found 1\ndropped 0\n",
+}
+
+
+class Program:
+    """The program, run in a folder of its own."""
+
+    def __init__(self, path, folder, tally):
+        self.path, self.folder, self.tally = path, folder, tally
+
+    def run(self, *words, stdin="", **how):
+        given = {"input": stdin} if isinstance(stdin, str) else {"stdin": stdin}
+        how.setdefault("stdout", subprocess.PIPE)
+        how.setdefault("stderr", subprocess.PIPE)
+        done = subprocess.run([self.path, *map(str, words)], cwd=self.folder, text=True,
+                              timeout=PATIENCE, check=False, **given, **how)
+        return done.stdout or "", done.stderr or "", done.returncode
+
+    def case(self, name, words, status, output="", error="", **how):
+        got = self.run(*words, **how)
+        for what, value, want in zip(("output", "error", "status"), got, (output, error, status)):
+            self.tally.check(f"{name}: {what}", value, want)
+
+
+def begins(*parts):
+    """Whether a text has these parts, the first of them at its front."""
+    return lambda text: text.startswith(parts[0]) and all(part in text for part in parts)
+
+
+def words_and_texts(program):
+    program.case("version", ["--version"], 0, f"locktrace {VERSION}\n")
+    program.case("help", ["--help"], 0, lambda text: "check" in text and "order" in text)
+    for words in ([], ["walk"], ["check", "--format", "xml"], ["check", "-j", "0"],
+                  ["check", "-j", "65"], ["explain", "--moves", "0..3"],
+                  ["explain", "--moves", "4..3"], ["order", "thread-0.log"], ["explain", "a", "b"]):
+        program.case(f"usage {words}", words, 2, "", begins("error:") if words else len)
+    program.case("all is well", ["check", "good"], 0)
+    program.case("a schedule", ["check", "-"], 0, stdin=SCHEDULE)
+    program.case("another value", ["check", "other"], 1, OTHER_LINE.format("other", "other"))
+    program.case("another step", ["check", "wrong"], 1, WRONG_LINE.format("wrong", "wrong"))
+    program.case("no trace", ["check", "faulty"], 4, FAULTY_LINE.format("faulty"))
+    program.case("no header", ["check"], 4, "-:1: no header (NoHeader)\n")
+    program.case("no such file", ["check", "absent"], 3, begins("absent: ", "o such file"))
+    program.case("a directory", ["check", "."], 3, begins(".: ", "irectory"))
+    program.case("the greatest wins", ["check", "wrong", "absent", "faulty", "good"], 4,
+                 begins(WRONG_LINE.format("wrong", "wrong") + "absent: ",
+                        FAULTY_LINE.format("faulty")))
+    program.case("long comment", ["check"], 0, stdin="#" * 3_000_000 + "\n" + GOOD)
+    move = "0 acquire"
+    program.case("line of 97 bytes", ["check"], 4, "-:2: not a move (BadLine)\n",
+                 stdin=f"lock mcs threads 2\n{move + ' ' * (97 - len(move))}\n")
+    program.case("a schedule of a trace", ["schedule", "good"], 0, SCHEDULE)
+    program.case("no schedule", ["schedule", "faulty"], 4, "lock ticket threads 2\n",
+                 FAULTY_LINE.format("faulty"))
+
+
+def summaries(program):
+    program.case("summary", ["check", "--summary", "good"], 0,
+                 "good: 2 threads, 7 moves, 0 waits, 0 failed compare-and-swaps, 0 late links, "
+                 "longest queue 2, 0 rounds of the counter\n"
+                 "good: warning: no thread ever waited, so the run shows nothing of contention\n")
+    rounds = "lock ticket threads 1 bits 2\n" + "".join(
+        f"0 acquire\n0 add next_ticket found {k % 4}\n0 read\n0 release\n0 read\n0 write\n"
+        for k in range(9))
+    program.case("rounds", ["check", "--summary"], 0, stdin=rounds,
+                 output=begins("-: 1 thread, 54 moves", " 2 rounds of the counter"))
+    program.case("no summary of what was not read", ["check", "--summary", "absent"], 3,
+                 lambda text: text.startswith("absent: ") and text.count("\n") == 1)
+    spins = SCHEDULE.replace("lock mcs", "lock ticket").splitlines()[1] + (
+        "\n0 acquire\n0 add\n0 read\n1 acquire\n1 add\n1 read\n1 read\n")
+    program.case("waits", ["check", "--summary"], 0,
+                 lambda text: " 2 waits" in text and "warning" not in text, stdin=spins)
+
+
+def explained(program):
+    program.case("explain", ["explain", "--moves", "3..4", "--names", "left,right", "good"], 0,
+                 "6: 0 swap: entered, tail 0 to 1; left finds nobody in line: it holds the lock; "
+                 "held by 0; in line 0\n"
+                 "7: 1 acquire: called; right wants the lock; held by 0; in line 0\n")
+    program.case("explain a refusal", ["explain", "--moves", "99..99", "wrong"], 1,
+                 "9: refused: '1 write', but thread 1's next step is 'swap' (WrongStep)\n"
+                 "  held by 0; in line 0\n  due: 1 swap\n")
+    program.case("explain a call", ["explain"], 1,
+                 begins("2: refused: ", "accepted would be: 0 acquire\n"),
+                 stdin="lock mcs threads 2\n0 release\n")
+    for line, column, word, near in [
+        ("0 aquire", 3, "aquire", "acquire"), ("0 relase", 3, "relase", "release"),
+        ("0 read now_serving fund 1", 20, "fund", "found"), ("0 swap tial", 8, "tial", "tail"),
+        ("0 add next_ticket found x", 25, "x", ""), ("0 cas tail don", 12, "don", "done"),
+        ("x acquire", 1, "x", ""), ("0 swap tail done", 13, "done", ""),
+    ]:
+        told = f"  did you mean '{near}'?\n" if near else ""
+        program.case(f"explain {line}", ["explain"], 4,
+                     lambda text, column=column, word=word, told=told:
+                     text.startswith("2: not a move (BadLine)\n"
+                                     f"  column {column}: '{word}', expected ")
+                     and ("did you mean" in text) == bool(told) and told in text,
+                     stdin=f"lock mcs threads 2\n{line}\n")
+    for line, column, word, near in [
+        ("lock tiket threads 2", 6, "tiket", "ticket"),
+        ("lock mcs thread 2", 10, "thread", "threads"),
+        ("lock mcs threads 99", 18, "99", ""), ("lok mcs threads 2", 1, "lok", "lock"),
+    ]:
+        program.case(f"explain {line}", ["explain"], 4,
+                     lambda text, parts=(f"  column {column}: '{word}', expected ", near):
+                     all(part in text for part in parts), stdin=line + "\n")
+
+
+def formats(program):
+    names = ["good", "other", "faulty", "absent"]
+    lines = program.run("check", "--format", "json", "--summary", *names)[0].splitlines()
+    answers = [json.loads(line) for line in lines]
+    check = program.tally.check
+    check("json: files", [answer["file"] for answer in answers], names)
+    check("json: endings", [answer["ending"] for answer in answers],
+          ["accepted", "refused", "faulty", "unread"])
+    check("json: lines", [answer.get("line") for answer in answers], [None, 9, 2, 0])
+    check("json: standing", answers[1]["standing"], "held by 0; in line 0")
+    check("json: counts", [answers[0][key] for key in ("threads", "moves", "longest_queue")],
+          [2, 7, 2])
+    odd = 'a "name"\\\x01\n.trace'
+    (program.folder / odd).write_text(FAULTY)
+    text = program.run("check", "--format", "json", odd)[0]
+    check("json: an odd name", json.loads(text)["file"], odd)
+    (program.folder / odd).unlink()
+    tap = program.run("check", "--format", "tap", *names)[0].splitlines()
+    check("tap: head", tap[:2], ["TAP version 14", "1..4"])
+    matches = map(re.compile(r"(not )?ok (\d+) - (\S+)$").match, tap)
+    points = [match.groups() for match in matches if match]
+    check("tap: points", points, [(None, "1", "good"), ("not ", "2", "other"),
+                                  ("not ", "3", "faulty"), ("not ", "4", "absent")])
+    check("tap: the rest are comments", [line for line in tap[2:] if "ok " not in line[:7]],
+          lambda rest: rest and all(line.startswith("# ") for line in rest))
+
+
+def by_threads(program):
+    names = (["good", "wrong", "absent", "other", "faulty", "."] * 9)[:50]
+    alone = program.run("check", "--summary", *names)
+    for jobs in (2, 3, 8, 64):
+        shared = program.run("check", "--summary", "-j", jobs, *names)
+        program.tally.check(f"-j {jobs}", shared, alone)
+    program.case("-j with standard input", ["check", "-j", "4", "good", "-", "good"], 4,
+                 FAULTY_LINE.format("-"), stdin=FAULTY)
+
+
+def devices(program):
+    with open("/dev/full", "w") as full:
+        for words in (["check", "wrong"], ["explain", "good"], ["schedule", "good"], ["--help"],
+                      ["check", "-j", "2", "wrong", "wrong"]):
+            program.case(f"{words} to a full device", words, 3, "",
+                         begins("locktrace: cannot write: "), stdout=full)
+    program.case("output closed", ["check", "wrong"], 3, "", begins("locktrace: cannot write: "),
+                 preexec_fn=lambda: os.close(1))
+    os.mkfifo(program.folder / "endless")
+
+    def feed():
+        try:
+            with open(program.folder / "endless", "w") as pipe:
+                pipe.write(WRONG)
+                while True:
+                    pipe.write("1 acquire\n" * 1_000)
+        except BrokenPipeError:
+            pass
+
+    threading.Thread(target=feed, daemon=True).start()
+    program.case("a refused move in an input without end", ["check", "endless"], 1,
+                 WRONG_LINE.format("endless", "endless"))
+
+
+def memory(program):
+    """Under every limit the answer is the right one, or that memory was refused."""
+    seen = set()
+    for size in range(2_000, 12_000, 100):
+        limit = (size << 10, size << 10)
+        got = program.run("check", "wrong",
+                          preexec_fn=lambda: resource.setrlimit(resource.RLIMIT_AS, limit))
+        if got[:2] == (WRONG_LINE.format("wrong", "wrong"), "") and got[2] == 1:
+            seen.add("answered")
+        elif got[0] == "" and got[2] == 3 and got[1] == "locktrace: out of memory\n":
+            seen.add("refused")
+        elif got[0] or got[2] in (0, 1, 2, 4):
+            program.tally.check(f"{size} KB", got, "an answer or want of memory")
+    program.tally.check("memory is refused, and then the answer is given", seen,
+                        {"answered", "refused"})
+
+
+def terminal(program):
+    reader, writer = pty.openpty()
+    text = "lock ticket threads 2\n" + "# a comment\n" * 2_100_000
+    got = program.run("check", "-", stdin=text, stderr=writer)
+    os.close(writer)
+    program.tally.check("terminal: status", got[2], 0)
+    program.tally.check("terminal: progress", os.read(reader, 4_096),
+                        lambda shown: b"-: 1000000 lines" in shown and b"-: 2000000 lines" in shown)
+    os.close(reader)
+    program.case("no terminal, no progress", ["check", "-"], 0, stdin=text)
+
+
+def orders(program):
+    for name, text in LOGS.items():
+        (program.folder / name).write_text(text)
+    program.case("order", ["order", *LOGS, "-o", "made"], 0)
+    program.case("order: accepted", ["check", "made/run.trace"], 0)
+    made = sorted(path.name for path in (program.folder / "made").iterdir())
+    program.tally.check("order: files", made, ["run-0001.schedule", "run.trace"])
+    program.case("order: its schedule", ["schedule", "made/run.trace"], 0,
+                 (program.folder / "made" / "run-0001.schedule").read_text())
+    program.case("order: a log is missing", ["order", "thread-0.log", "-o", "made"], 4, "",
+                 "locktrace: no log of thread 1\n")
+    twice = ["order", "thread-0.log", "thread-0.log", "-o", "made"]
+    program.case("order: a second log", twice, 4, "",
+                 "thread-0.log: a second log of thread 0, beside thread-0.log\n")
+    program.case("order: no such log", ["order", "absent", "thread-0.log", "-o", "made"], 3, "",
+                 begins("absent: "))
+    program.case("order: no log", ["order", "faulty", "thread-0.log", "-o", "made"], 4, "",
+                 begins("faulty:1: not a log's header"))
+    spoilt = LOGS["thread-1.log"].replace("found 1", "found 7", 1)
+    (program.folder / "thread-1.log").write_text(spoilt)
+    program.case("order: stuck", ["order", *LOGS, "-o", "made"], 1, "",
+                 begins("thread-1.log:3: cannot be placed: "
+                        "found 7 in next_ticket, where the lock has 1\n"))
+    (program.folder / "thread-1.log").write_text("lock ticket threads 2 thread 1\nacquire\n")
+    program.case("order: cut off", ["order", *LOGS, "-o", "made"], 0, "",
+                 begins("thread-1.log: warning: cut off", "ordered up to there"))
+    program.case("order: a folder that cannot be made", ["order", *LOGS, "-o", "good/made"], 3, "",
+                 begins("locktrace: cannot write: "))
+
+
+def main(path):
+    tally = Tally()
+    with tempfile.TemporaryDirectory() as folder:
+        program = Program(Path(path).resolve(), Path(folder), tally)
+        for name, text in TEXTS.items():
+            (program.folder / name).write_text(text)
+        for part in (words_and_texts, summaries, explained, formats, by_threads, devices, memory,
+                     terminal, orders):
+            part(program)
+    return tally.end()
+
+
+if __name__ == "__main__":
+    sys.exit(main(*sys.argv[1:]))
