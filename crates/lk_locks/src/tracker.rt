@@ -43,7 +43,8 @@ impl<W: Words> Tracker<W> {
     ghost use Rattle.lk_locks.specs.Steps.{answer_to, change_of, next_state, refusal_of};
     ghost use Rattle.lk_locks.specs.Entries.{entries_of};
     ghost use Rattle.lk_locks.specs.Holding.{holding, IsListed};
-    ghost use Rattle.lk_locks.specs.Tracked.{tracked, followed, after_tracked, holding_in, waiting_in};
+    ghost use Rattle.lk_locks.specs.Tracked.{tracked, followed, after_tracked, holding_in};
+    ghost use Rattle.lk_locks.specs.Tracked.{waiting_in};
 
     /// A new lock with 1 to 64 threads, fewer than 2^B for words of B bits, which are all 0.
     pub fn new(kind: LockKind, threads: u8, words: W) -> Tracker<W>

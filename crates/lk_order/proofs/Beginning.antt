@@ -1,5 +1,6 @@
 -- An order on which nothing is placed.
-use Rattle.std.proofs.Common.{◌≡◌, ℕ, ◌<◌, ◌≤◌, List, [], ◌∷◌, Option, Some, None, length, map, get_or, replicate}
+use Rattle.std.proofs.Common.{◌≡◌, ℕ, ◌<◌, ◌≤◌, List, [], ◌∷◌, Option, Some, None, length, map}
+use Rattle.std.proofs.Common.{get_or, replicate}
 use Rattle.std.proofs.Common.{refl, sym, ap, ◌∙◌, subst, arith, inl, inr}
 use Rattle.std.specs.Prelude.{option_map}
 use Rattle.std.specs.List.{All, slice_get}
@@ -17,22 +18,46 @@ use Rattle.lk_order.specs.Picked.{IsInside, IsKept}
 abbrev moves_in : ThreadLog → List TraceLine
 moves_in log = log.moves
 
-pub moves_at : (logs : List ThreadLog) (t : ℕ) (log : ThreadLog) → slice_get logs t ≡ Some log → moves_of logs t ≡ log.moves
+pub moves_at : (logs : List ThreadLog) (t : ℕ) (log : ThreadLog) → slice_get logs t ≡ Some log
+    → moves_of logs t ≡ log.moves
 moves_at logs t log is =
-    get_or_from_slice_get (map moves_in logs) t log.moves [] (slice_get-map moves_in logs t ∙ ap (option_map moves_in) is)
+    get_or_from_slice_get (map moves_in logs) t log.moves []
+    (slice_get-map moves_in logs t ∙ ap (option_map moves_in) is)
 
-pub own_of : (kind : LockKind) (threads bits : ℕ) (logs : List ThreadLog) → IsRunOf kind threads bits logs → (t : ℕ) → All (λ (l : TraceLine). l.thread ≡ t) (moves_of logs t)
+pub own_of : (kind : LockKind) (threads bits : ℕ) (logs : List ThreadLog)
+    → IsRunOf kind threads bits logs → (t : ℕ)
+    → All (λ (l : TraceLine). l.thread ≡ t) (moves_of logs t)
 own_of kind threads bits logs run t =
     elim ((slice_get_cases logs t).1) [
-      | inl found ↦ subst (All (λ (l : TraceLine). l.thread ≡ t)) (sym (moves_at logs t found.0 found.2)) (run.each t found.0 found.2).own
-      | inr past ↦ subst (All (λ (l : TraceLine). l.thread ≡ t)) (sym (get_or_past (map moves_in logs) t [] (omega (arith, length-map logs moves_in)))) (All-nil (λ (l : TraceLine). l.thread ≡ t))
+      | inl found ↦
+          subst (All (λ (l : TraceLine). l.thread ≡ t)) (sym (moves_at logs t found.0 found.2))
+          (run.each t found.0 found.2).own
+      | inr past ↦
+          subst (All (λ (l : TraceLine). l.thread ≡ t))
+          (sym (get_or_past (map moves_in logs) t [] (omega (arith, length-map logs moves_in))))
+          (All-nil (λ (l : TraceLine). l.thread ≡ t))
     ]
 
-pub kept_new : (kind : LockKind) (threads bits : ℕ) (logs : List ThreadLog) (lock : Checked) (at : List ℕ) → IsRunOf kind threads bits logs → threads ≤ 64
+pub kept_new : (kind : LockKind) (threads bits : ℕ) (logs : List ThreadLog) (lock : Checked)
+    (at : List ℕ)
+    → IsRunOf kind threads bits logs → threads ≤ 64
     → lock ≡ new_lock kind threads bits → ((t : ℕ) → t < 256 → get_or at t 0 ≡ 0)
-    → IsKept (record { kind = kind; threads = threads; bits = bits; logs = logs; trace = []; lock = lock }) [] at
+    → IsKept (record {
+      kind = kind;
+      threads = threads;
+      bits = bits;
+      logs = logs;
+      trace = [];
+      lock = lock;
+    }) [] at
 kept_new kind threads bits logs lock at run few is zeros = record {
-  order = record { run = run; accepted = tt; lock_is = is; each = λ t below. refl; others = All-nil (λ (l : TraceLine). l.thread < threads) };
+  order = record {
+    run = run;
+    accepted = tt;
+    lock_is = is;
+    each = λ t below. refl;
+    others = All-nil (λ (l : TraceLine). l.thread < threads);
+  };
   few = few;
   own = own_of kind threads bits logs run;
   inside = All-nil (IsInside logs);

@@ -1,5 +1,6 @@
 -- All is placed where no thread has a next line.
-use Rattle.std.proofs.Common.{◌≡◌, ℕ, ◌<◌, ◌≤◌, List, Option, Some, None, length, take, get_or, sym, ap, ◌∙◌, inl, inr, arith}
+use Rattle.std.proofs.Common.{◌≡◌, ℕ, ◌<◌, ◌≤◌, List, Option, Some, None, length, take, get_or, sym}
+use Rattle.std.proofs.Common.{ap, ◌∙◌, inl, inr, arith}
 use Rattle.std.specs.List.{All, slice_get}
 use Rattle.std.proofs.lemmas.List.{take_all}
 use Rattle.std.proofs.lemmas.Option.{slice_get_cases, slice_get-get_or}
@@ -17,8 +18,12 @@ past_all moves n none =
     ]
 
 pub whole : (o : Ordered) → IsOrder o → ((t : ℕ) → t < o.threads → next_line o t ≡ None)
-    → ((t : ℕ) (log : ThreadLog) → slice_get o.logs t ≡ Some log → next_line o t ≡ None → log.dropped ≡ Some 0) → IsWhole o
+    → ((t : ℕ) (log : ThreadLog) → slice_get o.logs t ≡ Some log → next_line o t ≡ None
+    → log.dropped ≡ Some 0)
+    → IsWhole o
 whole o order none uncut = record {
-  all = λ t below. order.each t below ∙ take_all (placed_of o t) (moves_of o.logs t) (past_all (moves_of o.logs t) (placed_of o t) (none t below));
-  uncut = λ k d inside. uncut k (get_or o.logs k d) (slice_get-get_or o.logs k d inside) (none k (omega (arith, order.run.one_each)));
+  all = λ t below. order.each t below ∙ take_all (placed_of o t) (moves_of o.logs t)
+      (past_all (moves_of o.logs t) (placed_of o t) (none t below));
+  uncut = λ k d inside. uncut k (get_or o.logs k d) (slice_get-get_or o.logs k d inside)
+      (none k (omega (arith, order.run.one_each)));
 }

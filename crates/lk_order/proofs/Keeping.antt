@@ -1,6 +1,8 @@
 -- What is kept of an order stays so when a line is placed, and when none is.
-use Rattle.std.proofs.Common.{◌≡◌, ◌≢◌, ℕ, ◌+◌, ◌<◌, ◌≤◌, List, [], ◌∷◌, ◌++◌, Option, Some, None, Bool}
-use Rattle.std.proofs.Common.{Result, Ok, Err, length, map, get_or, set, refl, sym, ap, ap₂, ◌∙◌, subst, arith}
+use Rattle.std.proofs.Common.{◌≡◌, ◌≢◌, ℕ, ◌+◌, ◌<◌, ◌≤◌, List, [], ◌∷◌, ◌++◌, Option, Some, None}
+use Rattle.std.proofs.Common.{Bool}
+use Rattle.std.proofs.Common.{Result, Ok, Err, length, map, get_or, set, refl, sym, ap, ap₂, ◌∙◌}
+use Rattle.std.proofs.Common.{subst, arith}
 use Rattle.std.proofs.Common.{inl, inr}
 use Rattle.std.specs.List.{All, slice_get}
 use Rattle.std.proofs.lemmas.Bool.{cases_order}
@@ -9,7 +11,8 @@ use Rattle.std.proofs.lemmas.List.Elements.{All-append, All-cons, All-nil}
 use Rattle.std.proofs.lemmas.Option.{slice_get_within, get_or_from_slice_get}
 use Rattle.lk_locks.specs.declared.kinds.Outcome.{Outcome}
 use Rattle.lk_trace.specs.Agreement.{Agrees}
-use Rattle.lk_trace.specs.Checks.{Checked, checked, difference_of, after_line, answer_to, unless_other}
+use Rattle.lk_trace.specs.Checks.{Checked, checked, difference_of, after_line, answer_to}
+use Rattle.lk_trace.specs.Checks.{unless_other}
 use Rattle.lk_trace.specs.Checks.{answer_unless}
 use Rattle.lk_trace.specs.declared.difference.Difference.{Difference}
 use Rattle.lk_trace.specs.declared.line.TraceLine.{TraceLine}
@@ -22,64 +25,89 @@ use Rattle.lk_order.specs.declared.order.Place.{Place}
 use Rattle.lk_order.proofs.Placing.{order_more, counted_more}
 
 -- a line that differs changes nothing
-is_difference : (other : Option Difference) (outcome : Outcome) (difference : Difference) → Err difference ≡ answer_unless other outcome → other ≡ Some difference
+is_difference : (other : Option Difference) (outcome : Outcome) (difference : Difference)
+    → Err difference ≡ answer_unless other outcome → other ≡ Some difference
 is_difference None outcome difference is = cc
 is_difference (Some d) outcome difference is = cc
 
-pub differs : (c : Checked) (line : TraceLine) (difference : Difference) → Err difference ≡ answer_to c line → difference_of c line ≡ Some difference
+pub differs : (c : Checked) (line : TraceLine) (difference : Difference)
+    → Err difference ≡ answer_to c line → difference_of c line ≡ Some difference
 differs c line difference is = is_difference (difference_of c line) _ difference is
 
-pub unmoved : (c : Checked) (line : TraceLine) (difference : Difference) → Err difference ≡ answer_to c line → after_line c line ≡ c
-unmoved c line difference is = ap (λ d. unless_other d (checked c line) c) (differs c line difference is)
+pub unmoved : (c : Checked) (line : TraceLine) (difference : Difference)
+    → Err difference ≡ answer_to c line → after_line c line ≡ c
+unmoved c line difference is =
+    ap (λ d. unless_other d (checked c line) c) (differs c line difference is)
 
-no_difference : (other : Option Difference) (outcome answer : Outcome) → Ok answer ≡ answer_unless other outcome → other ≡ None
+no_difference : (other : Option Difference) (outcome answer : Outcome)
+    → Ok answer ≡ answer_unless other outcome → other ≡ None
 no_difference None outcome answer is = refl
 no_difference (Some d) outcome answer is = cc
 
-pub agrees : (c : Checked) (line : TraceLine) (outcome : Outcome) → Ok outcome ≡ answer_to c line → difference_of c line ≡ None
+pub agrees : (c : Checked) (line : TraceLine) (outcome : Outcome) → Ok outcome ≡ answer_to c line
+    → difference_of c line ≡ None
 agrees c line outcome is = no_difference (difference_of c line) _ outcome is
 
-pub moved : (c : Checked) (line : TraceLine) (outcome : Outcome) → Ok outcome ≡ answer_to c line → after_line c line ≡ checked c line
+pub moved : (c : Checked) (line : TraceLine) (outcome : Outcome) → Ok outcome ≡ answer_to c line
+    → after_line c line ≡ checked c line
 moved c line outcome is = ap (λ d. unless_other d (checked c line) c) (agrees c line outcome is)
 
 -- a thread with a next line is one of the lock's
-none_past : (logs : List (List TraceLine)) (t n : ℕ) (line : TraceLine) → slice_get (get_or logs t []) n ≡ Some line → length logs ≤ t → t < length logs
+none_past : (logs : List (List TraceLine)) (t n : ℕ) (line : TraceLine)
+    → slice_get (get_or logs t []) n ≡ Some line → length logs ≤ t → t < length logs
 none_past logs t n line is past =
-    let none : slice_get (get_or logs t []) n ≡ None = ap (λ l. slice_get l n) (get_or_past logs t [] past) in
+    let none : slice_get (get_or logs t []) n ≡ None =
+    ap (λ l. slice_get l n) (get_or_past logs t [] past) in
     absurd (cc)
 
-is_thread : (logs : List (List TraceLine)) (t n : ℕ) (line : TraceLine) → slice_get (get_or logs t []) n ≡ Some line → t < length logs
+is_thread : (logs : List (List TraceLine)) (t n : ℕ) (line : TraceLine)
+    → slice_get (get_or logs t []) n ≡ Some line → t < length logs
 is_thread logs t n line is =
     elim (cases_order t (length logs)) [
       | inl same ↦ none_past logs t n line is (omega arith)
-      | inr other ↦ elim other [ inl below ↦ below | inr above ↦ none_past logs t n line is (omega arith) ]
+      | inr other ↦
+          elim other [ inl below ↦ below | inr above ↦ none_past logs t n line is (omega arith) ]
     ]
 
-pub below_threads : (o : Ordered) (t : ℕ) (line : TraceLine) → IsOrder o → next_line o t ≡ Some line → t < o.threads
+pub below_threads : (o : Ordered) (t : ℕ) (line : TraceLine) → IsOrder o → next_line o t ≡ Some line
+    → t < o.threads
 below_threads o t line order next =
-    let below : t < length (map (λ (log : ThreadLog). log.moves) o.logs) = is_thread _ t _ line next in
+    let below : t < length (map (λ (log : ThreadLog). log.moves) o.logs) =
+    is_thread _ t _ line next in
     omega (arith, length-map o.logs (λ (log : ThreadLog). log.moves), order.run.one_each)
 
 -- the place of the next line has that line
-line_is : (o : Ordered) (t : ℕ) (line : TraceLine) (place : Place) → next_line o t ≡ Some line → place.thread ≡ t → place.at ≡ placed_of o t → line_at o.logs place ≡ line
+line_is : (o : Ordered) (t : ℕ) (line : TraceLine) (place : Place) → next_line o t ≡ Some line
+    → place.thread ≡ t → place.at ≡ placed_of o t → line_at o.logs place ≡ line
 line_is o t line place next thread at =
-    ap₂ (λ (u k : ℕ). get_or (moves_of o.logs u) k no_line) thread at ∙ get_or_from_slice_get (moves_of o.logs t) (placed_of o t) line no_line next
+    ap₂ (λ (u k : ℕ). get_or (moves_of o.logs u) k no_line) thread at
+    ∙ get_or_from_slice_get (moves_of o.logs t) (placed_of o t) line no_line next
 
-inside_is : (o : Ordered) (t : ℕ) (line : TraceLine) (place : Place) → next_line o t ≡ Some line → place.thread ≡ t → place.at ≡ placed_of o t → IsInside o.logs place
+inside_is : (o : Ordered) (t : ℕ) (line : TraceLine) (place : Place) → next_line o t ≡ Some line
+    → place.thread ≡ t → place.at ≡ placed_of o t → IsInside o.logs place
 inside_is o t line place next thread at =
     subst (λ (u : ℕ). place.at < length (moves_of o.logs u)) (sym thread)
-    (subst (λ (k : ℕ). k < length (moves_of o.logs t)) (sym at) (slice_get_within (moves_of o.logs t) (placed_of o t) line next))
+    (subst (λ (k : ℕ). k < length (moves_of o.logs t)) (sym at)
+    (slice_get_within (moves_of o.logs t) (placed_of o t) line next))
 
 -- a place more is a line more
-pub trace_more : (o : Ordered) (places places' : List Place) (t : ℕ) (line : TraceLine) (place : Place) → o.trace ≡ picked o.logs places → places' ≡ places ++ place ∷ []
-    → next_line o t ≡ Some line → place.thread ≡ t → place.at ≡ placed_of o t → picked o.logs places' ≡ o.trace ++ line ∷ []
+pub trace_more : (o : Ordered) (places places' : List Place) (t : ℕ) (line : TraceLine)
+    (place : Place)
+    → o.trace ≡ picked o.logs places → places' ≡ places ++ place ∷ []
+    → next_line o t ≡ Some line → place.thread ≡ t → place.at ≡ placed_of o t
+    → picked o.logs places' ≡ o.trace ++ line ∷ []
 trace_more o places places' t line place was more next thread at =
     ap (picked o.logs) more ∙ map-append (line_at o.logs) places (place ∷ [])
-    ∙ ap₂ (λ (a : List TraceLine) (l : TraceLine). a ++ l ∷ []) (sym was) (line_is o t line place next thread at)
+    ∙ ap₂ (λ (a : List TraceLine) (l : TraceLine). a ++ l ∷ []) (sym was)
+    (line_is o t line place next thread at)
 
-pub kept_more : (o : Ordered) (places places' : List Place) (at : List ℕ) (t : ℕ) (line : TraceLine) (place : Place) → IsKept o places at
-    → places' ≡ places ++ place ∷ [] → next_line o t ≡ Some line → line.thread ≡ t → t < 256 → length at ≡ 256
-    → Agrees o.lock line → place.thread ≡ t → place.at ≡ get_or at t 0 → IsKept (with_line o line) places' (set at t (get_or at t 0 + 1))
+pub kept_more : (o : Ordered) (places places' : List Place) (at : List ℕ) (t : ℕ) (line : TraceLine)
+    (place : Place)
+    → IsKept o places at
+    → places' ≡ places ++ place ∷ [] → next_line o t ≡ Some line → line.thread ≡ t → t < 256
+    → length at ≡ 256
+    → Agrees o.lock line → place.thread ≡ t → place.at ≡ get_or at t 0
+    → IsKept (with_line o line) places' (set at t (get_or at t 0 + 1))
 kept_more o places places' at t line place kept more next own small long agrees thread where_at =
     let at_is : place.at ≡ placed_of o t = where_at ∙ kept.counted t small in
     let next_own : next_line o line.thread ≡ Some line = ap (next_line o) own ∙ next in
@@ -88,16 +116,26 @@ kept_more o places places' at t line place kept more next own small long agrees 
       order = order_more o line kept.order next_own below agrees;
       few = kept.few;
       own = kept.own;
-      inside = subst (All (IsInside o.logs)) (sym more) (All-append (IsInside o.logs) places (place ∷ []) kept.inside (All-cons (IsInside o.logs) place [] (inside_is o t line place next thread at_is) (All-nil (IsInside o.logs))));
-      counted = subst (λ (u : ℕ). (k : ℕ) → k < 256 → get_or (set at u (get_or at u 0 + 1)) k 0 ≡ placed_of (with_line o line) k) own
+      inside =
+          subst (All (IsInside o.logs)) (sym more)
+          (All-append (IsInside o.logs) places (place ∷ []) kept.inside (All-cons (IsInside o.logs)
+          place [] (inside_is o t line place next thread at_is) (All-nil (IsInside o.logs))));
+      counted = subst (λ (u : ℕ). (k : ℕ) → k < 256
+          → get_or (set at u (get_or at u 0 + 1)) k 0 ≡ placed_of (with_line o line) k) own
           (counted_more o line at long (omega (arith, own)) kept.counted);
     }
 
 -- what is answered of the next line
-pub after_placed : (o : Ordered) (t : ℕ) (line : TraceLine) (outcome : Outcome) → next_line o t ≡ Some line → Ok outcome ≡ answer_to o.lock line → with_line o line ≡ after_next o (next_line o t)
+pub after_placed : (o : Ordered) (t : ℕ) (line : TraceLine) (outcome : Outcome)
+    → next_line o t ≡ Some line → Ok outcome ≡ answer_to o.lock line
+    → with_line o line ≡ after_next o (next_line o t)
 after_placed o t line outcome next is =
-    sym (ap (after_next o) next ∙ ap (λ d. unless_differs d (with_line o line) o) (agrees o.lock line outcome is))
+    sym (ap (after_next o) next
+    ∙ ap (λ d. unless_differs d (with_line o line) o) (agrees o.lock line outcome is))
 
-pub after_different : (o : Ordered) (t : ℕ) (line : TraceLine) (difference : Difference) → next_line o t ≡ Some line → Err difference ≡ answer_to o.lock line → o ≡ after_next o (next_line o t)
+pub after_different : (o : Ordered) (t : ℕ) (line : TraceLine) (difference : Difference)
+    → next_line o t ≡ Some line → Err difference ≡ answer_to o.lock line
+    → o ≡ after_next o (next_line o t)
 after_different o t line difference next is =
-    sym (ap (after_next o) next ∙ ap (λ d. unless_differs d (with_line o line) o) (differs o.lock line difference is))
+    sym (ap (after_next o) next
+    ∙ ap (λ d. unless_differs d (with_line o line) o) (differs o.lock line difference is))

@@ -17,10 +17,12 @@ pub record IsLogOf (kind : LockKind) (threads bits t : ℕ) (log : ThreadLog) : 
 
 pub record IsRunOf (kind : LockKind) (threads bits : ℕ) (logs : List ThreadLog) : Type 0 where
   pub one_each : length logs ≡ threads
-  pub each : (t : ℕ) (log : ThreadLog) → slice_get logs t ≡ Some log → IsLogOf kind threads bits t log
+  pub each : (t : ℕ) (log : ThreadLog) → slice_get logs t ≡ Some log
+      → IsLogOf kind threads bits t log
 
 abbrev pub IsOneRun : List ThreadLog → Type 0
-IsOneRun logs = IsSomeAnd (slice_get logs 0) (λ first. IsRunOf first.kind first.threads first.bits logs)
+IsOneRun logs =
+    IsSomeAnd (slice_get logs 0) (λ first. IsRunOf first.kind first.threads first.bits logs)
 
 -- the moves of thread t's log
 abbrev pub moves_of : List ThreadLog → ℕ → List TraceLine

@@ -5,11 +5,11 @@
 //! proposed as soon as the machine's word holds what it found: nothing is lost by it. Where none is
 //! left, a step that changes a word is proposed that nobody has still to look at before. Last come
 //! the steps that end what others may look at: the release of a ticket lock, and a swap that finds
-//! nobody; of these the one whose chain is not seen to end. A monitor's sections come in the order of
-//! their count.
+//! nobody; of these the one whose chain is not seen to end. A monitor's sections come in the order
+//! of their count.
 //!
-//! A thread whose step was not placed sleeps until a step is placed that it may have waited for: one
-//! on its word, or the section before its own. So each step is asked for as often as its word
+//! A thread whose step was not placed sleeps until a step is placed that it may have waited for:
+//! one on its word, or the section before its own. So each step is asked for as often as its word
 //! changes, and not as often as any step is placed.
 
 mod chains;

@@ -18,8 +18,8 @@ use std::alloc::{AllocError, Global};
 pub struct Stuck {
     pub thread: u8,
     pub at: usize,
-    /// Where it differs from the lock behind the steps that are placed. None where it does not: then
-    /// a step of another thread has to come first.
+    /// Where it differs from the lock behind the steps that are placed. None where it does not:
+    /// then a step of another thread has to come first.
     pub difference: Option<Difference>,
 }
 
@@ -75,7 +75,8 @@ struct Suspect {
 
 // The next step of a thread, where it has one.
 fn suspect_of(order: &Order, thread: u8) -> Option<Suspect>
-    ensures { MatchOption result (next_line order.now thread ≡ None) (λ s. IsStuck order.now s.stuck) }
+    ensures { MatchOption result (next_line order.now thread ≡ None)
+        (λ s. IsStuck order.now s.stuck) }
 {
     let line = order.next(thread)?;
     let difference = order.checker().difference(line);
@@ -123,7 +124,8 @@ fn suspect_in(order: &Order) -> Option<Suspect>
 fn ends_where_cut(order: &Order) -> bool
     ensures order { IsOrder order.now }
     ensures cut { result ≡ true → EndsWhereCut order.now }
-    ensures uncut { result ≡ false → (t : ℕ) (log : ThreadLog) → slice_get order.now.logs t ≡ Some log
+    ensures uncut { result ≡ false → (t : ℕ) (log : ThreadLog)
+        → slice_get order.now.logs t ≡ Some log
         → next_line order.now t ≡ None → log.dropped ≡ Some 0 }
 {
     for t in 0..order.threads() {

@@ -8,8 +8,8 @@ use crate::Order;
 // The most threads of a lock.
 const MOST_THREADS: usize = 64;
 
-/// The most moves of a piece: a schedule's. A move's line is at most 13 bytes, as in `63 downgrade`,
-/// so that a piece has fewer bytes than a schedule may have.
+/// The most moves of a piece: a schedule's. A move's line is at most 13 bytes, as in `63
+/// downgrade`, so that a piece has fewer bytes than a schedule may have.
 pub const MOST_MOVES: usize = 65_536;
 
 /// Moves of an order, one behind the other: so many from the move `first` on, counted from 0.

@@ -1,10 +1,14 @@
 -- The text of a list of threads that one joins or leaves.
-use Rattle.std.proofs.Common.{◌≡◌, ℕ, ◌+◌, ◌-◌, ◌*◌, ◌<◌, ◌≤◌, List, [], ◌∷◌, ◌++◌, length, take, drop, decimal, eqb, nat_lt, Bool, true, false, ◌&&◌, refl, sym, ap, ◌∙◌, subst, arith, append_assoc, append-nil, length-append, codes, IsTrue, ◌↔◌, None, inl, inr}
+use Rattle.std.proofs.Common.{◌≡◌, ℕ, ◌+◌, ◌-◌, ◌*◌, ◌<◌, ◌≤◌, List, [], ◌∷◌, ◌++◌, length, take}
+use Rattle.std.proofs.Common.{drop, decimal, eqb, nat_lt, Bool, true, false, ◌&&◌, refl, sym, ap}
+use Rattle.std.proofs.Common.{◌∙◌, subst, arith, append_assoc, append-nil, length-append, codes}
+use Rattle.std.proofs.Common.{IsTrue, ◌↔◌, None, inl, inr}
 use Rattle.std.specs.List.{AllByRecursion}
 use Rattle.std.proofs.Math.Seq.{drop-append_seam, take-append_seam}
 use Rattle.std.proofs.lemmas.Bool.{cases_Bool, eqb-true, le-ltb, lt-ltb}
 use Rattle.std.proofs.lemmas.Fmt.{length-decimal-le}
-use Rattle.lk_locks.specs.Sequential.{Sequential, IsAscending, has, is_head, joined, kind_allows, left_by}
+use Rattle.lk_locks.specs.Sequential.{Sequential, IsAscending, has, is_head, joined, kind_allows}
+use Rattle.lk_locks.specs.Sequential.{left_by}
 use Rattle.lk_locks.specs.declared.kinds.Op.TheVariants.{Release, ReadUnlock}
 use Rattle.lk_locks.specs.declared.kinds.Entry.TheVariants.{Acted}
 use Rattle.lk_locks.specs.declared.kinds.LockKind.{LockKind}
@@ -21,23 +25,34 @@ AreBytes xs = AllByRecursion (λ t. t < 256) xs
 pub later_most : (xs : List ℕ) → AreBytes xs → length (later_numbers xs) ≤ 4 * length xs
 later_most [] a = omega arith
 later_most (x ∷ xs) (b, a) =
-    omega (arith, later_most xs a, length-decimal-le 3 x (omega arith) (omega (arith, b)) (omega (arith, b)), length-append (decimal x) (later_numbers xs))
+    omega (
+      arith,
+      later_most xs a,
+      length-decimal-le 3 x (omega arith) (omega (arith, b)) (omega (arith, b)),
+      length-append (decimal x) (later_numbers xs),
+    )
 
 -- a request comes last
-pub request_listed : (queue text new now : List ℕ) (t : ℕ) → text ≡ later_numbers queue → now ≡ 44 ∷ decimal t → new ≡ text ++ now → new ≡ later_numbers (queue ++ t ∷ [])
+pub request_listed : (queue text new now : List ℕ) (t : ℕ) → text ≡ later_numbers queue
+    → now ≡ 44 ∷ decimal t → new ≡ text ++ now → new ≡ later_numbers (queue ++ t ∷ [])
 request_listed queue text new now t is number grown =
-    grown ∙ ap (λ (xs : List ℕ). xs ++ now) is ∙ ap (λ (ys : List ℕ). later_numbers queue ++ ys) (number ∙ ap (λ (ys : List ℕ). 44 ∷ ys) (sym (append-nil (decimal t))))
+    grown ∙ ap (λ (xs : List ℕ). xs ++ now) is
+    ∙ ap (λ (ys : List ℕ). later_numbers queue ++ ys)
+    (number ∙ ap (λ (ys : List ℕ). 44 ∷ ys) (sym (append-nil (decimal t))))
     ∙ sym (later_append queue (t ∷ []))
 
 -- the head is first
-pub head_listed : (queue text : List ℕ) (t gone : ℕ) → is_head queue t ≡ true → text ≡ later_numbers queue → gone ≡ length (decimal t) + 1
+pub head_listed : (queue text : List ℕ) (t gone : ℕ) → is_head queue t ≡ true
+    → text ≡ later_numbers queue → gone ≡ length (decimal t) + 1
     → (gone ≤ length text) × (drop gone text ≡ later_numbers (drop 1 queue))
 head_listed [] text t gone head is wide = absurd (cc)
 head_listed (x ∷ xs) text t gone head is wide =
     let same : t ≡ x = eqb-true t x head in
-    let place : gone ≡ length (44 ∷ decimal x) = wide ∙ ap (λ (y : ℕ). length (decimal y) + 1) same ∙ omega arith in (
+    let place : gone ≡ length (44 ∷ decimal x) =
+    wide ∙ ap (λ (y : ℕ). length (decimal y) + 1) same ∙ omega arith in (
       omega (arith, place, ap length is, length-append (44 ∷ decimal x) (later_numbers xs)),
-      ap (λ (k : ℕ). drop k text) place ∙ ap (drop (length (44 ∷ decimal x))) is ∙ drop-append_seam (44 ∷ decimal x) (later_numbers xs),
+      ap (λ (k : ℕ). drop k text) place ∙ ap (drop (length (44 ∷ decimal x))) is
+          ∙ drop-append_seam (44 ∷ decimal x) (later_numbers xs),
     )
 
 -- an ascending list, cut behind a thread
@@ -56,7 +71,8 @@ joined_parts (x ∷ xs) t = elim (cases_Bool (nat_lt t x)) [
 ]
 
 -- all are above
-none_up : (xs : List ℕ) (t : ℕ) → AllByRecursion (λ y. t < y) xs → (up_to xs t ≡ []) × (above xs t ≡ xs)
+none_up : (xs : List ℕ) (t : ℕ) → AllByRecursion (λ y. t < y) xs
+    → (up_to xs t ≡ []) × (above xs t ≡ xs)
 none_up [] t a = (refl, refl)
 none_up (x ∷ xs) t (b, a) = rw (lt-ltb t x b) (refl, refl)
 
@@ -86,7 +102,8 @@ left_parts (x ∷ xs) t (b, a) h = elim (cases_Bool (eqb t x)) [
       }
   | inr e ↦ let g : has (x ∷ xs) t ≡ true = h in
       let more : IsLast xs t = left_parts xs t a (rw e at g) in
-      let low : nat_lt t x ≡ false = le-ltb t x (omega (arith, below_member xs x t b (rw e at g))) in
+      let low : nat_lt t x ≡ false =
+      le-ltb t x (omega (arith, below_member xs x t b (rw e at g))) in
       record {
         before = x ∷ more.before;
         up = rw low (ap (λ (ys : List ℕ). x ∷ ys) more.up);
@@ -94,23 +111,38 @@ left_parts (x ∷ xs) t (b, a) h = elim (cases_Bool (eqb t x)) [
       }
 ]
 
-later_parts : (xs text : List ℕ) (t : ℕ) → text ≡ later_numbers xs → text ≡ later_numbers (up_to xs t) ++ later_numbers (above xs t)
-later_parts xs text t is = is ∙ ap later_numbers (two_parts xs t) ∙ later_append (up_to xs t) (above xs t)
+later_parts : (xs text : List ℕ) (t : ℕ) → text ≡ later_numbers xs
+    → text ≡ later_numbers (up_to xs t) ++ later_numbers (above xs t)
+later_parts xs text t is =
+    is ∙ ap later_numbers (two_parts xs t) ∙ later_append (up_to xs t) (above xs t)
 
-pub reader_place : (xs text : List ℕ) (t at : ℕ) → text ≡ later_numbers xs → at ≡ length (later_numbers (up_to xs t)) → at ≤ length text
+pub reader_place : (xs text : List ℕ) (t at : ℕ) → text ≡ later_numbers xs
+    → at ≡ length (later_numbers (up_to xs t)) → at ≤ length text
 reader_place xs text t at is place =
-    omega (arith, place, ap length (later_parts xs text t is), length-append (later_numbers (up_to xs t)) (later_numbers (above xs t)))
+    omega (
+      arith,
+      place,
+      ap length (later_parts xs text t is),
+      length-append (later_numbers (up_to xs t)) (later_numbers (above xs t)),
+    )
 
 -- a reader comes
-pub reader_listed : (xs text now : List ℕ) (t at : ℕ) → text ≡ later_numbers xs → at ≡ length (later_numbers (up_to xs t)) → now ≡ 44 ∷ decimal t
+pub reader_listed : (xs text now : List ℕ) (t at : ℕ) → text ≡ later_numbers xs
+    → at ≡ length (later_numbers (up_to xs t)) → now ≡ 44 ∷ decimal t
     → (take at text ++ now) ++ drop at text ≡ later_numbers (joined xs t)
 reader_listed xs text now t at is place number =
     let up : List ℕ = later_numbers (up_to xs t) in
     let rest : List ℕ = later_numbers (above xs t) in
     let whole : text ≡ up ++ rest = later_parts xs text t is in
-    let prefix : take at text ≡ up = ap (λ (k : ℕ). take k text) place ∙ ap (take (length up)) whole ∙ take-append_seam up rest in
-    let back : drop at text ≡ rest = ap (λ (k : ℕ). drop k text) place ∙ ap (drop (length up)) whole ∙ drop-append_seam up rest in
-    rw (prefix, back, number) (append_assoc up (44 ∷ decimal t) rest ∙ sym (ap later_numbers (joined_parts xs t) ∙ later_append (up_to xs t) (t ∷ above xs t)))
+    let prefix : take at text ≡ up =
+    ap (λ (k : ℕ). take k text) place ∙ ap (take (length up)) whole
+    ∙ take-append_seam up rest in
+    let back : drop at text ≡ rest =
+    ap (λ (k : ℕ). drop k text) place ∙ ap (drop (length up)) whole
+    ∙ drop-append_seam up rest in
+    rw (prefix, back, number)
+    (append_assoc up (44 ∷ decimal t) rest
+    ∙ sym (ap later_numbers (joined_parts xs t) ∙ later_append (up_to xs t) (t ∷ above xs t)))
 
 -- a reader goes
 pub record IsTakenOut (xs text : List ℕ) (t up gone : ℕ) : Type 0 where
@@ -118,31 +150,56 @@ pub record IsTakenOut (xs text : List ℕ) (t up gone : ℕ) : Type 0 where
   pub within : up - gone + gone ≤ length text
   pub rest : take (up - gone) text ++ drop (up - gone + gone) text ≡ later_numbers (left_by xs t)
 
-pub reader_gone : (xs text : List ℕ) (t up gone : ℕ) → IsAscending xs → has xs t ≡ true → text ≡ later_numbers xs → up ≡ length (later_numbers (up_to xs t)) → gone ≡ length (decimal t) + 1
+pub reader_gone : (xs text : List ℕ) (t up gone : ℕ) → IsAscending xs → has xs t ≡ true
+    → text ≡ later_numbers xs → up ≡ length (later_numbers (up_to xs t))
+    → gone ≡ length (decimal t) + 1
     → IsTakenOut xs text t up gone
 reader_gone xs text t up gone a h is place wide =
     let last : IsLast xs t = left_parts xs t a h in
     let before : List ℕ = later_numbers last.before in
     let number : List ℕ = 44 ∷ decimal t in
     let rest : List ℕ = later_numbers (above xs t) in
-    let first : later_numbers (up_to xs t) ≡ before ++ number = ap later_numbers last.up ∙ later_append last.before (t ∷ []) ∙ ap (λ (ys : List ℕ). before ++ 44 ∷ ys) (append-nil (decimal t)) in
-    let size : length (later_numbers (up_to xs t)) ≡ length before + length number = ap length first ∙ length-append before number in
-    let whole : text ≡ before ++ (number ++ rest) = later_parts xs text t is ∙ ap (λ (ys : List ℕ). ys ++ rest) first ∙ append_assoc before number rest in
+    let first : later_numbers (up_to xs t) ≡ before ++ number =
+    ap later_numbers last.up ∙ later_append last.before (t ∷ [])
+    ∙ ap (λ (ys : List ℕ). before ++ 44 ∷ ys) (append-nil (decimal t)) in
+    let size : length (later_numbers (up_to xs t)) ≡ length before + length number =
+    ap length first ∙ length-append before number in
+    let whole : text ≡ before ++ (number ++ rest) =
+    later_parts xs text t is ∙ ap (λ (ys : List ℕ). ys ++ rest) first
+    ∙ append_assoc before number rest in
     let at : up - gone ≡ length before = omega (arith, place, size, wide) in
-    let behind : up - gone + gone ≡ length (before ++ number) = omega (arith, place, size, wide, length-append before number) in
+    let behind : up - gone + gone ≡ length (before ++ number) =
+    omega (arith, place, size, wide, length-append before number) in
     record {
       some = omega (arith, place, size, wide);
-      within = omega (arith, behind, ap length whole, length-append before (number ++ rest), length-append number rest, length-append before number);
-      rest = ap (λ (k : ℕ). take k text ++ drop (up - gone + gone) text) at ∙ ap (λ (k : ℕ). take (length before) text ++ drop k text) behind
-          ∙ ap (λ (ys : List ℕ). take (length before) ys ++ drop (length (before ++ number)) text) whole ∙ ap (λ (ys : List ℕ). ys ++ drop (length (before ++ number)) text) (take-append_seam before (number ++ rest))
-          ∙ ap (λ (ys : List ℕ). before ++ drop (length (before ++ number)) ys) (whole ∙ sym (append_assoc before number rest)) ∙ ap (λ (ys : List ℕ). before ++ ys) (drop-append_seam (before ++ number) rest)
+      within = omega (
+        arith,
+        behind,
+        ap length whole,
+        length-append before (number ++ rest),
+        length-append number rest,
+        length-append before number,
+      );
+      rest =
+          ap (λ (k : ℕ). take k text ++ drop (up - gone + gone) text) at
+          ∙ ap (λ (k : ℕ). take (length before) text ++ drop k text) behind
+          ∙ ap (λ (ys : List ℕ). take (length before) ys ++ drop (length (before ++ number)) text)
+          whole
+          ∙ ap (λ (ys : List ℕ). ys ++ drop (length (before ++ number)) text)
+          (take-append_seam before (number ++ rest))
+          ∙ ap (λ (ys : List ℕ). before ++ drop (length (before ++ number)) ys)
+          (whole ∙ sym (append_assoc before number rest))
+          ∙ ap (λ (ys : List ℕ). before ++ ys) (drop-append_seam (before ++ number) rest)
           ∙ sym (ap later_numbers last.left ∙ later_append last.before (above xs t));
     }
 
 -- one number's width more, up to a thread
-pub up_more : (xs : List ℕ) (x t bytes step : ℕ) → nat_lt t x ≡ false → step ≡ length (decimal x) + 1
-    → bytes + step + length (later_numbers (up_to xs t)) ≡ bytes + length (later_numbers (up_to (x ∷ xs) t))
-up_more xs x t bytes step low wide = rw low (omega (arith, wide, length-append (decimal x) (later_numbers (up_to xs t))))
+pub up_more : (xs : List ℕ) (x t bytes step : ℕ) → nat_lt t x ≡ false
+    → step ≡ length (decimal x) + 1
+    → bytes + step + length (later_numbers (up_to xs t))
+    ≡ bytes + length (later_numbers (up_to (x ∷ xs) t))
+up_more xs x t bytes step low wide =
+    rw low (omega (arith, wide, length-append (decimal x) (later_numbers (up_to xs t))))
 
 -- ---- bytes stay bytes
 
@@ -170,14 +227,16 @@ all_left (x ∷ xs) t (c, a) = elim (cases_Bool (eqb t x)) [
 
 -- ---- what an allowed act tells
 
-pub release_of_head : (kind : LockKind) (b : Bool) (q : Sequential) (t : ℕ) → (b && kind_allows kind q (Acted t Release)) ≡ true → is_head q.queue t ≡ true
+pub release_of_head : (kind : LockKind) (b : Bool) (q : Sequential) (t : ℕ)
+    → (b && kind_allows kind q (Acted t Release)) ≡ true → is_head q.queue t ≡ true
 release_of_head Ticket true q t h = h
 release_of_head Mcs true q t h = h
 release_of_head RwSimple true q t h = absurd (cc)
 release_of_head RwFifo true q t h = absurd (cc)
 release_of_head kind false q t h = absurd (cc)
 
-pub unlock_of_reader : (kind : LockKind) (b : Bool) (q : Sequential) (t : ℕ) → (b && kind_allows kind q (Acted t ReadUnlock)) ≡ true → has q.readers t ≡ true
+pub unlock_of_reader : (kind : LockKind) (b : Bool) (q : Sequential) (t : ℕ)
+    → (b && kind_allows kind q (Acted t ReadUnlock)) ≡ true → has q.readers t ≡ true
 unlock_of_reader Ticket true q t h = absurd (cc)
 unlock_of_reader Mcs true q t h = absurd (cc)
 unlock_of_reader RwSimple true q t h = h
@@ -186,7 +245,8 @@ unlock_of_reader kind false q t h = absurd (cc)
 
 -- ---- the lists after an act
 
-pub reader_came : (q r : Sequential) (requests readers new : List ℕ) (t : ℕ) → AreListed q requests readers → r.queue ≡ q.queue → r.readers ≡ joined q.readers t → t < 256
+pub reader_came : (q r : Sequential) (requests readers new : List ℕ) (t : ℕ)
+    → AreListed q requests readers → r.queue ≡ q.queue → r.readers ≡ joined q.readers t → t < 256
     → new ≡ later_numbers (joined q.readers t) → AreListed r requests new
 reader_came q r requests readers new t l same joins byte is = record {
   requests_are = l.requests_are ∙ ap later_numbers (sym same);
@@ -195,7 +255,8 @@ reader_came q r requests readers new t l same joins byte is = record {
   readers_fit = subst AreBytes (sym joins) (all_joined q.readers t l.readers_fit byte);
 }
 
-pub reader_left : (q r : Sequential) (requests readers new : List ℕ) (t : ℕ) → AreListed q requests readers → r.queue ≡ q.queue → r.readers ≡ left_by q.readers t
+pub reader_left : (q r : Sequential) (requests readers new : List ℕ) (t : ℕ)
+    → AreListed q requests readers → r.queue ≡ q.queue → r.readers ≡ left_by q.readers t
     → new ≡ later_numbers (left_by q.readers t) → AreListed r requests new
 reader_left q r requests readers new t l same leaves is = record {
   requests_are = l.requests_are ∙ ap later_numbers (sym same);
@@ -210,14 +271,17 @@ pub none_listed : (xs text : List ℕ) → text ≡ later_numbers xs → length 
 none_listed [] text is none = refl
 none_listed (x ∷ xs) text is none = absurd (omega (arith, ap length is))
 
-pub some_listed : (empty : Bool) (text : List ℕ) → (IsTrue empty ↔ (length text ≡ 0)) → empty ≡ false → 0 < length text
+pub some_listed : (empty : Bool) (text : List ℕ) → (IsTrue empty ↔ (length text ≡ 0))
+    → empty ≡ false → 0 < length text
 some_listed empty [] tells not_so = let so : empty ≡ true = tells.1 refl in absurd (cc)
 some_listed empty (b ∷ bs) tells not_so = omega arith
 
-pub queue_shown : (xs text : List ℕ) → text ≡ later_numbers xs → 0 < length text → drop 1 text ≡ queue_text xs
+pub queue_shown : (xs text : List ℕ) → text ≡ later_numbers xs → 0 < length text
+    → drop 1 text ≡ queue_text xs
 queue_shown [] text is some = absurd (omega (arith, ap length is))
 queue_shown (x ∷ xs) text is some = ap (drop 1) is
 
-pub readers_shown : (xs text : List ℕ) → text ≡ later_numbers xs → 0 < length text → codes "r" ++ drop 1 text ≡ holding_text (shared_by xs None)
+pub readers_shown : (xs text : List ℕ) → text ≡ later_numbers xs → 0 < length text
+    → codes "r" ++ drop 1 text ≡ holding_text (shared_by xs None)
 readers_shown [] text is some = absurd (omega (arith, ap length is))
 readers_shown (x ∷ xs) text is some = ap (λ (ys : List ℕ). codes "r" ++ drop 1 ys) is

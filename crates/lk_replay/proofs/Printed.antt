@@ -1,5 +1,8 @@
 -- The lines that are printed as the moves are played are those of the report.
-use Rattle.std.proofs.Common.{◌≡◌, ℕ, ◌+◌, ◌<◌, ◌≤◌, ◌^◌, replicate, List, [], ◌∷◌, ◌++◌, length, drop, get_or, codes, Option, None, Some, IsTrue, ◌↔◌, Bool, true, false, not, is_some, inl, inr, refl, sym, ap, ◌∙◌, subst, arith, append_assoc, append-nil, length-append, length-drop}
+use Rattle.std.proofs.Common.{◌≡◌, ℕ, ◌+◌, ◌<◌, ◌≤◌, ◌^◌, replicate, List, [], ◌∷◌, ◌++◌, length}
+use Rattle.std.proofs.Common.{drop, get_or, codes, Option, None, Some, IsTrue, ◌↔◌, Bool, true}
+use Rattle.std.proofs.Common.{false, not, is_some, inl, inr, refl, sym, ap, ◌∙◌, subst, arith}
+use Rattle.std.proofs.Common.{append_assoc, append-nil, length-append, length-drop}
 use Rattle.std.specs.List.{join_with_byte, slice_split}
 use Rattle.std.specs.Option.{option_map}
 use Rattle.std.proofs.lemmas.Bool.{cases_lt}
@@ -21,11 +24,14 @@ use Rattle.lk_replay.proofs.Changes.{followed_more, text_of}
 use Rattle.lk_replay.proofs.Cuts.{before_pieces, has_piece}
 use Rattle.lk_replay.proofs.LastLines.{split_append}
 use Rattle.lk_replay.specs.Ending.{ending_of, ending_of_line, last_of}
-use Rattle.lk_replay.specs.Following.{Following, followed_by, followed_text, following, holding_in, waiting_in}
+use Rattle.lk_replay.specs.Following.{Following, followed_by, followed_text, following, holding_in}
+use Rattle.lk_replay.specs.Following.{waiting_in}
 use Rattle.lk_replay.specs.Lines.{is_line_feed, lines_of, without_empty_end}
 use Rattle.lk_replay.specs.Printing.{lines_from, next_refused}
-use Rattle.lk_replay.specs.Replay.{Made, Replay, made_by, refused_or, replay_from, replay_of, start_of, with_move}
-use Rattle.lk_replay.specs.Report.{holding_text, last_line, lines_text, move_text, queue_text, replay_text, state_text}
+use Rattle.lk_replay.specs.Replay.{Made, Replay, made_by, refused_or, replay_from, replay_of}
+use Rattle.lk_replay.specs.Replay.{start_of, with_move}
+use Rattle.lk_replay.specs.Report.{holding_text, last_line, lines_text, move_text, queue_text}
+use Rattle.lk_replay.specs.Report.{replay_text, state_text}
 use Rattle.lk_replay.specs.Schedule.{Plan}
 use Rattle.lk_replay.specs.declared.played.Accepted.{Accepted}
 use Rattle.lk_replay.specs.declared.schedule.Line.{Line}

@@ -17,11 +17,19 @@ pub record Following : Type 0 where
 
 -- after these entries more
 abbrev pub followed_by : Following → List Entry → Following
-followed_by f es = record { kind = f.kind; sequential = after_entries f.sequential es; holder = holder_after f.holder es }
+followed_by f es = record {
+  kind = f.kind;
+  sequential = after_entries f.sequential es;
+  holder = holder_after f.holder es;
+}
 
 -- of a lock of this kind after these entries
 abbrev pub following : LockKind → List Entry → Following
-following kind es = record { kind = kind; sequential = after_entries (nobody kind) es; holder = holder_after None es }
+following kind es = record {
+  kind = kind;
+  sequential = after_entries (nobody kind) es;
+  holder = holder_after None es;
+}
 
 abbrev pub holding_in : LockKind → Sequential → Option ℕ → Holding
 holding_in Ticket q holder = held_by_one holder
@@ -35,7 +43,8 @@ waiting_in kind q = q.queue
 
 -- the end of a report's line
 abbrev pub followed_text : Following → List ℕ
-followed_text f = shown_text (holding_in f.kind f.sequential f.holder) (waiting_in f.kind f.sequential)
+followed_text f =
+    shown_text (holding_in f.kind f.sequential f.holder) (waiting_in f.kind f.sequential)
 
 -- the threads of an ascending list up to this one, and those above it
 abbrev pub up_to : List ℕ → ℕ → List ℕ
@@ -46,7 +55,8 @@ abbrev pub above : List ℕ → ℕ → List ℕ
 above [] t = []
 above (x ∷ xs) t = if nat_lt t x then x ∷ xs else above xs t
 
--- the texts are those of the requests and of the readers, each number behind a comma, and the numbers are bytes
+-- the texts are those of the requests and of the readers, each number behind a comma, and the
+-- numbers are bytes
 pub record AreListed (q : Sequential) (requests readers : List ℕ) : Type 0 where
   pub requests_are : requests ≡ later_numbers q.queue
   pub readers_are : readers ≡ later_numbers q.readers

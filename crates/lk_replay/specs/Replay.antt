@@ -1,5 +1,5 @@
--- Definitions: the replay of a schedule, its moves in order up to the first refused one. This project's own; what a move
--- does is said by the definitions of the locks alone.
+-- Definitions: the replay of a schedule, its moves in order up to the first refused one. This
+-- project's own; what a move does is said by the definitions of the locks alone.
 use Rattle.std.specs.Prelude.{ℕ, List, [], ◌∷◌, map, length, Option, None, Some, replicate}
 use Rattle.std.specs.List.{flat_map}
 use Rattle.lk_locks.specs.State.{State, start, word_count}
@@ -24,7 +24,12 @@ pub record Replay : Type 0 where
 
 abbrev pub made_by : State → Line → Made
 made_by s l = record {
-  accepted = record { line = l.number; thread = l.thread; action = l.action; outcome = (change_of s l.thread l.action).outcome };
+  accepted = record {
+    line = l.number;
+    thread = l.thread;
+    action = l.action;
+    outcome = (change_of s l.thread l.action).outcome;
+  };
   entries = entries_of s l.thread l.action;
 }
 
@@ -38,7 +43,9 @@ refused_or (Some r) line rest = record { made = []; refused = Some (line, r) }
 -- the moves of these lines, from a state on
 abbrev pub replay_from : State → List Line → Replay
 replay_from s [] = record { made = []; refused = None }
-replay_from s (l ∷ ls) = refused_or (refusal_of s l.thread l.action) l.number (with_move (made_by s l) (replay_from (next_state s l.thread l.action) ls))
+replay_from s (l ∷ ls) =
+    refused_or (refusal_of s l.thread l.action) l.number
+    (with_move (made_by s l) (replay_from (next_state s l.thread l.action) ls))
 
 -- the state before the first move
 abbrev pub start_of : Plan → State
@@ -47,8 +54,8 @@ start_of p = start p.kind p.bits (replicate (word_count p.kind p.threads) 0) p.t
 abbrev pub replay_of : Plan → Replay
 replay_of p = replay_from (start_of p) p.moves
 
--- what a replay shows: the lock and the number of its threads, the accepted moves, how many entries each of them added, all
--- these entries, and the refused move
+-- what a replay shows: the lock and the number of its threads, the accepted moves, how many entries
+-- each of them added, all these entries, and the refused move
 pub record Replayed : Type 0 where
   pub kind : LockKind
   pub threads : ℕ

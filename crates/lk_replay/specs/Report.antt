@@ -1,6 +1,7 @@
--- Definitions: the report text of a schedule text. This project's own. Who holds and who waits is read off the entries so
--- far, never off words or phases.
-use Rattle.std.specs.Prelude.{ℕ, ◌+◌, List, [], ◌∷◌, ◌++◌, Option, None, Some, Result, Ok, Err, codes, decimal}
+-- Definitions: the report text of a schedule text. This project's own. Who holds and who waits is
+-- read off the entries so far, never off words or phases.
+use Rattle.std.specs.Prelude.{ℕ, ◌+◌, List, [], ◌∷◌, ◌++◌, Option, None, Some, Result, Ok, Err}
+use Rattle.std.specs.Prelude.{codes, decimal}
 use Rattle.std.specs.List.{flat_map}
 use Rattle.lk_locks.specs.Holding.{Holding, Free, HeldBy, ReadBy, WrittenBy, holding_of, waiting_of}
 use Rattle.lk_locks.specs.declared.kinds.LockKind.{LockKind}
@@ -8,8 +9,11 @@ use Rattle.lk_locks.specs.declared.kinds.Outcome.{Outcome}
 use Rattle.lk_locks.specs.declared.kinds.Outcome.TheVariants.{Called, Moved, Waits, Entered, Left}
 use Rattle.lk_locks.specs.declared.kinds.Entry.{Entry}
 use Rattle.lk_locks.specs.declared.kinds.Refusal.{Refusal}
-use Rattle.lk_locks.specs.declared.kinds.Refusal.TheVariants.{NoSuchThread, WrongLock, Busy, NotHolder, AlreadyHolds, NoCall, WrongStep}
-use Rattle.lk_replay.specs.Faults.{Fault, TooLong, NoHeader, BadHeader, BadThreads, BadLine, TooManyMoves, WordsTooNarrow}
+use Rattle.lk_locks.specs.declared.kinds.Refusal.TheVariants.{NoSuchThread, WrongLock, Busy}
+use Rattle.lk_locks.specs.declared.kinds.Refusal.TheVariants.{NotHolder, AlreadyHolds, NoCall}
+use Rattle.lk_locks.specs.declared.kinds.Refusal.TheVariants.{WrongStep}
+use Rattle.lk_replay.specs.Faults.{Fault, TooLong, NoHeader, BadHeader, BadThreads, BadLine}
+use Rattle.lk_replay.specs.Faults.{TooManyMoves, WordsTooNarrow}
 use Rattle.lk_replay.specs.Vocabulary.{move_word, step_word}
 use Rattle.lk_replay.specs.Schedule.{Plan, plan_of}
 use Rattle.lk_replay.specs.Replay.{Made, Replay, replay_of}
@@ -38,7 +42,8 @@ queue_text (n ∷ ns) = numbers_text (n ∷ ns)
 
 -- `H queue Q` and the end of the line
 abbrev pub shown_text : Holding → List ℕ → List ℕ
-shown_text holding waiting = holding_text holding ++ codes " queue " ++ queue_text waiting ++ codes "\n"
+shown_text holding waiting =
+    holding_text holding ++ codes " queue " ++ queue_text waiting ++ codes "\n"
 
 -- of who holds and who waits after these entries
 unfoldable pub state_text : LockKind → List Entry → List ℕ
@@ -54,7 +59,8 @@ outcome_word Left = codes "left"
 -- `K T WORD OUTCOME hold `
 unfoldable pub move_text : ℕ → Accepted → List ℕ
 move_text count a =
-    decimal count ++ codes " " ++ decimal a.thread ++ codes " " ++ move_word a.action ++ codes " " ++ outcome_word a.outcome ++ codes " hold "
+    decimal count ++ codes " " ++ decimal a.thread ++ codes " " ++ move_word a.action ++ codes " "
+    ++ outcome_word a.outcome ++ codes " hold "
 
 -- the line of the accepted move number `count`, after which the entries are `es`
 abbrev pub line_text : LockKind → ℕ → List Entry → Accepted → List ℕ
@@ -85,7 +91,9 @@ last_line count (Some refused) = refused_line refused.0 refused.1
 -- the lines of these moves after `count` others that left the entries `es`, and the last line
 abbrev pub lines_text : LockKind → ℕ → List Entry → List Made → Option (ℕ × Refusal) → List ℕ
 lines_text kind count es [] refused = last_line count refused
-lines_text kind count es (m ∷ ms) refused = line_text kind (count + 1) (es ++ m.entries) m.accepted ++ lines_text kind (count + 1) (es ++ m.entries) ms refused
+lines_text kind count es (m ∷ ms) refused =
+    line_text kind (count + 1) (es ++ m.entries) m.accepted
+    ++ lines_text kind (count + 1) (es ++ m.entries) ms refused
 
 abbrev pub replay_text : LockKind → Replay → List ℕ
 replay_text kind r = lines_text kind 0 [] r.made r.refused

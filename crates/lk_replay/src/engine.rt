@@ -1,6 +1,7 @@
 //! From a schedule text on a reader to its report on a writer.
 
-ghost use Rattle.std.specs.Prelude.{◌≡◌, ◌≢◌, ◌++◌, [], OnErr, OnOk, IfErr, IfOk, IfSome, Ok, Err, Result};
+ghost use Rattle.std.specs.Prelude.{◌≡◌, ◌≢◌, ◌++◌, [], OnErr, OnOk, IfErr, IfOk, IfSome, Ok, Err};
+ghost use Rattle.std.specs.Prelude.{Result};
 ghost use Rattle.std.specs.Io.KnownBytes.{Appends, Keeps};
 ghost use Rattle.lk_replay.specs.Devices.{AppendsPrefix, IfErrOf};
 ghost use Rattle.lk_replay.specs.Ending.{ending_of, status_of};

@@ -1,8 +1,10 @@
-//! Bytes that wait for an output, in memory that is asked for once: no request can be refused after some bytes went out.
+//! Bytes that wait for an output, in memory that is asked for once: no request can be refused after
+//! some bytes went out.
 //!
 //! It is std's `BufWriter` with a contract that says what was written where a write fails.
 
-ghost use Rattle.std.specs.Prelude.{◌≡◌, ℕ, List, ◌+◌, ◌++◌, ◌<◌, ◌≤◌, [], length, IfErr, IfOk, OnErr, OnOk};
+ghost use Rattle.std.specs.Prelude.{◌≡◌, ℕ, List, ◌+◌, ◌++◌, ◌<◌, ◌≤◌, [], length, IfErr, IfOk};
+ghost use Rattle.std.specs.Prelude.{OnErr, OnOk};
 ghost use Rattle.std.specs.Io.KnownBytes.{Appends};
 ghost use Rattle.lk_replay.specs.Devices.{AppendsPrefix, Passes};
 
@@ -15,7 +17,8 @@ use std::marker::Model;
 // The most bytes that wait: as many as a pipe of Linux holds.
 const MOST_WAITING: usize = 65_536;
 
-/// Bytes on their way to an output. They wait until there are 65,536, since many small writes cost more than the bytes.
+/// Bytes on their way to an output. They wait until there are 65,536, since many small writes cost
+/// more than the bytes.
 #[derive(Drop)]
 pub struct OutputBuffer {
     bytes: Vec<u8>,
@@ -61,10 +64,14 @@ impl OutputBuffer {
     ///
     /// # Errors
     ///
-    /// A write that fails or takes nothing is `Write`. What was written then is a prefix of what waited and the bytes.
+    /// A write that fails or takes nothing is `Write`. What was written then is a prefix of what
+    /// waited and the bytes.
     pub fn push<W: Write>(&mut self, output: &mut W, bytes: &[u8]) -> Result<(), RunFault>
-        ensures passed { OnOk result (Passes self.old (W.contents output.old) bytes.now self.new (W.contents output.new)) }
-        ensures prefix { OnErr result (AppendsPrefix (W.contents output.old) (W.contents output.new) (self.old ++ bytes.now)) }
+        ensures passed { OnOk result
+            (Passes self.old (W.contents output.old) bytes.now self.new (W.contents output.new)) }
+        ensures prefix { OnErr result
+            (AppendsPrefix (W.contents output.old) (W.contents output.new)
+            (self.old ++ bytes.now)) }
         ensures fault { IfErr result (λ e. e ≡ RunFault.Write) }
     {
         if bytes.len() <= MOST_WAITING - self.len {
@@ -84,7 +91,8 @@ impl OutputBuffer {
     fn keep_line(&mut self, printer: &mut Printer<'_>)
         requires some { 0 < printer.old.left }
         requires room { length self.old + 448 ≤ 65536 }
-        ensures kept { (line : List ℕ) × (self.new ≡ self.old ++ line) × (printer.old.lines ≡ line ++ printer.new.lines) }
+        ensures kept { (line : List ℕ) × (self.new ≡ self.old ++ line)
+            × (printer.old.lines ≡ line ++ printer.new.lines) }
         ensures left { printer.new.left + 1 ≡ printer.old.left }
         ensures last { printer.new.last ≡ printer.old.last }
     {
@@ -94,9 +102,11 @@ impl OutputBuffer {
 
     // Writes what waits, where a line might have no room behind it.
     fn make_room<W: Write>(&mut self, output: &mut W) -> Result<(), RunFault>
-        ensures passed { OnOk result (Passes self.old (W.contents output.old) [] self.new (W.contents output.new)) }
+        ensures passed { OnOk result
+            (Passes self.old (W.contents output.old) [] self.new (W.contents output.new)) }
         ensures room { OnOk result (length self.new + 448 ≤ 65536) }
-        ensures prefix { OnErr result (AppendsPrefix (W.contents output.old) (W.contents output.new) self.old) }
+        ensures prefix { OnErr result
+            (AppendsPrefix (W.contents output.old) (W.contents output.new) self.old) }
         ensures fault { IfErr result (λ e. e ≡ RunFault.Write) }
     {
         if MOST_WAITING - self.len >= LINE_ROOM {
@@ -114,11 +124,14 @@ impl OutputBuffer {
         printer: &mut Printer<'_>,
     ) -> Result<(), RunFault>
         requires { 0 < printer.old.left }
-        ensures passed { OnOk result ((line : List ℕ) × Passes self.old (W.contents output.old) line self.new (W.contents output.new)
+        ensures passed { OnOk result
+            ((line : List ℕ)
+            × Passes self.old (W.contents output.old) line self.new (W.contents output.new)
             × (printer.old.lines ≡ line ++ printer.new.lines)) }
         ensures left { OnOk result (printer.new.left + 1 ≡ printer.old.left) }
         ensures last { printer.new.last ≡ printer.old.last }
-        ensures prefix { OnErr result (AppendsPrefix (W.contents output.old) (W.contents output.new) self.old) }
+        ensures prefix { OnErr result
+            (AppendsPrefix (W.contents output.old) (W.contents output.new) self.old) }
         ensures fault { IfErr result (λ e. e ≡ RunFault.Write) }
     {
         self.make_room(output)?;
@@ -130,11 +143,14 @@ impl OutputBuffer {
     ///
     /// # Errors
     ///
-    /// A write that fails or takes nothing, or a flush that fails, is `Write`. What was written then is a prefix of what waited.
+    /// A write that fails or takes nothing, or a flush that fails, is `Write`. What was written
+    /// then is a prefix of what waited.
     pub fn send_whole<W: Write>(&mut self, output: &mut W) -> Result<(), RunFault>
-        ensures written { OnOk result (Appends (W.contents output.old) (W.contents output.new) self.old) }
+        ensures written { OnOk result
+            (Appends (W.contents output.old) (W.contents output.new) self.old) }
         ensures none { OnOk result (self.new ≡ []) }
-        ensures prefix { OnErr result (AppendsPrefix (W.contents output.old) (W.contents output.new) self.old) }
+        ensures prefix { OnErr result
+            (AppendsPrefix (W.contents output.old) (W.contents output.new) self.old) }
         ensures fault { IfErr result (λ e. e ≡ RunFault.Write) }
     {
         send(output, &self.bytes[..self.len])?;

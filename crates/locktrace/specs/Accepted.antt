@@ -19,7 +19,8 @@ pub record IsMove (c : Checked) (line : List ℕ) (Behind : Checked → Type 0) 
 -- each line is skipped or such a move
 abbrev pub AreMoves : Checked → List (List ℕ) → Type 0
 AreMoves c [] = Unit {0}
-AreMoves c (line ∷ lines) = ((is_skipped line ≡ true) × AreMoves c lines) ⊎ IsMove c line (λ next. AreMoves next lines)
+AreMoves c (line ∷ lines) =
+    ((is_skipped line ≡ true) × AreMoves c lines) ⊎ IsMove c line (λ next. AreMoves next lines)
 
 -- the line is the header
 pub record IsHeader (line : List ℕ) (Behind : Checked → Type 0) : Type 0 where
@@ -31,4 +32,5 @@ pub record IsHeader (line : List ℕ) (Behind : Checked → Type 0) : Type 0 whe
 -- the first line that is not skipped is a header, and each behind it such a move of its lock
 abbrev pub IsTrace : List (List ℕ) → Type 0
 IsTrace [] = ⊥
-IsTrace (line ∷ lines) = ((is_skipped line ≡ true) × IsTrace lines) ⊎ IsHeader line (λ c. AreMoves c lines)
+IsTrace (line ∷ lines) =
+    ((is_skipped line ≡ true) × IsTrace lines) ⊎ IsHeader line (λ c. AreMoves c lines)

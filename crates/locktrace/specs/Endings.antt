@@ -1,4 +1,5 @@
--- Definitions. How a file ended, as the status of the program: the greatest wins. This project's own.
+-- Definitions. How a file ended, as the status of the program: the greatest wins. This project's
+-- own.
 use Rattle.std.specs.Prelude.{ℕ, List, [], ◌∷◌, max}
 use Rattle.locktrace.specs.declared.check.Ending.{Ending}
 use Rattle.locktrace.specs.declared.check.Ending.TheVariants.{Accepted, Refused, Unread, Faulty}

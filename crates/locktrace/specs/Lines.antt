@@ -12,10 +12,12 @@ kept line = take line.count line.kept
 
 -- the bytes that are left: what was read ahead, and then what the input has
 abbrev pub left : {R : Type 0} → (R → Option (List ℕ)) → Lines R → Option (List ℕ)
-left remaining lines = prepend_known (slice_range lines.chunk.items lines.at lines.filled) (remaining lines.input)
+left remaining lines =
+    prepend_known (slice_range lines.chunk.items lines.at lines.filled) (remaining lines.input)
 
 -- of the bytes that were left the first line is gone, and its first 97 bytes are kept
 abbrev pub TakesLine : Option (List ℕ) → Option (List ℕ) → List ℕ → Type 0
 TakesLine None new kept = ⊤
 TakesLine (Some text) None kept = ⊥
-TakesLine (Some text) (Some rest) kept = (line : List ℕ) × (lines_of text ≡ line ∷ lines_of rest) × (kept ≡ take 97 line)
+TakesLine (Some text) (Some rest) kept =
+    (line : List ℕ) × (lines_of text ≡ line ∷ lines_of rest) × (kept ≡ take 97 line)

@@ -146,7 +146,8 @@ fn take_line(
     report: &mut Report,
 ) -> Result<bool, AllocError>
     ensures after { IfOk result (λ _. trace.new ≡ after_text_line trace.old line.now) }
-    ensures reported { IfOk result (λ on. Follows number (event_of trace.old line.now) on report.new) }
+    ensures reported { IfOk result
+        (λ on. Follows number (event_of trace.old line.now) on report.new) }
 {
     match trace.line(line) {
         Event::Skipped | Event::Began(_) => Ok(true),

@@ -80,7 +80,8 @@ impl Reports {
 
     // Writes the report of the next file, of this name.
     fn put<O: Write>(&mut self, output: &mut O, name: &str, report: &Report) -> Result<(), Failure>
-        ensures { OnOk result (self.new.endings.items ≡ self.old.endings.items ++ report.now.ending ∷ []) }
+        ensures { OnOk result
+            (self.new.endings.items ≡ self.old.endings.items ++ report.now.ending ∷ []) }
     {
         let number = self.endings.len().saturating_add(1);
         put_report(
@@ -215,7 +216,8 @@ fn check_round<R: Runtime + Threads + Sync, O: Write>(
 ) -> Result<(), Failure>
 where
     R::File: Send,
-    ensures { OnOk result (length reports.new.endings.items ≡ length reports.old.endings.items + length names.now) }
+    ensures { OnOk result
+        (length reports.new.endings.items ≡ length reports.old.endings.items + length names.now) }
 {
     let Round { inputs, early } = open_round(rt, alloc, names)?;
     let mut checked = Checked {
@@ -239,7 +241,9 @@ fn check_rounds<R: Runtime + Threads + Sync, O: Write>(
 ) -> Result<(), Failure>
 where
     R::File: Send,
-    ensures { OnOk result (length reports.new.endings.items ≡ length reports.old.endings.items + length job.now.files.items) }
+    ensures { OnOk result
+        (length reports.new.endings.items
+        ≡ length reports.old.endings.items + length job.now.files.items) }
 {
     let mut rest = job.files.as_slice();
     while rest.len() > 0 {
@@ -259,7 +263,8 @@ fn check_each<R: Runtime, O: Write>(
     reports: &mut Reports,
     output: &mut O,
 ) -> Result<(), Failure>
-    ensures { OnOk result (length reports.new.endings.items ≡ length reports.old.endings.items + length files.now) }
+    ensures { OnOk result
+        (length reports.new.endings.items ≡ length reports.old.endings.items + length files.now) }
 {
     for name in files {
         let report = check_shown(rt, alloc, name, told)?;

@@ -3,7 +3,8 @@
 //! Of each line the first 97 bytes are kept: no header and no move has more than 96, and of a
 //! comment nothing but its first byte matters.
 
-ghost use Rattle.std.specs.Prelude.{◌≤◌, ◌≡◌, ◌<◌, ◌++◌, [], false, true, length, take, IfOk, IfSome, Ok};
+ghost use Rattle.std.specs.Prelude.{◌≤◌, ◌≡◌, ◌<◌, ◌++◌, [], false, true, length, take, IfOk};
+ghost use Rattle.std.specs.Prelude.{IfSome, Ok};
 ghost use Rattle.std.specs.Io.KnownBytes.{IsAtEnd, Keeps};
 
 #[cfg(test)]
@@ -122,7 +123,8 @@ impl<R: Read + Drop> Lines<R> {
     // Takes what was read ahead, up to the first line feed. False where there is none.
     fn take_part(&mut self, line: &mut Line) -> bool
         requires { self.old.at < self.old.filled }
-        ensures { TakesPart result (left R.remaining self.old) (left R.remaining self.new) (kept line.old) (kept line.new) }
+        ensures { TakesPart result (left R.remaining self.old) (left R.remaining self.new)
+            (kept line.old) (kept line.new) }
     {
         let rest = &self.chunk[self.at..self.filled];
         match memchr(b'\n', rest) {
@@ -146,7 +148,8 @@ impl<R: Read + Drop> Lines<R> {
     ///
     /// The input failed.
     pub fn next_line(&mut self, line: &mut Line) -> Result<bool, Error>
-        ensures line { result ≡ Ok true → TakesLine (left R.remaining self.old) (left R.remaining self.new) (kept line.new) }
+        ensures line { result ≡ Ok true
+            → TakesLine (left R.remaining self.old) (left R.remaining self.new) (kept line.new) }
         ensures end { result ≡ Ok false → IsAtEnd (left R.remaining self.old) }
     {
         line.clear();

@@ -1,6 +1,8 @@
-//! Who holds a lock and who waits for it, followed along its history entry by entry, with the text of the longer lists.
+//! Who holds a lock and who waits for it, followed along its history entry by entry, with the text
+//! of the longer lists.
 //!
-//! An entry names the thread that joins a list or leaves it, so its number is put into the list's text or taken out of it.
+//! An entry names the thread that joins a list or leaves it, so its number is put into the list's
+//! text or taken out of it.
 
 ghost use Rattle.std.specs.Prelude.{◌≡◌, ◌+◌, ◌++◌, ◌∷◌, ◌<◌, ◌≤◌, [], IsTrue, drop, length, take};
 ghost use Rattle.std.specs.List.{AllByRecursion};
@@ -14,8 +16,9 @@ use crate::report::text::{Text, put_block};
 use lk_locks::{Act, Entry, LockKind, Op, SeqLock};
 use std::marker::Model;
 
-/// The sequential object after the entries so far and, of a queue lock, the thread whose acquire returned last, up to its
-/// release. Beside them stand the requests and the readers as text, each number behind a comma.
+/// The sequential object after the entries so far and, of a queue lock, the thread whose acquire
+/// returned last, up to its release. Beside them stand the requests and the readers as text, each
+/// number behind a comma.
 #[derive(Drop)]
 pub struct Followed {
     kind: LockKind,
@@ -179,7 +182,8 @@ impl Followed {
     // Writes who waits for a queue lock.
     fn write_queue(&self, line: &mut [u8], at: usize) -> usize
         requires { at + 320 ≤ length line.old }
-        ensures text { take result line.new ≡ take at line.old ++ queue_text self.now.sequential.queue }
+        ensures text { take result line.new
+            ≡ take at line.old ++ queue_text self.now.sequential.queue }
         ensures most { result ≤ at + 320 }
     {
         if self.requests.is_empty() {

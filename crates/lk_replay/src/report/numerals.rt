@@ -23,7 +23,8 @@ impl Model for Numeral {
 
     ghost view = { λ a. a.number };
 
-    ghost invariant = { λ a. (0 < a.digits) × (a.digits ≤ 16) × (take a.digits a.block ≡ decimal a.number) };
+    ghost invariant = { λ a.
+        (0 < a.digits) × (a.digits ≤ 16) × (take a.digits a.block ≡ decimal a.number) };
 }
 
 impl Numeral {
@@ -44,7 +45,8 @@ impl Numeral {
         }
     }
 
-    /// The number after this one. Its digits are printed anew only where more than the last one changes.
+    /// The number after this one. Its digits are printed anew only where more than the last one
+    /// changes.
     pub fn count_on(&mut self)
         requires { self.old + 1 < 2 ^ 32 }
         ensures { self.new ≡ self.old + 1 }

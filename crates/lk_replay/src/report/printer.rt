@@ -93,7 +93,8 @@ fn refused_at(machine: &Machine<WordArray>, moves: &[Line], at: usize) -> Option
 }
 
 impl<'a> Printer<'a> {
-    ghost use Rattle.std.specs.Prelude.{◌≡◌, ◌+◌, ◌<◌, ◌≤◌, ◌↔◌, ◌++◌, [], IsTrue, false, length, take};
+    ghost use Rattle.std.specs.Prelude.{◌≡◌, ◌+◌, ◌<◌, ◌≤◌, ◌↔◌, ◌++◌, [], IsTrue, false, length};
+    ghost use Rattle.std.specs.Prelude.{take};
     ghost use Rattle.lk_replay.specs.Ending.{ending_of};
     ghost use Rattle.lk_replay.specs.Replay.{replay_of};
     ghost use Rattle.lk_replay.specs.Report.{replay_text};

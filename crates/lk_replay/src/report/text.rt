@@ -7,11 +7,13 @@ use std::marker::Model;
 // Enough for 64 numbers of at most 3 digits, each behind a comma, and for a block's rest.
 const MOST: usize = 320;
 
-// The bytes of a text that are copied at once, where it has no more: two stores, whatever its length.
+// The bytes of a text that are copied at once, where it has no more: two stores, whatever its
+// length.
 const SHORT: usize = 32;
 
-/// Puts the first `len` bytes of a block into a place, from `at` on, and answers where they end. The block is copied whole, and
-/// what is too much of it is overwritten by the next: a short text costs one store, whatever its length.
+/// Puts the first `len` bytes of a block into a place, from `at` on, and answers where they end.
+/// The block is copied whole, and what is too much of it is overwritten by the next: a short text
+/// costs one store, whatever its length.
 pub fn put_block<const N: usize>(place: &mut [u8], at: usize, block: &[u8; N], len: usize) -> usize
     requires room { at + N ≤ length place.old }
     requires fits { len ≤ N }
@@ -41,7 +43,8 @@ impl Model for Text {
 }
 
 impl Text {
-    ghost use Rattle.std.specs.Prelude.{◌≡◌, ◌+◌, ◌<◌, ◌≤◌, ◌↔◌, ◌++◌, [], IsTrue, drop, length, take};
+    ghost use Rattle.std.specs.Prelude.{◌≡◌, ◌+◌, ◌<◌, ◌≤◌, ◌↔◌, ◌++◌, [], IsTrue, drop, length};
+    ghost use Rattle.std.specs.Prelude.{take};
 
     /// An empty text.
     pub fn new() -> Text

@@ -10,7 +10,8 @@ use Rattle.locktrace.specs.declared.check.Report.{Report}
 
 -- a line that ends the text is reported, and no other line ends it
 abbrev pub Follows : ℕ → Event → Bool → Report → Type 0
-Follows number (Differs line difference) on report = (on ≡ false) × (verdict_in report ≡ verdict Refused number)
+Follows number (Differs line difference) on report =
+    (on ≡ false) × (verdict_in report ≡ verdict Refused number)
 Follows number (Fault fault) on report = (on ≡ false) × (verdict_in report ≡ verdict Faulty number)
 Follows number event on report = on ≡ true
 
@@ -18,4 +19,5 @@ Follows number event on report = on ≡ true
 abbrev pub Reads : Option (List ℕ) → Option (List ℕ) → ℕ → Option Checked → Type 0
 Reads None left number reading = ⊤
 Reads (Some text) None number reading = ⊥
-Reads (Some text) (Some rest) number reading = verdict_of text ≡ verdict_from number reading (lines_of rest)
+Reads (Some text) (Some rest) number reading =
+    verdict_of text ≡ verdict_from number reading (lines_of rest)

@@ -1,6 +1,7 @@
--- Invariants: what was taken of the bytes that were left, and what is kept of it. No public contract
--- rests on it.
-use Rattle.std.specs.Prelude.{◌≡◌, ℕ, ◌<◌, List, [], ◌∷◌, ◌++◌, length, take, Bool, true, false, Option}
+-- Invariants: what was taken of the bytes that were left, and what is kept of it. No public
+-- contract rests on it.
+use Rattle.std.specs.Prelude.{◌≡◌, ℕ, ◌<◌, List, [], ◌∷◌, ◌++◌, length, take, Bool, true, false}
+use Rattle.std.specs.Prelude.{Option}
 use Rattle.std.specs.List.{All}
 use Rattle.std.specs.Io.KnownBytes.{Consumes}
 use Rattle.lk_replay.specs.Lines.{is_line_feed}
@@ -14,7 +15,8 @@ with_end true bytes = bytes ++ 10 ∷ []
 with_end false bytes = bytes
 
 -- what was read ahead was taken, with its line feed or whole
-pub record TakesPart (whole : Bool) (old new : Option (List ℕ)) (before after : List ℕ) : Type 0 where
+pub record TakesPart (whole : Bool) (old new : Option (List ℕ))
+    (before after : List ℕ) : Type 0 where
   pub bytes : List ℕ
   pub flat : IsFlat bytes
   pub taken : Consumes old new (with_end whole bytes)

@@ -1,6 +1,7 @@
 -- Each line goes on its way, and then the last one.
 use Rattle.std.proofs.Common.{ℕ, List, [], ◌≡◌, ◌++◌, ◌∙◌, ap, append-nil, append_assoc, subst, sym}
-use Rattle.lk_replay.proofs.Passed.{prefix_of_rest, prefix_of_waiting, prefix_of_whole, passes_on, told}
+use Rattle.lk_replay.proofs.Passed.{prefix_of_rest, prefix_of_waiting, prefix_of_whole, passes_on}
+use Rattle.lk_replay.proofs.Passed.{told}
 use Rattle.lk_replay.proofs.Printed.{last_part, next_parts}
 use Rattle.lk_replay.specs.Devices.{Passes}
 use Rattle.lk_replay.proofs.engine.print.Goals as goal

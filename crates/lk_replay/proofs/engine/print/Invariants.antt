@@ -4,8 +4,12 @@ use Rattle.lk_replay.specs.Devices.{Passes}
 use Rattle.lk_replay.proofs.engine.print.Given as goal
 
 abbrev pub invariant-loop-buffer : goal.invariant-loop-buffer
-invariant-loop-buffer g l = (done : List ℕ) × Passes [] (g.W.Write.contents l.initial.output) done l.buffer (g.W.Write.contents l.output)
-    × (done ++ (l.printer.lines ++ l.printer.last) ≡ l.initial.printer.lines ++ l.initial.printer.last) × (l.printer.last ≡ l.initial.printer.last)
+invariant-loop-buffer g l =
+    (done : List ℕ)
+    × Passes [] (g.W.Write.contents l.initial.output) done l.buffer (g.W.Write.contents l.output)
+    × (done ++ (l.printer.lines ++ l.printer.last)
+    ≡ l.initial.printer.lines ++ l.initial.printer.last)
+    × (l.printer.last ≡ l.initial.printer.last)
 
 abbrev pub decreases-loop-buffer : goal.decreases-loop-buffer
 decreases-loop-buffer g l = l.printer.left

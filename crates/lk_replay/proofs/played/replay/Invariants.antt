@@ -7,7 +7,9 @@ use Rattle.lk_replay.proofs.played.replay.Given as goal
 
 abbrev pub invariant-loop-line : goal.invariant-loop-line
 invariant-loop-line l = record {
-  shown : after l.schedule.kind l.schedule.threads l.accepted.items l.added.items l.keeper.entries (replay_from l.keeper.state (drop l.line-index l.moves)) ≡ replayed_of l.schedule;
+  shown : after l.schedule.kind l.schedule.threads l.accepted.items l.added.items l.keeper.entries
+      (replay_from l.keeper.state (drop l.line-index l.moves))
+      ≡ replayed_of l.schedule;
   kind : l.keeper.state.kind ≡ l.schedule.kind;
   threads : length l.keeper.state.phases ≡ l.schedule.threads;
   count : length l.accepted.items ≡ l.line-index;

@@ -10,7 +10,8 @@ unfolding greatest_status
 loop-ending-preserved c =
     let endings = c.args.endings.now in
     let i = c.loop-ending.ending-index in
-    let step : greatest_status (drop i endings) ≡ max (status_of (get_or endings i Accepted)) (greatest_status (drop (i + 1) endings)) =
+    let step : greatest_status (drop i endings)
+    ≡ max (status_of (get_or endings i Accepted)) (greatest_status (drop (i + 1) endings)) =
     at_drop_more greatest_status endings i Accepted c.loop-ending-test.true in
     omega (arith, step, c.status.ensures, c.max-status.ensures, c.loop-ending.invariant)
 
@@ -18,5 +19,6 @@ pub returns : goal.returns
 unfolding greatest_status
 returns c =
     let none : greatest_status (drop c.loop-ending.ending-index c.args.endings.now) ≡ 0 =
-    at_drop_all greatest_status c.args.endings.now c.loop-ending.ending-index c.loop-ending-test.false in
+    at_drop_all greatest_status c.args.endings.now c.loop-ending.ending-index
+    c.loop-ending-test.false in
     omega (arith, none, c.loop-ending.invariant)

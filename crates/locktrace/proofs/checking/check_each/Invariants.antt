@@ -3,4 +3,5 @@ use Rattle.std.proofs.Common.{◌≡◌, ◌+◌, length}
 use Rattle.locktrace.proofs.checking.check_each.Given as goal
 
 abbrev pub invariant-loop-name : goal.invariant-loop-name
-invariant-loop-name _ l = length l.reports.endings.items ≡ length l.initial.reports.endings.items + l.name-index
+invariant-loop-name _ l =
+    length l.reports.endings.items ≡ length l.initial.reports.endings.items + l.name-index

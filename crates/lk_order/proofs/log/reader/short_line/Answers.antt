@@ -5,4 +5,5 @@ use Rattle.lk_order.proofs.log.reader.short_line.Goals as goal
 
 pub returns-clause-own : goal.returns-clause-own
 returns-clause-own c =
-    subst (λ r. IfSome r (λ l. l.thread ≡ c.args.thread)) (sym c.read_log_line.ensures) (line_own c.args.thread c.args.line.now)
+    subst (λ r. IfSome r (λ l. l.thread ≡ c.args.thread)) (sym c.read_log_line.ensures)
+    (line_own c.args.thread c.args.line.now)

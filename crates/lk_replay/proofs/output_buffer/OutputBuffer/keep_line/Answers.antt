@@ -1,5 +1,6 @@
 -- The line stands behind what waited.
-use Rattle.std.proofs.Common.{◌≡◌, ◌≤◌, ◌+◌, ◌-◌, ◌++◌, ◌∙◌, List, ℕ, ap, arith, drop, length, length-drop, length-take-le, take}
+use Rattle.std.proofs.Common.{◌≡◌, ◌≤◌, ◌+◌, ◌-◌, ◌++◌, ◌∙◌, List, ℕ, ap, arith, drop, length}
+use Rattle.std.proofs.Common.{length-drop, length-take-le, take}
 use Rattle.lk_replay.proofs.Texts.{written_in}
 use Rattle.lk_replay.proofs.output_buffer.OutputBuffer.keep_line.Goals as goal
 

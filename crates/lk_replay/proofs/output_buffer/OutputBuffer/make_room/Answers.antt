@@ -11,4 +11,7 @@ pub returns-clause-passed : goal.returns-clause-passed
 returns-clause-passed g c =
     let old = g.W.Write.contents c.args.output.now in
     let new = g.W.Write.contents c.write_whole.new.output in
-    passes_sent _ old new (subst (Appends old new) (ap (λ (xs : List ℕ). take c.self.inside.len xs) c.deref.ensures.value ∙ c.self.view_is) c.in_ok-write_whole.ensures.written)
+    passes_sent _ old new
+    (subst (Appends old new)
+    (ap (λ (xs : List ℕ). take c.self.inside.len xs) c.deref.ensures.value ∙ c.self.view_is)
+    c.in_ok-write_whole.ensures.written)

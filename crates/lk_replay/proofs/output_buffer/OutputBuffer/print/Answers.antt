@@ -11,6 +11,7 @@ returns-clause-passed g c =
     let new = g.W.Write.contents c.make_room.new.output in (
       line,
       subst (λ waits. Passes c.args.self.now old line waits new) (sym kept)
-          (passes_on c.args.self.now [] _ line _ old new new c.in_ok-make_room.ensures.passed (passes_kept c.make_room.new.self line new)),
+          (passes_on c.args.self.now [] _ line _ old new new c.in_ok-make_room.ensures.passed
+          (passes_kept c.make_room.new.self line new)),
       is,
     )

@@ -7,7 +7,9 @@ use Rattle.lk_replay.proofs.report.closings.push_reason.Goals as goal
 pub returns-in-WrongStep-clause-reason : goal.returns-in-WrongStep-clause-reason
 unfolding refusal_text
 returns-in-WrongStep-clause-reason c =
-    c.push-in-WrongStep-2.ensures ∙ ap (λ (xs : List ℕ). xs ++ c.step_word.result.now) c.push-in-WrongStep.ensures
+    c.push-in-WrongStep-2.ensures
+    ∙ ap (λ (xs : List ℕ). xs ++ c.step_word.result.now) c.push-in-WrongStep.ensures
     ∙ append_assoc c.args.text.now (codes "WrongStep next ") c.step_word.result.now
-    ∙ ap (λ (w : List ℕ). c.args.text.now ++ (codes "WrongStep next " ++ w)) c.step_word.ensures.word
+    ∙ ap (λ (w : List ℕ). c.args.text.now ++ (codes "WrongStep next " ++ w))
+    c.step_word.ensures.word
     ∙ ap (λ (r : Refusal). c.args.text.now ++ refusal_text r) (sym c.in-WrongStep.is)

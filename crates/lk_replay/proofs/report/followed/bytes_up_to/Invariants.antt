@@ -6,6 +6,7 @@ use Rattle.lk_replay.proofs.report.followed.bytes_up_to.Given as goal
 
 abbrev pub invariant-loop-listed : goal.invariant-loop-listed
 invariant-loop-listed l = record {
-  sum : l.bytes + length (later_numbers (up_to (drop l.listed-index l.threads) l.thread)) ≡ length (later_numbers (up_to l.threads l.thread));
+  sum : l.bytes + length (later_numbers (up_to (drop l.listed-index l.threads) l.thread))
+      ≡ length (later_numbers (up_to l.threads l.thread));
   small : l.bytes ≤ 4 * l.listed-index;
 }

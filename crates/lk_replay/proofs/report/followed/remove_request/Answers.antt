@@ -4,7 +4,12 @@ use Rattle.lk_replay.proofs.Listing.{head_listed}
 use Rattle.lk_replay.proofs.report.followed.remove_request.Goals as goal
 
 pub remove-requires : goal.remove-requires
-remove-requires c = (head_listed c.args.queue.now c.args.text.now c.args.thread (0 + (c.width.result + 1)) c.requires.head c.requires.listed (omega (arith, c.width.ensures.digits))).0
+remove-requires c =
+    (head_listed c.args.queue.now c.args.text.now c.args.thread (0 + (c.width.result + 1))
+    c.requires.head c.requires.listed (omega (arith, c.width.ensures.digits))).0
 
 pub returns : goal.returns
-returns c = c.remove.ensures ∙ (head_listed c.args.queue.now c.args.text.now c.args.thread (0 + (c.width.result + 1)) c.requires.head c.requires.listed (omega (arith, c.width.ensures.digits))).1
+returns c =
+    c.remove.ensures
+    ∙ (head_listed c.args.queue.now c.args.text.now c.args.thread (0 + (c.width.result + 1))
+    c.requires.head c.requires.listed (omega (arith, c.width.ensures.digits))).1

@@ -8,7 +8,10 @@ pub returns-then-thread-lt10-clause-text : goal.returns-then-thread-lt10-clause-
 returns-then-thread-lt10-clause-text c = sym (decimal_digit c.args.thread c.if-thread-lt10.true)
 
 pub returns-then-thread-lt100-clause-text : goal.returns-then-thread-lt100-clause-text
-returns-then-thread-lt100-clause-text c = sym (both_digits c.args.thread (omega (arith, c.if-thread-lt10.false)) c.if-thread-lt100.true)
+returns-then-thread-lt100-clause-text c =
+    sym (both_digits c.args.thread (omega (arith, c.if-thread-lt10.false)) c.if-thread-lt100.true)
 
 pub returns-clause-text : goal.returns-clause-text
-returns-clause-text c = sym (three_digits c.args.thread (omega (arith, c.if-thread-lt100.false)) (omega (arith, c.ranges.thread.fits)))
+returns-clause-text c =
+    sym (three_digits c.args.thread (omega (arith, c.if-thread-lt100.false))
+    (omega (arith, c.ranges.thread.fits)))

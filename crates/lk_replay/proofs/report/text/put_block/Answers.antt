@@ -5,5 +5,6 @@ use Rattle.lk_replay.proofs.report.text.put_block.Goals as goal
 
 pub returns-clause-text : goal.returns-clause-text
 returns-clause-text g c =
-    block_pushed c.args.place.now c.copy_from_slice.new.self c.args.block.now c.args.at c.args.len g.row.N
+    block_pushed c.args.place.now c.copy_from_slice.new.self c.args.block.now c.args.at c.args.len
+    g.row.N
     c.copy_from_slice.ensures.after c.told-block c.requires.fits (omega (arith, c.requires.room))

@@ -11,5 +11,9 @@ invariant_of-self c =
       c.self.invariant.0,
       c.self.invariant.1,
       ap (λ (k : ℕ). take k (set block last (get_or block last 0 + 1))) place
-          ∙ counted block c.self.inside.number last (omega (arith, c.self.told, c.self.invariant.0, c.self.invariant.1)) (omega (arith, c.requires)) (ap (λ (k : ℕ). take k block) (sym place) ∙ c.self.invariant.2) c.if-self-last-lt57.true,
+          ∙ counted block c.self.inside.number last
+          (omega (arith, c.self.told, c.self.invariant.0, c.self.invariant.1))
+          (omega (arith, c.requires))
+          (ap (λ (k : ℕ). take k block) (sym place) ∙ c.self.invariant.2)
+          c.if-self-last-lt57.true,
     )

@@ -6,6 +6,12 @@ use Rattle.lk_replay.proofs.report.numerals.Numeral.of.Goals as goal
 
 pub invariant_of-result : goal.invariant_of-result
 invariant_of-result c =
-    let text : c.as_bytes-text.result.now ≡ decimal c.args.number = c.as_bytes-text.ensures.value ∙ c.format.ensures.text in
-    let some : 0 < length (decimal c.args.number) = decimal_nonempty c.args.number (omega (arith, c.ranges.number.fits)) in
-    (omega (arith, ap length text), omega (arith, c.format.ensures.fits, ap length c.as_bytes-text.ensures.value), take_at _ _ _ (ap length c.copy_from_slice.ensures.after) ∙ c.copy_from_slice.ensures.after ∙ text)
+    let text : c.as_bytes-text.result.now ≡ decimal c.args.number =
+    c.as_bytes-text.ensures.value ∙ c.format.ensures.text in
+    let some : 0 < length (decimal c.args.number) =
+    decimal_nonempty c.args.number (omega (arith, c.ranges.number.fits)) in (
+      omega (arith, ap length text),
+      omega (arith, c.format.ensures.fits, ap length c.as_bytes-text.ensures.value),
+      take_at _ _ _ (ap length c.copy_from_slice.ensures.after) ∙ c.copy_from_slice.ensures.after
+          ∙ text,
+    )

@@ -1,5 +1,6 @@
 -- The next move tells whether there is a line.
-use Rattle.std.proofs.Common.{◌<◌, ◌↔◌, IsTrue, List, ap, arith, drop, length, length-drop, subst, ◌∙◌, sym}
+use Rattle.std.proofs.Common.{◌<◌, ◌↔◌, IsTrue, List, ap, arith, drop, length, length-drop, subst}
+use Rattle.std.proofs.Common.{◌∙◌, sym}
 use Rattle.lk_replay.proofs.Printed.{line_told, no_lines}
 use Rattle.lk_replay.specs.Printing.{Printing}
 use Rattle.lk_replay.specs.declared.schedule.Line.{Line}
