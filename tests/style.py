@@ -27,32 +27,8 @@ COLUMNS, LINES, BODY = 100, 400, 40
 # who records a lock copies it and builds nothing else.
 NOT_YET = [
     ("crates/*.antt", "lines"),
-    ("crates/lk_locks/proofs/tracker/*", "columns"),
-    ("crates/lk_locks/src/tracker.rt", "columns"),
-    ("crates/lk_replay/proofs/engine/*", "columns"),
-    ("crates/lk_replay/proofs/output_buffer/*", "columns"),
-    ("crates/lk_replay/proofs/played/*", "columns"),
-    ("crates/lk_replay/proofs/report/*", "columns"),
-    ("crates/lk_replay/proofs/Changes.antt", "columns"),
-    ("crates/lk_replay/proofs/Digits.antt", "columns"),
-    ("crates/lk_replay/proofs/Listing.antt", "columns"),
-    ("crates/lk_replay/proofs/Lists.antt", "columns"),
-    ("crates/lk_replay/proofs/Passed.antt", "columns"),
-    ("crates/lk_replay/proofs/Printed.antt", "columns"),
-    ("crates/lk_replay/proofs/Reports.antt", "columns"),
-    ("crates/lk_replay/proofs/Sofar.antt", "columns"),
-    ("crates/lk_replay/proofs/Texts.antt", "columns"),
-    ("crates/lk_replay/specs/Following.antt", "columns"),
-    ("crates/lk_replay/specs/Printing.antt", "columns"),
-    ("crates/lk_replay/specs/Replay.antt", "columns"),
-    ("crates/lk_replay/specs/Report.antt", "columns"),
-    ("crates/lk_replay/src/engine.rt", "columns"),
-    ("crates/lk_replay/src/output_buffer.rt", "columns"),
-    ("crates/lk_replay/src/played.rt", "columns"),
-    ("crates/lk_replay/src/report*", "columns"),
     ("crates/lockreplay/src/command_line/tests.rt", "body"),
     ("record/lockreplay_record.h", "lines"),
-    ("docs/BENCHMARKS.md", "columns"),
 ]
 # Written by a script from files that are kept to the rules.
 GENERATED = ["crates/lk_replay/src/tests/rows/*"]

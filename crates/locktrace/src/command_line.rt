@@ -64,7 +64,8 @@ fn check_command<'a>(alloc: Global) -> Result<Command<'a>, AllocError> {
     let summary = Arg::new(alloc, "summary")
         .long("summary")
         .help(
-            "Counts threads, moves, waits, failed compare-and-swaps, late links, the longest queue and rounds",
+            "Counts threads, moves, waits, failed compare-and-swaps, late links, the longest queue \
+             and rounds",
         )
         .action(ArgAction::SetTrue);
     let workers = Arg::new(alloc, "jobs")
@@ -127,7 +128,8 @@ fn order_command<'a>(alloc: Global) -> Result<Command<'a>, AllocError> {
         .action(ArgAction::Append);
     Command::new(alloc, "order")
         .about(
-            "Puts the logs of a run's threads into one order in which each step finds what it found",
+            "Puts the logs of a run's threads into one order in which each step finds what \
+             it found",
         )
         .arg(folder)?
         .arg(logs)
@@ -139,7 +141,8 @@ fn program_command<'a>(alloc: Global) -> Result<Command<'a>, AllocError> {
         .arg(file_arg(alloc))?;
     Command::new(alloc, "locktrace")
         .about(
-            "Checks runs of locks, explains them, and puts the logs of their threads into one order",
+            "Checks runs of locks, explains them, and puts the logs of their threads into \
+             one order",
         )
         .version(VERSION)
         .bin_name("locktrace")?

@@ -5,7 +5,8 @@ use Rattle.std.specs.Io.KnownBytes.{Appends}
 use Rattle.lk_replay.proofs.Passed.{prefix_then, passes_sent, passes_then, passes_through}
 use Rattle.lk_replay.proofs.output_buffer.OutputBuffer.push.Goals as goal
 
-pub returns-then-bytes-gt-MOST_WAITING-clause-passed : goal.returns-then-bytes-gt-MOST_WAITING-clause-passed
+pub returns-then-bytes-gt-MOST_WAITING-clause-passed :
+    goal.returns-then-bytes-gt-MOST_WAITING-clause-passed
 returns-then-bytes-gt-MOST_WAITING-clause-passed g c =
     let old = g.W.Write.contents c.args.output.now in
     let mid = g.W.Write.contents c.write_whole.new.output in
@@ -21,7 +22,8 @@ returns-then-bytes-gt-MOST_WAITING-clause-passed g c =
     passes_then result c.args.self.now [] [] c.args.bytes.now [] old mid new
     (passes_sent _ old mid sent) through
 
-pub returns-then-bytes-gt-MOST_WAITING-clause-prefix : goal.returns-then-bytes-gt-MOST_WAITING-clause-prefix
+pub returns-then-bytes-gt-MOST_WAITING-clause-prefix :
+    goal.returns-then-bytes-gt-MOST_WAITING-clause-prefix
 returns-then-bytes-gt-MOST_WAITING-clause-prefix g c =
     let old = g.W.Write.contents c.args.output.now in
     let mid = g.W.Write.contents c.write_whole.new.output in
