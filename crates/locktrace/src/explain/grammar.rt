@@ -47,8 +47,6 @@ const CALLS_AND_STEPS: [&str; 13] = [
     "section",
 ];
 
-const VALUES: [&str; 5] = ["of", "found", "left", "done", "failed"];
-
 // Where a word is the one that is due.
 fn when(is: bool, next: Due) -> Option<Due> {
     if is { Some(next) } else { None }
@@ -190,7 +188,7 @@ impl Due {
         }
     }
 
-    /// Words that could stand here, or not far from here.
+    /// The words that could stand here.
     pub fn words(self) -> &'static [&'static str] {
         match self {
             Due::Lock => &["lock"],
@@ -200,7 +198,13 @@ impl Due {
             Due::Action => &CALLS_AND_STEPS,
             Due::Section | Due::Outcome => &["moved", "waits", "entered", "left"],
             Due::Place(_) => &["next_ticket", "now_serving", "tail", "next", "locked"],
-            Due::Of(_) | Due::Found(_) | Due::Left(_) | Due::Wrote(_) => &VALUES,
+            Due::Of(StepKind::Cas) => &["of", "found", "left", "done", "failed"],
+            Due::Of(_) => &["of", "found", "left"],
+            Due::Found(StepKind::Cas) => &["found", "left", "done", "failed"],
+            Due::Found(_) => &["found", "left"],
+            Due::Left(StepKind::Cas) => &["left", "done", "failed"],
+            Due::Left(_) => &["left"],
+            Due::Wrote(StepKind::Cas) => &["done", "failed"],
             _ => &[],
         }
     }
