@@ -5,8 +5,8 @@
 //! proposed as soon as the machine's word holds what it found: nothing is lost by it. Where none is
 //! left, a step that changes a word is proposed that nobody has still to look at before. Last come
 //! the steps that end what others may look at: the release of a ticket lock, and a swap that finds
-//! nobody; of these the one whose chain is not seen to end. A monitor's sections come in the order
-//! of their count.
+//! nobody; of these the one whose chain has no end comes behind the others. A monitor's sections
+//! come in the order of their count.
 //!
 //! A thread whose step was not placed sleeps until a step is placed that it may have waited for:
 //! one on its word, or the section before its own. So each step is asked for as often as its word
@@ -17,7 +17,7 @@ mod instances;
 mod tickets;
 
 use crate::Order;
-use chains::Chains;
+use chains::{Chains, End};
 use instances::{Instance, Neighbor, instances_of};
 use lk_locks::{LockKind, Move, Phase, StepKind};
 use lk_trace::{Seen, TraceLine, WordName, place_of, touched};
@@ -33,8 +33,10 @@ enum Round {
     Look,
     Change,
     Last,
+    /// A swap that finds nobody, and begins a chain whose end is cut off.
+    CutOff,
     /// A swap that finds nobody, and behind which nobody ever does.
-    Open,
+    Endless,
     /// The thread's log ends.
     Never,
 }
@@ -164,14 +166,16 @@ impl Engine {
         let mut instances = Vec::new(alloc);
         let mut takes = Vec::new(alloc);
         let mut next = [ENDED; 64];
+        let mut cut = [false; 64];
         for (t, log) in order.logs().iter().enumerate() {
             takes.push(takes_of(alloc, log.moves())?)?;
             instances.push(instances_of(alloc, kind, log.moves())?)?;
             if t < MOST_THREADS {
                 next[t] = next_of(order, kind, t as u8);
+                cut[t] = log.is_cut();
             }
         }
-        let chains = Chains::new(alloc, &instances)?;
+        let chains = Chains::new(alloc, &instances, cut)?;
         Ok(Engine {
             kind,
             threads,
@@ -266,11 +270,17 @@ impl Engine {
         }
     }
 
-    // Whether a step begins a chain that is not seen to end.
-    fn begins_open(&self, t: usize, next: &Next) -> bool {
-        t < MOST_THREADS
-            && next.kind == Some(StepKind::Swap)
-            && self.chains.is_open(t, self.begun[t])
+    // When the last steps are proposed: of swaps that find nobody the one whose chain has no end
+    // comes behind the others.
+    fn round_of_swap(&self, t: usize, next: &Next) -> Round {
+        if t >= MOST_THREADS || next.kind != Some(StepKind::Swap) {
+            return Round::Last;
+        }
+        match self.chains.end(t, self.begun[t]) {
+            Some(End::CutOff) => Round::CutOff,
+            Some(End::Never) => Round::Endless,
+            Some(End::Seen) | None => Round::Last,
+        }
     }
 
     // A thread that may make its step in this round. Those that may not sleep.
@@ -286,8 +296,8 @@ impl Engine {
                 continue;
             }
             let next = self.next[t];
-            if round == Round::Last && self.begins_open(t, &next) {
-                self.next[t].round = Round::Open;
+            if round == Round::Last && self.round_of_swap(t, &next) != round {
+                self.next[t].round = self.round_of_swap(t, &next);
                 continue;
             }
             if !has_other_value(order, &next) && !self.waits(order, t, &next) {
@@ -309,7 +319,10 @@ impl Engine {
         if let Some(t) = self.choose_in(order, Round::Last) {
             return Some(t);
         }
-        self.choose_in(order, Round::Open)
+        if let Some(t) = self.choose_in(order, Round::CutOff) {
+            return Some(t);
+        }
+        self.choose_in(order, Round::Endless)
     }
 
     /// The step that was proposed differs from the lock, as it is.

@@ -3,8 +3,8 @@
 //! The m-th instance of x whose successor is y is the predecessor of the m-th instance of y whose
 //! predecessor is x, since both logs are in order. So the instances fall into chains. A chain ends
 //! before the next one begins, and a thread's instances come in its order: a chain may begin where
-//! each of its threads has no earlier instance left but in the chain itself. A chain that is not
-//! seen to end comes last, since nothing that finds nobody can follow it.
+//! each of its threads has no earlier instance left but in the chain itself. A chain that does not
+//! end comes last, since nothing that finds nobody can follow it; before it one whose end is cut off.
 
 use super::instances::{Instance, Neighbor};
 use std::alloc::{AllocError, Global};
@@ -13,6 +13,17 @@ use std::alloc::{AllocError, Global};
 const MOST_THREADS: usize = 64;
 
 const NONE: u32 = u32::MAX;
+
+/// What is known of the end of a chain.
+#[derive(Clone, Copy, PartialEq, Eq)]
+pub enum End {
+    /// A compare-and-swap wrote.
+    Seen,
+    /// The log that may have it is cut short.
+    CutOff,
+    /// There is none: the log of the last thread is whole.
+    Never,
+}
 
 /// The chains of a run.
 #[derive(Drop)]
@@ -23,8 +34,9 @@ pub struct Chains {
     chain: Vec<Vec<u32>>,
     /// Of each chain and thread the first instance in it, or `NONE`.
     first: Vec<u32>,
-    /// Of each chain whether it is seen to end.
-    ends: Vec<bool>,
+    ends: Vec<End>,
+    /// Whose logs are cut short.
+    cut: [bool; 64],
     threads: usize,
 }
 
@@ -109,7 +121,49 @@ fn match_thread(
     }
 }
 
+// How many instances all threads have.
+fn total_of(instances: &[Vec<Instance>]) -> usize {
+    let mut total: usize = 0;
+    for row in instances {
+        total = total.saturating_add(row.len());
+    }
+    total
+}
+
+// How many acquires of a list have swapped themselves in.
+fn swapped(row: &[Instance]) -> usize {
+    match row.last() {
+        Some(last) if last.before == Neighbor::Unknown => row.len().saturating_sub(1),
+        _ => row.len(),
+    }
+}
+
 impl Chains {
+    // An instance of the thread is in the chain.
+    fn note(&mut self, number: u32, thread: usize, instance: usize) {
+        let place = (number as usize)
+            .saturating_mul(self.threads)
+            .saturating_add(thread);
+        if let Some(first) = self.first.get_mut(place) {
+            *first = (*first).min(instance.min(NONE as usize) as u32);
+        }
+    }
+
+    fn set_end(&mut self, number: u32, end: End) {
+        if let Some(place) = self.ends.get_mut(number as usize) {
+            *place = end;
+        }
+    }
+
+    // How a chain ends whose last thread's log has no end of it.
+    fn end_of_log(&self, thread: usize) -> End {
+        if thread < MOST_THREADS && self.cut[thread] {
+            End::CutOff
+        } else {
+            End::Never
+        }
+    }
+
     // Goes along a chain from its first instance.
     fn follow(
         &mut self,
@@ -124,57 +178,92 @@ impl Chains {
         let mut instance = instance;
         for _ in 0..budget {
             put(&mut self.chain, thread, instance, number);
-            let place = (number as usize)
-                .saturating_mul(self.threads)
-                .saturating_add(thread);
-            if let Some(first) = self.first.get_mut(place) {
-                *first = (*first).min(instance.min(NONE as usize) as u32);
-            }
-            let next = at(after, thread, instance);
-            let successor = match instances.get(thread) {
-                Some(row) => row.get(instance).map(|i| i.after),
-                None => None,
+            self.note(number, thread, instance);
+            let Some(row) = instances.get(thread) else {
+                return;
             };
-            let Some(Neighbor::Thread(successor)) = successor else {
-                if let Some(ends) = self.ends.get_mut(number as usize) {
-                    *ends = successor == Some(Neighbor::Nobody);
+            let successor = match row.get(instance).map(|found| found.after) {
+                Some(Neighbor::Thread(successor)) => successor as usize,
+                Some(Neighbor::Nobody) => {
+                    self.set_end(number, End::Seen);
+                    return;
                 }
-                return;
+                Some(Neighbor::Unknown) | None => {
+                    self.set_end(number, self.end_of_log(thread));
+                    return;
+                }
             };
+            let next = at(after, thread, instance);
             if next == NONE {
+                // its acquire is behind all that its log has
+                if let Some(row) = instances.get(successor) {
+                    self.note(number, successor, swapped(row));
+                }
+                self.set_end(number, End::CutOff);
                 return;
             }
-            thread = successor as usize;
+            thread = successor;
             instance = next as usize;
         }
     }
 
-    /// The chains of these instances, a list for each thread.
-    pub fn new(alloc: Global, instances: &[Vec<Instance>]) -> Result<Chains, AllocError> {
+    // Adds the chain that begins with this instance.
+    fn add(
+        &mut self,
+        instances: &[Vec<Instance>],
+        after: &[Vec<u32>],
+        thread: usize,
+        instance: usize,
+    ) -> Result<(), AllocError> {
+        let number = self.ends.len().min(NONE as usize) as u32;
+        self.ends.push(End::Never)?;
+        for _ in 0..self.threads {
+            self.first.push(NONE)?;
+        }
+        self.follow(
+            instances,
+            after,
+            number,
+            thread,
+            instance,
+            total_of(instances),
+        );
+        Ok(())
+    }
+
+    // Adds the chains that begin with an instance of this thread.
+    fn add_all(
+        &mut self,
+        instances: &[Vec<Instance>],
+        after: &[Vec<u32>],
+        thread: usize,
+        row: &[Instance],
+    ) -> Result<(), AllocError> {
+        for (instance, found) in row.iter().enumerate() {
+            if found.before == Neighbor::Nobody {
+                self.add(instances, after, thread, instance)?;
+            }
+        }
+        Ok(())
+    }
+
+    /// The chains of these instances, a list for each thread. `cut` says whose logs are cut short.
+    pub fn new(
+        alloc: Global,
+        instances: &[Vec<Instance>],
+        cut: [bool; 64],
+    ) -> Result<Chains, AllocError> {
         let (before, after) = match_all(alloc, instances)?;
         let mut chains = Chains {
             before,
             chain: blank(alloc, instances)?,
             first: Vec::new(alloc),
             ends: Vec::new(alloc),
+            cut,
             threads: instances.len(),
         };
-        let mut budget: usize = 0;
-        for row in instances {
-            budget = budget.saturating_add(row.len());
-        }
-        let mut number: u32 = 0;
         for (thread, row) in instances.iter().enumerate() {
-            for (instance, found) in row.iter().enumerate() {
-                if found.before == Neighbor::Nobody {
-                    for _ in 0..instances.len() {
-                        chains.first.push(NONE)?;
-                    }
-                    chains.ends.push(false)?;
-                    chains.follow(instances, &after, number, thread, instance, budget);
-                    number = number.saturating_add(1);
-                }
-            }
+            chains.add_all(instances, &after, thread, row)?;
         }
         Ok(chains)
     }
@@ -185,13 +274,10 @@ impl Chains {
         matched == NONE || matched as usize == predecessor
     }
 
-    /// Whether the chain of this instance is known, and not seen to end.
-    pub fn is_open(&self, thread: usize, instance: usize) -> bool {
+    /// How the chain of this instance ends, where it is known.
+    pub fn end(&self, thread: usize, instance: usize) -> Option<End> {
         let number = at(&self.chain, thread, instance);
-        match self.ends.get(number as usize) {
-            Some(ends) => !*ends,
-            None => false,
-        }
+        self.ends.get(number as usize).copied()
     }
 
     /// Whether the chain of this instance may begin, where each thread has begun so many instances.
