@@ -1,19 +1,26 @@
 #!/usr/bin/env python3
-"""How the built program writes a batch: the whole text, in few writes.
+"""How the built program writes: a batch in few writes, and a long report of which a write fails.
 
     writes.py PROGRAM
 
-Standard output is a socket that keeps each write as a message, so the writes can be counted.
-Reports are as long as what the program lets wait before it writes (65,536 bytes), a byte more or
-less, and three times that; the text is made here from what each schedule is due. The last line
-counts the cases; the status is 1 where one failed.
+Of a batch, standard output is a socket that keeps each write as a message, so the writes can be
+counted. Reports are as long as what the program lets wait before it writes (65,536 bytes), a byte
+more or less, and three times that; the text is made here from what each schedule is due.
+
+Of a report of 14 MB, standard output is a file that has no room for the end of one of the first
+200 writes, or of some later one. It has to end up with as much of the report as it has room for.
+The last line counts the cases; the status is 1 where one failed.
 """
 import pathlib
+import resource
+import signal
 import socket
 import subprocess
 import sys
 import tempfile
 import threading
+
+from process import CROWDED, CROWDED_REPORT, OUTPUT
 
 WAITING = 65_536  # bytes
 MOST = 1 << 20    # bytes of one message
@@ -71,6 +78,29 @@ def is_tried(program, name, texts, most_writes):
     return is_well
 
 
+def is_cut(program, size):
+    """Whether a file with room for so many bytes gets the beginning of the report of 14 MB."""
+    def before():
+        signal.signal(signal.SIGXFSZ, signal.SIG_IGN)
+        resource.setrlimit(resource.RLIMIT_FSIZE, (size, size))
+
+    with tempfile.TemporaryFile() as short:
+        ended = subprocess.run([program, "replay"], input=CROWDED, stdout=short, check=False,
+                               stderr=subprocess.PIPE, timeout=PATIENCE, preexec_fn=before)
+        short.seek(0)
+        found = short.read(), ended.stderr, ended.returncode
+    is_well = found == (CROWDED_REPORT[:size], OUTPUT, 3)
+    if not is_well:
+        print(f"FAILED a file with room for {size} bytes: {len(found[0])} bytes, {found[1:]}")
+    return is_well
+
+
+def sizes_of_cuts():
+    """Room that ends within each of the first 200 writes, within later ones, and before the end."""
+    assert len(CROWDED_REPORT) > 209 * WAITING
+    return [k * WAITING + WAITING // 2 for k in [*range(200), 204, 208]] + [len(CROWDED_REPORT) - 1]
+
+
 def main(program):
     around = [of_length(length) for length in (65_510, WAITING, WAITING + 1, 200_000, 65_520)]
     tried = [
@@ -81,6 +111,7 @@ def main(program):
         is_tried(program, "2,000 short reports", [NO_MOVES] * 2_000, 1),
         is_tried(program, "300 reports of 1,000 bytes", [of_length(1_000)] * 300, 5),
     ]
+    tried += [is_cut(program, size) for size in sizes_of_cuts()]
     print(f"{tried.count(True)} passed, {tried.count(False)} failed")
     return 1 if False in tried else 0
 
