@@ -12,6 +12,7 @@ import os
 import pty
 import re
 import resource
+import shutil
 import subprocess
 import sys
 import tempfile
@@ -22,7 +23,7 @@ from tally import Tally
 
 TOP = Path(__file__).resolve().parent.parent
 VERSION = (TOP / "VERSION").read_text().strip()
-PATIENCE = 60  # seconds
+PATIENCE = 200  # seconds
 
 GOOD = """# Two threads of an MCS lock
 lock mcs threads 2
@@ -288,6 +289,29 @@ def orders(program):
                  begins("locktrace: cannot write: "))
 
 
+def bad_logs(program):
+    """Logs that are none of this run, and one of ten million moves."""
+    header = "lock ticket threads {} thread 0\n"
+    texts = {"empty.log": "", "other.log": "lock mcs threads 2 thread 1\ndropped 0\n",
+             "own.log": header.format(2) + "dropped 0\n",
+             "long.log": header.format(1) + "acquire\nadd\nread\nrelease\nread\nwrite\n" * 1_666_667
+                         + "dropped 0\n"}
+    for name, text in texts.items():
+        (program.folder / name).write_text(text)
+    program.case("order: an empty log", ["order", "empty.log", "-o", "bad"], 4, "",
+                 "empty.log:1: no header (NoHeader)\n")
+    program.case("order: of another lock", ["order", "own.log", "other.log", "-o", "bad"], 4, "",
+                 "other.log: of another lock than the first log's\n")
+    program.case("order: 10 million moves", ["order", "long.log", "-o", "long"], 0)
+    with open(program.folder / "long" / "run.trace", "rb") as trace:
+        program.tally.check("order: its trace", sum(1 for _ in trace), 10_000_003)
+    short = {"preexec_fn": lambda: resource.setrlimit(resource.RLIMIT_AS, (200 << 20, 200 << 20))}
+    program.case("order: 10 million moves in 200 MB", ["order", "long.log", "-o", "long"], 3, "",
+                 "locktrace: out of memory\n", **short)
+    shutil.rmtree(program.folder / "long")
+    (program.folder / "long.log").unlink()
+
+
 def main(path):
     tally = Tally()
     with tempfile.TemporaryDirectory() as folder:
@@ -295,7 +319,7 @@ def main(path):
         for name, text in TEXTS.items():
             (program.folder / name).write_text(text)
         for part in (words_and_texts, summaries, explained, formats, by_threads, devices, memory,
-                     terminal, orders):
+                     terminal, orders, bad_logs):
             part(program)
     return tally.end()
 
