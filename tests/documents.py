@@ -30,8 +30,6 @@ TOP = pathlib.Path(__file__).resolve().parent.parent
 DOCUMENTS = ("*.md", "docs/*.md", "*/README.md", "examples/recording/README.md")
 # Programs that a document may call besides `lockreplay`.
 OTHERS = {"locktrace": TOP / "crates/locktrace/out/locktrace"}
-# Documents with indented commands that are not looked at yet.
-NOT_YET = {"docs/BENCHMARKS.md", "examples/recording/README.md"}
 SHELLS = {"bash", "shell", "zsh", "fish", "shell-session"}
 INDENTED = re.compile(r" {4,}(\$ |(make|rt|gcc|git|awk|sed|node|parallel|python3) \S|"
                       r"lockreplay (replay|batch) |(tests|fuzz|bench)/\w+\.(py|sh)\b)")
@@ -148,7 +146,7 @@ def try_document(document, program, names, tally):
         for block in blocks_of(lines):
             try_block(block, room, tally, f"{name}:{block.first}")
     for number, line in without_blocks(lines):
-        if INDENTED.match(line) and name not in NOT_YET:
+        if INDENTED.match(line):
             tally.note(False, f"{name}:{number}: a command that is indented is not run")
     for number, said in names.missing_in(document, lines):
         tally.note(False, f"{name}:{number}: {said}")
