@@ -1,6 +1,6 @@
 -- An order on which nothing is placed.
-use Rattle.std.proofs.Common.{◌≡◌, ℕ, ◌<◌, ◌≤◌, List, [], ◌∷◌, Option, Some, None, length, map}
-use Rattle.std.proofs.Common.{get_or, replicate}
+use Rattle.std.proofs.Common.{◌≡◌, ℕ, ◌<◌, ◌≤◌, List, [], Some, map}
+use Rattle.std.proofs.Common.{get_or}
 use Rattle.std.proofs.Common.{refl, sym, ap, ◌∙◌, subst, arith, inl, inr}
 use Rattle.std.specs.Prelude.{option_map}
 use Rattle.std.specs.List.{All, slice_get}
@@ -12,7 +12,6 @@ use Rattle.lk_trace.specs.Checks.{Checked, new_lock}
 use Rattle.lk_trace.specs.declared.line.TraceLine.{TraceLine}
 use Rattle.lk_order.specs.Logs.{ThreadLog}
 use Rattle.lk_order.specs.Runs.{IsRunOf, moves_of}
-use Rattle.lk_order.specs.Orders.{Ordered, IsOrder}
 use Rattle.lk_order.specs.Picked.{IsInside, IsKept}
 
 abbrev moves_in : ThreadLog → List TraceLine

@@ -1,6 +1,5 @@
 -- A line of a thread's log is the thread's own.
-use Rattle.std.proofs.Common.{◌≡◌, ℕ, List, [], ◌∷◌, Option, Some, None, IfSome, refl, sym, ap, ◌∙◌}
-use Rattle.std.proofs.Common.{subst}
+use Rattle.std.proofs.Common.{◌≡◌, ℕ, List, [], ◌∷◌, Option, Some, None, IfSome, refl}
 use Rattle.lk_locks.specs.declared.kinds.Move.{Move}
 use Rattle.lk_trace.specs.Lines.{log_line_of, move_with, with_action, with_seen, seen_of}
 use Rattle.lk_trace.specs.declared.line.Seen.{Seen}

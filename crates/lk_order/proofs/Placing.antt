@@ -1,18 +1,18 @@
 -- An order with a line more is an order, where the line is the next of its thread's log and agrees
 -- with the lock.
-use Rattle.std.proofs.Common.{◌≡◌, ◌≢◌, ℕ, suc, ◌+◌, ◌<◌, ◌≤◌, ◌==◌, List, [], ◌∷◌, ◌++◌, Option}
-use Rattle.std.proofs.Common.{Some, None}
-use Rattle.std.proofs.Common.{length, take, map, get_or, set, refl, sym, ap, ◌∙◌, subst, arith, inl}
+use Rattle.std.proofs.Common.{◌≡◌, ◌≢◌, ℕ, suc, ◌+◌, ◌<◌, ◌==◌, List, [], ◌∷◌, ◌++◌}
+use Rattle.std.proofs.Common.{Some}
+use Rattle.std.proofs.Common.{length, take, get_or, set, refl, sym, ap, ◌∙◌, subst, arith, inl}
 use Rattle.std.proofs.Common.{inr}
 use Rattle.std.proofs.Common.{length-append}
-use Rattle.std.specs.List.{All, slice_get}
+use Rattle.std.specs.List.{slice_get}
 use Rattle.std.proofs.Math.Seq.{take-suc}
 use Rattle.std.proofs.lemmas.Bool.{cond-true, cond-false, eq-eqb, ne_eqb, cases_eq}
 use Rattle.std.proofs.lemmas.List.{append-nil, get_or-set_same, get_or-set_other}
 use Rattle.std.proofs.lemmas.List.Elements.{filter-append, All-append, All-cons, All-nil}
 use Rattle.std.proofs.lemmas.Option.{slice_get_within, get_or_from_slice_get}
 use Rattle.lk_trace.specs.Agreement.{Agrees}
-use Rattle.lk_trace.specs.Checks.{Checked, checked, new_lock}
+use Rattle.lk_trace.specs.Checks.{Checked, checked}
 use Rattle.lk_trace.specs.declared.line.TraceLine.{TraceLine}
 use Rattle.lk_order.specs.Runs.{moves_of}
 use Rattle.lk_order.specs.Orders.{Ordered, IsOrder, IsAccepted, after_lines, lines_by, placed_of}

@@ -1,5 +1,5 @@
 -- A line has no difference exactly where it agrees part by part.
-use Rattle.std.proofs.Common.{◌≡◌, ℕ, ◌<◌, ◌==◌, Option, Some, None, Bool, true, false, not, IfSome}
+use Rattle.std.proofs.Common.{◌≡◌, ℕ, ◌<◌, ◌==◌, Option, Some, None, Bool, true, false, IfSome}
 use Rattle.std.proofs.Common.{if◌then◌else◌, nat_lt, refl, sym, ap, ◌∙◌}
 use Rattle.std.proofs.lemmas.Bool.{eqb-true, eq-eqb, ltb-true, lt-ltb, cond-true}
 use Rattle.lk_locks.specs.Steps.{refusal_of}
@@ -12,7 +12,7 @@ use Rattle.lk_trace.specs.Checks.{Checked, or_then, refused, is_word, other_word
 use Rattle.lk_trace.specs.Checks.{left_other, same_answer, wrote_other, count_other, same_outcome}
 use Rattle.lk_trace.specs.Checks.{outcome_other, values_other, seen_other, difference_of}
 use Rattle.lk_trace.specs.Checks.{stands, will_stand, word_of}
-use Rattle.lk_trace.specs.Agreement.{AgreesOnWord, AgreesOnSection, AgreesOn, Agrees}
+use Rattle.lk_trace.specs.Agreement.{AgreesOn, Agrees}
 use Rattle.lk_trace.specs.declared.names.WordName.{WordName}
 use Rattle.lk_trace.specs.declared.names.WordName.TheVariants.{NextTicket, NowServing, Tail, Next}
 use Rattle.lk_trace.specs.declared.names.WordName.TheVariants.{Locked, Readers, Flag, ReadAcquires}

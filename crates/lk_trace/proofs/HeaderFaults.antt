@@ -1,5 +1,5 @@
 -- A fault of a header is told without its line.
-use Rattle.std.proofs.Common.{◌≡◌, Result, Ok, Err, sym, ap}
+use Rattle.std.proofs.Common.{◌≡◌, Result, Err, sym, ap}
 use Rattle.lk_replay.specs.Header as text
 use Rattle.lk_replay.specs.Faults.{Fault}
 use Rattle.lk_replay.specs.Reads.{Fails}

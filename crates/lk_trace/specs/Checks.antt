@@ -1,6 +1,6 @@
 -- Definitions. The check of a move with what its thread saw: where they differ first. This
 -- project's own; what a move does is said by the definitions of the locks alone.
-use Rattle.std.specs.Prelude.{ℕ, ◌==◌, List, [], replicate, slice_index, Option, Some, None, Result}
+use Rattle.std.specs.Prelude.{ℕ, ◌==◌, [], replicate, slice_index, Option, Some, None, Result}
 use Rattle.std.specs.Prelude.{Ok, Err, Bool}
 use Rattle.std.specs.Prelude.{true, false, not, nat_lt, if◌then◌else◌}
 use Rattle.lk_locks.specs.State.{State, start, word_count, phase_at}

@@ -18,7 +18,7 @@ use Rattle.lk_trace.specs.declared.trace.Event.{Event}
 use Rattle.lk_trace.specs.declared.trace.Event.TheVariants.{Skipped, Began, Made, Differs}
 use Rattle.lk_trace.specs.declared.trace.Event.TheVariants.{Fault as FaultOf}
 use Rattle.lk_trace.specs.declared.trace.TextFault.{TextFault}
-use Rattle.lk_trace.specs.declared.trace.TextFault.TheVariants.{NoHeader, BadHeader, BadThreads}
+use Rattle.lk_trace.specs.declared.trace.TextFault.TheVariants.{BadHeader, BadThreads}
 use Rattle.lk_trace.specs.declared.trace.TextFault.TheVariants.{WordsTooNarrow, BadLine}
 
 -- a schedule's fault, without its line

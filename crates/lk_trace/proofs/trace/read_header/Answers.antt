@@ -1,5 +1,5 @@
 -- Each fault of a header is the text's.
-use Rattle.std.proofs.Common.{◌≡◌, ◌∙◌, Err, ap, sym}
+use Rattle.std.proofs.Common.{◌∙◌, Err, ap, sym}
 use Rattle.std.proofs.lemmas.Bool.{cond-false, le-ltb}
 use Rattle.lk_trace.proofs.HeaderFaults.{header_fails}
 use Rattle.lk_trace.proofs.trace.read_header.Goals as goal

@@ -1,6 +1,5 @@
 -- A line without a difference is made.
-use Rattle.std.proofs.Common.{◌≡◌, ◌∙◌, Ok, None, Some, refl, subst, sym}
-use Rattle.lk_trace.specs.Agreement.{Agrees}
+use Rattle.std.proofs.Common.{◌≡◌, ◌∙◌, Ok, None, refl, subst, sym}
 use Rattle.lk_trace.specs.Checks.{Checked, difference_of, after_line, answer_to}
 use Rattle.lk_trace.proofs.Agreeing.{agrees, agreed}
 use Rattle.lk_trace.proofs.Made.{made, answered, not_both}
