@@ -1,22 +1,24 @@
 -- What the rooms prove of each step of their lock, and how a choice inside a step is taken apart.
-use Rattle.std.proofs.Common.{Bool, List, [], false, if◌then◌else◌, length, true, unwrap_or, ℕ}
-use Rattle.std.proofs.Common.{◌++◌, ◌∷◌, ◌≡◌, ◌<◌, ◌≤◌, None}
+use Rattle.std.proofs.Common.{Bool, List, [], false, if◌then◌else◌, length, set, slice_index, true}
+use Rattle.std.proofs.Common.{unwrap_or, ℕ, ◌++◌, ◌∷◌, ◌≡◌, ◌<◌, ◌≤◌, ◌^◌, None}
 use Rattle.std.specs.List.{AllByRecursion}
 use Rattle.lk_locks.specs.Change.{Change}
-use Rattle.lk_locks.specs.Entries.{step_entries}
+use Rattle.lk_locks.specs.Entries.{move_entries}
 use Rattle.lk_locks.specs.Legal.{AreEnabled, after_entries, whole_call}
-use Rattle.lk_locks.specs.Sequential.{Sequential, thread_of}
-use Rattle.lk_locks.specs.State.{phase_at, word_count}
-use Rattle.lk_locks.specs.Steps.{after_call, belongs, refusal_in}
-use Rattle.lk_locks.specs.invariants.Kept.{AgreeAs}
-use Rattle.lk_locks.specs.invariants.Owed.{owed_of}
-use Rattle.lk_locks.specs.invariants.WellFormed.{IsPhaseOf}
+use Rattle.lk_locks.specs.Rooms.{after_call, family_of, step_entries, step_of, word_count}
+use Rattle.lk_locks.specs.Sequential.{Sequential, nobody, thread_of}
+use Rattle.lk_locks.specs.State.{State, phase_at, start}
+use Rattle.lk_locks.specs.Steps.{belongs, has_op, move_change, refusal_in}
+use Rattle.lk_locks.specs.invariants.Rooms.{AgreeAs, AreLinks, IsPhaseOf, owed_of}
 use Rattle.lk_locks.specs.declared.kinds.Entry.{Entry}
 use Rattle.lk_locks.specs.declared.kinds.Entry.TheVariants.{Called}
 use Rattle.lk_locks.specs.declared.kinds.LockKind.{LockKind}
 use Rattle.lk_locks.specs.declared.kinds.Move.{Move}
+use Rattle.lk_locks.specs.declared.kinds.Move.TheVariants.{Call}
 use Rattle.lk_locks.specs.declared.kinds.Op.{Op}
+use Rattle.lk_locks.specs.declared.kinds.Outcome.{Outcome}
 use Rattle.lk_locks.specs.declared.kinds.Phase.{Phase}
+use Rattle.lk_locks.specs.declared.kinds.Phase.TheVariants.{Idle}
 
 pub either_way : {A : Type 0} (P : A → Type 0) (b : Bool) (x y : A) → P x → P y
     → P (if b then x else y)
@@ -65,3 +67,44 @@ pub record IsAgreed (kind : LockKind) (agree : Sequential → Type 0) (q : Seque
   pub allowed : AreEnabled q es
   pub kind_is : (after_entries q es).kind ≡ kind
   pub agrees : agree (after_entries q es)
+
+-- What each room proves of its lock. `EachRoom` says which lock has which room.
+pub record IsRoom (kind : LockKind) : Type 0 where
+  -- each step adds the next entries of the pending call
+  pub goes_on : (bits t : ℕ) (ws : List ℕ) (p : Phase) → GoesOn kind t p (step_of kind bits ws t p)
+  -- a call begins where the one before it is finished
+  pub begins : (n t : ℕ) (p : Phase) (op : Op) → IsPhaseOf kind n p
+      → has_op (family_of kind) op ≡ true → refusal_in kind p (Call op) ≡ None
+      → Begins kind t p op
+  -- what is left of a call is of its thread
+  pub owed_is_own : (t : ℕ) (p : Phase) → AreOf t (owed_of kind t p)
+  -- an idle thread owes nothing
+  pub idle_rest : (t : ℕ) → owed_of kind t Idle ≡ []
+  -- no step adds more than three entries
+  pub few_entries : (t : ℕ) (p : Phase) (o : Outcome) → length (step_entries kind t p o) ≤ 3
+  -- no step changes how many words there are
+  pub keeps_length : (bits t : ℕ) (ws : List ℕ) (p : Phase)
+      → KeepsLength ws (step_of kind bits ws t p)
+  -- each phase is one of the lock's, and each link names a thread
+  pub idle_fits : (n : ℕ) → IsPhaseOf kind n Idle
+  pub call_fits : (n : ℕ) (p : Phase) (op : Op) → IsPhaseOf kind n p
+      → IsPhaseOf kind n (unwrap_or (after_call kind p op) p)
+  pub step_fits : (n bits t : ℕ) (ws : List ℕ) (p : Phase) → t < n → IsPhaseOf kind n p
+      → AreLinks kind n ws → Fits kind n (step_of kind bits ws t p)
+  pub clear_links : (n : ℕ) (ws : List ℕ) → ((i : ℕ) → slice_index ws i ≡ 0) → AreLinks kind n ws
+  pub links_fit : (n bits t : ℕ) (ws : List ℕ) (p : Phase) → t < n → AreLinks kind n ws
+      → AreLinks kind n (step_of kind bits ws t p).words
+  -- a new lock agrees with its sequential object
+  pub starts : (bits : ℕ) (ws : List ℕ) (n : ℕ) → n < 2 ^ bits
+      → ((i : ℕ) → slice_index ws i ≡ 0) → AgreeAs kind (start kind bits ws n) (nobody kind)
+  -- each move keeps that, and its entries may come
+  pub keeps : (bits : ℕ) (ws : List ℕ) (ps : List Phase) (q : Sequential) (t : ℕ) (p : Phase)
+      (m : Move) → IsTaken kind bits ws ps q t p m
+      → let c : Change = move_change kind bits ws t p m in
+      let next : State = record {
+        kind = kind;
+        bits = bits;
+        words = c.words;
+        phases = set ps t c.phase;
+      } in
+      IsAgreed kind (AgreeAs kind next) q (move_entries kind t p m c.outcome)

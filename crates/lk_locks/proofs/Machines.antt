@@ -1,16 +1,17 @@
 -- A machine after a move, by its fields.
-use Rattle.std.proofs.Common.{◌≡◌, ℕ, ◌+◌, ◌<◌, ◌≤◌, List, length, set, take, replicate, ◌^◌, ◌*◌}
+use Rattle.std.proofs.Common.{◌≡◌, ℕ, ◌<◌, ◌≤◌, List, length, set, take, replicate, ◌^◌}
 use Rattle.std.proofs.Common.{inl, inr, None, refl, sym, ◌∙◌, subst, arith, slice_index}
 use Rattle.std.proofs.lemmas.List.{length-set, take-replicate, length-replicate, get_or-replicate}
 use Rattle.std.proofs.lemmas.List.{get_or_past}
 use Rattle.std.proofs.lemmas.Bool.{cases_lt}
 use Rattle.std.proofs.Math.Seq.{take-set-lt}
-use Rattle.lk_locks.specs.State.{State, phase_at, word_count, start}
+use Rattle.lk_locks.specs.State.{State, phase_at, start}
+use Rattle.lk_locks.specs.Rooms.{word_count}
 use Rattle.lk_locks.specs.Steps.{move_change, change_of, next_state, refusal_of, after_move}
-use Rattle.lk_locks.specs.invariants.WellFormed.{IsMachine, IsPhaseOf, AreLinks}
+use Rattle.lk_locks.specs.invariants.WellFormed.{IsMachine}
+use Rattle.lk_locks.proofs.EachRoom.{room_of}
 use Rattle.lk_locks.proofs.Moves.{Accepted, well_kept, accepted_of}
 use Rattle.lk_locks.specs.declared.kinds.LockKind.{LockKind}
-use Rattle.lk_locks.specs.declared.kinds.LockKind.TheVariants.{Ticket, Mcs, RwSimple, RwFifo}
 use Rattle.lk_locks.specs.declared.kinds.Phase.{Phase}
 use Rattle.lk_locks.specs.declared.kinds.Phase.TheVariants.{Idle}
 use Rattle.lk_locks.specs.declared.kinds.Move.{Move}
@@ -35,17 +36,6 @@ machine_kept n s t m k a = record {
   well = well_kept s t m k.well a;
 }
 
-idle_fits : (kind : LockKind) (n : ℕ) → IsPhaseOf kind n Idle
-idle_fits Ticket n = refl
-idle_fits Mcs n = tt
-idle_fits RwSimple n = refl
-idle_fits RwFifo n = refl
-
-clear_links : (kind : LockKind) (n : ℕ) (ws : List ℕ) → ((i : ℕ) → slice_index ws i ≡ 0)
-    → AreLinks kind n ws
-clear_links Mcs n ws h = (omega (arith, h 0), λ i k. omega (arith, h (1 + 2 * i)))
-clear_links kind n ws h = tt
-
 -- a new machine
 pub machine_new : (kind : LockKind) (bits n : ℕ) (ws : List ℕ) → n ≤ 64 → n < 2 ^ bits
     → word_count kind n ≤ length ws → ((i : ℕ) → i < length ws → slice_index ws i ≡ 0)
@@ -59,9 +49,9 @@ machine_new kind bits n ws h b w z = record {
     phases_fit =
         λ t k. rw (get_or-replicate n t Idle Idle
         (let e : length (replicate n Idle) ≡ n = length-replicate n Idle in omega arith))
-        (idle_fits kind (length (replicate n Idle)));
+        ((room_of kind).idle_fits (length (replicate n Idle)));
     links_fit =
-        clear_links kind _ ws
+        (room_of kind).clear_links _ ws
         (λ i. elim (cases_lt i (length ws)) [ inl k ↦ z i k | inr k ↦ get_or_past ws i 0 k ]);
   };
 }

@@ -1,9 +1,10 @@
 -- Lists of threads.
 use Rattle.std.proofs.Common.{Bool, List, [], arith, eqb, false, inl, inr, length, refl, set, sym}
-use Rattle.std.proofs.Common.{true, ℕ, ◌++◌, ◌<◌, ◌||◌, ◌∙◌, ◌∷◌, ◌≡◌, ◌≢◌, ◌⊎◌}
-use Rattle.std.proofs.lemmas.Bool.{false≢true}
+use Rattle.std.proofs.Common.{replicate, true, ℕ, ◌++◌, ◌<◌, ◌||◌, ◌∙◌, ◌∷◌, ◌≡◌, ◌≢◌, ◌⊎◌}
+use Rattle.std.proofs.lemmas.Bool.{cases_lt, false≢true}
 use Rattle.std.proofs.lemmas.Bool.Decides.{eqb_tells}
-use Rattle.std.proofs.lemmas.List.{get_or-set_other, get_or-set_same, length-set}
+use Rattle.std.proofs.lemmas.List.{get_or-replicate, get_or-set_other, get_or-set_same, get_or_past}
+use Rattle.std.proofs.lemmas.List.{length-replicate, length-set}
 use Rattle.std.proofs.lemmas.List.Folds.{list_any-append}
 use Rattle.std.specs.List.{AllByRecursion, IsDistinct}
 use Rattle.lk_locks.specs.Sequential.{has}
@@ -81,3 +82,12 @@ each_phase P ps t p h new old u k =
       | inl e ↦ rw e.1 (rw (at_same ps t p h) new)
       | inr e ↦ rw (at_other ps t u p e.1) (old u e.1 (omega (arith, length-set ps t p)))
     ]
+
+-- at the start each thread is idle
+pub all_idle : (n t : ℕ) → phase_at (replicate n Idle) t ≡ Idle
+all_idle n t = elim (cases_lt t n) [
+  | inl h ↦ get_or-replicate n t Idle Idle h
+  | inr h ↦
+      get_or_past (replicate n Idle) t Idle
+      (let e : length (replicate n Idle) ≡ n = length-replicate n Idle in omega arith)
+]

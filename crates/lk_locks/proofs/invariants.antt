@@ -4,5 +4,6 @@ pub mod TicketLine
 pub mod ticket
 pub mod McsLine
 pub mod mcs
+pub mod read_write
 pub mod rw_simple
 pub mod rw_fifo

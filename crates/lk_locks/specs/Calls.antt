@@ -1,6 +1,7 @@
 -- Definitions. Each finished call acted exactly once, between its call and its return: laws of
 -- every legal history. This project's own.
 use Rattle.std.specs.Prelude.{◌≡◌, ℕ, List, [], ◌∷◌, ◌++◌}
+use Rattle.lk_locks.specs.Rooms.{family_of}
 use Rattle.lk_locks.specs.Acts.{announcement}
 use Rattle.lk_locks.specs.Legal.{Legal, subhistory}
 use Rattle.lk_locks.specs.declared.kinds.LockKind.{LockKind}
@@ -19,7 +20,7 @@ HasDone t op deeds es =
 abbrev pub ActsOnce : LockKind → List Entry → Type 0
 ActsOnce kind es =
     (t : ℕ) (op : Op) (before after : List Entry) → es ≡ before ++ Returned t op ∷ after
-    → HasDone t op (announcement kind t op ++ Acted t op ∷ []) before
+    → HasDone t op (announcement (family_of kind) t op ++ Acted t op ∷ []) before
 
 abbrev pub CallsActOnce : Type 0
 CallsActOnce = (kind : LockKind) (n : ℕ) (es : List Entry) → Legal kind n es → ActsOnce kind es
@@ -34,7 +35,7 @@ ReturnsNext t op (e ∷ es) = e ≡ Returned t op
 abbrev pub ActsInCalls : LockKind → List Entry → Type 0
 ActsInCalls kind es =
     (t : ℕ) (op : Op) (before after : List Entry) → es ≡ before ++ Acted t op ∷ after
-    → HasDone t op (announcement kind t op) before × ReturnsNext t op (subhistory t after)
+    → HasDone t op (announcement (family_of kind) t op) before × ReturnsNext t op (subhistory t after)
 
 abbrev pub ActsAreCalled : Type 0
 ActsAreCalled = (kind : LockKind) (n : ℕ) (es : List Entry) → Legal kind n es → ActsInCalls kind es

@@ -1,20 +1,20 @@
 -- Definitions. Mutual exclusion, in its own words: laws of every legal history. This project's own.
 use Rattle.std.specs.Prelude.{◌≡◌, ℕ, List, [], ◌∷◌, ◌++◌, Option, None, Some, ◌⊎◌, IsTrue}
+use Rattle.lk_locks.specs.Rooms.{family_of}
 use Rattle.lk_locks.specs.Sequential.{Sequential, nobody, is_head}
 use Rattle.lk_locks.specs.Legal.{Legal, after_entries}
 use Rattle.lk_locks.specs.Holding.{holder_after}
 use Rattle.lk_locks.specs.Places.{Between}
 use Rattle.lk_locks.specs.declared.kinds.LockKind.{LockKind}
-use Rattle.lk_locks.specs.declared.kinds.LockKind.TheVariants.{Ticket, Mcs, RwFifo}
+use Rattle.lk_locks.specs.declared.kinds.LockKind.TheVariants.{RwFifo}
+use Rattle.lk_locks.specs.declared.kinds.Family.TheVariants.{Queue}
 use Rattle.lk_locks.specs.declared.kinds.Op.TheVariants.{Acquire, Release, ReadLock, ReadUnlock}
 use Rattle.lk_locks.specs.declared.kinds.Op.TheVariants.{WriteLock, WriteUnlock, Downgrade}
 use Rattle.lk_locks.specs.declared.kinds.Entry.{Entry}
 use Rattle.lk_locks.specs.declared.kinds.Entry.TheVariants.{Announced, Acted, Returned}
 
 abbrev pub IsQueueLock : LockKind → Type 0
-IsQueueLock Ticket = Unit {0}
-IsQueueLock Mcs = Unit {0}
-IsQueueLock kind = ⊥
+IsQueueLock kind = family_of kind ≡ Queue
 
 -- Queue locks. What is said of acquires holds of the histories of all locks: a read-write lock has
 -- none.

@@ -1,8 +1,7 @@
 -- Definitions. The state of a lock: its kind, its words, and what each thread does. This project's
 -- own.
-use Rattle.std.specs.Prelude.{ℕ, ◌+◌, ◌*◌, List, get_or, replicate}
+use Rattle.std.specs.Prelude.{ℕ, List, get_or, replicate}
 use Rattle.lk_locks.specs.declared.kinds.LockKind.{LockKind}
-use Rattle.lk_locks.specs.declared.kinds.LockKind.TheVariants.{Ticket, Mcs, RwSimple, RwFifo}
 use Rattle.lk_locks.specs.declared.kinds.Phase.{Phase}
 use Rattle.lk_locks.specs.declared.kinds.Phase.TheVariants.{Idle}
 
@@ -12,13 +11,6 @@ pub record State : Type 0 where
   pub bits : ℕ
   pub words : List ℕ
   pub phases : List Phase
-
--- how many words a lock of this kind has
-abbrev pub word_count : LockKind → ℕ → ℕ
-word_count Ticket threads = 2
-word_count Mcs threads = 1 + 2 * threads
-word_count RwSimple threads = 2
-word_count RwFifo threads = 3
 
 -- what thread t does
 abbrev pub phase_at : List Phase → ℕ → Phase

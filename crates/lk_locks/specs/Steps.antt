@@ -1,19 +1,15 @@
--- Definitions. Which moves are accepted, and what an accepted move does. The rooms say what is each
--- lock's own; this file knows none of their phases or words. This project's own: the seven refusals
--- and their order.
-use Rattle.std.specs.Prelude.{ℕ, List, [], ◌∷◌, length, set, Option, None, Some, is_some, is_none}
+-- Definitions. Which moves are accepted, and what an accepted move does. `Rooms` says what is each
+-- lock's own; this file knows no lock. This project's own: the seven refusals and their order.
+use Rattle.std.specs.Prelude.{ℕ, List, length, set, Option, None, Some, is_some, is_none}
 use Rattle.std.specs.Prelude.{unwrap_or, Bool, true, false, not, nat_lt, if◌then◌else◌, Result, Ok}
 use Rattle.std.specs.Prelude.{Err}
 use Rattle.std.specs.List.{list_any}
 use Rattle.lk_locks.specs.Change.{Change, to}
 use Rattle.lk_locks.specs.State.{State, phase_at}
-use Rattle.lk_locks.specs.ticket
-use Rattle.lk_locks.specs.mcs
-use Rattle.lk_locks.specs.read_write
-use Rattle.lk_locks.specs.rw_simple
-use Rattle.lk_locks.specs.rw_fifo
+use Rattle.lk_locks.specs.Rooms.{family_of, steps_of, after_call, step_due, step_of}
 use Rattle.lk_locks.specs.declared.kinds.LockKind.{LockKind}
-use Rattle.lk_locks.specs.declared.kinds.LockKind.TheVariants.{Ticket, Mcs, RwSimple, RwFifo}
+use Rattle.lk_locks.specs.declared.kinds.Family.{Family}
+use Rattle.lk_locks.specs.declared.kinds.Family.TheVariants.{Queue}
 use Rattle.lk_locks.specs.declared.kinds.Phase.{Phase}
 use Rattle.lk_locks.specs.declared.kinds.Phase.TheVariants.{Idle}
 use Rattle.lk_locks.specs.declared.kinds.Op.{Op}
@@ -29,7 +25,7 @@ use Rattle.lk_locks.specs.declared.kinds.Refusal.TheVariants.{NoSuchThread, Wron
 use Rattle.lk_locks.specs.declared.kinds.Refusal.TheVariants.{NotHolder, AlreadyHolds, NoCall}
 use Rattle.lk_locks.specs.declared.kinds.Refusal.TheVariants.{WrongStep}
 
--- what the rooms say
+-- operations
 
 -- a queue lock has these operations, and a read-write lock the others
 abbrev pub is_queue_op : Op → Bool
@@ -37,33 +33,9 @@ is_queue_op Acquire = true
 is_queue_op Release = true
 is_queue_op op = false
 
-abbrev pub has_op : LockKind → Op → Bool
-has_op Ticket op = is_queue_op op
-has_op Mcs op = is_queue_op op
-has_op kind op = not (is_queue_op op)
-
-abbrev pub steps_of : LockKind → List StepKind
-steps_of Ticket = Add ∷ Read ∷ Write ∷ []
-steps_of Mcs = Read ∷ Write ∷ Swap ∷ Cas ∷ []
-steps_of kind = Section ∷ []
-
--- the phase that a call leads to, where a thread in this phase may make it
-abbrev pub after_call : LockKind → Phase → Op → Option Phase
-after_call Ticket p op = ticket.after_call p op
-after_call Mcs p op = mcs.after_call p op
-after_call kind p op = read_write.after_call p op
-
--- the step that a thread in this phase takes next. There is none where it has no pending call
-abbrev pub step_due : LockKind → Phase → Option StepKind
-step_due Ticket p = ticket.step_due p
-step_due Mcs p = mcs.step_due p
-step_due kind p = read_write.step_due p
-
-abbrev pub step_of : LockKind → ℕ → List ℕ → ℕ → Phase → Change
-step_of Ticket bits ws t p = ticket.step bits t ws p
-step_of Mcs bits ws t p = mcs.step bits t ws p
-step_of RwSimple bits ws t p = rw_simple.step bits ws p
-step_of RwFifo bits ws t p = rw_fifo.step bits ws p
+abbrev pub has_op : Family → Op → Bool
+has_op Queue op = is_queue_op op
+has_op family op = not (is_queue_op op)
 
 -- refusals
 
@@ -77,7 +49,7 @@ same_step Section Section = true
 same_step a b = false
 
 abbrev pub belongs : LockKind → Move → Bool
-belongs kind (Call op) = has_op kind op
+belongs kind (Call op) = has_op (family_of kind) op
 belongs kind (Step step) = list_any (same_step step) (steps_of kind)
 
 -- Why a move of a thread in this phase is refused, by the step that it is due to take. What an idle

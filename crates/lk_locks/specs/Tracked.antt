@@ -1,14 +1,13 @@
 -- Definitions. A lock that goes along with its own history and keeps none of it: the state, the
 -- sequential object, and who holds a queue lock. This project's own.
-use Rattle.std.specs.Prelude.{ℕ, List, [], Option, None, Some}
+use Rattle.std.specs.Prelude.{ℕ, List, Option, None, Some}
 use Rattle.lk_locks.specs.State.{State}
 use Rattle.lk_locks.specs.Steps.{refusal_of, next_state}
 use Rattle.lk_locks.specs.Entries.{entries_of}
 use Rattle.lk_locks.specs.Sequential.{Sequential, nobody}
 use Rattle.lk_locks.specs.Legal.{after_entries}
-use Rattle.lk_locks.specs.Holding.{Holding, held_by_one, shared_by, one_or_none, holder_after}
-use Rattle.lk_locks.specs.declared.kinds.LockKind.{LockKind}
-use Rattle.lk_locks.specs.declared.kinds.LockKind.TheVariants.{Ticket, Mcs, RwSimple, RwFifo}
+use Rattle.lk_locks.specs.Rooms.{family_of}
+use Rattle.lk_locks.specs.Holding.{Holding, held_in, waits_in, holder_after}
 use Rattle.lk_locks.specs.declared.kinds.Move.{Move}
 use Rattle.lk_locks.specs.declared.kinds.Entry.{Entry}
 use Rattle.lk_locks.specs.declared.kinds.Refusal.{Refusal}
@@ -44,18 +43,8 @@ after_tracked k t m =
     followed_unless (refusal_of k.state t m) k (next_state k.state t m) (entries_of k.state t m)
 
 -- who holds, and who waits in line; `holding_of` and `waiting_of` say the same of the entries
-abbrev pub held_as : LockKind → Tracked → Holding
-held_as Ticket k = held_by_one k.holder
-held_as Mcs k = held_by_one k.holder
-held_as kind k = shared_by k.sequential.readers k.sequential.writer
-
 abbrev pub holding_in : Tracked → Holding
-holding_in k = held_as k.state.kind k
-
-abbrev pub waits_as : LockKind → Sequential → List ℕ
-waits_as RwSimple q = []
-waits_as RwFifo q = one_or_none q.announced
-waits_as kind q = q.queue
+holding_in k = held_in (family_of k.state.kind) k.sequential k.holder
 
 abbrev pub waiting_in : Tracked → List ℕ
-waiting_in k = waits_as k.state.kind k.sequential
+waiting_in k = waits_in (family_of k.state.kind) k.sequential

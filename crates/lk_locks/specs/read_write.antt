@@ -5,7 +5,7 @@
 -- a writer becomes a reader in one section, is this project's own.
 use Rattle.std.specs.Prelude.{ℕ, List, [], ◌∷◌, ◌++◌, Option, None, Some}
 use Rattle.lk_locks.specs.Acts.{acts, announcement}
-use Rattle.lk_locks.specs.declared.kinds.LockKind.{LockKind}
+use Rattle.lk_locks.specs.declared.kinds.Family.{Family}
 use Rattle.lk_locks.specs.declared.kinds.Phase.{Phase}
 use Rattle.lk_locks.specs.declared.kinds.Phase.TheVariants.{Idle, TryRead, Reading, LeaveRead}
 use Rattle.lk_locks.specs.declared.kinds.Phase.TheVariants.{TryWrite, AwaitReaders, Writing}
@@ -38,12 +38,12 @@ step_due p = Some Section
 
 -- The entries of a section. A FIFO writer announces itself where it sets the flag; a call acts
 -- where it succeeds.
-abbrev pub entries : LockKind → ℕ → Phase → Outcome → List Entry
-entries kind i TryRead Entered = acts i ReadLock
-entries kind i LeaveRead Left = acts i ReadUnlock
-entries kind i TryWrite Moved = Announced i ∷ []
-entries kind i TryWrite Entered = announcement kind i WriteLock ++ acts i WriteLock
-entries kind i AwaitReaders Entered = acts i WriteLock
-entries kind i LeaveWrite Left = acts i WriteUnlock
-entries kind i TryDowngrade Entered = acts i Downgrade
-entries kind i p o = []
+abbrev pub entries : Family → ℕ → Phase → Outcome → List Entry
+entries family i TryRead Entered = acts i ReadLock
+entries family i LeaveRead Left = acts i ReadUnlock
+entries family i TryWrite Moved = Announced i ∷ []
+entries family i TryWrite Entered = announcement family i WriteLock ++ acts i WriteLock
+entries family i AwaitReaders Entered = acts i WriteLock
+entries family i LeaveWrite Left = acts i WriteUnlock
+entries family i TryDowngrade Entered = acts i Downgrade
+entries family i p o = []

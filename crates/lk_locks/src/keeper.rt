@@ -35,8 +35,9 @@ impl<W: Words> Model for Keeper<W> {
 impl<W: Words> Keeper<W> {
     ghost use Rattle.std.specs.Prelude.{◌≡◌, ℕ, ◌<◌, ◌≤◌, ◌^◌, length, slice_index, OnOk, OnErr};
     ghost use Rattle.std.specs.Prelude.{[]};
-    ghost use Rattle.lk_locks.specs.State.{start, word_count, phase_at};
-    ghost use Rattle.lk_locks.specs.Steps.{step_due, refusal_of, change_of};
+    ghost use Rattle.lk_locks.specs.State.{start, phase_at};
+    ghost use Rattle.lk_locks.specs.Steps.{refusal_of, change_of};
+    ghost use Rattle.lk_locks.specs.Rooms.{step_due, word_count};
     ghost use Rattle.lk_locks.specs.Sequential.{nobody};
     ghost use Rattle.lk_locks.specs.MainTheorem.{IsAsPromised};
     ghost use Rattle.lk_locks.specs.Play.{after_play, IsPlayAnswer};

@@ -7,7 +7,7 @@
 
 ghost use Rattle.std.specs.Prelude.{◌≡◌, ◌+◌, [], false, true};
 ghost use Rattle.lk_locks.specs.mcs.{next, locked, after_call, step_due, step, entries};
-ghost use Rattle.lk_locks.specs.State.{word_count};
+ghost use Rattle.lk_locks.specs.Rooms.{word_count};
 ghost use Rattle.lk_locks.specs.invariants.mcs.{is_inside};
 ghost use Rattle.lk_locks.specs.invariants.WellFormed.{IsReady};
 ghost use Rattle.lk_locks.specs.declared.kinds.LockKind.TheVariants.{Mcs};

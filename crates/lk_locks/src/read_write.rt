@@ -10,7 +10,7 @@ ghost use Rattle.lk_locks.specs.declared.kinds.Phase.TheVariants.{TryWrite};
 ghost use Rattle.lk_locks.specs.declared.kinds.Outcome.TheVariants.{Entered};
 
 use crate::entries::Added;
-use crate::{Entry, LockKind, Op, Outcome, Phase, StepKind};
+use crate::{Entry, Family, Op, Outcome, Phase, StepKind};
 
 /// The phase that a call leads to, where a thread in this phase may make it.
 pub fn after_call(phase: Phase, op: Op) -> Option<Phase>
@@ -37,12 +37,12 @@ pub fn step_due(phase: Phase) -> Option<StepKind>
 }
 
 // The entries of a writer that comes in at its first section.
-fn add_writer(added: &mut Added, kind: LockKind, thread: u8)
+fn add_writer(added: &mut Added, family: Family, thread: u8)
     requires { added.old ≡ [] }
-    ensures { added.new ≡ entries kind thread TryWrite Entered }
+    ensures { added.new ≡ entries family thread TryWrite Entered }
 {
-    match kind {
-        LockKind::RwFifo => added.three(
+    match family {
+        Family::FifoReadWrite => added.three(
             Entry::Announced(thread),
             Entry::Acted(thread, Op::WriteLock),
             Entry::Returned(thread, Op::WriteLock),
@@ -52,15 +52,15 @@ fn add_writer(added: &mut Added, kind: LockKind, thread: u8)
 }
 
 /// Adds the entries of a section.
-pub fn add_entries(added: &mut Added, kind: LockKind, thread: u8, phase: Phase, outcome: Outcome)
+pub fn add_entries(added: &mut Added, family: Family, thread: u8, phase: Phase, outcome: Outcome)
     requires { added.old ≡ [] }
-    ensures { added.new ≡ entries kind thread phase outcome }
+    ensures { added.new ≡ entries family thread phase outcome }
 {
     match (phase, outcome) {
         (Phase::TryRead, Outcome::Entered) => added.acts(thread, Op::ReadLock),
         (Phase::LeaveRead, Outcome::Left) => added.acts(thread, Op::ReadUnlock),
         (Phase::TryWrite, Outcome::Moved) => added.one(Entry::Announced(thread)),
-        (Phase::TryWrite, Outcome::Entered) => add_writer(added, kind, thread),
+        (Phase::TryWrite, Outcome::Entered) => add_writer(added, family, thread),
         (Phase::AwaitReaders, Outcome::Entered) => added.acts(thread, Op::WriteLock),
         (Phase::LeaveWrite, Outcome::Left) => added.acts(thread, Op::WriteUnlock),
         (Phase::TryDowngrade, Outcome::Entered) => added.acts(thread, Op::Downgrade),

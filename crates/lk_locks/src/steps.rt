@@ -2,38 +2,22 @@
 //! knows none of their phases or words.
 
 ghost use Rattle.std.specs.Prelude.{◌≡◌, Option, None, Some};
-ghost use Rattle.lk_locks.specs.Steps.{has_op, steps_of, same_step, after_call, step_due};
-ghost use Rattle.lk_locks.specs.Steps.{refusal_at, refusal_in, belongs, move_change, step_of};
-ghost use Rattle.std.specs.List.{list_any};
+ghost use Rattle.lk_locks.specs.Rooms.{family_of};
+ghost use Rattle.lk_locks.specs.Steps.{has_op, refusal_at, refusal_in, belongs, move_change};
 ghost use Rattle.lk_locks.specs.declared.kinds.Move.TheVariants.{Call};
 ghost use Rattle.lk_locks.specs.invariants.WellFormed.{IsReady};
 
-use crate::{
-    LockKind, Move, Op, Outcome, Phase, Refusal, StepKind, mcs, read_write, rw_fifo, rw_simple,
-    ticket,
-};
+use crate::rooms::{after_call, family_of, has_step, step_due, take_step};
+use crate::{Family, LockKind, Move, Op, Outcome, Phase, Refusal};
 use lk_words::Words;
 
 fn has_op(kind: LockKind, op: Op) -> bool
-    ensures { result ≡ has_op kind op }
+    ensures { result ≡ has_op (family_of kind) op }
 {
     let is_of_queue_locks = matches!(op, Op::Acquire | Op::Release);
-    match kind {
-        LockKind::Ticket | LockKind::Mcs => is_of_queue_locks,
-        LockKind::RwSimple | LockKind::RwFifo => !is_of_queue_locks,
-    }
-}
-
-fn has_step(kind: LockKind, step: StepKind) -> bool
-    ensures { result ≡ list_any (same_step step) (steps_of kind) }
-{
-    match kind {
-        LockKind::Ticket => matches!(step, StepKind::Add | StepKind::Read | StepKind::Write),
-        LockKind::Mcs => matches!(
-            step,
-            StepKind::Read | StepKind::Write | StepKind::Swap | StepKind::Cas
-        ),
-        LockKind::RwSimple | LockKind::RwFifo => matches!(step, StepKind::Section),
+    match family_of(kind) {
+        Family::Queue => is_of_queue_locks,
+        Family::ReadWrite | Family::FifoReadWrite => !is_of_queue_locks,
     }
 }
 
@@ -44,28 +28,6 @@ pub fn belongs(kind: LockKind, action: Move) -> bool
     match action {
         Move::Call(op) => has_op(kind, op),
         Move::Step(step) => has_step(kind, step),
-    }
-}
-
-/// The step that a thread in this phase takes next, where it has a pending call.
-pub fn step_due(kind: LockKind, phase: Phase) -> Option<StepKind>
-    ensures { result ≡ step_due kind phase }
-{
-    match kind {
-        LockKind::Ticket => ticket::step_due(phase),
-        LockKind::Mcs => mcs::step_due(phase),
-        LockKind::RwSimple | LockKind::RwFifo => read_write::step_due(phase),
-    }
-}
-
-// The phase that a call leads to, where a thread in this phase may make it.
-fn after_call(kind: LockKind, phase: Phase, op: Op) -> Option<Phase>
-    ensures { result ≡ after_call kind phase op }
-{
-    match kind {
-        LockKind::Ticket => ticket::after_call(phase, op),
-        LockKind::Mcs => mcs::after_call(phase, op),
-        LockKind::RwSimple | LockKind::RwFifo => read_write::after_call(phase, op),
     }
 }
 
@@ -98,24 +60,6 @@ pub fn refusal_in(kind: LockKind, phase: Phase, action: Move) -> Option<Refusal>
                 Some(Refusal::WrongStep { next })
             }
         }
-    }
-}
-
-fn take_step<W: Words>(words: &mut W, kind: LockKind, thread: u8, phase: Phase) -> (Phase, Outcome)
-    requires { IsReady kind (W.width words.old) (W.list words.old) thread phase }
-    ensures words { W.list words.new
-        ≡ (step_of kind (W.width words.old) (W.list words.old) thread phase).words }
-    ensures phase { result.0
-        ≡ (step_of kind (W.width words.old) (W.list words.old) thread phase).phase }
-    ensures outcome { result.1
-        ≡ (step_of kind (W.width words.old) (W.list words.old) thread phase).outcome }
-    ensures width { W.width words.new ≡ W.width words.old }
-{
-    match kind {
-        LockKind::Ticket => ticket::step(words, thread, phase),
-        LockKind::Mcs => mcs::step(words, thread, phase),
-        LockKind::RwSimple => rw_simple::step(words, phase),
-        LockKind::RwFifo => rw_fifo::step(words, phase),
     }
 }
 

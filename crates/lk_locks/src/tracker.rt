@@ -6,7 +6,8 @@ ghost use Rattle.lk_locks.specs.Holding.{holder_after};
 
 use crate::entries::Added;
 use crate::holders::{alone, copy_of};
-use crate::{Entry, Holders, LockKind, Machine, Move, Op, Outcome, Refusal, SeqLock};
+use crate::rooms::family_of;
+use crate::{Entry, Family, Holders, LockKind, Machine, Move, Op, Outcome, Refusal, SeqLock};
 use arrayvec::ArrayVec;
 use lk_words::Words;
 use std::marker::Model;
@@ -39,7 +40,8 @@ impl<W: Words> Model for Tracker<W> {
 
 impl<W: Words> Tracker<W> {
     ghost use Rattle.std.specs.Prelude.{◌≡◌, ℕ, ◌<◌, ◌≤◌, ◌^◌, length, slice_index, [], None};
-    ghost use Rattle.lk_locks.specs.State.{start, word_count};
+    ghost use Rattle.lk_locks.specs.State.{start};
+    ghost use Rattle.lk_locks.specs.Rooms.{word_count};
     ghost use Rattle.lk_locks.specs.Steps.{answer_to, change_of, next_state, refusal_of};
     ghost use Rattle.lk_locks.specs.Entries.{entries_of};
     ghost use Rattle.lk_locks.specs.Holding.{holding, IsListed};
@@ -116,12 +118,12 @@ impl<W: Words> Tracker<W> {
         ensures holding { holding result ≡ holding_in self.now }
         ensures listed { IsListed (holding result) }
     {
-        match self.machine.kind() {
-            LockKind::Ticket | LockKind::Mcs => match self.holder {
+        match family_of(self.machine.kind()) {
+            Family::Queue => match self.holder {
                 Some(t) => Holders::Holder(t),
                 None => Holders::Nobody,
             },
-            LockKind::RwSimple | LockKind::RwFifo => match self.sequential.writer() {
+            Family::ReadWrite | Family::FifoReadWrite => match self.sequential.writer() {
                 Some(t) => Holders::Writer(t),
                 None if self.sequential.readers().is_empty() => Holders::Nobody,
                 None => Holders::Readers(copy_of(self.sequential.readers())),
@@ -134,10 +136,10 @@ impl<W: Words> Tracker<W> {
     pub fn queue(&self) -> ArrayVec<u8, 64>
         ensures { result.items ≡ waiting_in self.now }
     {
-        match self.machine.kind() {
-            LockKind::Ticket | LockKind::Mcs => copy_of(self.sequential.queue()),
-            LockKind::RwSimple => ArrayVec::new(),
-            LockKind::RwFifo => match self.sequential.announced() {
+        match family_of(self.machine.kind()) {
+            Family::Queue => copy_of(self.sequential.queue()),
+            Family::ReadWrite => ArrayVec::new(),
+            Family::FifoReadWrite => match self.sequential.announced() {
                 Some(t) => alone(t),
                 None => ArrayVec::new(),
             },

@@ -4,41 +4,19 @@ use Rattle.lk_locks.specs.State.{State}
 use Rattle.lk_locks.specs.Steps.{refusal_of, next_state}
 use Rattle.lk_locks.specs.Entries.{entries_of}
 use Rattle.lk_locks.specs.Sequential.{nobody}
-use Rattle.lk_locks.specs.Legal.{after_entries}
-use Rattle.lk_locks.specs.Holding.{holder_after, holding_of, waiting_of}
-use Rattle.lk_locks.specs.Tracked.{tracked, followed, after_tracked, held_as, waits_as, holding_in}
-use Rattle.lk_locks.specs.Tracked.{waiting_in}
+use Rattle.lk_locks.specs.Holding.{holding_of, waiting_of}
+use Rattle.lk_locks.specs.Tracked.{tracked, followed, after_tracked, holding_in, waiting_in}
 use Rattle.lk_locks.proofs.Histories.{after_append, holder_append}
-use Rattle.lk_locks.specs.declared.kinds.LockKind.{LockKind}
-use Rattle.lk_locks.specs.declared.kinds.LockKind.TheVariants.{Ticket, Mcs, RwSimple, RwFifo}
 use Rattle.lk_locks.specs.declared.kinds.Move.{Move}
 use Rattle.lk_locks.specs.declared.kinds.Entry.{Entry}
 
-held_by_history : (kind : LockKind) (s : State) (es : List Entry) → held_as kind (record {
-  state = s;
-  sequential = after_entries (nobody kind) es;
-  holder = holder_after None es;
-})
-    ≡ holding_of kind es
-held_by_history Ticket s es = refl
-held_by_history Mcs s es = refl
-held_by_history RwSimple s es = refl
-held_by_history RwFifo s es = refl
-
 pub holding_tracked : (s : State) (es : List Entry)
     → holding_in (tracked s es) ≡ holding_of s.kind es
-holding_tracked s es = held_by_history s.kind s es
-
-waits_by_history : (kind : LockKind) (es : List Entry)
-    → waits_as kind (after_entries (nobody kind) es) ≡ waiting_of kind es
-waits_by_history Ticket es = refl
-waits_by_history Mcs es = refl
-waits_by_history RwSimple es = refl
-waits_by_history RwFifo es = refl
+holding_tracked s es = refl
 
 pub waiting_tracked : (s : State) (es : List Entry)
     → waiting_in (tracked s es) ≡ waiting_of s.kind es
-waiting_tracked s es = waits_by_history s.kind es
+waiting_tracked s es = refl
 
 more_tracked : (s : State) (t : ℕ) (m : Move) (es new : List Entry)
     → followed (tracked s es) (next_state s t m) new ≡ tracked (next_state s t m) (es ++ new)

@@ -5,7 +5,8 @@ use Rattle.std.specs.Prelude.{Option, None, Some, is_none, Bool, if◌then◌els
 use Rattle.std.specs.Int.{to_le_bytes, w16, w32, w64}
 use Rattle.std.specs.List.{flat_map}
 use Rattle.lk_locks.specs.State.{State, phase_at}
-use Rattle.lk_locks.specs.Steps.{refusal_of, step_due}
+use Rattle.lk_locks.specs.Steps.{refusal_of}
+use Rattle.lk_locks.specs.Rooms.{step_due}
 use Rattle.lk_locks.specs.Holding.{Holding, Free, HeldBy, ReadBy, WrittenBy, holding_of, waiting_of}
 use Rattle.lk_locks.specs.declared.kinds.Op.{Op}
 use Rattle.lk_locks.specs.declared.kinds.Op.TheVariants.{Acquire, Release, ReadLock, ReadUnlock}

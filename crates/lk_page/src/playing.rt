@@ -1,7 +1,8 @@
 //! From a schedule text to its records and its state.
 
 ghost use Rattle.std.specs.Prelude.{◌≡◌, ◌+◌, ◌*◌, ◌<◌, ◌≤◌, length, take, replicate, []};
-ghost use Rattle.lk_locks.specs.State.{start, word_count};
+ghost use Rattle.lk_locks.specs.State.{start};
+ghost use Rattle.lk_locks.specs.Rooms.{word_count};
 ghost use Rattle.lk_locks.specs.Tracked.{tracked};
 ghost use Rattle.lk_replay.specs.Schedule.{plan_of};
 ghost use Rattle.lk_page.specs.Layout.{record_bytes};

@@ -4,19 +4,17 @@ use Rattle.std.proofs.Common.{arith, Option, None, Some}
 use Rattle.std.proofs.Math.Seq.{drop-append_seam}
 use Rattle.std.proofs.lemmas.List.{length-append, take_all}
 use Rattle.lk_locks.specs.Legal.{Legal, AreEnabled, after_entries}
-use Rattle.lk_locks.specs.Holding.{held_by_one, holder_after}
+use Rattle.lk_locks.specs.Holding.{holder_after}
 use Rattle.lk_locks.proofs.Histories.{after_append}
 use Rattle.lk_locks.proofs.Histories.{holder_append}
 use Rattle.lk_locks.specs.Sequential.{Sequential, nobody, after_entry}
 use Rattle.lk_locks.specs.declared.kinds.Entry.{Entry}
 use Rattle.lk_locks.specs.declared.kinds.Entry.TheVariants.{Called, Acted, Returned}
 use Rattle.lk_locks.specs.declared.kinds.LockKind.{LockKind}
-use Rattle.lk_locks.specs.declared.kinds.LockKind.TheVariants.{Ticket, Mcs, RwSimple, RwFifo}
 use Rattle.lk_locks.specs.declared.kinds.Op.{Op}
 use Rattle.lk_locks.specs.declared.kinds.Op.TheVariants.{Acquire, Release}
-use Rattle.lk_locks.specs.Exclusion.{IsQueueLock}
-use Rattle.lk_replay.specs.Following.{holding_in, waiting_in, following, followed_by, followed_text}
-use Rattle.lk_replay.specs.Report.{shown_text, state_text}
+use Rattle.lk_replay.specs.Following.{following, followed_by, followed_text}
+use Rattle.lk_replay.specs.Report.{state_text}
 
 after_called : (q : Sequential) (es : List Entry) (t : ℕ) (o : Op)
     → after_entries q (es ++ Called t o ∷ []) ≡ after_entries q es
@@ -43,18 +41,7 @@ followed_more kind es new = rw (after_append (nobody kind) es new, holder_append
 pub text_of : (kind : LockKind) (es : List Entry)
     → followed_text (following kind es) ≡ state_text kind es
 unfolding state_text
-text_of Ticket es = refl
-text_of Mcs es = refl
-text_of RwSimple es = refl
-text_of RwFifo es = refl
-
--- a queue lock shows its holder and its requests
-pub queue_shown : (kind : LockKind) (q : Sequential) (h : Option ℕ) → IsQueueLock kind
-    → shown_text (holding_in kind q h) (waiting_in kind q) ≡ shown_text (held_by_one h) q.queue
-queue_shown Ticket q h is = refl
-queue_shown Mcs q h is = refl
-queue_shown RwSimple q h is = absurd is
-queue_shown RwFifo q h is = absurd is
+text_of kind es = refl
 
 pub allowed_rest : (q : Sequential) (xs ys : List Entry) → AreEnabled q (xs ++ ys)
     → AreEnabled (after_entries q xs) ys

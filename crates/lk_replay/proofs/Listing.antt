@@ -1,18 +1,13 @@
 -- The text of a list of threads that one joins or leaves.
 use Rattle.std.proofs.Common.{◌≡◌, ℕ, ◌+◌, ◌-◌, ◌*◌, ◌<◌, ◌≤◌, List, [], ◌∷◌, ◌++◌, length, take}
-use Rattle.std.proofs.Common.{drop, decimal, eqb, nat_lt, Bool, true, false, ◌&&◌, refl, sym, ap}
+use Rattle.std.proofs.Common.{drop, decimal, eqb, nat_lt, Bool, true, false, refl, sym, ap}
 use Rattle.std.proofs.Common.{◌∙◌, subst, arith, append_assoc, append-nil, length-append, codes}
 use Rattle.std.proofs.Common.{IsTrue, ◌↔◌, None, inl, inr}
 use Rattle.std.specs.List.{AllByRecursion}
 use Rattle.std.proofs.Math.Seq.{drop-append_seam, take-append_seam}
 use Rattle.std.proofs.lemmas.Bool.{cases_Bool, eqb-true, le-ltb, lt-ltb}
 use Rattle.std.proofs.lemmas.Fmt.{length-decimal-le}
-use Rattle.lk_locks.specs.Sequential.{Sequential, IsAscending, has, is_head, joined, kind_allows}
-use Rattle.lk_locks.specs.Sequential.{left_by}
-use Rattle.lk_locks.specs.declared.kinds.Op.TheVariants.{Release, ReadUnlock}
-use Rattle.lk_locks.specs.declared.kinds.Entry.TheVariants.{Acted}
-use Rattle.lk_locks.specs.declared.kinds.LockKind.{LockKind}
-use Rattle.lk_locks.specs.declared.kinds.LockKind.TheVariants.{Ticket, Mcs, RwSimple, RwFifo}
+use Rattle.lk_locks.specs.Sequential.{Sequential, IsAscending, has, is_head, joined, left_by}
 use Rattle.lk_replay.proofs.Lists.{later_append}
 use Rattle.lk_replay.specs.Following.{above, up_to, AreListed}
 use Rattle.lk_locks.specs.Holding.{shared_by}
@@ -224,24 +219,6 @@ all_left (x ∷ xs) t (c, a) = elim (cases_Bool (eqb t x)) [
   | inl h ↦ rw h a
   | inr h ↦ rw h (c, all_left xs t a)
 ]
-
--- ---- what an allowed act tells
-
-pub release_of_head : (kind : LockKind) (b : Bool) (q : Sequential) (t : ℕ)
-    → (b && kind_allows kind q (Acted t Release)) ≡ true → is_head q.queue t ≡ true
-release_of_head Ticket true q t h = h
-release_of_head Mcs true q t h = h
-release_of_head RwSimple true q t h = absurd (cc)
-release_of_head RwFifo true q t h = absurd (cc)
-release_of_head kind false q t h = absurd (cc)
-
-pub unlock_of_reader : (kind : LockKind) (b : Bool) (q : Sequential) (t : ℕ)
-    → (b && kind_allows kind q (Acted t ReadUnlock)) ≡ true → has q.readers t ≡ true
-unlock_of_reader Ticket true q t h = absurd (cc)
-unlock_of_reader Mcs true q t h = absurd (cc)
-unlock_of_reader RwSimple true q t h = h
-unlock_of_reader RwFifo true q t h = h
-unlock_of_reader kind false q t h = absurd (cc)
 
 -- ---- the lists after an act
 

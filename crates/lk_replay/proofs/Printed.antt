@@ -10,7 +10,8 @@ use Rattle.std.proofs.lemmas.List.{drop_more}
 use Rattle.std.proofs.lemmas.Option.{none-some}
 use Rattle.std.proofs.lemmas.List.Splits.{join_with_byte-slice_split}
 use Rattle.lk_locks.specs.Entries.{entries_of}
-use Rattle.lk_locks.specs.State.{State, word_count}
+use Rattle.lk_locks.specs.State.{State}
+use Rattle.lk_locks.specs.Rooms.{family_of, word_count}
 use Rattle.lk_locks.specs.Sequential.{nobody}
 use Rattle.lk_locks.specs.invariants.Tracking.{IsTracked}
 use Rattle.lk_locks.proofs.Starting.{kept_start}
@@ -24,8 +25,8 @@ use Rattle.lk_replay.proofs.Changes.{followed_more, text_of}
 use Rattle.lk_replay.proofs.Cuts.{before_pieces, has_piece}
 use Rattle.lk_replay.proofs.LastLines.{split_append}
 use Rattle.lk_replay.specs.Ending.{ending_of, ending_of_line, last_of}
-use Rattle.lk_replay.specs.Following.{Following, followed_by, followed_text, following, holding_in}
-use Rattle.lk_replay.specs.Following.{waiting_in}
+use Rattle.lk_replay.specs.Following.{Following, followed_by, followed_text, following}
+use Rattle.lk_locks.specs.Holding.{held_in, waits_in}
 use Rattle.lk_replay.specs.Lines.{is_line_feed, lines_of, without_empty_end}
 use Rattle.lk_replay.specs.Printing.{lines_from, next_refused}
 use Rattle.lk_replay.specs.Replay.{Made, Replay, made_by, refused_or, replay_from, replay_of}
@@ -308,8 +309,8 @@ pub behind_lines : (f : Following) (count : ℕ) (ms : List Made) (text : List �
 behind_lines f count [] text some = refl
 behind_lines f count (m ∷ ms) text some =
     let g : Following = followed_by f m.entries in
-    let shown : List ℕ = (holding_text (holding_in g.kind g.sequential g.holder) ++ codes " queue ")
-    ++ queue_text (waiting_in g.kind g.sequential) in
+    let shown : List ℕ = (holding_text (held_in (family_of g.kind) g.sequential g.holder) ++ codes " queue ")
+    ++ queue_text (waits_in (family_of g.kind) g.sequential) in
     let prefix : List ℕ = move_text (count + 1) m.accepted in
     let rest : List ℕ = lines_from g (count + 1) ms in
     ap (λ (ys : List ℕ). ending_of ((ys ++ rest) ++ text))

@@ -10,7 +10,7 @@ use Rattle.lk_locks.proofs.Runs.{every_run_is_as_promised}
 use Rattle.lk_locks.specs.MainTheorem.{IsAsPromised}
 use Rattle.lk_locks.specs.Play.{RecordedLock, after_play}
 use Rattle.lk_locks.specs.Runs.{after_moves}
-use Rattle.lk_locks.specs.State.{word_count}
+use Rattle.lk_locks.specs.Rooms.{word_count}
 use Rattle.lk_locks.specs.Entries.{entries_of}
 use Rattle.lk_locks.specs.Steps.{refusal_of, unless_refused}
 use Rattle.lk_locks.specs.declared.kinds.Entry.{Entry}

@@ -9,17 +9,9 @@ use Rattle.std.proofs.lemmas.List.{drop_all}
 use Rattle.lk_locks.specs.Steps.{refusal_of, change_of}
 use Rattle.lk_locks.specs.Entries.{entries_of, move_entries}
 use Rattle.lk_locks.specs.State.{phase_at}
-use Rattle.lk_locks.specs.ticket
-use Rattle.lk_locks.specs.mcs
-use Rattle.lk_locks.specs.read_write
-use Rattle.lk_locks.specs.declared.kinds.LockKind.TheVariants.{Ticket, Mcs, RwSimple, RwFifo}
+use Rattle.lk_locks.proofs.EachRoom.{room_of}
 use Rattle.lk_locks.specs.declared.kinds.Move.TheVariants.{Call, Step}
-use Rattle.lk_locks.specs.declared.kinds.Outcome.TheVariants.{Moved, Entered, Left}
 use Rattle.lk_locks.specs.declared.kinds.Phase.{Phase}
-use Rattle.lk_locks.specs.declared.kinds.Phase.TheVariants.{TakeTicket, AwaitTurn, PassOn, SwapTail}
-use Rattle.lk_locks.specs.declared.kinds.Phase.TheVariants.{AwaitGrant, TryRead, LeaveRead}
-use Rattle.lk_locks.specs.declared.kinds.Phase.TheVariants.{TryWrite, AwaitReaders, LeaveWrite}
-use Rattle.lk_locks.specs.declared.kinds.Phase.TheVariants.{TryDowngrade}
 use Rattle.lk_locks.specs.Play.{RecordedLock, after_play, IsPlayAnswer}
 use Rattle.lk_locks.specs.declared.kinds.Entry.{Entry}
 use Rattle.lk_locks.specs.declared.kinds.LockKind.{LockKind}
@@ -200,43 +192,10 @@ same_kind k m t a e = rw e refl
 
 -- ---- how many entries a move adds
 
-ticket_few : (t : ℕ) (p : Phase) (o : Outcome) → length (ticket.entries t p o) ≤ 3
-ticket_few t TakeTicket Moved = omega arith
-ticket_few t (AwaitTurn n) Entered = omega arith
-ticket_few t (PassOn n) Left = omega arith
-ticket_few t p o = omega arith
-
-mcs_few : (t : ℕ) (p : Phase) (o : Outcome) → length (mcs.entries t p o) ≤ 3
-mcs_few t SwapTail Moved = omega arith
-mcs_few t SwapTail Entered = omega arith
-mcs_few t AwaitGrant Entered = omega arith
-mcs_few t p Left = omega arith
-mcs_few t p o = omega arith
-
-write_few : (kind : LockKind) (t : ℕ) → length (read_write.entries kind t TryWrite Entered) ≤ 3
-write_few Ticket t = omega arith
-write_few Mcs t = omega arith
-write_few RwSimple t = omega arith
-write_few RwFifo t = omega arith
-
-section_few : (kind : LockKind) (t : ℕ) (p : Phase) (o : Outcome)
-    → length (read_write.entries kind t p o) ≤ 3
-section_few kind t TryRead Entered = omega arith
-section_few kind t LeaveRead Left = omega arith
-section_few kind t TryWrite Moved = omega arith
-section_few kind t TryWrite Entered = write_few kind t
-section_few kind t AwaitReaders Entered = omega arith
-section_few kind t LeaveWrite Left = omega arith
-section_few kind t TryDowngrade Entered = omega arith
-section_few kind t p o = omega arith
-
 move_few : (kind : LockKind) (t : ℕ) (p : Phase) (m : Move) (o : Outcome)
     → length (move_entries kind t p m o) ≤ 3
 move_few kind t p (Call op) o = omega arith
-move_few Ticket t p (Step step) o = ticket_few t p o
-move_few Mcs t p (Step step) o = mcs_few t p o
-move_few RwSimple t p (Step step) o = section_few RwSimple t p o
-move_few RwFifo t p (Step step) o = section_few RwFifo t p o
+move_few kind t p (Step step) o = (room_of kind).few_entries t p o
 
 -- the entries that a move added are those behind the earlier ones
 pub record Adds (k : RecordedLock) (t : ℕ) (a : Move) (n : ℕ) : Type 0 where

@@ -1,11 +1,11 @@
 -- Invariants: what a report follows of a history, entry by entry.
 use Rattle.std.specs.Prelude.{◌≡◌, ℕ, ◌<◌, List, [], ◌∷◌, Option, None, nat_lt, if◌then◌else◌}
 use Rattle.std.specs.List.{AllByRecursion}
-use Rattle.lk_locks.specs.Holding.{Holding, held_by_one, shared_by, one_or_none, holder_after}
+use Rattle.lk_locks.specs.Rooms.{family_of}
+use Rattle.lk_locks.specs.Holding.{held_in, holder_after, waits_in}
 use Rattle.lk_locks.specs.Legal.{after_entries}
 use Rattle.lk_locks.specs.Sequential.{Sequential, nobody}
 use Rattle.lk_locks.specs.declared.kinds.LockKind.{LockKind}
-use Rattle.lk_locks.specs.declared.kinds.LockKind.TheVariants.{Ticket, Mcs, RwSimple, RwFifo}
 use Rattle.lk_locks.specs.declared.kinds.Entry.{Entry}
 use Rattle.lk_replay.specs.Report.{later_numbers, shown_text}
 
@@ -31,20 +31,11 @@ following kind es = record {
   holder = holder_after None es;
 }
 
-abbrev pub holding_in : LockKind → Sequential → Option ℕ → Holding
-holding_in Ticket q holder = held_by_one holder
-holding_in Mcs q holder = held_by_one holder
-holding_in kind q holder = shared_by q.readers q.writer
-
-abbrev pub waiting_in : LockKind → Sequential → List ℕ
-waiting_in RwSimple q = []
-waiting_in RwFifo q = one_or_none q.announced
-waiting_in kind q = q.queue
-
 -- the end of a report's line
 abbrev pub followed_text : Following → List ℕ
 followed_text f =
-    shown_text (holding_in f.kind f.sequential f.holder) (waiting_in f.kind f.sequential)
+    shown_text (held_in (family_of f.kind) f.sequential f.holder)
+    (waits_in (family_of f.kind) f.sequential)
 
 -- the threads of an ascending list up to this one, and those above it
 abbrev pub up_to : List ℕ → ℕ → List ℕ

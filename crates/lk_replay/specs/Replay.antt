@@ -2,7 +2,8 @@
 -- project's own; what a move does is said by the definitions of the locks alone.
 use Rattle.std.specs.Prelude.{ℕ, List, [], ◌∷◌, map, length, Option, None, Some, replicate}
 use Rattle.std.specs.List.{flat_map}
-use Rattle.lk_locks.specs.State.{State, start, word_count}
+use Rattle.lk_locks.specs.State.{State, start}
+use Rattle.lk_locks.specs.Rooms.{word_count}
 use Rattle.lk_locks.specs.Steps.{refusal_of, change_of, next_state}
 use Rattle.lk_locks.specs.Entries.{entries_of}
 use Rattle.lk_locks.specs.declared.kinds.LockKind.{LockKind}

@@ -6,7 +6,7 @@ use Rattle.std.specs.Io.KnownBytes.{Appends}
 use Rattle.lk_locks.specs.MainTheorem.{IsAsPromised}
 use Rattle.lk_locks.specs.Play.{RecordedLock}
 use Rattle.lk_locks.specs.Runs.{after_moves, new_lock}
-use Rattle.lk_locks.specs.State.{word_count}
+use Rattle.lk_locks.specs.Rooms.{word_count}
 use Rattle.lk_locks.specs.declared.kinds.Entry.{Entry}
 use Rattle.lk_locks.specs.declared.kinds.Refusal.{Refusal}
 use Rattle.lk_replay.specs.Replay.{Made}

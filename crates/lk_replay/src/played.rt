@@ -2,7 +2,7 @@
 
 ghost use Rattle.std.specs.Prelude.{◌≡◌, IfOk, replicate};
 ghost use Rattle.lk_locks.specs.Runs.{new_lock};
-ghost use Rattle.lk_locks.specs.State.{word_count};
+ghost use Rattle.lk_locks.specs.Rooms.{word_count};
 ghost use Rattle.lk_replay.specs.Replay.{replayed_of};
 ghost use Rattle.lk_replay.specs.Whole.{IsHistoryOf};
 

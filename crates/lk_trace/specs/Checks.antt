@@ -3,7 +3,8 @@
 use Rattle.std.specs.Prelude.{ℕ, ◌==◌, [], replicate, slice_index, Option, Some, None, Result}
 use Rattle.std.specs.Prelude.{Ok, Err, Bool}
 use Rattle.std.specs.Prelude.{true, false, not, nat_lt, if◌then◌else◌}
-use Rattle.lk_locks.specs.State.{State, start, word_count, phase_at}
+use Rattle.lk_locks.specs.State.{State, start, phase_at}
+use Rattle.lk_locks.specs.Rooms.{word_count}
 use Rattle.lk_locks.specs.Steps.{refusal_of, change_of, next_state}
 use Rattle.lk_locks.specs.Entries.{entries_of}
 use Rattle.lk_locks.specs.Tracked.{Tracked, tracked, followed}

@@ -2,33 +2,38 @@
 -- the swaps.
 use Rattle.std.proofs.Common.{List, None, [], ap, arith, drop, false, inl, inr, length, refl, rules}
 use Rattle.std.proofs.Common.{set, slice_index, sym, true, unwrap_or, ℕ, ◌*◌, ◌++◌, ◌+◌, ◌-◌, ◌<◌}
-use Rattle.std.proofs.Common.{◌==◌, ◌∙◌, ◌∷◌, ◌≡◌, ◌≢◌, ◌≤◌}
+use Rattle.std.proofs.Common.{◌==◌, ◌∙◌, ◌∷◌, ◌≡◌, ◌≢◌, ◌≤◌, ◌^◌}
 use Rattle.std.proofs.lemmas.Bool.{cases_lt, eq-eqb, false≢true, lt-ltb}
 use Rattle.std.proofs.lemmas.Bool.Decides.{eqb_tells}
 use Rattle.std.proofs.lemmas.List.{get_or-set_other, get_or-set_same, length-set, set-get_or}
 use Rattle.std.proofs.lemmas.List.{set_past}
 use Rattle.lk_locks.specs.Change.{Change}
 use Rattle.lk_locks.specs.Entries.{move_entries}
-use Rattle.lk_locks.specs.Sequential.{Sequential, has, is_allowed, is_head}
-use Rattle.lk_locks.specs.State.{phase_at}
+use Rattle.lk_locks.specs.Sequential.{nobody, Sequential, has, is_allowed, is_head}
+use Rattle.lk_locks.specs.State.{phase_at, start}
 use Rattle.lk_locks.specs.Steps.{has_op, move_change, refusal_in}
+use Rattle.lk_locks.specs.invariants.Rooms.{AgreeAs}
 use Rattle.lk_locks.specs.invariants.Threads.{EachOnce}
 use Rattle.lk_locks.specs.invariants.mcs.{AreLinks, IsBehind, IsFirst, IsOutside, IsPhase, IsQueue}
 use Rattle.lk_locks.specs.invariants.mcs.{last_of, locked_of, next_of, owed, tail_of}
-use Rattle.lk_locks.specs.mcs.{after_call, locked, next, step}
-use Rattle.lk_locks.proofs.Cases.{AreOf, Begins, Fits, GoesOn, IsAgreed, IsTaken, KeepsLength}
-use Rattle.lk_locks.proofs.Cases.{either_way}
+use Rattle.lk_locks.specs.mcs.{after_call, entries, locked, next, step}
+use Rattle.lk_locks.proofs.Cases.{AreOf, Begins, Fits, GoesOn, IsAgreed, IsRoom, IsTaken}
+use Rattle.lk_locks.proofs.Cases.{KeepsLength, either_way}
+use Rattle.lk_locks.proofs.Threads.{all_idle}
 use Rattle.lk_locks.proofs.invariants.McsLine.{IsHeadOf, first_frame, head_of, last_member}
 use Rattle.lk_locks.proofs.invariants.McsLine.{locked_after_locked, locked_after_next, mcs_first}
 use Rattle.lk_locks.proofs.invariants.McsLine.{mcs_grant, mcs_head, mcs_last, mcs_later, mcs_more}
 use Rattle.lk_locks.proofs.invariants.McsLine.{mcs_out, member_of, next_after_locked}
 use Rattle.lk_locks.proofs.invariants.McsLine.{next_after_next, not_member, place, second}
 use Rattle.lk_locks.proofs.invariants.McsLine.{tail_after}
+use Rattle.lk_locks.specs.declared.kinds.Family.TheVariants.{Queue}
 use Rattle.lk_locks.specs.declared.kinds.LockKind.TheVariants.{Mcs}
 use Rattle.lk_locks.specs.declared.kinds.Move.{Move}
 use Rattle.lk_locks.specs.declared.kinds.Move.TheVariants.{Call, Step}
 use Rattle.lk_locks.specs.declared.kinds.Op.{Op}
 use Rattle.lk_locks.specs.declared.kinds.Op.TheVariants.{Acquire, Release}
+use Rattle.lk_locks.specs.declared.kinds.Outcome.{Outcome}
+use Rattle.lk_locks.specs.declared.kinds.Outcome.TheVariants.{Entered, Left, Moved}
 use Rattle.lk_locks.specs.declared.kinds.Phase.{Phase}
 use Rattle.lk_locks.specs.declared.kinds.Phase.TheVariants.{AwaitGrant, AwaitLink, CasTail}
 use Rattle.lk_locks.specs.declared.kinds.Phase.TheVariants.{ClearNext, Grant, Idle, LinkTo}
@@ -51,7 +56,7 @@ goes_on bits t ws AwaitLink =
 goes_on bits t ws p = refl
 
 -- a call begins where the one before it is finished
-pub begins : (n t : ℕ) (p : Phase) (op : Op) → IsPhase n p → has_op Mcs op ≡ true
+pub begins : (n t : ℕ) (p : Phase) (op : Op) → IsPhase n p → has_op Queue op ≡ true
     → refusal_in Mcs p (Call op) ≡ None
     → Begins Mcs t p op
 begins n t Idle Acquire f h r = (refl, refl)
@@ -61,6 +66,14 @@ begins n t p op f h r = cc
 -- what is left of a call is of its thread
 pub owed_is_own : (t : ℕ) (p : Phase) → AreOf t (owed t p)
 owed_is_own t p = search rules
+
+-- no step adds more than three entries
+pub few_entries : (t : ℕ) (p : Phase) (o : Outcome) → length (entries t p o) ≤ 3
+few_entries t SwapTail Moved = omega arith
+few_entries t SwapTail Entered = omega arith
+few_entries t AwaitGrant Entered = omega arith
+few_entries t p Left = omega arith
+few_entries t p o = omega arith
 
 -- no step changes how many words there are
 pub keeps_length : (bits t : ℕ) (ws : List ℕ) (p : Phase) → KeepsLength ws (step bits t ws p)
@@ -462,3 +475,31 @@ keeps bits ws ps q t (Grant j) (Step s) given =
     }
 keeps bits ws ps q t p m given =
     let fits = given.fits in let own = given.own in let not_refused = given.not_refused in cc
+
+-- at the start the words are clear and all threads idle
+starts : (bits : ℕ) (ws : List ℕ) (n : ℕ) → n < 2 ^ bits → ((i : ℕ) → slice_index ws i ≡ 0)
+    → AgreeAs Mcs (start Mcs bits ws n) (nobody Mcs)
+starts bits ws n h z = record {
+  tail_is = z 0;
+  line = tt;
+  once = tt;
+  members = λ t m. absurd (false≢true m);
+  others = λ t m. rw (all_idle n t) tt;
+}
+
+pub room : IsRoom Mcs
+room = record {
+  goes_on = goes_on;
+  begins = begins;
+  owed_is_own = owed_is_own;
+  idle_rest = λ t. refl;
+  few_entries = few_entries;
+  keeps_length = keeps_length;
+  idle_fits = λ n. tt;
+  call_fits = call_fits;
+  step_fits = step_fits;
+  clear_links = λ n ws z. (omega (arith, z 0), λ i k. omega (arith, z (1 + 2 * i)));
+  links_fit = links_fit;
+  starts = starts;
+  keeps = keeps;
+}

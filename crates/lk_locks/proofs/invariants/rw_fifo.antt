@@ -1,32 +1,36 @@
 -- The room of the FIFO read-write lock: each section goes on with its call, and each move keeps the
 -- counts and the flag.
-use Rattle.std.proofs.Common.{IsTrue, List, None, Some, [], ap, arith, eqb, false, inl, inr, length}
+use Rattle.std.proofs.Common.{List, None, Some, [], ap, arith, eqb, false, inl, inr, length}
 use Rattle.std.proofs.Common.{refl, rules, set, slice_index, sym, true, unwrap_or, ℕ, ◌%◌, ◌+◌, ◌<◌}
 use Rattle.std.proofs.Common.{◌==◌, ◌^◌, ◌∙◌, ◌≡◌, ◌≤◌}
-use Rattle.std.proofs.Math.Nat.{mod-add-mod}
+use Rattle.std.proofs.Math.Nat.{mod-add-mod, mod-eq_of_lt}
 use Rattle.std.proofs.lemmas.Bool.{lt-ltb}
 use Rattle.std.proofs.lemmas.Bool.Decides.{eqb_tells}
 use Rattle.std.proofs.lemmas.List.{get_or-set_other, get_or-set_same, length-set, set-get_or}
+use Rattle.std.proofs.lemmas.List.{length-replicate}
+use Rattle.std.proofs.lemmas.Nat.{pow_pos}
 use Rattle.lk_locks.specs.Change.{Change, plus_one}
 use Rattle.lk_locks.specs.Entries.{move_entries}
-use Rattle.lk_locks.specs.Sequential.{Sequential, after_entry, has, is_allowed, left_by}
-use Rattle.lk_locks.specs.State.{phase_at}
+use Rattle.lk_locks.specs.Sequential.{nobody, Sequential, after_entry, has, is_allowed, left_by}
+use Rattle.lk_locks.specs.State.{phase_at, start}
+use Rattle.lk_locks.specs.Rooms.{after_call}
 use Rattle.lk_locks.specs.Steps.{has_op, move_change, refusal_in}
 use Rattle.lk_locks.specs.invariants.Threads.{is_this}
-use Rattle.lk_locks.specs.invariants.WellFormed.{IsPhaseOf}
+use Rattle.lk_locks.specs.invariants.Rooms.{AgreeAs, AreLinks, IsPhaseOf}
 use Rattle.lk_locks.specs.invariants.read_write.{AreHolders, is_announced, is_reading, is_writing}
-use Rattle.lk_locks.specs.invariants.rw_fifo.{AgreesWith, is_phase, owed}
+use Rattle.lk_locks.specs.invariants.rw_fifo.{AgreesWith, owed}
 use Rattle.lk_locks.specs.rw_fifo.{step}
-use Rattle.lk_locks.proofs.Cases.{AreOf, Begins, Fits, GoesOn, IsAgreed, IsTaken, KeepsLength}
-use Rattle.lk_locks.proofs.Cases.{either_way}
+use Rattle.lk_locks.proofs.Cases.{AreOf, Begins, Fits, GoesOn, IsAgreed, IsRoom, IsTaken}
+use Rattle.lk_locks.proofs.Cases.{KeepsLength, either_way}
 use Rattle.lk_locks.proofs.invariants.HolderLists.{announced_is, empty_of_length, flag_none}
 use Rattle.lk_locks.proofs.invariants.HolderLists.{flag_some, holders_announce, holders_downgrade}
 use Rattle.lk_locks.proofs.invariants.HolderLists.{holders_frame, holders_join, holders_leave}
 use Rattle.lk_locks.proofs.invariants.HolderLists.{holders_unwrite, holders_write, length_joined}
-use Rattle.lk_locks.proofs.invariants.HolderLists.{length_left, no_writer, no_writer_beside}
+use Rattle.lk_locks.proofs.invariants.HolderLists.{length_left, no_holders, no_writer, no_writer_beside}
 use Rattle.lk_locks.proofs.invariants.HolderLists.{none_announced, not_same, readers_few}
 use Rattle.lk_locks.proofs.Requests.{eqb-same}
 use Rattle.lk_locks.proofs.Words.{no_round, plus_one-lt, plus_one_plus}
+use Rattle.lk_locks.specs.declared.kinds.Family.TheVariants.{FifoReadWrite}
 use Rattle.lk_locks.specs.declared.kinds.LockKind.TheVariants.{RwFifo}
 use Rattle.lk_locks.specs.declared.kinds.Move.{Move}
 use Rattle.lk_locks.specs.declared.kinds.Move.TheVariants.{Call, Step}
@@ -37,7 +41,7 @@ use Rattle.lk_locks.specs.declared.kinds.Phase.{Phase}
 use Rattle.lk_locks.specs.declared.kinds.Phase.TheVariants.{AwaitReaders, Idle, LeaveRead}
 use Rattle.lk_locks.specs.declared.kinds.Phase.TheVariants.{LeaveWrite, Reading, TryDowngrade}
 use Rattle.lk_locks.specs.declared.kinds.Phase.TheVariants.{TryRead, TryWrite, Writing}
-use Rattle.lk_locks.specs.read_write
+use Rattle.lk_locks.proofs.invariants.read_write.{few_entries}
 use Rattle.lk_locks.specs.declared.kinds.Entry.TheVariants.{Acted, Announced}
 
 -- each section adds the next entries of the pending call
@@ -53,15 +57,15 @@ goes_on bits t ws AwaitReaders =
 goes_on bits t ws p = refl
 
 -- a call begins where the one before it is finished
-pub begins : (t : ℕ) (p : Phase) (op : Op) → IsTrue (is_phase p) → has_op RwFifo op ≡ true
+pub begins : (n t : ℕ) (p : Phase) (op : Op) → IsPhaseOf RwFifo n p → has_op FifoReadWrite op ≡ true
     → refusal_in RwFifo p (Call op) ≡ None
     → Begins RwFifo t p op
-begins t Idle ReadLock f h r = (refl, refl)
-begins t Idle WriteLock f h r = (refl, refl)
-begins t Reading ReadUnlock f h r = (refl, refl)
-begins t Writing WriteUnlock f h r = (refl, refl)
-begins t Writing Downgrade f h r = (refl, refl)
-begins t p op f h r = cc
+begins n t Idle ReadLock f h r = (refl, refl)
+begins n t Idle WriteLock f h r = (refl, refl)
+begins n t Reading ReadUnlock f h r = (refl, refl)
+begins n t Writing WriteUnlock f h r = (refl, refl)
+begins n t Writing Downgrade f h r = (refl, refl)
+begins n t p op f h r = cc
 
 -- what is left of a call is of its thread
 pub owed_is_own : (t : ℕ) (p : Phase) → AreOf t (owed t p)
@@ -84,26 +88,26 @@ keeps_length bits t ws TryDowngrade = length-set _ _ _ ∙ length-set _ _ _
 keeps_length bits t ws p = refl
 
 -- the new phase is one of the lock's
-pub step_fits : (n bits t : ℕ) (ws : List ℕ) (p : Phase) → IsPhaseOf RwFifo n p
-    → Fits RwFifo n (step bits ws p)
-step_fits n bits t ws TryRead f = either_way (Fits RwFifo n) (slice_index ws 2 == 0) _ _ refl refl
-step_fits n bits t ws LeaveRead f = refl
-step_fits n bits t ws TryWrite f =
+pub step_fits : (n bits t : ℕ) (ws : List ℕ) (p : Phase) → t < n → IsPhaseOf RwFifo n p
+    → AreLinks RwFifo n ws → Fits RwFifo n (step bits ws p)
+step_fits n bits t ws TryRead h f l = either_way (Fits RwFifo n) (slice_index ws 2 == 0) _ _ refl refl
+step_fits n bits t ws LeaveRead h f l = refl
+step_fits n bits t ws TryWrite h f l =
     either_way (Fits RwFifo n) (slice_index ws 2 == 0) _ _
     (either_way (Fits RwFifo n) (slice_index ws 0 == slice_index ws 1) _ _ refl refl) refl
-step_fits n bits t ws AwaitReaders f =
+step_fits n bits t ws AwaitReaders h f l =
     either_way (Fits RwFifo n) (slice_index ws 0 == slice_index ws 1) _ _ refl refl
-step_fits n bits t ws LeaveWrite f = refl
-step_fits n bits t ws p f = f
+step_fits n bits t ws LeaveWrite h f l = refl
+step_fits n bits t ws p h f l = f
 
-pub call_fits : (p : Phase) (op : Op) → IsTrue (is_phase p)
-    → IsTrue (is_phase (unwrap_or (read_write.after_call p op) p))
-call_fits Idle ReadLock f = refl
-call_fits Idle WriteLock f = refl
-call_fits Reading ReadUnlock f = refl
-call_fits Writing WriteUnlock f = refl
-call_fits Writing Downgrade f = refl
-call_fits p op f = f
+pub call_fits : (n : ℕ) (p : Phase) (op : Op) → IsPhaseOf RwFifo n p
+    → IsPhaseOf RwFifo n (unwrap_or (after_call RwFifo p op) p)
+call_fits n Idle ReadLock f = refl
+call_fits n Idle WriteLock f = refl
+call_fits n Reading ReadUnlock f = refl
+call_fits n Writing WriteUnlock f = refl
+call_fits n Writing Downgrade f = refl
+call_fits n p op f = f
 
 -- the counts are equal exactly where there is no reader
 pub none_read : (bits : ℕ) (ws : List ℕ) (ps : List Phase) (q : Sequential)
@@ -409,3 +413,31 @@ keeps bits ws ps q t TryDowngrade (Step s) given =
     record { allowed = (y, (tt, tt)); kind_is = given.kind_is; agrees = g }
 keeps bits ws ps q t p m given =
     let fits = given.fits in let own = given.own in let not_refused = given.not_refused in cc
+
+-- at the start the words are clear and all threads idle
+starts : (bits : ℕ) (ws : List ℕ) (n : ℕ) → n < 2 ^ bits → ((i : ℕ) → slice_index ws i ≡ 0)
+    → AgreeAs RwFifo (start RwFifo bits ws n) (nobody RwFifo)
+starts bits ws n h z = record {
+  narrow = rw (length-replicate n Idle) h;
+  left = rw (z 1) (pow_pos bits);
+  came = z 0 ∙ sym (ap (λ y. (y + 0) % 2 ^ bits) (z 1) ∙ mod-eq_of_lt (pow_pos bits));
+  flag_is = z 2;
+  holders = no_holders RwFifo n;
+}
+
+pub room : IsRoom RwFifo
+room = record {
+  goes_on = goes_on;
+  begins = begins;
+  owed_is_own = owed_is_own;
+  idle_rest = λ t. refl;
+  few_entries = few_entries FifoReadWrite;
+  keeps_length = keeps_length;
+  idle_fits = λ n. refl;
+  call_fits = call_fits;
+  step_fits = step_fits;
+  clear_links = λ n ws z. tt;
+  links_fit = λ n bits t ws p h l. tt;
+  starts = starts;
+  keeps = keeps;
+}

@@ -1,29 +1,32 @@
 -- The room of the simple read-write lock: each section goes on with its call, and each move keeps
 -- the count and the flag.
-use Rattle.std.proofs.Common.{IsTrue, List, None, [], ap, arith, false, inl, inr, length, refl}
+use Rattle.std.proofs.Common.{List, None, [], ap, arith, false, inl, inr, length, refl}
 use Rattle.std.proofs.Common.{rules, set, slice_index, sym, true, unwrap_or, ℕ, ◌%◌, ◌&&◌, ◌+◌, ◌-◌}
 use Rattle.std.proofs.Common.{◌<◌, ◌==◌, ◌^◌, ◌∙◌, ◌≡◌, ◌≤◌}
 use Rattle.std.proofs.Math.Nat.{add-mod_right, mod-eq_of_lt}
 use Rattle.std.proofs.lemmas.Bool.{lt-ltb}
 use Rattle.std.proofs.lemmas.Bool.Decides.{eqb_tells}
 use Rattle.std.proofs.lemmas.List.{get_or-set_other, get_or-set_same, length-set, set-get_or}
+use Rattle.std.proofs.lemmas.List.{length-replicate}
 use Rattle.lk_locks.specs.Change.{Change, less_one, plus_one}
 use Rattle.lk_locks.specs.Entries.{move_entries}
-use Rattle.lk_locks.specs.Sequential.{Sequential, after_entry, has, is_allowed, left_by}
-use Rattle.lk_locks.specs.State.{phase_at}
+use Rattle.lk_locks.specs.Sequential.{nobody, Sequential, after_entry, has, is_allowed, left_by}
+use Rattle.lk_locks.specs.State.{phase_at, start}
+use Rattle.lk_locks.specs.Rooms.{after_call}
 use Rattle.lk_locks.specs.Steps.{has_op, move_change, refusal_in}
 use Rattle.lk_locks.specs.invariants.Threads.{is_this}
-use Rattle.lk_locks.specs.invariants.WellFormed.{IsPhaseOf}
+use Rattle.lk_locks.specs.invariants.Rooms.{AgreeAs, AreLinks, IsPhaseOf}
 use Rattle.lk_locks.specs.invariants.read_write.{is_announced, is_reading, is_writing}
-use Rattle.lk_locks.specs.invariants.rw_simple.{AgreesWith, is_phase, owed}
+use Rattle.lk_locks.specs.invariants.rw_simple.{AgreesWith, owed}
 use Rattle.lk_locks.specs.rw_simple.{step}
-use Rattle.lk_locks.proofs.Cases.{AreOf, Begins, Fits, GoesOn, IsAgreed, IsTaken, KeepsLength}
-use Rattle.lk_locks.proofs.Cases.{either_way}
+use Rattle.lk_locks.proofs.Cases.{AreOf, Begins, Fits, GoesOn, IsAgreed, IsRoom, IsTaken}
+use Rattle.lk_locks.proofs.Cases.{KeepsLength, either_way}
 use Rattle.lk_locks.proofs.invariants.HolderLists.{empty_of_length, flag_none, holders_downgrade}
 use Rattle.lk_locks.proofs.invariants.HolderLists.{holders_frame, holders_join, holders_leave}
 use Rattle.lk_locks.proofs.invariants.HolderLists.{holders_unwrite, holders_write, length_joined}
-use Rattle.lk_locks.proofs.invariants.HolderLists.{length_left, no_writer, none_announced}
+use Rattle.lk_locks.proofs.invariants.HolderLists.{length_left, no_holders, no_writer, none_announced}
 use Rattle.lk_locks.proofs.invariants.HolderLists.{readers_few, readers_fit}
+use Rattle.lk_locks.specs.declared.kinds.Family.TheVariants.{ReadWrite}
 use Rattle.lk_locks.specs.declared.kinds.LockKind.TheVariants.{RwSimple}
 use Rattle.lk_locks.specs.declared.kinds.Move.{Move}
 use Rattle.lk_locks.specs.declared.kinds.Move.TheVariants.{Call, Step}
@@ -34,7 +37,7 @@ use Rattle.lk_locks.specs.declared.kinds.Phase.{Phase}
 use Rattle.lk_locks.specs.declared.kinds.Phase.TheVariants.{Idle, LeaveRead, LeaveWrite, Reading}
 use Rattle.lk_locks.specs.declared.kinds.Phase.TheVariants.{TryDowngrade, TryRead, TryWrite}
 use Rattle.lk_locks.specs.declared.kinds.Phase.TheVariants.{Writing}
-use Rattle.lk_locks.specs.read_write
+use Rattle.lk_locks.proofs.invariants.read_write.{few_entries}
 use Rattle.lk_locks.specs.declared.kinds.Entry.TheVariants.{Acted}
 
 -- each section adds the next entries of the pending call
@@ -47,15 +50,15 @@ goes_on bits t ws TryWrite =
 goes_on bits t ws p = refl
 
 -- a call begins where the one before it is finished
-pub begins : (t : ℕ) (p : Phase) (op : Op) → IsTrue (is_phase p) → has_op RwSimple op ≡ true
+pub begins : (n t : ℕ) (p : Phase) (op : Op) → IsPhaseOf RwSimple n p → has_op ReadWrite op ≡ true
     → refusal_in RwSimple p (Call op) ≡ None
     → Begins RwSimple t p op
-begins t Idle ReadLock f h r = (refl, refl)
-begins t Idle WriteLock f h r = (refl, refl)
-begins t Reading ReadUnlock f h r = (refl, refl)
-begins t Writing WriteUnlock f h r = (refl, refl)
-begins t Writing Downgrade f h r = (refl, refl)
-begins t p op f h r = cc
+begins n t Idle ReadLock f h r = (refl, refl)
+begins n t Idle WriteLock f h r = (refl, refl)
+begins n t Reading ReadUnlock f h r = (refl, refl)
+begins n t Writing WriteUnlock f h r = (refl, refl)
+begins n t Writing Downgrade f h r = (refl, refl)
+begins n t p op f h r = cc
 
 -- what is left of a call is of its thread
 pub owed_is_own : (t : ℕ) (p : Phase) → AreOf t (owed t p)
@@ -74,23 +77,23 @@ keeps_length bits t ws TryDowngrade = length-set _ _ _ ∙ length-set _ _ _
 keeps_length bits t ws p = refl
 
 -- the new phase is one of the lock's
-pub step_fits : (n bits t : ℕ) (ws : List ℕ) (p : Phase) → IsPhaseOf RwSimple n p
-    → Fits RwSimple n (step bits ws p)
-step_fits n bits t ws TryRead f = either_way (Fits RwSimple n) (slice_index ws 1 == 0) _ _ refl refl
-step_fits n bits t ws LeaveRead f = refl
-step_fits n bits t ws TryWrite f =
+pub step_fits : (n bits t : ℕ) (ws : List ℕ) (p : Phase) → t < n → IsPhaseOf RwSimple n p
+    → AreLinks RwSimple n ws → Fits RwSimple n (step bits ws p)
+step_fits n bits t ws TryRead h f l = either_way (Fits RwSimple n) (slice_index ws 1 == 0) _ _ refl refl
+step_fits n bits t ws LeaveRead h f l = refl
+step_fits n bits t ws TryWrite h f l =
     either_way (Fits RwSimple n) (slice_index ws 0 == 0 && slice_index ws 1 == 0) _ _ refl refl
-step_fits n bits t ws LeaveWrite f = refl
-step_fits n bits t ws p f = f
+step_fits n bits t ws LeaveWrite h f l = refl
+step_fits n bits t ws p h f l = f
 
-pub call_fits : (p : Phase) (op : Op) → IsTrue (is_phase p)
-    → IsTrue (is_phase (unwrap_or (read_write.after_call p op) p))
-call_fits Idle ReadLock f = refl
-call_fits Idle WriteLock f = refl
-call_fits Reading ReadUnlock f = refl
-call_fits Writing WriteUnlock f = refl
-call_fits Writing Downgrade f = refl
-call_fits p op f = f
+pub call_fits : (n : ℕ) (p : Phase) (op : Op) → IsPhaseOf RwSimple n p
+    → IsPhaseOf RwSimple n (unwrap_or (after_call RwSimple p op) p)
+call_fits n Idle ReadLock f = refl
+call_fits n Idle WriteLock f = refl
+call_fits n Reading ReadUnlock f = refl
+call_fits n Writing WriteUnlock f = refl
+call_fits n Writing Downgrade f = refl
+call_fits n p op f = f
 
 less : (bits x : ℕ) → x + 1 < 2 ^ bits → less_one bits (x + 1) ≡ x
 less bits x h =
@@ -318,3 +321,30 @@ keeps bits ws ps q t TryDowngrade (Step s) given =
     record { allowed = (y, (tt, tt)); kind_is = given.kind_is; agrees = g }
 keeps bits ws ps q t p m given =
     let fits = given.fits in let own = given.own in let not_refused = given.not_refused in cc
+
+-- at the start the words are clear and all threads idle
+starts : (bits : ℕ) (ws : List ℕ) (n : ℕ) → n < 2 ^ bits → ((i : ℕ) → slice_index ws i ≡ 0)
+    → AgreeAs RwSimple (start RwSimple bits ws n) (nobody RwSimple)
+starts bits ws n h z = record {
+  narrow = rw (length-replicate n Idle) h;
+  count = z 0;
+  flag_is = z 1;
+  holders = no_holders RwSimple n;
+}
+
+pub room : IsRoom RwSimple
+room = record {
+  goes_on = goes_on;
+  begins = begins;
+  owed_is_own = owed_is_own;
+  idle_rest = λ t. refl;
+  few_entries = few_entries ReadWrite;
+  keeps_length = keeps_length;
+  idle_fits = λ n. refl;
+  call_fits = call_fits;
+  step_fits = step_fits;
+  clear_links = λ n ws z. tt;
+  links_fit = λ n bits t ws p h l. tt;
+  starts = starts;
+  keeps = keeps;
+}

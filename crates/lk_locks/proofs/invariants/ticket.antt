@@ -1,30 +1,36 @@
 -- The room of the ticket lock: each step goes on with its call, and each move keeps the queue of
 -- the tickets.
-use Rattle.std.proofs.Common.{IsTrue, List, None, Some, [], ap, arith, drop, eqb, false, inl, inr}
+use Rattle.std.proofs.Common.{List, None, Some, [], ap, arith, drop, eqb, false, inl, inr}
 use Rattle.std.proofs.Common.{length, refl, rules, set, slice_index, sym, true, unwrap_or, ℕ, ◌<◌}
-use Rattle.std.proofs.Common.{◌==◌, ◌∙◌, ◌∷◌, ◌≡◌, ◌≤◌}
+use Rattle.std.proofs.Common.{◌==◌, ◌∙◌, ◌∷◌, ◌≡◌, ◌≤◌, ◌^◌, ◌%◌, ◌+◌}
+use Rattle.std.proofs.Math.Nat.{mod-eq_of_lt}
+use Rattle.std.proofs.lemmas.Nat.{pow_pos}
 use Rattle.std.proofs.lemmas.Bool.{false≢true, lt-ltb}
 use Rattle.std.proofs.lemmas.Bool.Decides.{eqb_tells}
-use Rattle.std.proofs.lemmas.List.{length-set, set-get_or}
+use Rattle.std.proofs.lemmas.List.{length-replicate, length-set, set-get_or}
 use Rattle.lk_locks.specs.Change.{Change}
 use Rattle.lk_locks.specs.Entries.{move_entries}
-use Rattle.lk_locks.specs.Sequential.{Sequential, has, is_allowed, is_head}
-use Rattle.lk_locks.specs.State.{phase_at}
+use Rattle.lk_locks.specs.Sequential.{nobody, Sequential, has, is_allowed, is_head}
+use Rattle.lk_locks.specs.State.{phase_at, start}
+use Rattle.lk_locks.specs.Rooms.{after_call}
 use Rattle.lk_locks.specs.Steps.{has_op, move_change, refusal_in}
-use Rattle.lk_locks.specs.invariants.WellFormed.{IsPhaseOf}
-use Rattle.lk_locks.specs.invariants.ticket.{IsQueue, is_phase, owed, ticket_of}
+use Rattle.lk_locks.specs.invariants.Rooms.{AgreeAs, AreLinks, IsPhaseOf}
+use Rattle.lk_locks.specs.invariants.ticket.{IsQueue, owed, ticket_of}
 use Rattle.lk_locks.specs.laws.{Event}
-use Rattle.lk_locks.specs.ticket.{after_call, now_serving, reads, step}
-use Rattle.lk_locks.proofs.Cases.{AreOf, Begins, Fits, GoesOn, IsAgreed, IsTaken, KeepsLength}
-use Rattle.lk_locks.proofs.Cases.{either_way}
-use Rattle.lk_locks.proofs.Threads.{bool_tells}
+use Rattle.lk_locks.specs.ticket.{entries, now_serving, reads, step}
+use Rattle.lk_locks.proofs.Cases.{AreOf, Begins, Fits, GoesOn, IsAgreed, IsRoom, IsTaken}
+use Rattle.lk_locks.proofs.Cases.{KeepsLength, either_way}
+use Rattle.lk_locks.proofs.Threads.{all_idle, bool_tells}
 use Rattle.lk_locks.proofs.invariants.TicketLine.{IsHead, inside_is_head, no_member, queue_frame}
 use Rattle.lk_locks.proofs.invariants.TicketLine.{queue_pass, queue_take, served_is_head}
+use Rattle.lk_locks.specs.declared.kinds.Family.TheVariants.{Queue}
 use Rattle.lk_locks.specs.declared.kinds.LockKind.TheVariants.{Ticket}
 use Rattle.lk_locks.specs.declared.kinds.Move.{Move}
 use Rattle.lk_locks.specs.declared.kinds.Move.TheVariants.{Call, Step}
 use Rattle.lk_locks.specs.declared.kinds.Op.{Op}
 use Rattle.lk_locks.specs.declared.kinds.Op.TheVariants.{Acquire, Release}
+use Rattle.lk_locks.specs.declared.kinds.Outcome.{Outcome}
+use Rattle.lk_locks.specs.declared.kinds.Outcome.TheVariants.{Entered, Left, Moved}
 use Rattle.lk_locks.specs.declared.kinds.Phase.{Phase}
 use Rattle.lk_locks.specs.declared.kinds.Phase.TheVariants.{AwaitTurn, Idle, PassOn, ReadServing}
 use Rattle.lk_locks.specs.declared.kinds.Phase.TheVariants.{TakeTicket, TicketInside}
@@ -38,16 +44,23 @@ goes_on bits t ws (AwaitTurn x) =
 goes_on bits t ws p = refl
 
 -- a call begins where the one before it is finished
-pub begins : (t : ℕ) (p : Phase) (op : Op) → IsTrue (is_phase p) → has_op Ticket op ≡ true
+pub begins : (n t : ℕ) (p : Phase) (op : Op) → IsPhaseOf Ticket n p → has_op Queue op ≡ true
     → refusal_in Ticket p (Call op) ≡ None
     → Begins Ticket t p op
-begins t Idle Acquire f h r = (refl, refl)
-begins t (TicketInside x) Release f h r = (refl, refl)
-begins t p op f h r = cc
+begins n t Idle Acquire f h r = (refl, refl)
+begins n t (TicketInside x) Release f h r = (refl, refl)
+begins n t p op f h r = cc
 
 -- what is left of a call is of its thread
 pub owed_is_own : (t : ℕ) (p : Phase) → AreOf t (owed t p)
 owed_is_own t p = search rules
+
+-- no step adds more than three entries
+pub few_entries : (t : ℕ) (p : Phase) (o : Outcome) → length (entries t p o) ≤ 3
+few_entries t TakeTicket Moved = omega arith
+few_entries t (AwaitTurn x) Entered = omega arith
+few_entries t (PassOn x) Left = omega arith
+few_entries t p o = omega arith
 
 -- no step changes how many words there are
 pub keeps_length : (bits t : ℕ) (ws : List ℕ) (p : Phase) → KeepsLength ws (step bits t ws p)
@@ -56,21 +69,21 @@ keeps_length bits t ws (PassOn v) = length-set _ _ _
 keeps_length bits t ws p = refl
 
 -- the new phase is one of the lock's
-pub step_fits : (n bits t : ℕ) (ws : List ℕ) (p : Phase) → IsPhaseOf Ticket n p
-    → Fits Ticket n (step bits t ws p)
-step_fits n bits t ws (AwaitTurn x) f =
+pub step_fits : (n bits t : ℕ) (ws : List ℕ) (p : Phase) → t < n → IsPhaseOf Ticket n p
+    → AreLinks Ticket n ws → Fits Ticket n (step bits t ws p)
+step_fits n bits t ws (AwaitTurn x) h f l =
     either_way (λ (e : Event). Fits Ticket n (reads ws e)) (slice_index ws now_serving == x) _ _
     refl refl
-step_fits n bits t ws TakeTicket f = refl
-step_fits n bits t ws (ReadServing x) f = refl
-step_fits n bits t ws (PassOn x) f = refl
-step_fits n bits t ws p f = f
+step_fits n bits t ws TakeTicket h f l = refl
+step_fits n bits t ws (ReadServing x) h f l = refl
+step_fits n bits t ws (PassOn x) h f l = refl
+step_fits n bits t ws p h f l = f
 
-pub call_fits : (p : Phase) (op : Op) → IsTrue (is_phase p)
-    → IsTrue (is_phase (unwrap_or (after_call p op) p))
-call_fits Idle Acquire f = refl
-call_fits (TicketInside t) Release f = refl
-call_fits p op f = f
+pub call_fits : (n : ℕ) (p : Phase) (op : Op) → IsPhaseOf Ticket n p
+    → IsPhaseOf Ticket n (unwrap_or (after_call Ticket p op) p)
+call_fits n Idle Acquire f = refl
+call_fits n (TicketInside t) Release f = refl
+call_fits n p op f = f
 
 -- a queue lock allows a new request, and the release of the head
 pub allows_acquire : (q : Sequential) (t : ℕ) → q.kind ≡ Ticket → t < 64 → has q.queue t ≡ false
@@ -187,3 +200,33 @@ keeps bits ws ps q t (PassOn x) (Step s) given =
     }
 keeps bits ws ps q t p m given =
     let fits = given.fits in let own = given.own in let not_refused = given.not_refused in cc
+
+-- at the start the words are clear and all threads idle
+starts : (bits : ℕ) (ws : List ℕ) (n : ℕ) → n < 2 ^ bits → ((i : ℕ) → slice_index ws i ≡ 0)
+    → AgreeAs Ticket (start Ticket bits ws n) (nobody Ticket)
+starts bits ws n h z = record {
+  narrow = rw (length-replicate n Idle) h;
+  serving = rw (z 1) (pow_pos bits);
+  line = tt;
+  next = z 0 ∙ sym (ap (λ y. (y + 0) % 2 ^ bits) (z 1) ∙ mod-eq_of_lt (pow_pos bits));
+  once = tt;
+  members = λ t m. absurd (false≢true m);
+  others = λ t m. ap ticket_of (all_idle n t);
+}
+
+pub room : IsRoom Ticket
+room = record {
+  goes_on = goes_on;
+  begins = begins;
+  owed_is_own = owed_is_own;
+  idle_rest = λ t. refl;
+  few_entries = few_entries;
+  keeps_length = keeps_length;
+  idle_fits = λ n. refl;
+  call_fits = call_fits;
+  step_fits = step_fits;
+  clear_links = λ n ws z. tt;
+  links_fit = λ n bits t ws p h l. tt;
+  starts = starts;
+  keeps = keeps;
+}

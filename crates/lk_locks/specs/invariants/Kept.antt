@@ -7,22 +7,10 @@ use Rattle.lk_locks.specs.Sequential.{Sequential, nobody, thread_of}
 use Rattle.lk_locks.specs.Legal.{AreEnabled, after_entries}
 use Rattle.lk_locks.specs.Holding.{holder_after}
 use Rattle.lk_locks.specs.Tracked.{Tracked}
-use Rattle.lk_locks.specs.invariants.ticket
-use Rattle.lk_locks.specs.invariants.mcs
-use Rattle.lk_locks.specs.invariants.rw_simple
-use Rattle.lk_locks.specs.invariants.rw_fifo
+use Rattle.lk_locks.specs.invariants.Rooms.{AgreeAs}
 use Rattle.lk_locks.specs.invariants.WellFormed.{WellFormed}
 use Rattle.lk_locks.specs.invariants.Owed.{IsInTurn}
-use Rattle.lk_locks.specs.declared.kinds.LockKind.{LockKind}
-use Rattle.lk_locks.specs.declared.kinds.LockKind.TheVariants.{Ticket, Mcs, RwSimple, RwFifo}
 use Rattle.lk_locks.specs.declared.kinds.Entry.{Entry}
-
--- the words and phases of the lock agree with its sequential object, as its room says
-abbrev pub AgreeAs : LockKind → State → Sequential → Type 0
-AgreeAs Ticket s q = ticket.IsQueue s.bits s.words s.phases q.queue
-AgreeAs Mcs s q = mcs.IsQueue s.words s.phases q.queue
-AgreeAs RwSimple s q = rw_simple.AgreesWith s.bits s.words s.phases q
-AgreeAs RwFifo s q = rw_fifo.AgreesWith s.bits s.words s.phases q
 
 pub record Kept (s : State) (q : Sequential) (es : List Entry) : Type 0 where
   pub well : WellFormed s

@@ -2,21 +2,11 @@
 use Rattle.std.specs.Prelude.{◌≡◌, ℕ, List, ◌++◌}
 use Rattle.std.specs.List.{flat_map}
 use Rattle.lk_locks.specs.Legal.{subhistory, whole_call}
-use Rattle.lk_locks.specs.invariants.ticket
-use Rattle.lk_locks.specs.invariants.mcs
-use Rattle.lk_locks.specs.invariants.rw_simple
-use Rattle.lk_locks.specs.invariants.rw_fifo
+use Rattle.lk_locks.specs.invariants.Rooms.{owed_of}
 use Rattle.lk_locks.specs.declared.kinds.LockKind.{LockKind}
-use Rattle.lk_locks.specs.declared.kinds.LockKind.TheVariants.{Ticket, Mcs, RwSimple, RwFifo}
 use Rattle.lk_locks.specs.declared.kinds.Phase.{Phase}
 use Rattle.lk_locks.specs.declared.kinds.Op.{Op}
 use Rattle.lk_locks.specs.declared.kinds.Entry.{Entry}
-
-abbrev pub owed_of : LockKind → ℕ → Phase → List Entry
-owed_of Ticket t p = ticket.owed t p
-owed_of Mcs t p = mcs.owed t p
-owed_of RwSimple t p = rw_simple.owed t p
-owed_of RwFifo t p = rw_fifo.owed t p
 
 -- thread t's entries, with the rest of its pending call, are whole calls
 abbrev pub IsInTurn : LockKind → List Entry → ℕ → Phase → Type 0

@@ -13,7 +13,7 @@ ghost use Rattle.lk_replay.specs.Report.{holding_text, later_numbers, queue_text
 
 use crate::report::numerals::{number_block, thread_block, width};
 use crate::report::text::{Text, put_block};
-use lk_locks::{Act, Entry, LockKind, Op, SeqLock};
+use lk_locks::{Act, Entry, Family, LockKind, Op, SeqLock, family_of};
 use std::marker::Model;
 
 /// The sequential object after the entries so far and, of a queue lock, the thread whose acquire
@@ -217,18 +217,18 @@ impl Followed {
         ensures text { take result line.new ≡ take at line.old ++ followed_text self.now }
         ensures fits { result ≤ length line.new }
     {
-        match self.kind {
-            LockKind::Ticket | LockKind::Mcs => {
+        match family_of(self.kind) {
+            Family::Queue => {
                 let at = write_one(line, at, self.holder);
                 let at = put_block(line, at, b" queue ", 7);
                 let at = self.write_queue(line, at);
                 put_block(line, at, b"\n", 1)
             }
-            LockKind::RwSimple => {
+            Family::ReadWrite => {
                 let at = self.write_sharers(line, at);
                 put_block(line, at, b" queue -\n", 9)
             }
-            LockKind::RwFifo => {
+            Family::FifoReadWrite => {
                 let at = self.write_sharers(line, at);
                 let at = put_block(line, at, b" queue ", 7);
                 let at = write_one(line, at, self.sequential.announced());

@@ -1,0 +1,63 @@
+-- Definitions. Which lock has which room, and which family it belongs to. All other files call
+-- these and know no lock, and what is the same for each lock of a family goes by the family. This
+-- project's own.
+use Rattle.std.specs.Prelude.{ℕ, ◌+◌, ◌*◌, List, [], ◌∷◌, Option}
+use Rattle.lk_locks.specs.Change.{Change}
+use Rattle.lk_locks.specs.ticket
+use Rattle.lk_locks.specs.mcs
+use Rattle.lk_locks.specs.read_write
+use Rattle.lk_locks.specs.rw_simple
+use Rattle.lk_locks.specs.rw_fifo
+use Rattle.lk_locks.specs.declared.kinds.LockKind.{LockKind}
+use Rattle.lk_locks.specs.declared.kinds.LockKind.TheVariants.{Ticket, Mcs, RwSimple, RwFifo}
+use Rattle.lk_locks.specs.declared.kinds.Family.{Family}
+use Rattle.lk_locks.specs.declared.kinds.Family.TheVariants.{Queue, ReadWrite, FifoReadWrite}
+use Rattle.lk_locks.specs.declared.kinds.Phase.{Phase}
+use Rattle.lk_locks.specs.declared.kinds.Op.{Op}
+use Rattle.lk_locks.specs.declared.kinds.StepKind.{StepKind}
+use Rattle.lk_locks.specs.declared.kinds.StepKind.TheVariants.{Read, Write, Swap, Cas, Add, Section}
+use Rattle.lk_locks.specs.declared.kinds.Outcome.{Outcome}
+use Rattle.lk_locks.specs.declared.kinds.Entry.{Entry}
+
+abbrev pub family_of : LockKind → Family
+family_of Ticket = Queue
+family_of Mcs = Queue
+family_of RwSimple = ReadWrite
+family_of RwFifo = FifoReadWrite
+
+-- how many words a lock of this kind has
+abbrev pub word_count : LockKind → ℕ → ℕ
+word_count Ticket threads = 2
+word_count Mcs threads = 1 + 2 * threads
+word_count RwSimple threads = 2
+word_count RwFifo threads = 3
+
+abbrev pub steps_of : LockKind → List StepKind
+steps_of Ticket = Add ∷ Read ∷ Write ∷ []
+steps_of Mcs = Read ∷ Write ∷ Swap ∷ Cas ∷ []
+steps_of kind = Section ∷ []
+
+-- the phase that a call leads to, where a thread in this phase may make it
+abbrev pub after_call : LockKind → Phase → Op → Option Phase
+after_call Ticket p op = ticket.after_call p op
+after_call Mcs p op = mcs.after_call p op
+after_call kind p op = read_write.after_call p op
+
+-- the step that a thread in this phase takes next. There is none where it has no pending call
+abbrev pub step_due : LockKind → Phase → Option StepKind
+step_due Ticket p = ticket.step_due p
+step_due Mcs p = mcs.step_due p
+step_due kind p = read_write.step_due p
+
+-- a step of thread t in this phase
+abbrev pub step_of : LockKind → ℕ → List ℕ → ℕ → Phase → Change
+step_of Ticket bits ws t p = ticket.step bits t ws p
+step_of Mcs bits ws t p = mcs.step bits t ws p
+step_of RwSimple bits ws t p = rw_simple.step bits ws p
+step_of RwFifo bits ws t p = rw_fifo.step bits ws p
+
+-- the entries of a step of thread t, from this phase and with this outcome
+abbrev pub step_entries : LockKind → ℕ → Phase → Outcome → List Entry
+step_entries Ticket t p o = ticket.entries t p o
+step_entries Mcs t p o = mcs.entries t p o
+step_entries kind t p o = read_write.entries (family_of kind) t p o

@@ -1,0 +1,118 @@
+//! Which lock has which room, and which family it belongs to. All other files call these functions
+//! and know no lock.
+
+ghost use Rattle.std.specs.Prelude.{◌≡◌, []};
+ghost use Rattle.std.specs.List.{list_any};
+ghost use Rattle.lk_locks.specs.Rooms.{family_of, word_count, steps_of, after_call, step_due};
+ghost use Rattle.lk_locks.specs.Rooms.{step_of, step_entries};
+ghost use Rattle.lk_locks.specs.Steps.{same_step};
+ghost use Rattle.lk_locks.specs.invariants.WellFormed.{IsReady};
+
+use crate::entries::Added;
+use crate::{
+    Family, LockKind, Op, Outcome, Phase, StepKind, mcs, read_write, rw_fifo, rw_simple, ticket,
+};
+use lk_words::Words;
+
+/// The family of a lock.
+pub fn family_of(kind: LockKind) -> Family
+    ensures { result ≡ family_of kind }
+{
+    match kind {
+        LockKind::Ticket | LockKind::Mcs => Family::Queue,
+        LockKind::RwSimple => Family::ReadWrite,
+        LockKind::RwFifo => Family::FifoReadWrite,
+    }
+}
+
+/// How many words a lock of this kind needs with so many threads.
+pub fn words_needed(kind: LockKind, threads: u8) -> usize
+    ensures { result ≡ word_count kind threads }
+{
+    match kind {
+        LockKind::Ticket => ticket::WORDS,
+        LockKind::Mcs => mcs::word_count(threads),
+        LockKind::RwSimple => rw_simple::WORDS,
+        LockKind::RwFifo => rw_fifo::WORDS,
+    }
+}
+
+/// Whether the lock has steps of this kind.
+pub(crate) fn has_step(kind: LockKind, step: StepKind) -> bool
+    ensures { result ≡ list_any (same_step step) (steps_of kind) }
+{
+    match kind {
+        LockKind::Ticket => matches!(step, StepKind::Add | StepKind::Read | StepKind::Write),
+        LockKind::Mcs => matches!(
+            step,
+            StepKind::Read | StepKind::Write | StepKind::Swap | StepKind::Cas
+        ),
+        LockKind::RwSimple | LockKind::RwFifo => matches!(step, StepKind::Section),
+    }
+}
+
+/// The phase that a call leads to, where a thread in this phase may make it.
+pub(crate) fn after_call(kind: LockKind, phase: Phase, op: Op) -> Option<Phase>
+    ensures { result ≡ after_call kind phase op }
+{
+    match kind {
+        LockKind::Ticket => ticket::after_call(phase, op),
+        LockKind::Mcs => mcs::after_call(phase, op),
+        LockKind::RwSimple | LockKind::RwFifo => read_write::after_call(phase, op),
+    }
+}
+
+/// The step that a thread in this phase takes next, where it has a pending call.
+pub(crate) fn step_due(kind: LockKind, phase: Phase) -> Option<StepKind>
+    ensures { result ≡ step_due kind phase }
+{
+    match kind {
+        LockKind::Ticket => ticket::step_due(phase),
+        LockKind::Mcs => mcs::step_due(phase),
+        LockKind::RwSimple | LockKind::RwFifo => read_write::step_due(phase),
+    }
+}
+
+/// A step of a thread in this phase, with its new phase.
+pub(crate) fn take_step<W: Words>(
+    words: &mut W,
+    kind: LockKind,
+    thread: u8,
+    phase: Phase,
+) -> (Phase, Outcome)
+    requires { IsReady kind (W.width words.old) (W.list words.old) thread phase }
+    ensures words { W.list words.new
+        ≡ (step_of kind (W.width words.old) (W.list words.old) thread phase).words }
+    ensures phase { result.0
+        ≡ (step_of kind (W.width words.old) (W.list words.old) thread phase).phase }
+    ensures outcome { result.1
+        ≡ (step_of kind (W.width words.old) (W.list words.old) thread phase).outcome }
+    ensures width { W.width words.new ≡ W.width words.old }
+{
+    match kind {
+        LockKind::Ticket => ticket::step(words, thread, phase),
+        LockKind::Mcs => mcs::step(words, thread, phase),
+        LockKind::RwSimple => rw_simple::step(words, phase),
+        LockKind::RwFifo => rw_fifo::step(words, phase),
+    }
+}
+
+/// Adds the entries of a step, where nothing was added before.
+pub(crate) fn add_entries(
+    added: &mut Added,
+    kind: LockKind,
+    thread: u8,
+    phase: Phase,
+    outcome: Outcome,
+)
+    requires { added.old ≡ [] }
+    ensures { added.new ≡ step_entries kind thread phase outcome }
+{
+    match kind {
+        LockKind::Ticket => ticket::add_entries(added, thread, phase, outcome),
+        LockKind::Mcs => mcs::add_entries(added, thread, phase, outcome),
+        LockKind::RwSimple | LockKind::RwFifo => {
+            read_write::add_entries(added, family_of(kind), thread, phase, outcome)
+        }
+    }
+}
