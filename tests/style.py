@@ -26,8 +26,6 @@ COLUMNS, LINES, BODY = 100, 400, 40
 # A pattern of paths, and the rule that is not looked at there. The header is one file on purpose:
 # who records a lock copies it and builds nothing else.
 NOT_YET = [
-    ("crates/*.antt", "lines"),
-    ("crates/lockreplay/src/command_line/tests.rt", "body"),
     ("record/lockreplay_record.h", "lines"),
 ]
 # Written by a script from files that are kept to the rules.

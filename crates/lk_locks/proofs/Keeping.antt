@@ -33,8 +33,8 @@ entries_are_own kind bits ws t p (Step k) =
     let c : Change = move_change kind bits ws t p (Step k) in
     all_prefix (λ e. thread_of e ≡ t) (move_entries kind t p (Step k) c.outcome)
     (owed_of kind t c.phase)
-    (let g : AreOf t
-    (owed_of kind t p) = (room_of kind).owed_is_own t p in rw ((room_of kind).goes_on bits t ws p) at g)
+    (let g : AreOf t (owed_of kind t p) = (room_of kind).owed_is_own t p in
+    rw ((room_of kind).goes_on bits t ws p) at g)
 
 -- the thread of a move is in its turn afterwards
 pub turn_kept : (kind : LockKind) (n bits : ℕ) (ws : List ℕ) (es : List Entry) (t : ℕ) (p : Phase)

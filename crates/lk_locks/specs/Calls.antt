@@ -35,7 +35,8 @@ ReturnsNext t op (e ∷ es) = e ≡ Returned t op
 abbrev pub ActsInCalls : LockKind → List Entry → Type 0
 ActsInCalls kind es =
     (t : ℕ) (op : Op) (before after : List Entry) → es ≡ before ++ Acted t op ∷ after
-    → HasDone t op (announcement (family_of kind) t op) before × ReturnsNext t op (subhistory t after)
+    → HasDone t op (announcement (family_of kind) t op) before
+    × ReturnsNext t op (subhistory t after)
 
 abbrev pub ActsAreCalled : Type 0
 ActsAreCalled = (kind : LockKind) (n : ℕ) (es : List Entry) → Legal kind n es → ActsInCalls kind es

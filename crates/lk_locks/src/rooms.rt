@@ -15,6 +15,7 @@ use crate::{
 use lk_words::Words;
 
 /// The family of a lock.
+#[inline]
 pub fn family_of(kind: LockKind) -> Family
     ensures { result ≡ family_of kind }
 {

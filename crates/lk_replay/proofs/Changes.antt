@@ -5,8 +5,7 @@ use Rattle.std.proofs.Math.Seq.{drop-append_seam}
 use Rattle.std.proofs.lemmas.List.{length-append, take_all}
 use Rattle.lk_locks.specs.Legal.{Legal, AreEnabled, after_entries}
 use Rattle.lk_locks.specs.Holding.{holder_after}
-use Rattle.lk_locks.proofs.Histories.{after_append}
-use Rattle.lk_locks.proofs.Histories.{holder_append}
+use Rattle.lk_locks.proofs.Histories.{after_append, holder_append}
 use Rattle.lk_locks.specs.Sequential.{Sequential, nobody, after_entry}
 use Rattle.lk_locks.specs.declared.kinds.Entry.{Entry}
 use Rattle.lk_locks.specs.declared.kinds.Entry.TheVariants.{Called, Acted, Returned}

@@ -309,7 +309,8 @@ pub behind_lines : (f : Following) (count : ℕ) (ms : List Made) (text : List �
 behind_lines f count [] text some = refl
 behind_lines f count (m ∷ ms) text some =
     let g : Following = followed_by f m.entries in
-    let shown : List ℕ = (holding_text (held_in (family_of g.kind) g.sequential g.holder) ++ codes " queue ")
+    let shown : List ℕ =
+    (holding_text (held_in (family_of g.kind) g.sequential g.holder) ++ codes " queue ")
     ++ queue_text (waits_in (family_of g.kind) g.sequential) in
     let prefix : List ℕ = move_text (count + 1) m.accepted in
     let rest : List ℕ = lines_from g (count + 1) ms in

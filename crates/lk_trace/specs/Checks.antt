@@ -1,8 +1,7 @@
 -- Definitions. The check of a move with what its thread saw: where they differ first. This
 -- project's own; what a move does is said by the definitions of the locks alone.
-use Rattle.std.specs.Prelude.{ℕ, ◌==◌, [], replicate, slice_index, Option, Some, None, Result}
-use Rattle.std.specs.Prelude.{Ok, Err, Bool}
-use Rattle.std.specs.Prelude.{true, false, not, nat_lt, if◌then◌else◌}
+use Rattle.std.specs.Prelude.{ℕ, ◌==◌, [], replicate, slice_index, Option, Some, None, Result, Ok}
+use Rattle.std.specs.Prelude.{Err, Bool, true, false, not, nat_lt, if◌then◌else◌}
 use Rattle.lk_locks.specs.State.{State, start, phase_at}
 use Rattle.lk_locks.specs.Rooms.{word_count}
 use Rattle.lk_locks.specs.Steps.{refusal_of, change_of, next_state}

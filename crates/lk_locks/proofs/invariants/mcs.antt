@@ -1,165 +1,43 @@
 -- The room of the MCS queue lock: each step goes on with its call, and each move keeps the queue of
 -- the swaps.
-use Rattle.std.proofs.Common.{List, None, [], ap, arith, drop, false, inl, inr, length, refl, rules}
-use Rattle.std.proofs.Common.{set, slice_index, sym, true, unwrap_or, ℕ, ◌*◌, ◌++◌, ◌+◌, ◌-◌, ◌<◌}
-use Rattle.std.proofs.Common.{◌==◌, ◌∙◌, ◌∷◌, ◌≡◌, ◌≢◌, ◌≤◌, ◌^◌}
-use Rattle.std.proofs.lemmas.Bool.{cases_lt, eq-eqb, false≢true, lt-ltb}
+use Rattle.std.proofs.Common.{List, [], ap, arith, drop, false, inl, inr, length, refl}
+use Rattle.std.proofs.Common.{set, slice_index, sym, true, ℕ, ◌*◌, ◌++◌, ◌+◌, ◌-◌, ◌<◌}
+use Rattle.std.proofs.Common.{◌∙◌, ◌∷◌, ◌≡◌, ◌≢◌, ◌≤◌, ◌^◌}
+use Rattle.std.proofs.lemmas.Bool.{eq-eqb, false≢true}
 use Rattle.std.proofs.lemmas.Bool.Decides.{eqb_tells}
-use Rattle.std.proofs.lemmas.List.{get_or-set_other, get_or-set_same, length-set, set-get_or}
-use Rattle.std.proofs.lemmas.List.{set_past}
+use Rattle.std.proofs.lemmas.List.{get_or-set_same, set-get_or}
 use Rattle.lk_locks.specs.Change.{Change}
 use Rattle.lk_locks.specs.Entries.{move_entries}
 use Rattle.lk_locks.specs.Sequential.{nobody, Sequential, has, is_allowed, is_head}
 use Rattle.lk_locks.specs.State.{phase_at, start}
-use Rattle.lk_locks.specs.Steps.{has_op, move_change, refusal_in}
+use Rattle.lk_locks.specs.Steps.{move_change}
 use Rattle.lk_locks.specs.invariants.Rooms.{AgreeAs}
 use Rattle.lk_locks.specs.invariants.Threads.{EachOnce}
-use Rattle.lk_locks.specs.invariants.mcs.{AreLinks, IsBehind, IsFirst, IsOutside, IsPhase, IsQueue}
-use Rattle.lk_locks.specs.invariants.mcs.{last_of, locked_of, next_of, owed, tail_of}
-use Rattle.lk_locks.specs.mcs.{after_call, entries, locked, next, step}
-use Rattle.lk_locks.proofs.Cases.{AreOf, Begins, Fits, GoesOn, IsAgreed, IsRoom, IsTaken}
-use Rattle.lk_locks.proofs.Cases.{KeepsLength, either_way}
+use Rattle.lk_locks.specs.invariants.mcs.{IsBehind, IsFirst, IsOutside, IsQueue}
+use Rattle.lk_locks.specs.invariants.mcs.{last_of, locked_of, next_of, tail_of}
+use Rattle.lk_locks.specs.mcs.{locked, next}
+use Rattle.lk_locks.proofs.Cases.{IsAgreed, IsRoom, IsTaken}
 use Rattle.lk_locks.proofs.Threads.{all_idle}
 use Rattle.lk_locks.proofs.invariants.McsLine.{IsHeadOf, first_frame, head_of, last_member}
-use Rattle.lk_locks.proofs.invariants.McsLine.{locked_after_locked, locked_after_next, mcs_first}
-use Rattle.lk_locks.proofs.invariants.McsLine.{mcs_grant, mcs_head, mcs_last, mcs_later, mcs_more}
-use Rattle.lk_locks.proofs.invariants.McsLine.{mcs_out, member_of, next_after_locked}
-use Rattle.lk_locks.proofs.invariants.McsLine.{next_after_next, not_member, place, second}
-use Rattle.lk_locks.proofs.invariants.McsLine.{tail_after}
-use Rattle.lk_locks.specs.declared.kinds.Family.TheVariants.{Queue}
+use Rattle.lk_locks.proofs.invariants.McsLine.{locked_after_locked, locked_after_next, member_of}
+use Rattle.lk_locks.proofs.invariants.McsLine.{next_after_locked, next_after_next, not_member}
+use Rattle.lk_locks.proofs.invariants.McsLine.{place, tail_after}
+use Rattle.lk_locks.proofs.invariants.McsQueue.{mcs_first, mcs_grant, mcs_head, mcs_last, mcs_later}
+use Rattle.lk_locks.proofs.invariants.McsQueue.{mcs_more, mcs_out, second}
 use Rattle.lk_locks.specs.declared.kinds.LockKind.TheVariants.{Mcs}
 use Rattle.lk_locks.specs.declared.kinds.Move.{Move}
 use Rattle.lk_locks.specs.declared.kinds.Move.TheVariants.{Call, Step}
-use Rattle.lk_locks.specs.declared.kinds.Op.{Op}
 use Rattle.lk_locks.specs.declared.kinds.Op.TheVariants.{Acquire, Release}
-use Rattle.lk_locks.specs.declared.kinds.Outcome.{Outcome}
-use Rattle.lk_locks.specs.declared.kinds.Outcome.TheVariants.{Entered, Left, Moved}
 use Rattle.lk_locks.specs.declared.kinds.Phase.{Phase}
 use Rattle.lk_locks.specs.declared.kinds.Phase.TheVariants.{AwaitGrant, AwaitLink, CasTail}
 use Rattle.lk_locks.specs.declared.kinds.Phase.TheVariants.{ClearNext, Grant, Idle, LinkTo}
 use Rattle.lk_locks.specs.declared.kinds.Phase.TheVariants.{McsInside, ReadNext, SetLocked}
 use Rattle.lk_locks.specs.declared.kinds.Phase.TheVariants.{SwapTail}
 use Rattle.lk_locks.specs.declared.kinds.Entry.TheVariants.{Acted}
-
--- each step adds the next entries of the pending call
-pub goes_on : (bits t : ℕ) (ws : List ℕ) (p : Phase) → GoesOn Mcs t p (step bits t ws p)
-goes_on bits t ws SwapTail =
-    either_way (GoesOn Mcs t SwapTail) (slice_index ws 0 == 0) _ _ refl refl
-goes_on bits t ws AwaitGrant =
-    either_way (GoesOn Mcs t AwaitGrant) (slice_index ws (locked t) == 0) _ _ refl refl
-goes_on bits t ws ReadNext =
-    either_way (GoesOn Mcs t ReadNext) (slice_index ws (next t) == 0) _ _ refl refl
-goes_on bits t ws CasTail =
-    either_way (GoesOn Mcs t CasTail) (slice_index ws 0 == t + 1) _ _ refl refl
-goes_on bits t ws AwaitLink =
-    either_way (GoesOn Mcs t AwaitLink) (slice_index ws (next t) == 0) _ _ refl refl
-goes_on bits t ws p = refl
-
--- a call begins where the one before it is finished
-pub begins : (n t : ℕ) (p : Phase) (op : Op) → IsPhase n p → has_op Queue op ≡ true
-    → refusal_in Mcs p (Call op) ≡ None
-    → Begins Mcs t p op
-begins n t Idle Acquire f h r = (refl, refl)
-begins n t McsInside Release f h r = (refl, refl)
-begins n t p op f h r = cc
-
--- what is left of a call is of its thread
-pub owed_is_own : (t : ℕ) (p : Phase) → AreOf t (owed t p)
-owed_is_own t p = search rules
-
--- no step adds more than three entries
-pub few_entries : (t : ℕ) (p : Phase) (o : Outcome) → length (entries t p o) ≤ 3
-few_entries t SwapTail Moved = omega arith
-few_entries t SwapTail Entered = omega arith
-few_entries t AwaitGrant Entered = omega arith
-few_entries t p Left = omega arith
-few_entries t p o = omega arith
-
--- no step changes how many words there are
-pub keeps_length : (bits t : ℕ) (ws : List ℕ) (p : Phase) → KeepsLength ws (step bits t ws p)
-keeps_length bits t ws ClearNext = length-set _ _ _
-keeps_length bits t ws SwapTail =
-    either_way (KeepsLength ws) (slice_index ws 0 == 0) _ _ (length-set _ _ _) (length-set _ _ _)
-keeps_length bits t ws (SetLocked j) = length-set _ _ _
-keeps_length bits t ws (LinkTo j) = length-set _ _ _
-keeps_length bits t ws AwaitGrant =
-    either_way (KeepsLength ws) (slice_index ws (locked t) == 0) _ _ refl refl
-keeps_length bits t ws ReadNext =
-    either_way (KeepsLength ws) (slice_index ws (next t) == 0) _ _ refl refl
-keeps_length bits t ws CasTail =
-    either_way (KeepsLength ws) (slice_index ws 0 == t + 1) _ _ (length-set _ _ _) refl
-keeps_length bits t ws AwaitLink =
-    either_way (KeepsLength ws) (slice_index ws (next t) == 0) _ _ refl refl
-keeps_length bits t ws (Grant j) = length-set _ _ _
-keeps_length bits t ws p = refl
-
--- the new phase is one of the lock's
-pub step_fits : (n bits t : ℕ) (ws : List ℕ) (p : Phase) → t < n → IsPhase n p → AreLinks n ws
-    → Fits Mcs n (step bits t ws p)
-step_fits n bits t ws ClearNext h f l = tt
-step_fits n bits t ws SwapTail h f l =
-    either_way (Fits Mcs n) (slice_index ws 0 == 0) _ _ tt (omega (arith, l.0))
-step_fits n bits t ws (SetLocked j) h f l = f
-step_fits n bits t ws (LinkTo j) h f l = tt
-step_fits n bits t ws AwaitGrant h f l =
-    either_way (Fits Mcs n) (slice_index ws (locked t) == 0) _ _ tt tt
-step_fits n bits t ws ReadNext h f l =
-    either_way (Fits Mcs n) (slice_index ws (next t) == 0) _ _ tt (omega (arith, l.1 t h))
-step_fits n bits t ws CasTail h f l = either_way (Fits Mcs n) (slice_index ws 0 == t + 1) _ _ tt tt
-step_fits n bits t ws AwaitLink h f l =
-    either_way (Fits Mcs n) (slice_index ws (next t) == 0) _ _ tt (omega (arith, l.1 t h))
-step_fits n bits t ws (Grant j) h f l = tt
-step_fits n bits t ws p h f l = f
-
-pub call_fits : (n : ℕ) (p : Phase) (op : Op) → IsPhase n p
-    → IsPhase n (unwrap_or (after_call p op) p)
-call_fits n Idle Acquire f = tt
-call_fits n McsInside Release f = tt
-call_fits n p op f = f
-
-word_fits : (n : ℕ) (ws : List ℕ) (i v j : ℕ) → v ≤ n → slice_index ws j ≤ n
-    → slice_index (set ws i v) j ≤ n
-word_fits n ws i v j h l = elim (eqb_tells j i) [
-  | inr d ↦ rw (get_or-set_other ws i j v 0 d.1) l
-  | inl d ↦ elim (cases_lt i (length ws)) [
-    | inl k ↦ rw (d.1, get_or-set_same ws i v 0 k) h
-    | inr k ↦ rw (set_past ws i v k) l
-  ]
-]
-
--- a write of a word that names a thread or none, wherever it is
-set_links : (n : ℕ) (ws : List ℕ) (i v : ℕ) → v ≤ n → AreLinks n ws → AreLinks n (set ws i v)
-set_links n ws i v h l =
-    (word_fits n ws i v 0 h l.0, λ j k. word_fits n ws i v (next j) h (l.1 j k))
-
--- the tail and each link still name one of the threads, or none
-pub links_fit : (n bits t : ℕ) (ws : List ℕ) (p : Phase) → t < n → AreLinks n ws
-    → AreLinks n (step bits t ws p).words
-links_fit n bits t ws ClearNext h l = set_links n ws _ 0 (omega arith) l
-links_fit n bits t ws SwapTail h l =
-    either_way (λ (c : Change). AreLinks n c.words) (slice_index ws 0 == 0) _ _
-    (set_links n ws _ (t + 1) (omega arith) l) (set_links n ws _ (t + 1) (omega arith) l)
-links_fit n bits t ws (SetLocked j) h l = set_links n ws _ 1 (omega arith) l
-links_fit n bits t ws (LinkTo j) h l = set_links n ws _ (t + 1) (omega arith) l
-links_fit n bits t ws AwaitGrant h l =
-    either_way (λ (c : Change). AreLinks n c.words) (slice_index ws (locked t) == 0) _ _ l l
-links_fit n bits t ws ReadNext h l =
-    either_way (λ (c : Change). AreLinks n c.words) (slice_index ws (next t) == 0) _ _ l l
-links_fit n bits t ws CasTail h l =
-    either_way (λ (c : Change). AreLinks n c.words) (slice_index ws 0 == t + 1) _ _
-    (set_links n ws _ 0 (omega arith) l) l
-links_fit n bits t ws AwaitLink h l =
-    either_way (λ (c : Change). AreLinks n c.words) (slice_index ws (next t) == 0) _ _ l l
-links_fit n bits t ws (Grant j) h l = set_links n ws _ 0 (omega arith) l
-links_fit n bits t ws p h l = l
-
-pub allows_acquire : (q : Sequential) (t : ℕ) → q.kind ≡ Mcs → t < 64 → has q.queue t ≡ false
-    → is_allowed q (Acted t Acquire) ≡ true
-allows_acquire q t k h n = rw (lt-ltb t 64 h, k, n) refl
-
-pub allows_release : (q : Sequential) (t : ℕ) → q.kind ≡ Mcs → t < 64 → is_head q.queue t ≡ true
-    → is_allowed q (Acted t Release) ≡ true
-allows_release q t k h n = rw (lt-ltb t 64 h, k, n) refl
+use Rattle.lk_locks.proofs.Requests.{allows_acquire, allows_release}
+use Rattle.lk_locks.specs.Rooms.{family_of}
+use Rattle.lk_locks.proofs.invariants.McsSteps.{begins, call_fits, few_entries, goes_on}
+use Rattle.lk_locks.proofs.invariants.McsSteps.{keeps_length, links_fit, owed_is_own, step_fits}
 
 pub head_is : (q : List ℕ) (t : ℕ) (r : List ℕ) → q ≡ t ∷ r → is_head q t ≡ true
 head_is q t r e = rw e (eq-eqb t t refl)
@@ -273,7 +151,7 @@ keeps bits ws ps q t SwapTail (Step s) given =
     let o : has q.queue t ≡ false =
     not_member ws ps q.queue t a (λ r x. rw e at x) (λ v x. rw e at x) in
     let y : is_allowed q (Acted t Acquire)
-    ≡ true = allows_acquire q t given.kind_is (omega arith) o in
+    ≡ true = allows_acquire q t (ap family_of given.kind_is) (omega arith) o in
     let z : next_of ws t ≡ 0 = rw e at (a.others t o) in
     elim (eqb_tells (slice_index ws 0) 0) [
       | inl d ↦
@@ -415,7 +293,7 @@ keeps bits ws ps q t CasTail (Step s) given =
     let i : IsHeadOf ws ps q.queue t =
     first_of_head ws ps q.queue t CasTail e (λ x. x) (λ v x. x) a in
     let y : is_allowed q (Acted t Release) ≡ true =
-    allows_release q t given.kind_is (omega arith) (head_is q.queue t i.rest i.is) in
+    allows_release q t (ap family_of given.kind_is) (omega arith) (head_is q.queue t i.rest i.is) in
     elim (eqb_tells (slice_index ws 0) (t + 1)) [
       | inl d ↦
           let g : i.rest ≡ [] = alone ws ps q.queue t i.rest i.is a d.1 in
@@ -467,7 +345,7 @@ keeps bits ws ps q t (Grant j) (Step s) given =
     let i : IsHeadOf ws ps q.queue t =
     first_of_head ws ps q.queue t (Grant j) e (λ x. x) (λ v x. x) a in
     let y : is_allowed q (Acted t Release) ≡ true =
-    allows_release q t given.kind_is (omega arith) (head_is q.queue t i.rest i.is) in
+    allows_release q t (ap family_of given.kind_is) (omega arith) (head_is q.queue t i.rest i.is) in
     record {
       allowed = (y, (tt, tt));
       kind_is = given.kind_is;

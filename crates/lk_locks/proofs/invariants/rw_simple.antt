@@ -24,8 +24,8 @@ use Rattle.lk_locks.proofs.Cases.{KeepsLength, either_way}
 use Rattle.lk_locks.proofs.invariants.HolderLists.{empty_of_length, flag_none, holders_downgrade}
 use Rattle.lk_locks.proofs.invariants.HolderLists.{holders_frame, holders_join, holders_leave}
 use Rattle.lk_locks.proofs.invariants.HolderLists.{holders_unwrite, holders_write, length_joined}
-use Rattle.lk_locks.proofs.invariants.HolderLists.{length_left, no_holders, no_writer, none_announced}
-use Rattle.lk_locks.proofs.invariants.HolderLists.{readers_few, readers_fit}
+use Rattle.lk_locks.proofs.invariants.HolderLists.{length_left, no_holders, no_writer}
+use Rattle.lk_locks.proofs.invariants.HolderLists.{none_announced, readers_few, readers_fit}
 use Rattle.lk_locks.specs.declared.kinds.Family.TheVariants.{ReadWrite}
 use Rattle.lk_locks.specs.declared.kinds.LockKind.TheVariants.{RwSimple}
 use Rattle.lk_locks.specs.declared.kinds.Move.{Move}
@@ -79,7 +79,8 @@ keeps_length bits t ws p = refl
 -- the new phase is one of the lock's
 pub step_fits : (n bits t : ℕ) (ws : List ℕ) (p : Phase) → t < n → IsPhaseOf RwSimple n p
     → AreLinks RwSimple n ws → Fits RwSimple n (step bits ws p)
-step_fits n bits t ws TryRead h f l = either_way (Fits RwSimple n) (slice_index ws 1 == 0) _ _ refl refl
+step_fits n bits t ws TryRead h f l =
+    either_way (Fits RwSimple n) (slice_index ws 1 == 0) _ _ refl refl
 step_fits n bits t ws LeaveRead h f l = refl
 step_fits n bits t ws TryWrite h f l =
     either_way (Fits RwSimple n) (slice_index ws 0 == 0 && slice_index ws 1 == 0) _ _ refl refl

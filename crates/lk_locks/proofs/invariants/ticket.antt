@@ -5,12 +5,12 @@ use Rattle.std.proofs.Common.{length, refl, rules, set, slice_index, sym, true, 
 use Rattle.std.proofs.Common.{◌==◌, ◌∙◌, ◌∷◌, ◌≡◌, ◌≤◌, ◌^◌, ◌%◌, ◌+◌}
 use Rattle.std.proofs.Math.Nat.{mod-eq_of_lt}
 use Rattle.std.proofs.lemmas.Nat.{pow_pos}
-use Rattle.std.proofs.lemmas.Bool.{false≢true, lt-ltb}
+use Rattle.std.proofs.lemmas.Bool.{false≢true}
 use Rattle.std.proofs.lemmas.Bool.Decides.{eqb_tells}
 use Rattle.std.proofs.lemmas.List.{length-replicate, length-set, set-get_or}
 use Rattle.lk_locks.specs.Change.{Change}
 use Rattle.lk_locks.specs.Entries.{move_entries}
-use Rattle.lk_locks.specs.Sequential.{nobody, Sequential, has, is_allowed, is_head}
+use Rattle.lk_locks.specs.Sequential.{nobody, Sequential, has, is_allowed}
 use Rattle.lk_locks.specs.State.{phase_at, start}
 use Rattle.lk_locks.specs.Rooms.{after_call}
 use Rattle.lk_locks.specs.Steps.{has_op, move_change, refusal_in}
@@ -35,6 +35,8 @@ use Rattle.lk_locks.specs.declared.kinds.Phase.{Phase}
 use Rattle.lk_locks.specs.declared.kinds.Phase.TheVariants.{AwaitTurn, Idle, PassOn, ReadServing}
 use Rattle.lk_locks.specs.declared.kinds.Phase.TheVariants.{TakeTicket, TicketInside}
 use Rattle.lk_locks.specs.declared.kinds.Entry.TheVariants.{Acted}
+use Rattle.lk_locks.proofs.Requests.{allows_acquire, allows_release}
+use Rattle.lk_locks.specs.Rooms.{family_of}
 
 -- each step adds the next entries of the pending call
 pub goes_on : (bits t : ℕ) (ws : List ℕ) (p : Phase) → GoesOn Ticket t p (step bits t ws p)
@@ -85,15 +87,6 @@ call_fits n Idle Acquire f = refl
 call_fits n (TicketInside t) Release f = refl
 call_fits n p op f = f
 
--- a queue lock allows a new request, and the release of the head
-pub allows_acquire : (q : Sequential) (t : ℕ) → q.kind ≡ Ticket → t < 64 → has q.queue t ≡ false
-    → is_allowed q (Acted t Acquire) ≡ true
-allows_acquire q t k h n = rw (lt-ltb t 64 h, k, n) refl
-
-pub allows_release : (q : Sequential) (t : ℕ) → q.kind ≡ Ticket → t < 64 → is_head q.queue t ≡ true
-    → is_allowed q (Acted t Release) ≡ true
-allows_release q t k h n = rw (lt-ltb t 64 h, k, n) refl
-
 rest_false : (q : List ℕ) (t : ℕ) → has q t ≡ false → has (drop 1 q) t ≡ false
 rest_false [] t h = refl
 rest_false (u ∷ q) t h = elim (bool_tells (has q t)) [
@@ -141,7 +134,7 @@ keeps bits ws ps q t TakeTicket (Step s) given =
     let a : IsQueue bits ws ps q.queue = given.agrees in
     let o : has q.queue t ≡ false = no_member bits ws ps q.queue t a (ap ticket_of e) in
     let y : is_allowed q (Acted t Acquire)
-    ≡ true = allows_acquire q t given.kind_is (omega arith) o in
+    ≡ true = allows_acquire q t (ap family_of given.kind_is) (omega arith) o in
     record {
       allowed = (y, tt);
       kind_is = given.kind_is;
@@ -192,7 +185,7 @@ keeps bits ws ps q t (PassOn x) (Step s) given =
     inside_is_head bits ws ps q.queue t x a (ap ticket_of e) (λ y d. let g : PassOn x
     ≡ AwaitTurn y = sym e ∙ d in cc) in
     let y : is_allowed q (Acted t Release)
-    ≡ true = allows_release q t given.kind_is (omega arith) i.head in
+    ≡ true = allows_release q t (ap family_of given.kind_is) (omega arith) i.head in
     record {
       allowed = (y, (tt, tt));
       kind_is = given.kind_is;

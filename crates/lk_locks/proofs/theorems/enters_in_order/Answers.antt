@@ -1,4 +1,4 @@
-use Rattle.lk_locks.proofs.QueueLaws.{enters_in_order}
+use Rattle.lk_locks.proofs.QueueOrder.{enters_in_order}
 use Rattle.lk_locks.proofs.theorems.enters_in_order.Goals as goal
 
 pub returns : goal.returns

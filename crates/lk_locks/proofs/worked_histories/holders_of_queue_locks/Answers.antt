@@ -1,7 +1,7 @@
 use Rattle.std.proofs.Common.{◌≡◌, [], ◌∷◌, refl}
 use Rattle.std.proofs.lemmas.Bool.{false≢true}
 use Rattle.lk_locks.specs.WorkedHistories.{handed_on}
-use Rattle.lk_locks.proofs.QueueLaws.{holders_are_apart}
+use Rattle.lk_locks.proofs.QueueOrder.{holders_are_apart}
 use Rattle.lk_locks.proofs.WorkedHistories.{ticket_legal, not_of_two}
 use Rattle.lk_locks.specs.declared.kinds.LockKind.TheVariants.{Ticket}
 use Rattle.lk_locks.specs.declared.kinds.Op.TheVariants.{Acquire, Release}
