@@ -19,54 +19,49 @@ import random
 import sys
 
 sys.path.append(str(pathlib.Path(__file__).parent.parent / "fuzz"))
-import oracle
+from machine import Machine
 
 MOVES = 65_536
 
 
-def next_move(replay, thread):
-    """The step that is due, or the call that gives back what is held, or the first that takes."""
-    if replay.due[thread]:
-        return replay.due[thread]
-    held = replay.lock.may_give_back(thread)
-    if held:
-        return (held - {"downgrade"}).pop()
-    return "acquire" if "acquire" in replay.lock.calls else "rlock"
+def next_move(machine, thread):
+    """The step that is due, or the first call that gives back what is held, or that takes it."""
+    return machine.due[thread] or machine.calls(thread)[0]
 
 
-def contend(replay, chance):
+def contend(machine, chance):
     """Who is outside queues up at once. Else the oldest moves, or one that waits looks."""
-    outside = list(range(replay.threads))
+    outside = list(range(machine.threads))
     while True:
-        requests = replay.lock.requests
+        requests = machine.line
         outside = [thread for thread in outside if thread not in requests]
         if outside:
             thread = outside[0]
         else:
             thread = requests[0] if chance.random() < 0.5 else chance.choice(requests)
-        yield thread, next_move(replay, thread)
+        yield thread, next_move(machine, thread)
         if thread not in requests and thread not in outside:
             outside.append(thread)
 
 
-def come_and_go(replay, chance):
+def come_and_go(machine, chance):
     while True:
-        thread = chance.randrange(replay.threads)
-        yield thread, next_move(replay, thread)
+        thread = chance.randrange(machine.threads)
+        yield thread, next_move(machine, thread)
 
 
-def spin(replay, chance):
+def spin(machine, chance):
     """Thread 0 holds, the second does what it can, and then polls and fails."""
-    taking = "acquire" if "acquire" in replay.lock.calls else "wlock"
+    taking = machine.lock.taking[-1]
     for thread in (0, 1):
         yield thread, taking
-        while replay.due[thread]:
-            yield thread, replay.due[thread]
+        while machine.due[thread]:
+            yield thread, machine.due[thread]
 
 
-def alone(replay, chance):
+def alone(machine, chance):
     while True:
-        yield 0, next_move(replay, 0)
+        yield 0, next_move(machine, 0)
 
 
 KINDS = {
@@ -90,11 +85,11 @@ KINDS = {
 def schedule_of(kind, moves=MOVES):
     name, threads, who = KINDS[kind]
     lines = [f"lock {name} threads {threads}\n"]
-    replay = oracle.Replay(name, threads)
-    walk = who(replay, random.Random(kind)) if who else iter(())
+    machine = Machine(name, threads)
+    walk = who(machine, random.Random(kind)) if who else iter(())
     for thread, word in walk:
         lines.append(f"{thread} {word}\n")
-        replay.play(thread, word)
+        machine.play(thread, word)
         if len(lines) > moves:
             break
     return "".join(lines).encode()

@@ -13,17 +13,18 @@ import pathlib
 import subprocess
 
 import oracle
+from locks import LOCKS
 
 HERE = pathlib.Path(__file__).resolve().parent
 LIMITS = HERE.parent / "examples" / "limits.sh"
 FAULTS = ["TooLong", "NoHeader", "BadHeader", "BadThreads", "WordsTooNarrow", "BadLine",
           "TooManyMoves"]
 REFUSALS = ["NoSuchThread", "WrongLock", "Busy", "NotHolder", "AlreadyHolds", "NoCall"]
-# What begins the name of one text at least. Read-write locks have one kind of step: none is wrong.
+# What begins the name of one text at least. Where a lock has one kind of step, none is wrong.
 DUE = [*(f"fault-{fault}" for fault in FAULTS),
-       *(f"refused-{refusal}-{lock}" for refusal in REFUSALS for lock in oracle.LOCKS),
-       *(f"refused-WrongStep-{lock}" for lock in ("ticket", "mcs")),
-       *(f"end-{lock}" for lock in oracle.LOCKS)]
+       *(f"refused-{refusal}-{lock}" for refusal in REFUSALS for lock in LOCKS),
+       *(f"refused-WrongStep-{lock}" for lock in LOCKS if len(LOCKS[lock].steps) > 1),
+       *(f"end-{lock}" for lock in LOCKS)]
 TOO_LARGE = {"fault-TooLong": "fault-too-long", "fault-TooManyMoves": "fault-too-many-moves"}
 
 

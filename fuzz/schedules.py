@@ -5,9 +5,11 @@ schedules reach deep into each lock. Some end in a refused move, some in a line 
 and some texts are changed byte by byte.
 """
 import oracle
+from locks import CALLS, LOCKS, STEPS
+from machine import Machine
 
-NAMES = sorted(oracle.LOCKS)
-WORDS = sorted(oracle.CALLS | oracle.STEPS)
+NAMES = sorted(LOCKS)
+WORDS = sorted(CALLS | STEPS)
 # Parts of lines that are almost right.
 ODD_NUMBERS = ["00", "01", "256", "999", "-1", "+1", "", "0x1", "1e1", "9" * 100, "\u0661"]
 ODD_WORDS = ["", "Acquire", "acquir", "acquires", "go", "read\r", "read\0", "wlock ", "section x"]
@@ -37,31 +39,28 @@ def header(chance):
     return name, threads, line if bits is None else f"{line} bits {bits}"
 
 
-def allowed_move(chance, replay, thread):
+def allowed_move(chance, machine, thread):
     """A move of the thread that is not refused."""
-    if replay.due[thread]:
-        return replay.due[thread]
-    held = replay.lock.may_give_back(thread)
-    return chance.choice(sorted(held or replay.lock.calls & oracle.ACQUIRING))
+    return machine.due[thread] or chance.choice(sorted(machine.calls(thread)))
 
 
 def moves(chance, name, threads, count):
     """At most `count` moves: threads in bursts, few at a time or all, none refused."""
-    replay = oracle.Replay(name, threads)
+    machine = Machine(name, threads)
     few = chance.sample(range(threads), min(threads, chance.choice([1, 2, 3, 5, 64])))
     stay = chance.choice([0.0, 0.3, 0.6, 0.9])
     thread = chance.choice(few)
     for _ in range(count):
         if chance.random() >= stay:
             thread = chance.choice(few)
-        word = allowed_move(chance, replay, thread)
-        replay.play(thread, word)
+        word = allowed_move(chance, machine, thread)
+        machine.play(thread, word)
         yield thread, word
 
 
 def stray_move(chance, name, threads, played):
     """A move that is well formed, allowed or not: of a thread that moved before, mostly."""
-    lock = oracle.LOCKS[name]
+    lock = LOCKS[name]
     thread = chance.choice(played)[0] if played else chance.randrange(threads)
     if chance.random() < 0.1:
         thread = chance.choice([threads, 255, chance.randint(0, 255)])

@@ -1,0 +1,7 @@
+"""The locks, each in a file of its own: its calls as the books print them. A lock's algorithm
+stands here and nowhere else in Python; the oracle, the fuzzer and the tests take it from here.
+"""
+from locks import mcs, rw_fifo, rw_simple, ticket
+from locks.lock import CALLS, HOLDING, STEPS, TAKING
+
+LOCKS = {room.LOCK.name: room.LOCK for room in (ticket, mcs, rw_simple, rw_fifo)}

@@ -1,0 +1,36 @@
+"""What the two read-write locks share, after Herlihy and Shavit, The Art of Multiprocessor
+Programming, chapter 8: a monitor's flag, which is set while a writer is inside or announced.
+
+Different here: who waits for the flag waits before it counts itself or sets the flag. `downgrade`,
+by which a writer becomes a reader in one section, is this project's own.
+"""
+from locks.steps import section
+
+
+def has_no_writer(words):
+    return not words["flag"]
+
+
+def clear_flag(words):
+    words.put("flag", 0)
+
+
+def calls(count_in, count_out, wlock):
+    """The calls of a lock, by how it counts a reader in and out, and how its writers enter."""
+    def rlock(me):
+        yield section(count_in, when=has_no_writer)
+
+    def runlock(me):
+        yield section(count_out)
+
+    def wunlock(me):
+        yield section(clear_flag)
+
+    def become_reader(words):
+        count_in(words)
+        clear_flag(words)
+
+    def downgrade(me):
+        yield section(become_reader)
+
+    return rlock, runlock, wlock, wunlock, downgrade

@@ -1,0 +1,140 @@
+"""A lock in use: its words, the call that each thread is in the middle of, who holds and who waits.
+
+The words alone decide how a call goes on, by the code in locks/. Holders and queue are kept beside
+them, by what each call came to. The two have to agree whenever a thread enters: it is the first in
+line, and no writer is inside beside it. Where they do not, the machine stops with `AssertionError`.
+"""
+from typing import NamedTuple
+
+from locks import CALLS, HOLDING, LOCKS, TAKING
+from locks.steps import WAITS, Words
+
+
+class Made(NamedTuple):
+    """A step that was made: its kind, the word that it was on, what that was, is, and the outcome.
+    A section is on no word of its own."""
+    kind: str
+    word: object
+    found: int
+    left: int
+    outcome: str
+
+
+class Machine:
+    def __init__(self, name, threads, bits=64):
+        self.lock = LOCKS[name]
+        self.threads = threads
+        self.words = Words(dict.fromkeys(self.lock.all_words(threads), 0), bits)
+        self.call = [None] * threads  # the word of the pending call
+        self.step = [None] * threads  # the step that is due in it
+        self.due = [None] * threads  # the kind of that step
+        self.answers = [()] * threads  # what its steps answered so far
+        self.code = [None] * threads  # its generator; None in a copy
+        self.held = {}  # threads that hold, and the call by which each does
+        self.line = []  # the queue, oldest first
+        self.shown = "hold - queue -"  # holders and queue in a report; None where to be made anew
+
+    def copy(self):
+        """The same state. Generators cannot be copied: `_start_code` makes them again."""
+        other = Machine.__new__(Machine)
+        other.lock, other.threads, other.words = self.lock, self.threads, self.words.copy()
+        other.call, other.step, other.due = self.call[:], self.step[:], self.due[:]
+        other.answers, other.code = self.answers[:], [None] * self.threads
+        other.held, other.line, other.shown = dict(self.held), self.line[:], self.shown
+        return other
+
+    def giving_back(self, thread):
+        """The calls by which the thread may give back what it holds."""
+        return HOLDING[self.held[thread]][1] if thread in self.held else ()
+
+    def calls(self, thread):
+        """The calls that a thread may make that is in none."""
+        return self.giving_back(thread) or self.lock.taking
+
+    def refusal(self, thread, word):
+        """The reason why a move is refused, or None."""
+        if thread >= self.threads:
+            return "NoSuchThread"
+        if word not in self.lock.calls and word not in self.lock.steps:
+            return "WrongLock"
+        due = self.due[thread]
+        if word in CALLS:
+            if due is not None:
+                return "Busy"
+            if word in TAKING:
+                return "AlreadyHolds" if thread in self.held else None
+            return None if word in self.giving_back(thread) else "NotHolder"
+        if due is None:
+            return "NoCall"
+        return None if word == due else f"WrongStep next {due}"
+
+    def play(self, thread, word):
+        """Makes a move that is not refused; its outcome."""
+        step = self.step[thread]
+        if step is None:
+            return self._begin_call(thread, word)
+        if self.code[thread] is None:
+            self._start_code(thread)
+        answer = step.make(self.words)
+        if answer is WAITS:
+            return "waits"
+        if step.is_place_in_line:
+            self.line.append(thread)
+            self.shown = None
+        try:
+            step = self.code[thread].send(answer)
+        except StopIteration:
+            return self._end_call(thread)
+        self.step[thread], self.due[thread] = step, step.kind
+        self.answers[thread] += (answer,)
+        return "moved"
+
+    def make(self, thread):
+        """Makes the step that is due, and tells of it."""
+        kind, word, _, _ = self.step[thread]
+        found = self.words.get(word)
+        outcome = self.play(thread, kind)
+        return Made(kind, word, found, self.words.get(word), outcome)
+
+    def _begin_call(self, thread, word):
+        self.call[thread] = word
+        self._start_code(thread)
+        return "called"
+
+    def _start_code(self, thread):
+        """Makes the generator of the pending call, and brings it to the step that is due."""
+        code = self.code[thread] = self.lock.calls[self.call[thread]](thread)
+        step = next(code)
+        for answer in self.answers[thread]:
+            step = code.send(answer)
+        self.step[thread], self.due[thread] = step, step.kind
+
+    def _end_call(self, thread):
+        call = self.call[thread]
+        is_entering = call in HOLDING
+        if is_entering:
+            self._enter(thread, call)
+        else:
+            del self.held[thread]
+        if thread in self.line and is_entering != self.lock.is_holder_in_line:
+            self.line.remove(thread)
+        self.call[thread] = self.step[thread] = self.due[thread] = self.code[thread] = None
+        self.answers[thread] = ()
+        self.shown = None
+        return "entered" if is_entering else "left"
+
+    def _enter(self, thread, call):
+        self.held[thread] = call
+        assert not self.line or self.line[0] == thread, "another is first in line"
+        assert len(self.held) == 1 or self.sign() == HOLDING[call][0] == "r", "another is inside"
+
+    def sign(self):
+        """How a report marks those who hold."""
+        return HOLDING[next(iter(self.held.values()))][0] if self.held else "-"
+
+    def state(self):
+        """Holders and queue, as a report shows them."""
+        if self.shown is None:
+            holders, queue = ",".join(map(str, sorted(self.held))), ",".join(map(str, self.line))
+            self.shown = f"hold {self.sign()}{holders} queue {queue or '-'}"
+        return self.shown
