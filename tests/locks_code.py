@@ -2,9 +2,10 @@
 """Compares the code of docs/LOCKS.md with the definitions of the locks.
 
 Each line names a phase and the kind of step that is due in it. The definitions `step_due` and
-`after_call` of crates/lk_locks/specs say the same of every phase. Both must name the same phases
-with the same kinds, and the same calls. Prints `N passed, M failed`, and ends with 1 where one
-failed.
+`after_call` of crates/lk_locks/specs say the same of every phase. Those of the read-write locks are
+in a file that they share; which phases each of these has, its own `step` tells. Both must name the
+same phases with the same kinds, and the same calls. Prints `N passed, M failed`, and ends with 1
+where one failed.
 """
 import pathlib
 import re
@@ -12,16 +13,14 @@ import sys
 
 TOP = pathlib.Path(__file__).resolve().parent.parent
 SPECS = TOP / "crates" / "lk_locks" / "specs"
-# A lock's block in the document, the files that define it, and the phases that it has not.
-LOCKS = {
-    "ticket": ("ticket", set()),
-    "mcs": ("mcs", set()),
-    "rw-simple": ("read_write", {"AwaitReaders"}),
-    "rw-fifo": ("read_write", set()),
-}
+sys.path.append(str(TOP / "fuzz"))
+from locks import LOCKS
+
+SHARED = "read_write.antt"
 CALLS = {"Acquire": "acquire", "Release": "release", "ReadLock": "rlock", "ReadUnlock": "runlock",
          "WriteLock": "wlock", "WriteUnlock": "wunlock", "Downgrade": "downgrade"}
 LINE = re.compile(r"-- (\w+) (\w+)(?: looks at .*)?$", re.MULTILINE)
+STEP = re.compile(r"^step .*?\(?\b([A-Z]\w+)[^=]*=", re.MULTILINE)
 
 
 def in_document(lock):
@@ -30,24 +29,26 @@ def in_document(lock):
     return set(LINE.findall(re.search(rf"```{lock}\n(.*?)\n```", text, re.DOTALL).group(1)))
 
 
-def in_definitions(name, missing):
+def in_definitions(lock):
     """The same by the definitions."""
-    text = (SPECS / f"{name}.antt").read_text()
+    text = (SPECS / f"{lock.replace('-', '_')}.antt").read_text()
+    phases = STEP.findall(text)
+    if "after_call" not in text:
+        text = (SPECS / SHARED).read_text()
     due = re.findall(r"^step_due \(?([A-Z]\w+).* = Some (\w+)$", text, re.MULTILINE)
     calls = re.findall(r"^after_call .* (\w+) = Some", text, re.MULTILINE)
-    leads = re.findall(r"^after_call .* = Some \(?(\w+)", text, re.MULTILINE)
-    if not due:  # every phase in which a call is pending has a section due
-        due = [(phase, "Section") for phase in leads + ["AwaitReaders"]]
     inside = re.findall(r"^after_call \(?([A-Z]\w+).* = Some", text, re.MULTILINE)
-    return ({(kind.lower(), phase) for phase, kind in due if phase not in missing}
+    if not due:  # where there is but one kind of step
+        due = [(phase, "Section") for phase in phases]
+    return ({(kind.lower(), phase) for phase, kind in due}
             | {("call", CALLS[call]) for call in calls}
             | {("inside", phase) for phase in inside if phase != "Idle"})
 
 
 def main():
     passed = failed = 0
-    for lock, (name, missing) in LOCKS.items():
-        written, defined = in_document(lock), in_definitions(name, missing)
+    for lock in LOCKS:
+        written, defined = in_document(lock), in_definitions(lock)
         passed += len(written & defined)
         failed += len(written ^ defined)
         for kind, phase in sorted(written - defined):

@@ -21,7 +21,6 @@ EXAMPLES, ROWS = TOP / "examples", TOP / "tests" / "rows"
 TABLES = ["texts", "refusals", "limits"]
 EARLIER = b"..\n"  # stands for the lines of a report that a row does not tell
 ESCAPES = {"|": "\n", r"\r": "\r", r"\0": "\0"}
-LOCKS = ["ticket", "mcs", "rw-simple", "rw-fifo"]
 
 
 class Row(NamedTuple):

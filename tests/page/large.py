@@ -72,7 +72,7 @@ def stretch(driver, start):
 def loads_and_steps(driver, _):
     driver.execute_cdp_cmd("Performance.enable", {"timeDomain": "threadTicks"})
     open_page(driver)
-    for lock in ["ticket", "mcs", "rw-simple", "rw-fifo"]:
+    for lock in schedules.NAMES:
         load, steps = measure(driver, text_of(lock, 64, 65536))
         work, passed = [max(one) for one in zip(*steps)]
         print(

@@ -53,7 +53,7 @@ def two_thousand(driver, program):
     texts = texts_drawn(TEXTS)
     reports = reports_of(program, texts)
     locks, widths = covered(texts, reports)
-    assert locks == {"ticket", "mcs", "rw-simple", "rw-fifo"} and len(widths) > 30, (locks, widths)
+    assert locks == set(schedules.NAMES) and len(widths) > 30, (locks, widths)
     open_page(driver)
     compare(driver, texts, reports)
 
