@@ -30,7 +30,7 @@ def spoil(dice, run):
     k = dice.choice(changeable)
     thread, line = run.moves[k]
     run.moves[k] = thread, changed_value(dice, line, [1, 2, 5], max(run.places, 256))
-    return k + 2, line.startswith("section")  # lines are counted from 1, and the header is the first
+    return k + 2, line.startswith("section")  # the header is line 1
 
 
 def is_fine(answer, line, is_count):

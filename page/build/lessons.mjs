@@ -2,16 +2,16 @@
 
 import { readFileSync, readdirSync } from 'node:fs';
 import { join } from 'node:path';
-import { LOCKS } from '../src/codes.js';
+import { LOCK_NAMES, LOCKS } from '../src/locks.js';
 import { Machine } from '../src/machine.js';
 import { remarksOf } from '../src/remarks.js';
 import { Run } from '../src/run.js';
 import { Recorder } from '../src/stored.js';
 
-const GROUPS = [...LOCKS, 'refused', 'fault'];
-// The first word of a lesson's name.
+const GROUPS = [...LOCK_NAMES, 'refused', 'fault'];
+// The group by the first word of a lesson's name.
 const KINDS = {
-  ticket: 'ticket', mcs: 'mcs', simple: 'rw-simple', fifo: 'rw-fifo',
+  ...Object.fromEntries(LOCKS.map(({ lesson, name }) => [lesson, name])),
   refused: 'refused', fault: 'fault',
 };
 

@@ -1,10 +1,9 @@
 // What is wrong with a text, in words: what was found, what could stand there, and where it is
 // plain a line to write instead. That there is a fault, and in which line, the machine said.
 
-import {
-  ACTION, CALLS, LAST_THREAD_NUMBER, LOCKS, MOST_THREADS, STEPS, wordOf,
-} from './codes.js';
+import { ACTION, CALLS, LAST_THREAD_NUMBER, MOST_THREADS, STEPS, wordOf } from './codes.js';
 import { lineOf } from './bytes.js';
+import { LOCK_NAMES } from './locks.js';
 import { nearest } from './nearest.js';
 import { fill, say, texts } from './texts.js';
 
@@ -47,10 +46,10 @@ const HEADER_PARTS = [
     return headerFault(T.noLockWord, withWord(words, 0, 'lock'));
   },
   (words) => {
-    if (words.length < 2 || LOCKS.includes(words[1])) return null;
-    const meant = nearest(words[1], LOCKS);
+    if (words.length < 2 || LOCK_NAMES.includes(words[1])) return null;
+    const meant = nearest(words[1], LOCK_NAMES);
     return {
-      say: [say(T.unknownLock, { found: words[1] }), meantOr(meant, T.locks)],
+      say: [say(T.unknownLock, { found: words[1] }), meantOr(meant, LOCK_NAMES.join(', '))],
       mended: meant && withWord(words, 1, meant),
     };
   },

@@ -1,6 +1,5 @@
 // The numbers of the machine's records and states, by name, as crates/lk_page writes them.
 
-export const LOCKS = ['ticket', 'mcs', 'rw-simple', 'rw-fifo'];
 export const CALLS = ['acquire', 'release', 'rlock', 'runlock', 'wlock', 'wunlock', 'downgrade'];
 export const STEPS = ['', 'read', 'write', 'swap', 'cas', 'add', 'section'];
 export const OUTCOMES = ['called', 'moved', 'waits', 'entered', 'left'];

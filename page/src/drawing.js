@@ -4,7 +4,7 @@ import { codeView } from './code_view.js';
 import { lanesPicture, numbersPicture } from './lanes.js';
 import { columnX, lanesOf, layOutLanes } from './layout.js';
 import { legend } from './legend.js';
-import { lockName, lockOf } from './locks.js';
+import { lockOf } from './locks.js';
 import { byId, html, show, write } from './markup.js';
 import { nowView, spokenText } from './now.js';
 import { quizForm, resultView, scoreText } from './quiz.js';
@@ -83,7 +83,7 @@ export function drawMemory(view, state, size) {
   const lock = lockOf(view.run);
   const caption = lock.caption(view, state);
   const resting = lock.restingNote?.({ ...view, width: size.width }, state) ?? '';
-  write(byId('memory-title'), texts.memoryTitles[lockName(view.run)]);
+  write(byId('memory-title'), lock.memory);
   const missing = caption.missing && 'missing';
   show(byId('memory-caption'), html`<span class="${missing}">${caption.text}</span>
     ${resting && html`<span class="soft">${resting}</span>`}`);
@@ -122,7 +122,7 @@ export function drawSlider(view, width) {
 }
 
 function lockText(run) {
-  return texts.subtitle(texts.lockNames[lockName(run)], texts.threads(run.threads), run.bits);
+  return texts.subtitle(lockOf(run).title, texts.threads(run.threads), run.bits);
 }
 
 export function drawHead(session) {

@@ -10,7 +10,8 @@ const FONTS = {
   word: ['560 14.5px', '--mono'],
 };
 
-const pen = document.createElement('canvas').getContext('2d');
+// Made when it is first used, since the build reads this file without a browser.
+let pen = null;
 const widths = new Map();
 
 function fontOf(kind) {
@@ -22,6 +23,7 @@ export function widthOf(text, kind) {
   const key = `${kind} ${text}`;
   if (!widths.has(key)) {
     if (widths.size === MEASURED) widths.clear();
+    pen ??= document.createElement('canvas').getContext('2d');
     pen.font = fontOf(kind);
     widths.set(key, pen.measureText(text).width);
   }

@@ -1,15 +1,14 @@
 // Which moves and which threads are in view, and where they stand. Only these are drawn, so a
 // step costs the same in a schedule of 65,536 moves as in one of ten.
 
-import { LOCKS } from './codes.js';
 import { widthOf } from './fitting.js';
+import { lockOf } from './locks.js';
 
 // Where the names of threads stand: how wide, which share of the lanes at most, and what stands
 // beside a name there.
 const GUTTER = { least: 122, share: 0.16 };
 export const NAME_EDGES = { left: 20, right: 10 };
 const COLUMN = { narrowest: 16, least: 44, most: 66, widest: 120 };
-const WIDE_WORDS = 56;
 const LANE = { tallest: 85, lowest: 38 };
 // From how many threads on only those that move are drawn.
 const MANY_THREADS = 8;
@@ -23,8 +22,7 @@ export function lanesOf(run, all) {
   return moving.length ? moving : threads.slice(0, MANY_THREADS);
 }
 
-// Read-write calls have longer words.
-const leastColumn = (run) => (LOCKS[run.kind].startsWith('rw') ? WIDE_WORDS : COLUMN.least);
+const leastColumn = (run) => lockOf(run).leastColumn ?? COLUMN.least;
 
 function columnWidth(run, room, zoom) {
   const fitting = room / Math.max(1, run.count + 0.4);

@@ -1,6 +1,6 @@
-// What the signs of the lanes mean. Signs of what the lock cannot do are left out.
+// What the signs of the lanes mean. Each lock names those that it has beside the common ones.
 
-import { lockName } from './locks.js';
+import { lockOf } from './locks.js';
 import { html } from './markup.js';
 import { texts } from './texts.js';
 
@@ -30,15 +30,9 @@ const STRETCHES = {
 };
 
 const COMMON = ['call', 'vain', 'enters', 'leaves'];
-const OF_LOCK = {
-  ticket: ['inCall', 'line', 'holds', 'ended'],
-  mcs: ['fails', 'inCall', 'line', 'holds', 'unlinked', 'ended'],
-  'rw-simple': ['inCall', 'reads', 'writes', 'ended'],
-  'rw-fifo': ['inCall', 'line', 'reads', 'writes', 'ended'],
-};
 
 export function legend(run) {
-  const signs = [...COMMON, ...OF_LOCK[lockName(run)]].map((name) => (SHAPES[name]
+  const signs = [...COMMON, ...lockOf(run).signs].map((name) => (SHAPES[name]
     ? sign(20, SHAPES[name], T[name]) : sign(32, STRETCHES[name], T[name])));
   return html`${signs}`;
 }

@@ -1,5 +1,6 @@
 // The lessons: the schedules of examples/, by lock and title.
 
+import { LOCKS } from './locks.js';
 import { byId, html, show } from './markup.js';
 import { texts } from './texts.js';
 
@@ -11,9 +12,12 @@ function lessonButton({ name, title }, current) {
     <span>${name}</span></button></li>`;
 }
 
+const titleOf = (group) => LOCKS.find(({ name }) => name === group)?.title
+  ?? texts.lessons.groups[group];
+
 function lessonsView(lessons, current) {
   const groups = [...new Set(lessons.map(({ group }) => group))];
-  return html`${groups.map((group) => html`<section><h3>${texts.lessons.groups[group]}</h3><ul>
+  return html`${groups.map((group) => html`<section><h3>${titleOf(group)}</h3><ul>
     ${lessons.filter((one) => one.group === group).map((one) => lessonButton(one, current))}
     </ul></section>`)}`;
 }

@@ -1,13 +1,13 @@
-// What the page knows of a lock beyond its code: the names of its words and its pictures. Each
-// lock has its own file, under its own name.
+// The locks, in the order in which the machine numbers them. What the page knows of a lock is in
+// the lock's own file: its name in schedules and lessons, its title, the signs of its lanes, its
+// sentences, and the picture of its memory. Its code is in docs/LOCKS.md.
 
-import { LOCKS } from './codes.js';
-import { ticket } from './ticket.js';
 import { mcs } from './mcs.js';
-import { rwSimple } from './rw_simple.js';
 import { rwFifo } from './rw_fifo.js';
+import { rwSimple } from './rw_simple.js';
+import { ticket } from './ticket.js';
 
-const PICTURES = { ticket, mcs, 'rw-simple': rwSimple, 'rw-fifo': rwFifo };
+export const LOCKS = [ticket, mcs, rwSimple, rwFifo];
+export const LOCK_NAMES = LOCKS.map(({ name }) => name);
 
-export const lockName = (run) => LOCKS[run.kind];
-export const lockOf = (run) => PICTURES[lockName(run)];
+export const lockOf = (run) => LOCKS[run.kind];

@@ -1,7 +1,8 @@
 // The locks' code, as docs/LOCKS.md has it: the build takes its blocks from there. A line knows
 // its kind of step, its phase, and the words that a waiting section looks at.
 
-import { LOCKS, PHASE } from './codes.js';
+import { PHASE } from './codes.js';
+import { LOCK_NAMES } from './locks.js';
 
 const LINE = /^(?<code>.*?)\s*(?:-- (?<kind>\w+) (?<phase>\w+)(?: looks at (?<words>.+))?)?$/;
 
@@ -12,7 +13,7 @@ export function codeLine(text) {
 
 // The blocks of docs/LOCKS.md, one for each lock.
 export function codeOf(document) {
-  return Object.fromEntries(LOCKS.map((lock) => {
+  return Object.fromEntries(LOCK_NAMES.map((lock) => {
     const block = document.split(`\n\`\`\`${lock}\n`)[1].split('\n```')[0];
     return [lock, block.split('\n')];
   }));

@@ -1,11 +1,54 @@
-// Memory of the MCS lock: the tail, and the threads' records in the order of the queue that the
-// machine names. A link is drawn where the word says so; one that is missing is drawn as missing.
+// The MCS lock: what is said of its steps, and its memory: the tail, and the threads' records in
+// the order of the queue that the machine names. A link is drawn where the word says so; one that
+// is missing is drawn as missing.
 
 import { PHASE, PHASES } from './codes.js';
 import { fitted, widthOf } from './fitting.js';
 import { html } from './markup.js';
 import { BOX_EDGES, picture, standingOf, useOf, wordBox } from './shapes.js';
 import { say, texts } from './texts.js';
+
+const says = {
+  ClearNext: { moved: '{who} writes nil into {whose} own next.' },
+  SwapTail: {
+    moved: '{who} swaps the tail and finds {foundName}. From here on {who} is in line, '
+      + 'though no word of {foundWhose} record says so.',
+    entered: '{who} swaps the tail for {whose} record. The tail was nil: {who} enters.',
+  },
+  SetLocked: { moved: '{who} sets {whose} own locked to 1.' },
+  LinkTo: { moved: '{who} writes the link: {otherWhose} next now points to {whom}.' },
+  AwaitGrant: {
+    waits: '{who} polls {whose} own locked and waits: it is still {found}.',
+    entered: '{who} finds {whose} own locked at {found}, and enters.',
+  },
+  ReadNext: {
+    moved: '{who} looks for a successor and finds {foundName}.',
+    nil: '{who} looks for a successor: {whose} next is nil.',
+  },
+  CasTail: {
+    moved: 'The compare-and-swap fails: the tail is {foundName}, not {whom}. Somebody is '
+      + 'behind {whom}, and {whom} cannot see who.',
+    left: 'The tail is still {whom}: the compare-and-swap sets it to nil, and {whom} has '
+      + 'left.',
+  },
+  AwaitLink: {
+    waits: '{who} polls: {whose} next is still nil. {who} has to wait for the link.',
+    moved: 'The link is there: {who} finds {foundName}.',
+  },
+  Grant: {
+    left: '{who} clears {otherWhose} locked, and has left. {other} is next, and enters with '
+      + 'its next poll.',
+  },
+};
+const captions = {
+  nobody: 'Nobody is in line.',
+  alone: '{first} is alone in line.',
+  linked: 'Every link of the line is written.',
+  missing: '{before} is followed by {after}, and only {after} knows.',
+};
+const NIL = 'nil';
+const NO_LINK = 'no link';
+const atRest = (who) => `At rest: ${who}`;
 
 const TAIL = 0;
 const nextOf = (thread) => 1 + 2 * thread;
@@ -27,7 +70,7 @@ const TAIL_BOX = { left: 70, width: 86, widest: 170 };
 
 function valueText(word, value, names) {
   if (isLocked(word)) return String(value);
-  return value === 0n ? texts.nil : names.short(named(value));
+  return value === 0n ? NIL : names.short(named(value));
 }
 
 function wordName(word, names) {
@@ -134,7 +177,7 @@ function link(from, to, width, linked) {
   const middle = (from.x + width + to.x) / 2 - 2;
   return html`<path class="link missing" d="M${from.x + width + 3} ${y}H${to.x - 4}"/>
     <text class="missing-text" x="${middle}" y="${y - 9}"
-      text-anchor="middle">${texts.noLink}</text>`;
+      text-anchor="middle">${NO_LINK}</text>`;
 }
 
 const isLinked = (state, before, after) => named(state.word(nextOf(before))) === after;
@@ -166,12 +209,12 @@ function caption(view, state) {
   const { queue } = state;
   const gap = queue.findIndex((after, i) => i > 0 && !isLinked(state, queue[i - 1], after));
   if (gap > 0) {
-    return { missing: true, text: say(texts.captions.missingLink, {
+    return { missing: true, text: say(captions.missing, {
       before: view.names.of(queue[gap - 1]), after: view.names.of(queue[gap]) }) };
   }
-  if (queue.length > 1) return { text: texts.captions.allLinked };
-  return { text: queue.length ? say(texts.captions.aloneInLine, { first: view.names.of(queue[0]) })
-    : texts.captions.nobodyInLine };
+  if (queue.length > 1) return { text: captions.linked };
+  return { text: queue.length ? say(captions.alone, { first: view.names.of(queue[0]) })
+    : captions.nobody };
 }
 
 // Only the rows in view are drawn, where the picture is taller than its box.
@@ -198,9 +241,9 @@ function leastWidth(view, state) {
 
 function restingNote(view, state) {
   const { hidden } = layOut(view, state);
-  if (hidden.length > MOST_NAMED) return texts.manyResting(texts.threads(hidden.length));
+  if (hidden.length > MOST_NAMED) return atRest(texts.threads(hidden.length));
   const named = hidden.map((thread) => view.names.short(thread)).join(', ');
-  return named && texts.restingThreads(named);
+  return named && atRest(named);
 }
 
 // The sentence of a look for a successor that finds none is another one.
@@ -211,7 +254,7 @@ function variant(run, move, phase) {
 function values(view, move, phase) {
   const { run, names } = view;
   const found = run.records.found(move);
-  const foundName = found === 0n ? texts.nil : names.of(named(found));
+  const foundName = found === 0n ? NIL : names.of(named(found));
   const other = [PHASE.LinkTo, PHASE.Grant].includes(phase)
     ? names.of(Number(run.phaseNumberBefore(move))) : '';
   return { foundName, foundWhose: `${foundName}’s`, other, otherWhose: `${other}’s` };
@@ -224,5 +267,8 @@ function mark(run, move, names) {
 }
 
 export const mcs = {
-  leastWidth, wordName, valueText, mark, variant, values, draw, caption, restingNote,
+  name: 'mcs', title: 'MCS queue lock', lesson: 'mcs', memory: 'Memory, in the order of the line',
+  signs: ['fails', 'inCall', 'line', 'holds', 'unlinked', 'ended'],
+  says, mark, variant, values,
+  wordName, valueText, draw, caption, restingNote, leastWidth,
 };

@@ -3,7 +3,6 @@
 
 import { OUTCOMES, wordOf } from './codes.js';
 import { casFails } from './lanes.js';
-import { lockName } from './locks.js';
 import { html } from './markup.js';
 import { reportLine } from './report.js';
 import { sentence, writtenWords } from './sentences.js';
@@ -30,12 +29,11 @@ function holdersList(view, state) {
 const LINK = html`<span class="gap">→</span>`;
 const GAP = html`<span class="gap missing" title="${texts.notLinked}">⇢</span>`;
 
-// Between two of an MCS line: an arrow, or the gap where no link is written yet.
+// Between two in line: an arrow, or a gap where a link is to be written yet.
 function queueList(view, state) {
   if (!state.queue.length) return dash;
-  const mcs = lockName(view.run) === 'mcs';
   return state.queue.map((thread, i) => {
-    const open = mcs && i > 0 && unlinkedAfter(view.run, view.run.lastMoveOf(thread, view.move));
+    const open = i > 0 && unlinkedAfter(view.run, view.run.lastMoveOf(thread, view.move));
     return html`${i > 0 && (open ? GAP : LINK)}${pill(view, thread)}`;
   });
 }

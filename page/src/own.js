@@ -3,6 +3,7 @@
 import { faultAdvice, refusalAdvice } from './advice.js';
 import { MOST_BYTES } from './codes.js';
 import { html } from './markup.js';
+import { LOCK_NAMES } from './locks.js';
 import { ownWords } from './locks_code.js';
 import { lastLine } from './report.js';
 import { texts } from './texts.js';
@@ -36,7 +37,7 @@ export function verdictView(session, advice) {
 
 // Where there is no lock to show: what a schedule looks like.
 export const nothingView = (verdict) => html`${verdict}<p>${T.begins}</p>
-  <pre class="mono">${T.template}</pre><p class="hint">${T.forms}</p>`;
+  <pre class="mono">${T.template}</pre><p class="hint">${T.forms(LOCK_NAMES.join(', '))}</p>`;
 
 // A file's bytes: no more than show that it is too long.
 export async function bytesOfFile(file) {

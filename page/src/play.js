@@ -1,6 +1,7 @@
 // Choosing who moves: for each thread its due step, or the calls that the machine would accept.
 
-import { ACTION, CALLS, LOCKS, MOST_BYTES, MOST_MOVES, STEPS } from './codes.js';
+import { ACTION, CALLS, MOST_BYTES, MOST_MOVES, STEPS } from './codes.js';
+import { LOCKS } from './locks.js';
 import { html } from './markup.js';
 import { standingOf } from './shapes.js';
 import { texts } from './texts.js';
@@ -48,6 +49,6 @@ export function newHeader(form) {
 }
 
 export function lockOptions() {
-  const option = (lock) => html`<option value="${lock}">${texts.lockNames[lock]}</option>`;
+  const option = ({ name, title }) => html`<option value="${name}">${title}</option>`;
   return html`${LOCKS.map(option)}`;
 }

@@ -1,10 +1,26 @@
-// What both read-write locks' pictures share: the room inside, and who is at the monitor.
+// What the read-write locks share: the picture of the room inside and of who is at the monitor, and
+// what is said below it.
 
 import { OUTCOME, PHASES } from './codes.js';
 import { html } from './markup.js';
 import { standingOf, token } from './shapes.js';
-import { texts } from './texts.js';
+import { say, texts } from './texts.js';
 
+const INSIDE = 'inside';
+const NOBODY = 'nobody';
+const AT_MONITOR = 'at the monitor';
+const POLL_FAILED = 'failed poll';
+const wants = {
+  TryRead: 'wants to read', LeaveRead: 'wants to stop reading', TryWrite: 'wants to write',
+  AwaitReaders: 'announced, waits for the readers', LeaveWrite: 'wants to stop writing',
+  TryDowngrade: 'wants to go on as a reader',
+};
+const captions = {
+  readers: '{readers} inside, {words}.',
+  writer: '{writer} writes, {words}.',
+  nobody: 'Nobody is inside, {words}.',
+};
+const WRITER = 3;
 const MONITOR_ROW = 34;
 
 // The threads inside, in a room of its own.
@@ -14,8 +30,8 @@ export function room(view, state, x, y, width) {
   const tokens = state.holders.map((thread, i) => token(
     x + 24 + 32 * (i % inRow), y + 50 + 32 * Math.floor(i / inRow), view, thread));
   const standing = state.holders.length ? standingOf(view.run, view.move, state.holders[0]) : '';
-  const label = standing ? `${texts.inside}: ${texts.standing[standing]}` : texts.inside;
-  const nobody = html`<text class="note" x="${x + 14}" y="${y + 54}">${texts.nobodyInside}</text>`;
+  const label = standing ? `${INSIDE}: ${texts.standing[standing]}` : INSIDE;
+  const nobody = html`<text class="note" x="${x + 14}" y="${y + 54}">${NOBODY}</text>`;
   return html`<rect class="room" x="${x}" y="${y}" width="${width}"
       height="${44 + 32 * rows}" rx="12"/>
     <text class="room-name" x="${x + 14}" y="${y + 23}">${label}</text>
@@ -36,13 +52,13 @@ function pollFailed(view, thread) {
 export function monitor(view, state, x, y) {
   const rows = callers(view, state).map((thread, i) => {
     const at = y + 40 + MONITOR_ROW * i;
-    const wants = texts.wants[PHASES[state.phase(thread)]];
-    const vain = pollFailed(view, thread) ? `; ${texts.pollFailed}` : '';
+    const wanted = wants[PHASES[state.phase(thread)]];
+    const vain = pollFailed(view, thread) ? `; ${POLL_FAILED}` : '';
     return html`${token(x + 13, at, view, thread)}
-      <text class="wants" x="${x + 36}" y="${at + 5}">${wants}${vain}</text>`;
+      <text class="wants" x="${x + 36}" y="${at + 5}">${wanted}${vain}</text>`;
   });
-  const nobody = html`<text class="note" x="${x}" y="${y + 44}">${texts.nobodyWaits}</text>`;
-  return html`<text class="room-name" x="${x}" y="${y + 14}">${texts.atMonitor}</text>
+  const nobody = html`<text class="note" x="${x}" y="${y + 44}">${NOBODY}</text>`;
+  return html`<text class="room-name" x="${x}" y="${y + 14}">${AT_MONITOR}</text>
     ${rows.length ? rows : nobody}`;
 }
 
@@ -50,8 +66,18 @@ export function monitorHeight(view, state) {
   return 60 + MONITOR_ROW * Math.max(1, callers(view, state).length);
 }
 
-export function wordsText(names, state) {
-  return names.map((name, word) => `${name} ${state.word(word)}`).join(', ');
+const wordsText = (names, state) => names.map((name, word) => `${name} ${state.word(word)}`)
+  .join(', ');
+
+// Below the picture: who is inside, and the words.
+export function readersCaption(names) {
+  return (view, state) => {
+    const words = wordsText(names, state);
+    if (!state.holders.length) return { text: say(captions.nobody, { words }) };
+    const inside = view.names.list(state.holders);
+    const text = state.holderKind === WRITER ? captions.writer : captions.readers;
+    return { text: say(text, { readers: inside, writer: inside, words }) };
+  };
 }
 
 // Below a lane's mark: the word that the section changed, and its new value.
@@ -61,3 +87,8 @@ export function sectionMark(shortNames) {
     return name ? `${name} ${run.records.left(move)}` : '';
   };
 }
+
+// Of a read-write lock: the columns of its lanes are wider, for its calls have longer words.
+export const readWrite = {
+  memory: 'Memory: who is where', leastColumn: 56, valueText: (_, value) => String(value),
+};

@@ -1,12 +1,40 @@
-// Memory of the FIFO read-write lock: both counts of readers, on a wheel where words are narrow,
-// the flag, who is inside, and who is at the monitor.
+// The FIFO read-write lock: what is said of its sections, and its memory: both counts of readers,
+// on a wheel where words are narrow, the flag, who is inside, and who is at the monitor.
 
 import { html } from './markup.js';
-import { monitor, monitorHeight, room, sectionMark } from './read_write.js';
-import { readersCaption } from './rw_simple.js';
+import {
+  monitor, monitorHeight, readersCaption, readWrite, room, sectionMark,
+} from './read_write.js';
 import { picture, useOf, wordBox } from './shapes.js';
-import { say, texts } from './texts.js';
+import { say } from './texts.js';
 import { handLegend, HANDS, hasWheel, wheelOf, wheelPlaced } from './wheel.js';
+
+const says = {
+  TryRead: {
+    waits: '{who} polls and waits: the flag is set.',
+    entered: '{who} finds the flag clear and counts itself: readAcquires is now {left}.',
+  },
+  LeaveRead: { left: '{who} counts itself out: readReleases is now {left}. {who} has left.' },
+  TryWrite: {
+    waits: '{who} polls and waits: the flag is set. {who} is not in line.',
+    moved: '{who} sets the flag, and so is announced: no reader comes in any more. The '
+      + 'counts are {acquires} and {releases}, so {who} waits for the readers.',
+    entered: '{who} sets the flag, finds the counts equal, and writes.',
+  },
+  AwaitReaders: {
+    waits: '{who} polls and waits: the counts are {acquires} and {releases}, so there are '
+      + 'readers inside.',
+    entered: '{who} finds the counts equal, {acquires} and {releases}: no reader is inside, '
+      + 'and {who} writes.',
+  },
+  LeaveWrite: { left: '{who} clears the flag, and has left.' },
+  TryDowngrade: {
+    entered: '{who} becomes a reader in one section: readAcquires is now {left}, and the flag '
+      + 'is clear.',
+  },
+  wraps: 'After {found} comes {left}: the count has gone round.',
+};
+const ANNOUNCED = '{writer} is announced: no reader may pass.';
 
 const WORDS = ['readAcquires', 'readReleases', 'flag'];
 const ACQUIRES = 0;
@@ -40,7 +68,7 @@ const plain = readersCaption(WORDS);
 function caption(view, state) {
   const { text } = plain(view, state);
   if (!state.queue.length) return { text };
-  const announced = say(texts.captions.announced, { writer: view.names.of(state.queue[0]) });
+  const announced = say(ANNOUNCED, { writer: view.names.of(state.queue[0]) });
   return { text: `${text} ${announced}` };
 }
 
@@ -52,8 +80,9 @@ function values(view, move) {
 const leastWidth = (view) => (hasWheel(view.run.bits) ? 512 : 400);
 
 export const rwFifo = {
-  leastWidth,
-  wordName: (word) => WORDS[word], valueText: (_, value) => String(value),
-  mark: sectionMark(['acq.', 'rel.', 'flag']), values, draw, caption,
-  goesRound: ['TryRead', 'LeaveRead', 'TryDowngrade'],
+  ...readWrite, name: 'rw-fifo', title: 'FIFO read-write lock', lesson: 'fifo',
+  signs: ['inCall', 'line', 'reads', 'writes', 'ended'],
+  says, goesRound: ['TryRead', 'LeaveRead', 'TryDowngrade'],
+  mark: sectionMark(['acq.', 'rel.', 'flag']), values,
+  wordName: (word) => WORDS[word], draw, caption, leastWidth,
 };

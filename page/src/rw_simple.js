@@ -1,10 +1,29 @@
-// Memory of the simple read-write lock: the count of readers, the writer's flag, who is inside,
-// and who is at the monitor.
+// The simple read-write lock: what is said of its sections, and its memory: the count of readers,
+// the writer's flag, who is inside, and who is at the monitor.
 
 import { html } from './markup.js';
-import { monitor, monitorHeight, room, sectionMark, wordsText } from './read_write.js';
+import {
+  monitor, monitorHeight, readersCaption, readWrite, room, sectionMark,
+} from './read_write.js';
 import { picture, useOf, wordBox } from './shapes.js';
-import { say, texts } from './texts.js';
+
+const says = {
+  TryRead: {
+    waits: '{who} polls and waits: the flag is set.',
+    entered: '{who} finds the flag clear and counts itself: readers is now {left}.',
+  },
+  LeaveRead: { left: '{who} counts itself out: readers is now {left}. {who} has left.' },
+  TryWrite: {
+    waits: '{who} polls and waits: readers is {readers}, and the flag is {flag}. Both have to '
+      + 'be 0.',
+    entered: '{who} finds no reader and the flag clear, sets the flag, and writes.',
+  },
+  LeaveWrite: { left: '{who} clears the flag, and has left.' },
+  TryDowngrade: {
+    entered: '{who} becomes a reader in one section: readers is now {left}, and the flag is '
+      + 'clear.',
+  },
+};
 
 const WORDS = ['readers', 'flag'];
 const READERS = 0;
@@ -20,16 +39,6 @@ function draw(view, state) {
     ${room(view, state, 24, 104, roomWidth)}${monitor(view, state, roomWidth + 64, 24)}`);
 }
 
-export function readersCaption(names) {
-  return (view, state) => {
-    const words = wordsText(names, state);
-    if (!state.holders.length) return { text: say(texts.captions.nobody, { words }) };
-    const inside = view.names.list(state.holders);
-    const text = state.holderKind === 3 ? texts.captions.writer : texts.captions.readers;
-    return { text: say(text, { readers: inside, writer: inside, words }) };
-  };
-}
-
 const caption = readersCaption(WORDS);
 
 function values(view, move) {
@@ -40,7 +49,8 @@ function values(view, move) {
 const leastWidth = () => 600;
 
 export const rwSimple = {
-  leastWidth,
-  wordName: (word) => WORDS[word], valueText: (_, value) => String(value),
-  mark: sectionMark(['readers', 'flag']), values, draw, caption,
+  ...readWrite, name: 'rw-simple', title: 'Simple read-write lock', lesson: 'simple',
+  signs: ['inCall', 'reads', 'writes', 'ended'],
+  says, mark: sectionMark(['readers', 'flag']), values,
+  wordName: (word) => WORDS[word], draw, caption, leastWidth,
 };

@@ -2,7 +2,7 @@
 // outcome.
 
 import { ACTION, CALLS, NO_WORD, OUTCOMES, PHASES } from './codes.js';
-import { lockName, lockOf } from './locks.js';
+import { lockOf } from './locks.js';
 import { say, texts } from './texts.js';
 
 export function sentence(view, move) {
@@ -13,16 +13,15 @@ export function sentence(view, move) {
   if (records.action(move) === ACTION.call) return say(texts.says[CALLS[code]], { who });
   const lock = lockOf(run);
   const phase = run.phaseBefore(move);
-  const says = texts.says[lockName(run)];
   const key = lock.variant?.(run, move, phase) ?? OUTCOMES[records.outcome(move)];
   const found = records.found(move);
   const left = records.left(move);
   const values = {
     who, whom: who, whose: `${who}’s`, found, left, ...lock.values(view, move, phase),
   };
-  const text = say(says[PHASES[phase]][key], values);
+  const text = say(lock.says[PHASES[phase]][key], values);
   const round = lock.goesRound?.includes(PHASES[phase]) && left < found;
-  return round ? `${text} ${say(says.wraps, values)}` : text;
+  return round ? `${text} ${say(lock.says.wraps, values)}` : text;
 }
 
 // What the move wrote, as `word = value`; a section may write two.

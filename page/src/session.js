@@ -1,10 +1,9 @@
 // What is shown: one schedule, the move at which it stands, and everything derived from the two.
 
-import { LOCKS } from './codes.js';
 import { arrowsOf } from './arrows.js';
 import { lineOf, lettersOf, throughLine } from './bytes.js';
 import { awaitedLines, codeLine } from './locks_code.js';
-import { lockOf } from './locks.js';
+import { LOCK_NAMES, lockOf } from './locks.js';
 import { Names } from './names.js';
 import { remarksOf } from './remarks.js';
 import { placeAfter, Run } from './run.js';
@@ -14,7 +13,7 @@ const NO_ARROWS = { arrows: [], arrowEnds: [] };
 export class Session {
   constructor(machine, code) {
     this.machine = machine;
-    this.lines = LOCKS.map((lock) => code[lock].map(codeLine));
+    this.lines = LOCK_NAMES.map((lock) => code[lock].map(codeLine));
     this.move = 0;
   }
 

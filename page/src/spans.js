@@ -2,10 +2,11 @@
 // All of it is read off the records that the machine wrote; a stretch of moves is found by
 // bisection.
 
-import { AS_WRITER, HOLDS, IN_LINE, LOCKS, OUTCOME, PHASE } from './codes.js';
+import { AS_WRITER, HOLDS, IN_LINE, OUTCOME, PHASE } from './codes.js';
 import { placeAfter } from './run.js';
 
 const UNLINKED = [PHASE.SetLocked, PHASE.LinkTo];
+const READS = [PHASE.Reading, PHASE.LeaveRead];
 const IN_A_CALL = [OUTCOME.called, OUTCOME.moved, OUTCOME.waits];
 
 // One of holds, reads, writes, line, call, rest.
@@ -13,8 +14,8 @@ export function standingAfter(run, move) {
   if (!move) return 'rest';
   const standing = run.records.standing(move);
   if (standing & HOLDS) {
-    if (!LOCKS[run.kind].startsWith('rw')) return 'holds';
-    return standing & AS_WRITER ? 'writes' : 'reads';
+    if (standing & AS_WRITER) return 'writes';
+    return READS.includes(run.records.phase(move)) ? 'reads' : 'holds';
   }
   if (standing & IN_LINE) return 'line';
   return IN_A_CALL.includes(run.records.outcome(move)) ? 'call' : 'rest';

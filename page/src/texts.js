@@ -1,14 +1,11 @@
-// Everything that the page says. {..} stands for what the machine or the schedule gave.
+// What the page says, but for what it says of one lock alone: that is in the lock's file. {..}
+// stands for what the machine or the schedule gave.
 
 export const texts = {
   product: 'lockreplay',
   thread: (number) => `thread ${number}`,
   shortThread: (number) => `T${number}`,
   threads: (count) => (count === 1 ? '1 thread' : `${count} threads`),
-  lockNames: {
-    ticket: 'Ticket lock', mcs: 'MCS queue lock', 'rw-simple': 'Simple read-write lock',
-    'rw-fifo': 'FIFO read-write lock',
-  },
   subtitle: (lock, threads, bits) => `${lock}, ${threads}, words of ${bits} bits`,
   noLock: 'No lock yet',
   untitled: 'Your own schedule',
@@ -39,47 +36,12 @@ export const texts = {
   },
 
   memory: 'Memory',
-  memoryTitles: {
-    ticket: 'Memory: who has which ticket',
-    mcs: 'Memory, in the order of the line',
-    'rw-simple': 'Memory: who is where',
-    'rw-fifo': 'Memory: who is where',
-  },
   standing: {
     holds: 'holds', reads: 'reads', writes: 'writes', line: 'in line', call: 'in a call',
     rest: 'at rest',
   },
-  nextTicket: 'next',
-  nil: 'nil',
-  noLink: 'no link',
   ownVariable: (name) => `${name}’s own variable`,
-  ticketStrip: 'The tickets that are out, in the order of the line, and the next one',
   wheel: (bits, places) => `${bits} bits: ${places} numbers, then round`,
-  restingThreads: (names) => `At rest: ${names}`,
-  manyResting: (threads) => `At rest: ${threads}`,
-  inside: 'inside',
-  nobodyInside: 'nobody',
-  atMonitor: 'at the monitor',
-  nobodyWaits: 'nobody',
-  wants: {
-    TryRead: 'wants to read', LeaveRead: 'wants to stop reading', TryWrite: 'wants to write',
-    AwaitReaders: 'announced, waits for the readers', LeaveWrite: 'wants to stop writing',
-    TryDowngrade: 'wants to go on as a reader',
-  },
-  pollFailed: 'failed poll',
-  captions: {
-    nobodyInLine: 'Nobody is in line.',
-    aloneInLine: '{first} is alone in line.',
-    allLinked: 'Every link of the line is written.',
-    missingLink: '{before} is followed by {after}, and only {after} knows.',
-    ticketNobody: 'No ticket is out: the next one is {next}.',
-    ticketLine: 'Served is {serving}; the next ticket is {next}.',
-    ticketWraps: 'The tickets have gone round: {first} is served before {last}.',
-    readers: '{readers} inside, {words}.',
-    writer: '{writer} writes, {words}.',
-    nobody: 'Nobody is inside, {words}.',
-    announced: '{writer} is announced: no reader may pass.',
-  },
 
   code: 'What each thread does next',
   now: 'This move',
@@ -115,9 +77,7 @@ export const texts = {
     title: 'Lessons',
     hint: 'Each is a schedule with its questions. Arrow keys step through it.',
     groups: {
-      ticket: 'Ticket lock', mcs: 'MCS queue lock', 'rw-simple': 'Simple read-write lock',
-      'rw-fifo': 'FIFO read-write lock', refused: 'Moves that are refused',
-      fault: 'Texts that are no schedule',
+      refused: 'Moves that are refused', fault: 'Texts that are no schedule',
     },
     moves: (count) => (count === 1 ? '1 move' : `${count} moves`),
   },
@@ -138,8 +98,8 @@ export const texts = {
     template: 'lock mcs threads 2\n0 acquire\n',
     begins: 'A schedule begins with a header. Then comes one move in each line: a thread’s '
       + 'number, and a call or a step.',
-    forms: 'Locks: ticket, mcs, rw-simple, rw-fifo. Threads: 1 to 64. Behind them may stand the '
-      + 'width of words, as in “bits 2”.',
+    forms: (locks) => `Locks: ${locks}. Threads: 1 to 64. Behind them may stand the width of `
+      + 'words, as in “bits 2”.',
     stepThrough: (count) => (count === 1
       ? 'The move before it can be stepped through.'
       : `The ${count} moves before it can be stepped through.`),
@@ -218,7 +178,7 @@ export const texts = {
     part: (from, to, count) => `Moves ${from} to ${to} of ${count}`,
   },
 
-  // One sentence for each move, by lock, phase and outcome.
+  // One sentence for each call; those for the steps of a lock are in its file.
   says: {
     acquire: '{who} calls acquire. A call changes no word.',
     release: '{who} calls release, and still holds the lock.',
@@ -227,93 +187,6 @@ export const texts = {
     wlock: '{who} calls wlock: it wants to write.',
     wunlock: '{who} calls wunlock, and still writes.',
     downgrade: '{who} calls downgrade, and still writes.',
-    ticket: {
-      TakeTicket: {
-        moved: '{who} draws ticket {found}, and is in line from here on. next_ticket is now '
-          + '{left}.',
-      },
-      AwaitTurn: {
-        waits: '{who} polls and waits: now_serving is {found}, and {whose} ticket is {number}.',
-        entered: '{who} finds {whose} ticket, {found}, in now_serving, and enters.',
-      },
-      ReadServing: { moved: '{who} reads now_serving, to pass it on: it is {found}.' },
-      PassOn: { left: '{who} writes {left} into now_serving, and has left.' },
-      wraps: 'After {found} comes {left}: the numbers have gone round.',
-    },
-    mcs: {
-      ClearNext: { moved: '{who} writes nil into {whose} own next.' },
-      SwapTail: {
-        moved: '{who} swaps the tail and finds {foundName}. From here on {who} is in line, '
-          + 'though no word of {foundWhose} record says so.',
-        entered: '{who} swaps the tail for {whose} record. The tail was nil: {who} enters.',
-      },
-      SetLocked: { moved: '{who} sets {whose} own locked to 1.' },
-      LinkTo: { moved: '{who} writes the link: {otherWhose} next now points to {whom}.' },
-      AwaitGrant: {
-        waits: '{who} polls {whose} own locked and waits: it is still {found}.',
-        entered: '{who} finds {whose} own locked at {found}, and enters.',
-      },
-      ReadNext: {
-        moved: '{who} looks for a successor and finds {foundName}.',
-        nil: '{who} looks for a successor: {whose} next is nil.',
-      },
-      CasTail: {
-        moved: 'The compare-and-swap fails: the tail is {foundName}, not {whom}. Somebody is '
-          + 'behind {whom}, and {whom} cannot see who.',
-        left: 'The tail is still {whom}: the compare-and-swap sets it to nil, and {whom} has '
-          + 'left.',
-      },
-      AwaitLink: {
-        waits: '{who} polls: {whose} next is still nil. {who} has to wait for the link.',
-        moved: 'The link is there: {who} finds {foundName}.',
-      },
-      Grant: {
-        left: '{who} clears {otherWhose} locked, and has left. {other} is next, and enters with '
-          + 'its next poll.',
-      },
-    },
-    'rw-simple': {
-      TryRead: {
-        waits: '{who} polls and waits: the flag is set.',
-        entered: '{who} finds the flag clear and counts itself: readers is now {left}.',
-      },
-      LeaveRead: { left: '{who} counts itself out: readers is now {left}. {who} has left.' },
-      TryWrite: {
-        waits: '{who} polls and waits: readers is {readers}, and the flag is {flag}. Both have to '
-          + 'be 0.',
-        entered: '{who} finds no reader and the flag clear, sets the flag, and writes.',
-      },
-      LeaveWrite: { left: '{who} clears the flag, and has left.' },
-      TryDowngrade: {
-        entered: '{who} becomes a reader in one section: readers is now {left}, and the flag is '
-          + 'clear.',
-      },
-    },
-    'rw-fifo': {
-      TryRead: {
-        waits: '{who} polls and waits: the flag is set.',
-        entered: '{who} finds the flag clear and counts itself: readAcquires is now {left}.',
-      },
-      LeaveRead: { left: '{who} counts itself out: readReleases is now {left}. {who} has left.' },
-      TryWrite: {
-        waits: '{who} polls and waits: the flag is set. {who} is not in line.',
-        moved: '{who} sets the flag, and so is announced: no reader comes in any more. The '
-          + 'counts are {acquires} and {releases}, so {who} waits for the readers.',
-        entered: '{who} sets the flag, finds the counts equal, and writes.',
-      },
-      AwaitReaders: {
-        waits: '{who} polls and waits: the counts are {acquires} and {releases}, so there are '
-          + 'readers inside.',
-        entered: '{who} finds the counts equal, {acquires} and {releases}: no reader is inside, '
-          + 'and {who} writes.',
-      },
-      LeaveWrite: { left: '{who} clears the flag, and has left.' },
-      TryDowngrade: {
-        entered: '{who} becomes a reader in one section: readAcquires is now {left}, and the flag '
-          + 'is clear.',
-      },
-      wraps: 'After {found} comes {left}: the count has gone round.',
-    },
   },
 
   refused: {
@@ -348,7 +221,6 @@ export const texts = {
     headerShape: 'This is no header. A schedule begins with one.',
     noLockWord: 'A header begins with “lock”.',
     unknownLock: 'Unknown lock {found}.',
-    locks: 'ticket, mcs, rw-simple, rw-fifo',
     noThreadsWord: 'Behind the lock’s name stands “threads”.',
     noBitsWord: 'Behind the number of threads may stand “bits”, and nothing else.',
     badBits: '“{found}” is no number of bits.',

@@ -1,5 +1,5 @@
-// Memory of the ticket lock: both counters, on a wheel where words are narrow, and who has which
-// ticket.
+// The ticket lock: what is said of its steps, and its memory: both counters, on a wheel where words
+// are narrow, and who has which ticket.
 
 import { PHASES } from './codes.js';
 import { html } from './markup.js';
@@ -13,6 +13,27 @@ const WORDS = ['next_ticket', 'now_serving'];
 const OWN_VARIABLE = {
   AwaitTurn: 'ticket', TicketInside: 'ticket', ReadServing: 'ticket', PassOn: 'served',
 };
+const says = {
+  TakeTicket: {
+    moved: '{who} draws ticket {found}, and is in line from here on. next_ticket is now '
+      + '{left}.',
+  },
+  AwaitTurn: {
+    waits: '{who} polls and waits: now_serving is {found}, and {whose} ticket is {number}.',
+    entered: '{who} finds {whose} ticket, {found}, in now_serving, and enters.',
+  },
+  ReadServing: { moved: '{who} reads now_serving, to pass it on: it is {found}.' },
+  PassOn: { left: '{who} writes {left} into now_serving, and has left.' },
+  wraps: 'After {found} comes {left}: the numbers have gone round.',
+};
+const captions = {
+  nobody: 'No ticket is out: the next one is {next}.',
+  line: 'Served is {serving}; the next ticket is {next}.',
+  wraps: 'The tickets have gone round: {first} is served before {last}.',
+};
+const NEXT = 'next';
+const STRIP = 'The tickets that are out, in the order of the line, and the next one';
+
 const CELL = 74;
 const CELL_ROW = 92;
 
@@ -71,7 +92,7 @@ function cell(view, { thread, number }, x, y) {
   const next = thread === undefined;
   const below = next
     ? html`<text class="note" x="${middle}" y="${y + 52}"
-      text-anchor="middle">${texts.nextTicket}</text>`
+      text-anchor="middle">${NEXT}</text>`
     : token(middle, y + 54, view, thread);
   return html`<rect class="cell ${next && 'next'}" x="${x}" y="${y}" width="${CELL - 8}"
       height="34" rx="6"/>
@@ -101,7 +122,7 @@ function wide(view, state) {
   const { drawn, height } = strip(view, state, 116);
   return picture(view, 140 + height, caption(view, state).text,
     html`${box(NOW_SERVING, 24)}${box(NEXT_TICKET, 160)}
-      <text class="note" x="24" y="104">${texts.ticketStrip}</text>${drawn}${served(view, state)}`);
+      <text class="note" x="24" y="104">${STRIP}</text>${drawn}${served(view, state)}`);
 }
 
 const draw = (view, state) => (hasWheel(view.run.bits) ? narrow(view, state) : wide(view, state));
@@ -109,12 +130,12 @@ const draw = (view, state) => (hasWheel(view.run.bits) ? narrow(view, state) : w
 function caption(view, state) {
   const next = state.word(NEXT_TICKET);
   const serving = state.word(NOW_SERVING);
-  if (!state.queue.length) return { text: say(texts.captions.ticketNobody, { next }) };
+  if (!state.queue.length) return { text: say(captions.nobody, { next }) };
   const tickets = holdersOfTickets(state);
   const first = tickets[0].number;
   const last = tickets[tickets.length - 1].number;
-  const text = say(texts.captions.ticketLine, { serving, next });
-  const wraps = last < first && say(texts.captions.ticketWraps, { first, last });
+  const text = say(captions.line, { serving, next });
+  const wraps = last < first && say(captions.wraps, { first, last });
   return { text: wraps ? `${text} ${wraps}` : text };
 }
 
@@ -124,5 +145,8 @@ const values = (view, move) => ({ number: view.run.phaseNumberBefore(move) });
 const leastWidth = (view) => (hasWheel(view.run.bits) ? 576 : 420);
 
 export const ticket = {
-  leastWidth, wordName, valueText, mark, values, draw, caption, goesRound: ['TakeTicket', 'PassOn'],
+  name: 'ticket', title: 'Ticket lock', lesson: 'ticket', memory: 'Memory: who has which ticket',
+  signs: ['inCall', 'line', 'holds', 'ended'],
+  says, goesRound: ['TakeTicket', 'PassOn'], mark, values,
+  wordName, valueText, draw, caption, leastWidth,
 };
