@@ -1,7 +1,7 @@
 #!/usr/bin/env python3
 """Counts what breaks the rules of layout, and ends with 1 where something does.
 
-    style.py [--all] [FILE...]
+    style.py [FILE...]
 
 - A line has at most 100 columns. Rows of tables and lines of links in documents may be longer, and
   in a proof the path of a module.
@@ -9,8 +9,7 @@
 - A file opens with what it is: a comment or a docstring. Lists of modules, and the answers and
   invariants of one function's proof, are named by their place.
 
-`NOT_YET` names what is not looked at so far; `--all` looks at it too. Prints each breach with its
-place, then `N files, M breaches`.
+Nothing is left out. Prints each breach with its place, then `N files, M breaches`.
 """
 import ast
 import fnmatch
@@ -23,13 +22,6 @@ TOP = pathlib.Path(__file__).resolve().parent.parent
 KINDS = {".rt", ".antt", ".py", ".js", ".mjs", ".c", ".h", ".sh", ".md"}
 COLUMNS, LINES, BODY = 100, 400, 40
 
-# A pattern of paths, and the rule that is not looked at there. The header is one file on purpose:
-# who records a lock copies it and builds nothing else.
-NOT_YET = [
-    ("record/lockreplay_record.h", "lines"),
-]
-# Written by a script from files that are kept to the rules.
-GENERATED = ["crates/lk_replay/src/tests/rows/*"]
 # What a file of each kind opens with, behind a line `#!`.
 HEADS = {
     ".rt": ("//!", "//"), ".antt": ("--",), ".py": ('"""',), ".sh": ("#",), ".md": ("# ",),
@@ -60,13 +52,13 @@ def long_lines(path, lines):
     unbroken = UNBROKEN.get(path.suffix)
     for number, line in enumerate(lines, 1):
         if len(line) > COLUMNS and not (unbroken and unbroken.match(line)):
-            yield number, "columns", f"{len(line)} columns"
+            yield number, f"{len(line)} columns"
 
 
 def long_file(path, lines):
     """A file of too many lines."""
     if len(lines) > LINES:
-        yield 1, "lines", f"{path.name} has {len(lines)} lines"
+        yield 1, f"{path.name} has {len(lines)} lines"
 
 
 def bodies_in_python(lines):
@@ -110,7 +102,7 @@ def long_bodies(path, lines):
         return
     for number, name, count in found:
         if count > BODY:
-            yield number, "body", f"the body of {name} has {count} lines"
+            yield number, f"the body of {name} has {count} lines"
 
 
 def missing_head(path, lines):
@@ -120,37 +112,29 @@ def missing_head(path, lines):
     if any(fnmatch.fnmatch(place, pattern) for pattern in NAMED_BY_PLACE):
         return
     if not text or not text[0].startswith(HEADS[path.suffix]):
-        yield 1, "head", "it does not open with what it is"
+        yield 1, "it does not open with what it is"
 
 
 RULES = (long_lines, long_file, long_bodies, missing_head)
 
 
-def is_looked_at(place, rule):
-    return not any(fnmatch.fnmatch(place, pattern) and rule == it for pattern, it in NOT_YET)
-
-
-def breaches_of(path, is_all):
+def breaches_of(path):
     """What a file breaks."""
     place = str(path.relative_to(TOP))
     lines = path.read_text().splitlines()
-    return [f"{place}:{number}: {said}"
-            for rule in RULES for number, name, said in rule(path, lines)
-            if is_all or is_looked_at(place, name)]
+    return [f"{place}:{number}: {said}" for rule in RULES for number, said in rule(path, lines)]
 
 
 def files():
     """The files of the repository that have a rule."""
     listed = subprocess.run(["git", "ls-files", "-co", "--exclude-standard"], cwd=TOP, text=True,
                             stdout=subprocess.PIPE, check=True).stdout.splitlines()
-    return [TOP / name for name in listed if pathlib.Path(name).suffix in KINDS
-            and not any(fnmatch.fnmatch(name, pattern) for pattern in GENERATED)]
+    return [TOP / name for name in listed if pathlib.Path(name).suffix in KINDS]
 
 
 def main(words):
-    is_all = "--all" in words
-    chosen = [pathlib.Path(word).resolve() for word in words if word != "--all"] or files()
-    breaches = [breach for path in chosen if path.exists() for breach in breaches_of(path, is_all)]
+    chosen = [pathlib.Path(word).resolve() for word in words] or files()
+    breaches = [breach for path in chosen if path.exists() for breach in breaches_of(path)]
     for breach in breaches:
         print(breach)
     print(f"{len(chosen)} files, {len(breaches)} breaches")
