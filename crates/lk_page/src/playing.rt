@@ -18,13 +18,13 @@ use lk_replay::ScheduleReader;
 use lk_words::{RecordingWords, WordArray};
 
 // Writes record number `count`, where it fits wholly.
-fn put_record(records: &mut [u8], count: u32, record: &Record)
+fn put_record(records: &mut [u8], count: u32, told: &Record)
     requires { count ≤ 65536 }
-    ensures { records.new ≡ placed records.old (count * 56) (record_bytes record.now) }
+    ensures { records.new ≡ placed records.old (count * 56) (record_bytes told.now) }
 {
     let at = count as usize * RECORD_BYTES;
     let end = at + RECORD_BYTES;
-    let bytes = record_bytes(record);
+    let bytes = record_bytes(told);
     if end <= records.len() {
         records[at..end].copy_from_slice(bytes.as_slice());
     }

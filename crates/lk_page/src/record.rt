@@ -125,33 +125,33 @@ fn standing_code(standing: Standing) -> u8
 
 /// The bytes of a record.
 #[tactic(auto, unfolding(crate::specs::Layout::record_bytes))]
-pub fn record_bytes(record: &Record) -> ArrayVec<u8, 56>
-    ensures bytes { result.items ≡ record_bytes record.now }
+pub fn record_bytes(told: &Record) -> ArrayVec<u8, 56>
+    ensures bytes { result.items ≡ record_bytes told.now }
     ensures size { length result.items ≡ 56 }
 {
     let mut out = ArrayVec::new();
-    let (action, code) = action_codes(record.action);
-    let (found, left) = values_of(record.first);
-    let (found_second, left_second) = values_of(record.second);
-    put_u32(&mut out, record.line);
+    let (action, code) = action_codes(told.action);
+    let (found, left) = values_of(told.first);
+    let (found_second, left_second) = values_of(told.second);
+    put_u32(&mut out, told.line);
     put_bytes(
         &mut out,
         &[
-            record.thread,
+            told.thread,
             action,
             code,
-            outcome_code(record.outcome),
-            phase_code(record.phase),
-            standing_code(record.standing),
+            outcome_code(told.outcome),
+            phase_code(told.phase),
+            standing_code(told.standing),
         ],
     );
-    put_u16(&mut out, touched_word(record.first));
-    put_u16(&mut out, touched_word(record.second));
+    put_u16(&mut out, touched_word(told.first));
+    put_u16(&mut out, touched_word(told.second));
     put_u16(&mut out, 0);
     put_u64(&mut out, found);
     put_u64(&mut out, left);
     put_u64(&mut out, found_second);
     put_u64(&mut out, left_second);
-    put_u64(&mut out, phase_number(record.phase));
+    put_u64(&mut out, phase_number(told.phase));
     out
 }
