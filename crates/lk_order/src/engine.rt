@@ -12,18 +12,19 @@
 //! one on its word, or the section before its own. So each step is asked for as often as its word
 //! changes, and not as often as any step is placed.
 
-mod chains;
-mod instances;
-mod tickets;
+mod mcs;
+mod read_write;
+mod ticket;
 
 use crate::Order;
-use chains::{Chains, End};
-use instances::{Instance, Neighbor, instances_of};
 use lk_locks::{LockKind, Move, Phase, StepKind};
-use lk_trace::{Seen, TraceLine, WordName, place_of, touched};
+use lk_trace::{Seen, TraceLine, place_of, touched};
 use lk_words::Words;
+use mcs::Acquires;
+pub use read_write::count_of;
+use read_write::lowest_section;
 use std::alloc::{AllocError, Global};
-use tickets::{takes_of, ticket_order};
+use ticket::Tickets;
 
 const MOST_THREADS: usize = 64;
 
@@ -74,32 +75,15 @@ fn found_of(line: TraceLine) -> Option<u64> {
     }
 }
 
-// The count that a line gives of its section.
-fn count_of(line: TraceLine) -> Option<u64> {
-    match line.seen {
-        Seen::InSection { count, .. } => count,
-        _ => None,
-    }
-}
-
-// When a step is proposed that a thread makes in this phase.
-fn round_of(line: TraceLine, phase: Phase) -> Round {
-    match line.action {
-        Move::Call(_) | Move::Step(StepKind::Read) => Round::Look,
-        Move::Step(StepKind::Write) => match phase {
-            Phase::ClearNext | Phase::SetLocked(_) => Round::Look,
-            Phase::PassOn(_) => Round::Last,
-            _ => Round::Change,
-        },
-        Move::Step(StepKind::Cas) => match line.seen {
-            Seen::OnWord {
-                wrote: Some(false),
-                ..
-            } => Round::Look,
-            _ => Round::Change,
-        },
-        Move::Step(StepKind::Swap) if found_of(line) == Some(0) => Round::Last,
-        Move::Step(StepKind::Swap | StepKind::Add | StepKind::Section) => Round::Change,
+// When a step of this lock is proposed that a thread makes in this phase.
+fn round_of(kind: LockKind, line: TraceLine, phase: Phase) -> Round {
+    let Move::Step(step) = line.action else {
+        return Round::Look;
+    };
+    match kind {
+        LockKind::Ticket => ticket::round_of(step, phase),
+        LockKind::Mcs => mcs::round_of(line, step, phase),
+        LockKind::RwSimple | LockKind::RwFifo => Round::Change,
     }
 }
 
@@ -117,17 +101,13 @@ fn next_of(order: &Order, kind: LockKind, t: u8) -> Next {
         Some(_) => touched(kind, t, phase).map(|word| place_of(kind, word)),
         None => None,
     };
-    let link_to = match phase {
-        Phase::LinkTo(before) => Some(before),
-        _ => None,
-    };
     Next {
-        round: round_of(line, phase),
+        round: round_of(kind, line, phase),
         asleep: false,
         word,
         found: found_of(line),
         count: count_of(line),
-        link_to,
+        link_to: mcs::link_of(phase),
         kind: step,
     }
 }
@@ -149,13 +129,8 @@ pub struct Engine {
     next: [Next; 64],
     // the thread that is asked first
     from: usize,
-    // how many acquires of each thread have swapped themselves in
-    begun: [usize; 64],
-    instances: Vec<Vec<Instance>>,
-    chains: Chains,
-    // the thread of each ticket, in order, and how many are taken
-    tickets: Vec<u8>,
-    taken: usize,
+    acquires: Acquires,
+    tickets: Tickets,
 }
 
 impl Engine {
@@ -163,123 +138,42 @@ impl Engine {
     pub fn new(alloc: Global, order: &Order) -> Result<Engine, AllocError> {
         let kind = order.kind();
         let threads = order.logs().len().min(MOST_THREADS);
-        let mut instances = Vec::new(alloc);
-        let mut takes = Vec::new(alloc);
         let mut next = [ENDED; 64];
-        let mut cut = [false; 64];
-        for (t, log) in order.logs().iter().enumerate() {
-            takes.push(takes_of(alloc, log.moves())?)?;
-            instances.push(instances_of(alloc, kind, log.moves())?)?;
-            if t < MOST_THREADS {
-                next[t] = next_of(order, kind, t as u8);
-                cut[t] = log.is_cut();
-            }
+        for t in 0..threads {
+            next[t] = next_of(order, kind, t as u8);
         }
-        let chains = Chains::new(alloc, &instances, cut)?;
         Ok(Engine {
             kind,
             threads,
             next,
             from: 0,
-            begun: [0; 64],
-            instances,
-            chains,
-            tickets: ticket_order(alloc, &takes, order.bits())?,
-            taken: 0,
+            acquires: Acquires::new(alloc, order)?,
+            tickets: Tickets::new(alloc, order)?,
         })
-    }
-
-    // The acquire of an MCS lock that a thread is in.
-    fn instance(&self, t: usize) -> Option<&Instance> {
-        if t >= MOST_THREADS || self.begun[t] == 0 {
-            return None;
-        }
-        self.instances.get(t)?.get(self.begun[t] - 1)
-    }
-
-    // Whether the acquire that a thread is in has another successor, or none.
-    fn has_other_successor(&self, before: usize, t: usize) -> bool {
-        match self.instance(before).map(|instance| instance.after) {
-            Some(Neighbor::Thread(after)) => after as usize != t,
-            Some(Neighbor::Nobody) => true,
-            Some(Neighbor::Unknown) | None => false,
-        }
-    }
-
-    // Whether a swap has to wait for another acquire than the machine's tail names now.
-    fn swap_waits(&self, t: usize, found: Option<u64>) -> bool {
-        if t >= MOST_THREADS {
-            return true;
-        }
-        match found {
-            Some(0) => !self.chains.may_begin(t, self.begun[t], &self.begun),
-            Some(found) if found <= 64 => {
-                let before = (found - 1) as usize;
-                let last = self.begun[before].saturating_sub(1);
-                self.has_other_successor(before, t)
-                    || !self.chains.is_behind(t, self.begun[t], last)
-            }
-            _ => false,
-        }
-    }
-
-    // Whether a link has to wait: the thread that it is written to has still to find none.
-    fn link_waits(&self, order: &Order, before: u8) -> bool {
-        match self.instance(before as usize) {
-            Some(instance) => order.placed(before) < instance.unlinked,
-            None => false,
-        }
-    }
-
-    // Whether the next ticket is another thread's.
-    fn ticket_waits(&self, t: usize) -> bool {
-        match self.tickets.get(self.taken) {
-            Some(thread) => *thread as usize != t,
-            None => false,
-        }
-    }
-
-    // The thread whose next section has the lowest count.
-    fn lowest_section(&self) -> Option<usize> {
-        let mut lowest: Option<(u64, usize)> = None;
-        for (t, next) in self.next.iter().enumerate() {
-            if let Some(count) = next.count {
-                match lowest {
-                    Some((least, _)) if least <= count => {}
-                    _ => lowest = Some((count, t)),
-                }
-            }
-        }
-        lowest.map(|(_, t)| t)
     }
 
     // Whether another thread's step has to come before this one.
     fn waits(&self, order: &Order, t: usize, next: &Next) -> bool {
         match next.kind {
-            Some(StepKind::Swap) => self.swap_waits(t, next.found),
-            Some(StepKind::Add) => self.ticket_waits(t),
-            Some(StepKind::Section) => match self.lowest_section() {
+            Some(StepKind::Swap) => self.acquires.swap_waits(t, next.found),
+            Some(StepKind::Add) => self.tickets.wait(t),
+            Some(StepKind::Section) => match lowest_section(&self.next) {
                 Some(lowest) => next.count.is_some() && lowest != t,
                 None => false,
             },
             Some(StepKind::Write) => match next.link_to {
-                Some(before) => self.link_waits(order, before),
+                Some(before) => self.acquires.link_waits(order, before),
                 None => false,
             },
             _ => false,
         }
     }
 
-    // When the last steps are proposed: of swaps that find nobody the one whose chain has no end
-    // comes behind the others.
-    fn round_of_swap(&self, t: usize, next: &Next) -> Round {
-        if t >= MOST_THREADS || next.kind != Some(StepKind::Swap) {
-            return Round::Last;
-        }
-        match self.chains.end(t, self.begun[t]) {
-            Some(End::CutOff) => Round::CutOff,
-            Some(End::Never) => Round::Endless,
-            Some(End::Seen) | None => Round::Last,
+    // When one of the last steps is proposed.
+    fn last_round_of(&self, t: usize, next: &Next) -> Round {
+        match next.kind {
+            Some(StepKind::Swap) => self.acquires.round_of_swap(t),
+            _ => Round::Last,
         }
     }
 
@@ -296,8 +190,8 @@ impl Engine {
                 continue;
             }
             let next = self.next[t];
-            if round == Round::Last && self.round_of_swap(t, &next) != round {
-                self.next[t].round = self.round_of_swap(t, &next);
+            if round == Round::Last && self.last_round_of(t, &next) != round {
+                self.next[t].round = self.last_round_of(t, &next);
                 continue;
             }
             if !has_other_value(order, &next) && !self.waits(order, t, &next) {
@@ -343,7 +237,7 @@ impl Engine {
 
     // Wakes the thread whose section comes next.
     fn wake_section(&mut self) {
-        if let Some(t) = self.lowest_section() {
+        if let Some(t) = lowest_section(&self.next) {
             if t < MOST_THREADS {
                 self.next[t].asleep = false;
             }
@@ -358,12 +252,8 @@ impl Engine {
             (_, Some(word)) => self.wake_on(word),
             _ => {}
         }
-        let unlinked = match self.instance(t as usize) {
-            Some(instance) => instance.unlinked,
-            None => 0,
-        };
-        if unlinked > 0 && order.placed(t) == unlinked {
-            self.wake_on(place_of(self.kind, WordName::Next(t)));
+        if let Some(word) = self.acquires.awaited_link(order, t) {
+            self.wake_on(word);
         }
     }
 
@@ -375,8 +265,8 @@ impl Engine {
         }
         let made = self.next[thread];
         match made.kind {
-            Some(StepKind::Swap) => self.begun[thread] = self.begun[thread].saturating_add(1),
-            Some(StepKind::Add) => self.taken = self.taken.saturating_add(1),
+            Some(StepKind::Swap) => self.acquires.begin(thread),
+            Some(StepKind::Add) => self.tickets.take(),
             _ => {}
         }
         self.next[thread] = next_of(order, self.kind, t);

@@ -8,9 +8,9 @@ ghost use Rattle.lk_order.specs.Runs.{IsOneRun};
 ghost use Rattle.lk_order.specs.Orders.{IsOrder, next_line};
 ghost use Rattle.lk_order.specs.Endings.{EndsAs, EndsWhereCut, IsStuck};
 
-use crate::engine::Engine;
+use crate::engine::{Engine, count_of};
 use crate::{Log, Order, Placed};
-use lk_trace::{Difference, Seen, TraceLine};
+use lk_trace::Difference;
 use std::alloc::{AllocError, Global};
 
 /// A step that cannot be placed: line `at` of the thread's log, counted from 0.
@@ -54,17 +54,6 @@ fn doubt(difference: Option<Difference>) -> u8 {
     }
 }
 
-// The count that a line gives of its section.
-fn count_of(line: TraceLine) -> u64 {
-    match line.seen {
-        Seen::InSection {
-            count: Some(count),
-            ..
-        } => count,
-        _ => 0,
-    }
-}
-
 // A step that cannot be placed, with its doubt and its section's count.
 #[derive(Clone, Copy)]
 struct Suspect {
@@ -82,7 +71,7 @@ fn suspect_of(order: &Order, thread: u8) -> Option<Suspect>
     let difference = order.checker().difference(line);
     Some(Suspect {
         doubt: doubt(difference),
-        count: count_of(line),
+        count: count_of(line).unwrap_or(0),
         stuck: Stuck {
             thread,
             at: order.placed(thread),

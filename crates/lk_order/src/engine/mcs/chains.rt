@@ -8,10 +8,8 @@
 //! off.
 
 use super::instances::{Instance, Neighbor};
+use crate::engine::MOST_THREADS;
 use std::alloc::{AllocError, Global};
-
-/// The most threads of a lock.
-const MOST_THREADS: usize = 64;
 
 const NONE: u32 = u32::MAX;
 
