@@ -4,3 +4,4 @@ mod Placing
 mod Keeping
 mod Beginning
 mod Ends
+mod Taken

@@ -3,3 +3,5 @@ pub mod Runs
 pub mod Orders
 pub mod Picked
 pub mod Endings
+pub mod Shelves
+pub mod Cuts

@@ -1,9 +1,11 @@
 //! An order cut into pieces, each of which is a schedule: it begins where nobody is in a call and
 //! nobody holds.
 
-ghost use Rattle.std.specs.Prelude.{◌≡◌, ◌+◌, ◌<◌, ◌≤◌, IfSome, length};
+ghost use Rattle.std.specs.Prelude.{◌≡◌, ◌+◌, ◌-◌, ◌<◌, ◌≤◌, IfSome, MatchOption, length};
+ghost use Rattle.lk_order.specs.Cuts.{IsEnd, IsNextPiece};
 
 use crate::Order;
+use std::marker::Model;
 
 // The most threads of a lock.
 const MOST_THREADS: usize = 64;
@@ -23,12 +25,23 @@ pub struct Piece {
 #[derive(Drop)]
 pub struct Pieces<'a> {
     order: &'a Order,
-    // where the next piece begins, or what is left out before it
+    // so many moves are in pieces or left out, and so many of these are in pieces
     at: usize,
+    given: usize,
     // whether the last piece ended where threads were in calls
     open: bool,
-    left_out: usize,
     busy: Busy,
+}
+
+impl<'a> Model for Pieces<'a> {
+    ghost use Rattle.std.specs.Prelude.{◌≤◌, length};
+    ghost use Rattle.lk_order.specs.Cuts.{Cut};
+
+    ghost Value = { Cut };
+
+    ghost view = { λ a. record { order = a.order.now; at = a.at; given = a.given } };
+
+    ghost invariant = { λ a. (a.given ≤ a.at) × (a.at ≤ length a.order.now.trace) };
 }
 
 // Which threads are in a call or hold.
@@ -53,14 +66,60 @@ impl Busy {
     }
 }
 
+// The first moment, from this move on, at which nobody is in a call, or else the order's end; and
+// who is in a call there.
+fn next_quiet(order: &Order, first: usize, busy: Busy) -> (usize, Busy)
+    requires { first ≤ length order.now.trace }
+    ensures behind { first ≤ result.0 }
+    ensures inside { result.0 ≤ length order.now.trace }
+{
+    let mut busy = busy;
+    for k in first..order.len() {
+        if busy.count == 0 {
+            return (k, busy);
+        }
+        if let Some((thread, idle)) = order.step_at(k) {
+            busy.note(thread, idle);
+        }
+    }
+    (order.len(), busy)
+}
+
+// Where the piece from this move on ends, and who is in a call there: at the last moment that has
+// nobody in one, or else where a schedule is full or the order ends.
+fn end_of(order: &Order, first: usize, busy: Busy) -> (usize, Busy)
+    requires { first < length order.now.trace }
+    ensures some { first < result.0 }
+    ensures few { result.0 ≤ first + 65536 }
+    ensures inside { result.0 ≤ length order.now.trace }
+{
+    let most = order.len().min(first.saturating_add(MOST_MOVES));
+    let mut busy = busy;
+    let mut quiet = None;
+    for k in first..most {
+        if let Some((thread, idle)) = order.step_at(k) {
+            busy.note(thread, idle);
+        }
+        if busy.count == 0 {
+            quiet = Some((k + 1, busy));
+        }
+    }
+    match quiet {
+        Some(end) if most < order.len() => end,
+        _ => (most, busy),
+    }
+}
+
 impl<'a> Pieces<'a> {
     /// Begins with the first move.
-    pub fn new(order: &'a Order) -> Pieces<'a> {
+    pub fn new(order: &'a Order) -> Pieces<'a>
+        ensures { result ≡ record { order = order.now; at = 0; given = 0 } }
+    {
         Pieces {
             order,
             at: 0,
+            given: 0,
             open: false,
-            left_out: 0,
             busy: Busy {
                 threads: [false; 64],
                 count: 0,
@@ -70,68 +129,36 @@ impl<'a> Pieces<'a> {
 
     /// How many moves were left out so far: more than a schedule has room for stand between two
     /// moments at which nobody is in a call.
-    pub fn left_out(&self) -> usize {
-        self.left_out
-    }
-
-    // Leaves moves out up to a moment at which nobody is in a call.
-    fn skip_open(&mut self) {
-        for k in self.at..self.order.len() {
-            if self.busy.count == 0 {
-                break;
-            }
-            if let Some((thread, idle)) = self.order.step_at(k) {
-                self.busy.note(thread, idle);
-            }
-            self.at = k + 1;
-            self.left_out = self.left_out.saturating_add(1);
-        }
-    }
-
-    // Where the piece from here on ends, and who is in a call there: at the last moment that has
-    // nobody in one, or else where a schedule is full or the order ends.
-    fn end(&self) -> (usize, Busy)
-        requires { self.now.at < length self.now.order.now.trace }
-        ensures some { self.now.at < result.0 }
-        ensures few { result.0 ≤ self.now.at + 65536 }
-        ensures inside { result.0 ≤ length self.now.order.now.trace }
+    pub fn left_out(&self) -> usize
+        ensures { result ≡ self.now.at - self.now.given }
     {
-        let most = self.order.len().min(self.at.saturating_add(MOST_MOVES));
-        let mut busy = self.busy;
-        let mut quiet = None;
-        for k in self.at..most {
-            if let Some((thread, idle)) = self.order.step_at(k) {
-                busy.note(thread, idle);
-            }
-            if busy.count == 0 {
-                quiet = Some((k + 1, busy));
-            }
-        }
-        match quiet {
-            Some(end) if most < self.order.len() => end,
-            _ => (most, busy),
-        }
+        self.at - self.given
     }
 
     /// The next piece. None is left at the end.
     pub fn next_piece(&mut self) -> Option<Piece>
         ensures some { IfSome result (λ piece. 0 < piece.moves) }
         ensures few { IfSome result (λ piece. piece.moves ≤ 65536) }
+        ensures next { MatchOption result (IsEnd self.old self.new)
+            (IsNextPiece self.old self.new) }
     {
-        if self.open {
-            self.skip_open();
-        }
-        let first = self.at;
+        let (first, busy) = if self.open {
+            next_quiet(self.order, self.at, self.busy)
+        } else {
+            (self.at, self.busy)
+        };
         if first >= self.order.len() {
+            self.at = first;
             return None;
         }
-        let (end, busy) = self.end();
+        let (end, busy) = end_of(self.order, first, busy);
         self.at = end;
+        self.given += end - first;
         self.busy = busy;
         self.open = busy.count > 0;
         Some(Piece {
             first,
-            moves: end.saturating_sub(first),
+            moves: end - first,
         })
     }
 }

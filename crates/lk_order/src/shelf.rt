@@ -5,6 +5,7 @@ ghost use Rattle.std.specs.Prelude.{◌≡◌};
 use crate::Log;
 use lk_locks::LockKind;
 use std::alloc::{AllocError, Global};
+use std::marker::Model;
 
 // The most threads of a lock.
 const MOST_THREADS: usize = 64;
@@ -27,18 +28,37 @@ pub struct Missing {
 /// The logs of a run that were taken so far.
 #[derive(Drop)]
 pub struct Shelf {
+    // at t the log of thread t
     places: Vec<Option<Log>>,
-    size: Option<(LockKind, u8, u8)>,
+    // the lock, with its numbers of threads and bits
+    lock: Option<(LockKind, u8, u8)>,
+}
+
+impl Model for Shelf {
+    ghost use Rattle.std.specs.Prelude.{◌≡◌, length};
+    ghost use Rattle.lk_order.specs.Shelves.{Shelved};
+
+    ghost Value = { Shelved };
+
+    ghost view = { λ a. record { lock = a.lock; places = a.places.items } };
+
+    ghost invariant = { λ a. length a.places.items ≡ 64 };
 }
 
 impl Shelf {
+    ghost use Rattle.std.specs.Prelude.{◌≡◌, IfErr, IfOk, MatchOption, OnErr, OnOk};
+    ghost use Rattle.lk_order.specs.Shelves.{HaveLogs, IsFirstWithout, IsTaken, IsUnfit};
+    ghost use Rattle.lk_order.specs.Shelves.{empty_shelf, logs_of, threads_of};
+
     /// No log was taken yet.
-    pub fn new(alloc: Global) -> Result<Shelf, AllocError> {
+    pub fn new(alloc: Global) -> Result<Shelf, AllocError>
+        ensures { IfOk result (λ shelf. shelf ≡ empty_shelf) }
+    {
         let mut places = Vec::with_capacity(alloc, MOST_THREADS)?;
         for _ in 0..MOST_THREADS {
             places.push(None)?;
         }
-        Ok(Shelf { places, size: None })
+        Ok(Shelf { places, lock: None })
     }
 
     /// Takes a log.
@@ -47,26 +67,32 @@ impl Shelf {
     ///
     /// It is of another lock than the first one, or else its thread has one. Then nothing has
     /// changed.
-    pub fn put(&mut self, log: Log) -> Result<(), Unfit> {
-        let size = (log.kind(), log.threads(), log.bits());
-        if let Some(first) = self.size {
-            if first != size {
+    pub fn put(&mut self, log: Log) -> Result<(), Unfit>
+        ensures ok { OnOk result (IsTaken self.old self.new log) }
+        ensures err { IfErr result (IsUnfit self.old log) }
+        ensures same { OnErr result (self.new ≡ self.old) }
+    {
+        let lock = (log.kind(), log.threads(), log.bits());
+        if let Some(first) = self.lock {
+            if first != lock {
                 return Err(Unfit::OtherLock);
             }
         }
-        match self.places.get_mut(log.thread() as usize) {
-            Some(place) if place.is_none() => {
-                *place = Some(log);
-                self.size = Some(size);
-                Ok(())
-            }
-            _ => Err(Unfit::SecondLog),
+        let thread = log.thread() as usize;
+        if self.places[thread].is_some() {
+            return Err(Unfit::SecondLog);
         }
+        self.places[thread] = Some(log);
+        self.lock = Some(lock);
+        Ok(())
     }
 
     /// The first thread that has no log, where one has none.
-    pub fn missing(&self) -> Option<Missing> {
-        let threads = match self.size {
+    pub fn missing(&self) -> Option<Missing>
+        ensures { MatchOption result (HaveLogs self.now (threads_of self.now.lock))
+            (λ missing. IsFirstWithout self.now missing.thread) }
+    {
+        let threads = match self.lock {
             Some((_, threads, _)) => threads,
             None => 1,
         };
@@ -83,11 +109,14 @@ impl Shelf {
     /// # Errors
     ///
     /// A request for memory was refused.
-    pub fn logs(self, alloc: Global) -> Result<Vec<Log>, AllocError> {
+    pub fn logs(self, alloc: Global) -> Result<Vec<Log>, AllocError>
+        ensures { IfOk result (λ logs. logs.items ≡ logs_of self) }
+    {
         let mut logs = Vec::new(alloc);
         for place in self.places {
-            if let Some(log) = place {
-                logs.push(log)?;
+            match place {
+                Some(log) => logs.push(log)?,
+                None => {}
             }
         }
         Ok(logs)

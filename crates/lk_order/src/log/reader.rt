@@ -181,7 +181,8 @@ impl LogReader {
     pub fn number(&self) -> u32
         ensures { result ≡ self.now.number }
     {
-        self.number
+        let LogReader { number, .. } = self;
+        *number
     }
 
     // Reads the next line.
