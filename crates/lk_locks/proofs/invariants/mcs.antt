@@ -39,7 +39,7 @@ use Rattle.lk_locks.specs.Rooms.{family_of}
 use Rattle.lk_locks.proofs.invariants.McsSteps.{begins, call_fits, few_entries, goes_on}
 use Rattle.lk_locks.proofs.invariants.McsSteps.{keeps_length, links_fit, owed_is_own, step_fits}
 
-pub head_is : (q : List ℕ) (t : ℕ) (r : List ℕ) → q ≡ t ∷ r → is_head q t ≡ true
+head_is : (q : List ℕ) (t : ℕ) (r : List ℕ) → q ≡ t ∷ r → is_head q t ≡ true
 head_is q t r e = rw e (eq-eqb t t refl)
 
 rest_is : (q : List ℕ) (t : ℕ) (r : List ℕ) → q ≡ t ∷ r → drop 1 q ≡ r
@@ -75,7 +75,7 @@ swapped ws ps (x ∷ q) t h w o n z k =
     mcs_more ws ps x t (slice_index ws 0 - 1) q h w o n
     (let g : slice_index ws 0 ≡ last_of x q + 1 = k.tail_is in omega arith) k
 
-pub empty_of : (ws : List ℕ) (ps : List Phase) (q : List ℕ) → slice_index ws 0 ≡ 0 → IsQueue ws ps q
+empty_of : (ws : List ℕ) (ps : List Phase) (q : List ℕ) → slice_index ws 0 ≡ 0 → IsQueue ws ps q
     → q ≡ []
 empty_of ws ps [] z k = refl
 empty_of ws ps (x ∷ q) z k =
@@ -93,14 +93,14 @@ relinked ws vs h r AwaitLink n l f = f
 relinked ws vs h r p n l f = absurd f
 
 -- the first may set out to release, or go on
-pub first_of_head : (ws : List ℕ) (ps : List Phase) (q : List ℕ) (t : ℕ) (p : Phase)
+first_of_head : (ws : List ℕ) (ps : List Phase) (q : List ℕ) (t : ℕ) (p : Phase)
     → phase_at ps t ≡ p → (IsOutside ws t p → ⊥) → ((v : ℕ) → IsBehind ws v t p → ⊥)
     → IsQueue ws ps q → IsHeadOf ws ps q t
 first_of_head ws ps q t p e o b k =
     head_of ws ps q t k (λ x. o (rw e at x)) (λ v x. b v (rw e at x))
 
 -- each move keeps the queue, and its entries may come
-pub keeps : (bits : ℕ) (ws : List ℕ) (ps : List Phase) (q : Sequential) (t : ℕ) (p : Phase)
+keeps : (bits : ℕ) (ws : List ℕ) (ps : List Phase) (q : Sequential) (t : ℕ) (p : Phase)
     (m : Move) → IsTaken Mcs bits ws ps q t p m
     → let c : Change =
     move_change Mcs bits ws t p m in IsAgreed Mcs (λ r. IsQueue c.words

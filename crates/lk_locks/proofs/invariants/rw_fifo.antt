@@ -43,7 +43,7 @@ use Rattle.lk_locks.proofs.invariants.FifoSteps.{begins, call_fits, goes_on, kee
 use Rattle.lk_locks.proofs.invariants.FifoSteps.{owed_is_own, step_fits}
 
 -- the counts are equal exactly where there is no reader
-pub none_read : (bits : ℕ) (ws : List ℕ) (ps : List Phase) (q : Sequential)
+none_read : (bits : ℕ) (ws : List ℕ) (ps : List Phase) (q : Sequential)
     → AgreesWith bits ws ps q → slice_index ws 0 ≡ slice_index ws 1 → q.readers ≡ []
 none_read bits ws ps q a e = empty_of_length q.readers (elim (eqb_tells (length q.readers) 0) [
   | inl z ↦ z.1
@@ -76,7 +76,7 @@ written : (ps : List Phase) (q : Sequential) (t : ℕ)
 written ps q t a = a
 
 -- each move keeps the words and the holders, and its entries may come
-pub keeps : (bits : ℕ) (ws : List ℕ) (ps : List Phase) (q : Sequential) (t : ℕ) (p : Phase)
+keeps : (bits : ℕ) (ws : List ℕ) (ps : List Phase) (q : Sequential) (t : ℕ) (p : Phase)
     (m : Move) → IsTaken RwFifo bits ws ps q t p m
     → let c : Change =
     move_change RwFifo bits ws t p m in IsAgreed RwFifo (λ r. AgreesWith bits c.words

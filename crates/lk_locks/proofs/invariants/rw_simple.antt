@@ -41,7 +41,7 @@ use Rattle.lk_locks.proofs.invariants.read_write.{few_entries}
 use Rattle.lk_locks.specs.declared.kinds.Entry.TheVariants.{Acted}
 
 -- each section adds the next entries of the pending call
-pub goes_on : (bits t : ℕ) (ws : List ℕ) (p : Phase) → GoesOn RwSimple t p (step bits ws p)
+goes_on : (bits t : ℕ) (ws : List ℕ) (p : Phase) → GoesOn RwSimple t p (step bits ws p)
 goes_on bits t ws TryRead =
     either_way (GoesOn RwSimple t TryRead) (slice_index ws 1 == 0) _ _ refl refl
 goes_on bits t ws TryWrite =
@@ -50,7 +50,7 @@ goes_on bits t ws TryWrite =
 goes_on bits t ws p = refl
 
 -- a call begins where the one before it is finished
-pub begins : (n t : ℕ) (p : Phase) (op : Op) → IsPhaseOf RwSimple n p → has_op ReadWrite op ≡ true
+begins : (n t : ℕ) (p : Phase) (op : Op) → IsPhaseOf RwSimple n p → has_op ReadWrite op ≡ true
     → refusal_in RwSimple p (Call op) ≡ None
     → Begins RwSimple t p op
 begins n t Idle ReadLock f h r = (refl, refl)
@@ -61,11 +61,11 @@ begins n t Writing Downgrade f h r = (refl, refl)
 begins n t p op f h r = cc
 
 -- what is left of a call is of its thread
-pub owed_is_own : (t : ℕ) (p : Phase) → AreOf t (owed t p)
+owed_is_own : (t : ℕ) (p : Phase) → AreOf t (owed t p)
 owed_is_own t p = search rules
 
 -- no section changes how many words there are
-pub keeps_length : (bits t : ℕ) (ws : List ℕ) (p : Phase) → KeepsLength ws (step bits ws p)
+keeps_length : (bits t : ℕ) (ws : List ℕ) (p : Phase) → KeepsLength ws (step bits ws p)
 keeps_length bits t ws TryRead =
     either_way (KeepsLength ws) (slice_index ws 1 == 0) _ _ (length-set _ _ _) refl
 keeps_length bits t ws LeaveRead = length-set _ _ _
@@ -77,7 +77,7 @@ keeps_length bits t ws TryDowngrade = length-set _ _ _ ∙ length-set _ _ _
 keeps_length bits t ws p = refl
 
 -- the new phase is one of the lock's
-pub step_fits : (n bits t : ℕ) (ws : List ℕ) (p : Phase) → t < n → IsPhaseOf RwSimple n p
+step_fits : (n bits t : ℕ) (ws : List ℕ) (p : Phase) → t < n → IsPhaseOf RwSimple n p
     → AreLinks RwSimple n ws → Fits RwSimple n (step bits ws p)
 step_fits n bits t ws TryRead h f l =
     either_way (Fits RwSimple n) (slice_index ws 1 == 0) _ _ refl refl
@@ -87,7 +87,7 @@ step_fits n bits t ws TryWrite h f l =
 step_fits n bits t ws LeaveWrite h f l = refl
 step_fits n bits t ws p h f l = f
 
-pub call_fits : (n : ℕ) (p : Phase) (op : Op) → IsPhaseOf RwSimple n p
+call_fits : (n : ℕ) (p : Phase) (op : Op) → IsPhaseOf RwSimple n p
     → IsPhaseOf RwSimple n (unwrap_or (after_call RwSimple p op) p)
 call_fits n Idle ReadLock f = refl
 call_fits n Idle WriteLock f = refl
@@ -115,7 +115,7 @@ still bits ws ps q t p r h e x y z a = record {
 }
 
 -- each move keeps the words and the holders, and its entries may come
-pub keeps : (bits : ℕ) (ws : List ℕ) (ps : List Phase) (q : Sequential) (t : ℕ) (p : Phase)
+keeps : (bits : ℕ) (ws : List ℕ) (ps : List Phase) (q : Sequential) (t : ℕ) (p : Phase)
     (m : Move) → IsTaken RwSimple bits ws ps q t p m
     → let c : Change =
     move_change RwSimple bits ws t p m in IsAgreed RwSimple (λ r. AgreesWith bits c.words

@@ -39,14 +39,14 @@ use Rattle.lk_locks.proofs.Requests.{allows_acquire, allows_release}
 use Rattle.lk_locks.specs.Rooms.{family_of}
 
 -- each step adds the next entries of the pending call
-pub goes_on : (bits t : ℕ) (ws : List ℕ) (p : Phase) → GoesOn Ticket t p (step bits t ws p)
+goes_on : (bits t : ℕ) (ws : List ℕ) (p : Phase) → GoesOn Ticket t p (step bits t ws p)
 goes_on bits t ws (AwaitTurn x) =
     either_way (λ (e : Event). GoesOn Ticket t (AwaitTurn x) (reads ws e))
     (slice_index ws now_serving == x) _ _ refl refl
 goes_on bits t ws p = refl
 
 -- a call begins where the one before it is finished
-pub begins : (n t : ℕ) (p : Phase) (op : Op) → IsPhaseOf Ticket n p → has_op Queue op ≡ true
+begins : (n t : ℕ) (p : Phase) (op : Op) → IsPhaseOf Ticket n p → has_op Queue op ≡ true
     → refusal_in Ticket p (Call op) ≡ None
     → Begins Ticket t p op
 begins n t Idle Acquire f h r = (refl, refl)
@@ -54,24 +54,24 @@ begins n t (TicketInside x) Release f h r = (refl, refl)
 begins n t p op f h r = cc
 
 -- what is left of a call is of its thread
-pub owed_is_own : (t : ℕ) (p : Phase) → AreOf t (owed t p)
+owed_is_own : (t : ℕ) (p : Phase) → AreOf t (owed t p)
 owed_is_own t p = search rules
 
 -- no step adds more than three entries
-pub few_entries : (t : ℕ) (p : Phase) (o : Outcome) → length (entries t p o) ≤ 3
+few_entries : (t : ℕ) (p : Phase) (o : Outcome) → length (entries t p o) ≤ 3
 few_entries t TakeTicket Moved = omega arith
 few_entries t (AwaitTurn x) Entered = omega arith
 few_entries t (PassOn x) Left = omega arith
 few_entries t p o = omega arith
 
 -- no step changes how many words there are
-pub keeps_length : (bits t : ℕ) (ws : List ℕ) (p : Phase) → KeepsLength ws (step bits t ws p)
+keeps_length : (bits t : ℕ) (ws : List ℕ) (p : Phase) → KeepsLength ws (step bits t ws p)
 keeps_length bits t ws TakeTicket = length-set _ _ _
 keeps_length bits t ws (PassOn v) = length-set _ _ _
 keeps_length bits t ws p = refl
 
 -- the new phase is one of the lock's
-pub step_fits : (n bits t : ℕ) (ws : List ℕ) (p : Phase) → t < n → IsPhaseOf Ticket n p
+step_fits : (n bits t : ℕ) (ws : List ℕ) (p : Phase) → t < n → IsPhaseOf Ticket n p
     → AreLinks Ticket n ws → Fits Ticket n (step bits t ws p)
 step_fits n bits t ws (AwaitTurn x) h f l =
     either_way (λ (e : Event). Fits Ticket n (reads ws e)) (slice_index ws now_serving == x) _ _
@@ -81,7 +81,7 @@ step_fits n bits t ws (ReadServing x) h f l = refl
 step_fits n bits t ws (PassOn x) h f l = refl
 step_fits n bits t ws p h f l = f
 
-pub call_fits : (n : ℕ) (p : Phase) (op : Op) → IsPhaseOf Ticket n p
+call_fits : (n : ℕ) (p : Phase) (op : Op) → IsPhaseOf Ticket n p
     → IsPhaseOf Ticket n (unwrap_or (after_call Ticket p op) p)
 call_fits n Idle Acquire f = refl
 call_fits n (TicketInside t) Release f = refl
@@ -98,7 +98,7 @@ rest_false (u ∷ q) t h = elim (bool_tells (has q t)) [
 ]
 
 -- each move keeps the queue, and its entries may come
-pub keeps : (bits : ℕ) (ws : List ℕ) (ps : List Phase) (q : Sequential) (t : ℕ) (p : Phase)
+keeps : (bits : ℕ) (ws : List ℕ) (ps : List Phase) (q : Sequential) (t : ℕ) (p : Phase)
     (m : Move) → IsTaken Ticket bits ws ps q t p m
     → let c : Change =
     move_change Ticket bits ws t p m in IsAgreed Ticket (λ r. IsQueue bits c.words
