@@ -49,10 +49,10 @@ lock mcs threads 2
 """
 OTHER = GOOD.replace("1 swap tail found 1", "1 swap tail found 2")
 OTHER_LINE = ("{}:9: refused: found 2 in tail, where the lock has 1\n"
-              "{}:9: note: held by 0; in line 0\n")
+              "{}:9: note: held by 0; queue 0\n")
 WRONG = GOOD.replace("1 swap tail found 1", "1 write locked left 1")
 WRONG_LINE = ("{}:9: refused: '1 write', but thread 1's next step is 'swap' (WrongStep)\n"
-              "{}:9: note: held by 0; in line 0\n")
+              "{}:9: note: held by 0; queue 0\n")
 FAULTY = "lock ticket threads 2\n0 aquire\n"
 FAULTY_LINE = "{}:2: not a move (BadLine)\n"
 TEXTS = {"good": GOOD, "other": OTHER, "wrong": WRONG, "faulty": FAULTY}
@@ -135,14 +135,28 @@ def summaries(program):
                  lambda text: " 2 waits" in text and "warning" not in text, stdin=spins)
 
 
+def refusals_by_name(program):
+    """A name where the thread has one, also in what is said of a refused move."""
+    program.case("explain a refusal by name", ["explain", "--moves", "99..99", "--names",
+                                               "left,right", "wrong"], 1,
+                 "9: refused: '1 write', but right's next step is 'swap' (WrongStep)\n"
+                 "  held by 0; queue 0\n  due: 1 swap\n")
+    for thread, name in ((0, "left"), (1, "thread 1")):
+        program.case(f"explain a call of {name}", ["explain", "--names", "left"], 1,
+                     f"2: refused: '{thread} release', but {name} does not hold the lock so "
+                     "(NotHolder)\n  held by nobody; queue empty\n"
+                     f"  accepted would be: {thread} acquire\n",
+                     stdin=f"lock mcs threads 2\n{thread} release\n")
+
+
 def explained(program):
     program.case("explain", ["explain", "--moves", "3..4", "--names", "left,right", "good"], 0,
-                 "6: 0 swap: entered, tail 0 to 1; left finds nobody in line: it holds the lock; "
-                 "held by 0; in line 0\n"
-                 "7: 1 acquire: called; right wants the lock; held by 0; in line 0\n")
+                 "6: 0 swap: entered, tail 0 to 1; left finds nobody in the queue: it holds the "
+                 "lock; held by 0; queue 0\n"
+                 "7: 1 acquire: called; right wants the lock; held by 0; queue 0\n")
     program.case("explain a refusal", ["explain", "--moves", "99..99", "wrong"], 1,
                  "9: refused: '1 write', but thread 1's next step is 'swap' (WrongStep)\n"
-                 "  held by 0; in line 0\n  due: 1 swap\n")
+                 "  held by 0; queue 0\n  due: 1 swap\n")
     program.case("explain a call", ["explain"], 1,
                  begins("2: refused: ", "accepted would be: 0 acquire\n"),
                  stdin="lock mcs threads 2\n0 release\n")
@@ -178,7 +192,7 @@ def formats(program):
     check("json: endings", [answer["ending"] for answer in answers],
           ["accepted", "refused", "faulty", "unread"])
     check("json: lines", [answer.get("line") for answer in answers], [None, 9, 2, 0])
-    check("json: standing", answers[1]["standing"], "held by 0; in line 0")
+    check("json: standing", answers[1]["standing"], "held by 0; queue 0")
     check("json: counts", [answers[0][key] for key in ("threads", "moves", "longest_queue")],
           [2, 7, 2])
     odd = 'a "name"\\\x01\n.trace'
@@ -318,8 +332,8 @@ def main(path):
         program = Program(Path(path).resolve(), Path(folder), tally)
         for name, text in TEXTS.items():
             (program.folder / name).write_text(text)
-        for part in (words_and_texts, summaries, explained, formats, by_threads, devices, memory,
-                     terminal, orders, bad_logs):
+        for part in (words_and_texts, summaries, explained, refusals_by_name, formats, by_threads,
+                     devices, memory, terminal, orders, bad_logs):
             part(program)
     return tally.end()
 

@@ -70,7 +70,7 @@ pub struct Report {
     pub line: u64,
     /// What is said of that line, or of the input.
     pub message: String,
-    /// Who held and who was in line then.
+    /// Who held and who was in the queue then.
     pub standing: String,
     pub summary: Summary,
 }
@@ -103,7 +103,7 @@ impl Report {
         ensures { IfOk result (λ _. verdict_in self.new ≡ verdict_in self.old) }
     {
         self.message.push_str("refused: ")?;
-        put_difference(&mut self.message, checker.lock(), line, difference)?;
+        put_difference(&mut self.message, checker.lock(), line, difference, &[])?;
         put_standing(&mut self.standing, checker.lock())
     }
 

@@ -8,7 +8,7 @@ use crate::check::Ending;
 use crate::failures::Failure;
 use crate::lines::{Line, Lines};
 use crate::sentences::sentence;
-use crate::texts::{fault_text, put_difference, put_standing, put_word};
+use crate::texts::{fault_text, put_difference, put_standing, put_thread, put_word};
 use faulty::put_fault;
 use lk_locks::{LockKind, Machine, Move, Op, Outcome, Phase};
 use lk_trace::{
@@ -33,14 +33,6 @@ pub struct Asked<'a> {
 struct Before {
     words: WordArray,
     phase: Phase,
-}
-
-// Writes a thread as it is called.
-fn put_thread(text: &mut String, names: &[String], thread: u8) -> Result<(), AllocError> {
-    match names.get(thread as usize) {
-        Some(name) => text.push_str(name),
-        None => write!(text, "thread {thread}"),
-    }
 }
 
 fn value_at(words: &WordArray, place: usize) -> u64 {
@@ -158,9 +150,10 @@ fn put_refused(
     number: u64,
     line: TraceLine,
     difference: Difference,
+    names: &[String],
 ) -> Result<(), AllocError> {
     write!(text, "{number}: refused: ")?;
-    put_difference(text, checker.lock(), line, difference)?;
+    put_difference(text, checker.lock(), line, difference, names)?;
     text.push_str("\n  ")?;
     put_standing(text, checker.lock())?;
     text.push_str("\n")?;
@@ -211,7 +204,14 @@ impl Telling<'_> {
                 Ok(None)
             }
             (Event::Differs(line, difference), _) => {
-                put_refused(&mut self.text, checker, number, line, difference)?;
+                put_refused(
+                    &mut self.text,
+                    checker,
+                    number,
+                    line,
+                    difference,
+                    self.asked.names,
+                )?;
                 Ok(Some(Ending::Refused))
             }
             (Event::Fault(fault), _) => {

@@ -65,7 +65,7 @@ impl Summary {
         self.waits > 0 || self.late > 0 || self.failed > 0
     }
 
-    // Counts a step that may have changed who is in line, and the lock's counter.
+    // Counts a step that may have changed who is in the queue, and the lock's counter.
     fn note_lock(&mut self, lock: &Lock) {
         self.longest = self.longest.max(lock.queue().len());
         if let Some(word) = counter_of(lock.kind()) {

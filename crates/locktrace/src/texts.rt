@@ -94,7 +94,7 @@ pub fn put_threads(text: &mut String, threads: &[u8]) -> Result<(), AllocError> 
     Ok(())
 }
 
-/// Writes who holds the lock, and who is in line.
+/// Writes who holds the lock, and who is in the queue.
 pub fn put_standing(text: &mut String, lock: &Lock) -> Result<(), AllocError> {
     match lock.holders() {
         Holders::Nobody => text.push_str("held by nobody")?,
@@ -112,9 +112,20 @@ pub fn put_standing(text: &mut String, lock: &Lock) -> Result<(), AllocError> {
             put_threads(text, lock.queue().as_slice())
         }
         LockKind::Ticket | LockKind::Mcs => {
-            text.push_str("; in line ")?;
-            put_threads(text, lock.queue().as_slice())
+            text.push_str("; queue ")?;
+            match lock.queue().as_slice() {
+                [] => text.push_str("empty"),
+                threads => put_threads(text, threads),
+            }
         }
+    }
+}
+
+/// Writes a thread as it is called.
+pub fn put_thread(text: &mut String, names: &[String], thread: u8) -> Result<(), AllocError> {
+    match names.get(thread as usize) {
+        Some(name) => text.push_str(name),
+        None => write!(text, "thread {thread}"),
     }
 }
 
@@ -124,33 +135,28 @@ fn put_refusal(
     lock: &Lock,
     line: TraceLine,
     refusal: Refusal,
+    names: &[String],
 ) -> Result<(), AllocError> {
     let thread = line.thread;
     let word = move_text(line.action);
     write!(text, "'{thread} {word}', but ")?;
+    match refusal {
+        Refusal::NoSuchThread | Refusal::WrongLock => {}
+        _ => put_thread(text, names, thread)?,
+    }
     match refusal {
         Refusal::NoSuchThread => text.push_str("the lock has no such thread (NoSuchThread)"),
         Refusal::WrongLock => {
             let lock = lock_text(lock.kind());
             write!(text, "the {lock} lock has no such move (WrongLock)")
         }
-        Refusal::Busy => { write!(text, "thread {thread}'s last call is pending (Busy)") }
-        Refusal::NotHolder => {
-            write!(
-                text,
-                "thread {thread} does not hold the lock so (NotHolder)"
-            )
-        }
-        Refusal::AlreadyHolds => {
-            write!(
-                text,
-                "thread {thread} holds the lock already (AlreadyHolds)"
-            )
-        }
-        Refusal::NoCall => write!(text, "thread {thread} has no pending call (NoCall)"),
+        Refusal::Busy => text.push_str("'s last call is pending (Busy)"),
+        Refusal::NotHolder => text.push_str(" does not hold the lock so (NotHolder)"),
+        Refusal::AlreadyHolds => text.push_str(" holds the lock already (AlreadyHolds)"),
+        Refusal::NoCall => text.push_str(" has no pending call (NoCall)"),
         Refusal::WrongStep { next } => {
             let next = step_text(next);
-            write!(text, "thread {thread}'s next step is '{next}' (WrongStep)")
+            write!(text, "'s next step is '{next}' (WrongStep)")
         }
     }
 }
@@ -174,15 +180,17 @@ fn put_other_word(
     }
 }
 
-/// Writes in what a line differs from the machine.
+/// Writes in what a line differs from the machine. Threads that have no name are called by their
+/// numbers.
 pub fn put_difference(
     text: &mut String,
     lock: &Lock,
     line: TraceLine,
     difference: Difference,
+    names: &[String],
 ) -> Result<(), AllocError> {
     match difference {
-        Difference::Refused(refusal) => put_refusal(text, lock, line, refusal),
+        Difference::Refused(refusal) => put_refusal(text, lock, line, refusal, names),
         Difference::OtherWord { word, given } => put_other_word(text, line, word, given),
         Difference::FoundOther { word, found, given } => {
             write!(text, "found {given} in ")?;

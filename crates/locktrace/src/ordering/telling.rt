@@ -33,7 +33,7 @@ pub fn put_stuck(
     match (order.next(stuck.thread), stuck.difference) {
         (Some(line), Some(difference)) => {
             text.push_str("cannot be placed: ")?;
-            put_difference(text, lock, line, difference)?;
+            put_difference(text, lock, line, difference, &[])?;
         }
         (Some(line), None) => {
             let word = move_text(line.action);

@@ -5,13 +5,13 @@ use lk_locks::{Outcome, Phase};
 pub fn sentence(phase: Phase, outcome: Outcome) -> &'static str {
     match (phase, outcome) {
         (Phase::ClearNext, _) => "clears its record's next",
-        (Phase::SwapTail, Outcome::Entered) => "finds nobody in line: it holds the lock",
-        (Phase::SwapTail, _) => "gets in line behind the thread that it found",
+        (Phase::SwapTail, Outcome::Entered) => "finds nobody in the queue: it holds the lock",
+        (Phase::SwapTail, _) => "joins the queue behind the thread that it found",
         (Phase::SetLocked(_), _) => "marks its record as waiting, before anybody can find it",
         (Phase::LinkTo(_), _) => "links itself to the thread before it",
         (Phase::AwaitGrant, Outcome::Entered) => "finds itself granted: it holds the lock",
         (Phase::AwaitGrant, _) => "is not granted yet, and waits",
-        (Phase::ReadNext, _) => "looks who comes after it",
+        (Phase::ReadNext, _) => "reads who is behind it",
         (Phase::CasTail, Outcome::Left) => "is still the last, and leaves nobody behind",
         (Phase::CasTail, _) => "is not the last any more: somebody is about to link itself",
         (Phase::AwaitLink, Outcome::Waits) => "finds no link yet, and waits for it",

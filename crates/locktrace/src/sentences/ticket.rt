@@ -4,7 +4,7 @@ use lk_locks::{Outcome, Phase};
 
 pub fn sentence(phase: Phase, outcome: Outcome) -> &'static str {
     match (phase, outcome) {
-        (Phase::TakeTicket, _) => "takes its ticket, and is in line from here on",
+        (Phase::TakeTicket, _) => "takes its ticket, and is in the queue from here on",
         (Phase::AwaitTurn(_), Outcome::Entered) => "finds its ticket served: it holds the lock",
         (Phase::AwaitTurn(_), _) => "finds another ticket served, and waits",
         (Phase::ReadServing(_), _) => "reads the ticket that is served, its own",
