@@ -21,6 +21,7 @@ times in all. Without two free cores the first limit cannot be met, and the two 
 """
 import argparse
 import pathlib
+import re
 import subprocess
 import sys
 import tempfile
@@ -32,18 +33,8 @@ from measuring import Measure, Run, build, median_elapsed
 MOST_OF_ONE_WORKER, MOST_TO_HAND, MOST_TO_READING = 0.62, 1.1, 2.0
 TOLERANCE = 1.1
 ATTEMPTS = 3
-SMALL = b"""lock ticket threads 2
-0 acquire
-0 add
-0 read
-1 acquire
-1 add
-1 read
-0 release
-0 read
-0 write
-1 read
-"""
+LESSON = pathlib.Path(__file__).parent.parent / "examples" / "ticket-hand-over.schedule"
+SMALL = re.sub(rb"^(#.*)?\n", b"", LESSON.read_bytes(), flags=re.MULTILINE)
 KINDS = [kind for kind in generate.KINDS if kind != "none"]
 BATCHES = {
     "short lines": [kind for kind in KINDS if "spinning" in kind or "alone" in kind],

@@ -11,6 +11,8 @@ import pathlib
 import re
 import sys
 
+from tally import Tally
+
 TOP = pathlib.Path(__file__).resolve().parent.parent
 SPECS = TOP / "crates" / "lk_locks" / "specs"
 sys.path.append(str(TOP / "fuzz"))
@@ -46,17 +48,14 @@ def in_definitions(lock):
 
 
 def main():
-    passed = failed = 0
+    tally = Tally()
     for lock in LOCKS:
         written, defined = in_document(lock), in_definitions(lock)
-        passed += len(written & defined)
-        failed += len(written ^ defined)
-        for kind, phase in sorted(written - defined):
-            print(f"FAILED {lock}: the document has '{kind} {phase}', the definitions have not")
-        for kind, phase in sorted(defined - written):
-            print(f"FAILED {lock}: the definitions have '{kind} {phase}', the document has not")
-    print(f"{passed} passed, {failed} failed")
-    return 0 if failed == 0 and passed else 1
+        for place in sorted(written | defined):
+            tally.fault(f"{lock}: {' '.join(place)}",
+                        "" if place in written and place in defined else
+                        f"only in the {'document' if place in written else 'definitions'}")
+    return tally.end() if tally.passed else 1
 
 
 if __name__ == "__main__":

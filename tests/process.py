@@ -21,26 +21,15 @@ import threading
 import time
 from pathlib import Path
 
+from worked_rows import hand_over
+
 INPUT = b"lockreplay: cannot read standard input\n"
 OUTPUT = b"lockreplay: cannot write\n"
 MEMORY = b"lockreplay: out of memory\n"
 TOO_MANY = b"lockreplay: too many files\n"
 FOREIGN = b"lockreplay: the words are not UTF-8 text\n"
 
-HANDED_ON = b"""lock ticket threads 2
-0 acquire
-0 add
-0 read
-1 acquire
-1 add
-1 read
-0 release
-0 read
-0 write
-1 read
-"""
-LESSONS = Path(__file__).resolve().parent.parent / "examples"
-HANDED_ON_REPORT = (LESSONS / "ticket-hand-over.report").read_bytes()
+HANDED_ON, HANDED_ON_REPORT = map(b"".join, hand_over())
 EMPTY = b"lock ticket threads 1\n"
 EMPTY_REPORT = b"end 0\n"
 REFUSED = b"lock ticket threads 2\n0 release\n"

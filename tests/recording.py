@@ -22,6 +22,7 @@ from recording_builds import (EXAMPLES, ROOT, SANITIZERS, WARNINGS, all_builds, 
                               build_of_the_guide, compilers, install_what_is_missing,
                               is_nothing_left, language, ran)
 from recording_mistakes import MISTAKES, moves_of
+from tally import Tally
 
 SEEDS = range(1, 51)
 SEEDED = ["3", "60"]  # threads and rounds
@@ -134,24 +135,17 @@ def fault_of_wrong_real(runs, name, first_mistake, number):
     return "" if done.returncode == 0 and not any(shown) else f"order: status {done.returncode}"
 
 
-class Cases:
-    """Counts what passes and what fails."""
+class Cases(Tally):
+    """A tally of cases, some of which are run side by side."""
 
     def __init__(self):
-        self.passed = self.failed = 0
+        super().__init__()
         self.pool = ThreadPoolExecutor(os.cpu_count())
-
-    def one(self, name, fault):
-        if fault:
-            self.failed += 1
-            print(f"FAILED {name}: {fault}", flush=True)
-        else:
-            self.passed += 1
 
     def many(self, name, work, items):
         """A case for each item, side by side."""
         for item, fault in zip(items, self.pool.map(work, items)):
-            self.one(f"{name} {item}", fault)
+            self.fault(f"{name} {item}", fault)
 
 
 def build_all(cases, folder):
@@ -163,9 +157,9 @@ def build_all(cases, folder):
     cases.many("build", fault, list(all_builds()))
     for example, mistake, _ in MISTAKES:
         for mode in ["VALUES", "SEED"]:
-            cases.one(f"build {example} {mistake}",
-                      build("gcc", example, mode, folder / f"{example}-{mistake}-{mode}",
-                            f"-D{mistake}"))
+            cases.fault(f"build {example} {mistake}",
+                        build("gcc", example, mode, folder / f"{example}-{mistake}-{mode}",
+                              f"-D{mistake}"))
 
 
 def object_code(cases, folder):
@@ -195,7 +189,7 @@ def header(cases, folder):
                    "-fsanitize=address,undefined", "-o", folder / "header",
                    ROOT / "tests" / "recording_header.c").stderr
         done = ran(folder / "header", folder)
-        cases.one(f"{compiler} header", said + done.stdout + done.stderr)
+        cases.fault(f"{compiler} header", said + done.stdout + done.stderr)
 
 
 def guide(cases, runs):
@@ -203,14 +197,14 @@ def guide(cases, runs):
     folder = runs.folder / "guide"
     (folder / "logs").mkdir(parents=True)
     trace = folder / "logs" / "run.trace"
-    cases.one("guide, by seed", build_of_the_guide("SEED", folder, False) or
-              ran("./try", 17, folder=folder).stderr or runs.unchecked([trace]))
-    cases.one("guide, by threads", build_of_the_guide("VALUES", folder, False) or
-              ran("./try", folder=folder).stderr or fault_of_order(runs, folder / "logs"))
+    cases.fault("guide, by seed", build_of_the_guide("SEED", folder, False) or
+                ran("./try", 17, folder=folder).stderr or runs.unchecked([trace]))
+    cases.fault("guide, by threads", build_of_the_guide("VALUES", folder, False) or
+                ran("./try", folder=folder).stderr or fault_of_order(runs, folder / "logs"))
     fault = build_of_the_guide("SEED", folder, True) or ran("./try", 17, folder=folder).stderr
     shown = f"{trace.relative_to(folder)}:{runs.refused_line(trace)}: "
     in_guide = shown in (ROOT / "docs" / "GUIDE.md").read_text()
-    cases.one("guide, wrong", fault or ("" if in_guide else f"the guide has not {shown}"))
+    cases.fault("guide, wrong", fault or ("" if in_guide else f"the guide has not {shown}"))
 
 
 def main(locktrace, lockreplay):
@@ -226,21 +220,20 @@ def main(locktrace, lockreplay):
         for example in EXAMPLES:
             cases.many(f"{example} seed",
                        lambda seed: fault_of_right_seed(runs, example, seed), SEEDS)
-            cases.one(f"{example} seed again", fault_of_seed_again(runs, example))
+            cases.fault(f"{example} seed again", fault_of_seed_again(runs, example))
             for number in REAL_RUNS:
-                cases.one(f"{example} real", fault_of_real(runs, example, number))
+                cases.fault(f"{example} real", fault_of_real(runs, example, number))
         for example, mistake, first_mistake in MISTAKES:
             name = f"{example}-{mistake}"
             answers = list(cases.pool.map(
                 lambda seed: fault_of_wrong_seed(runs, name, first_mistake, seed), SEEDS))
             for seed, (_, fault) in zip(SEEDS, answers):
-                cases.one(f"{name} seed {seed}", fault)
+                cases.fault(f"{name} seed {seed}", fault)
             shown = sum(line is not None for line, _ in answers)
-            cases.one(f"{name} shows", "" if shown >= SHOWN else f"in {shown} seeded runs only")
+            cases.fault(f"{name} shows", "" if shown >= SHOWN else f"in {shown} seeded runs only")
             for number in REAL_RUNS:
-                cases.one(f"{name} real", fault_of_wrong_real(runs, name, first_mistake, number))
-    print(f"{cases.passed} passed, {cases.failed} failed")
-    return 1 if cases.failed else 0
+                cases.fault(f"{name} real", fault_of_wrong_real(runs, name, first_mistake, number))
+    return cases.end()
 
 
 if __name__ == "__main__":

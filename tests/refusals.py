@@ -20,6 +20,7 @@ import subprocess
 import sys
 import tempfile
 
+from tally import Tally
 from worked_rows import rows
 
 HERE = pathlib.Path(__file__).resolve().parent
@@ -122,7 +123,7 @@ def cases(refusing):
 
 
 def main(program):
-    passed = failed = 0
+    tally = Tally()
     with tempfile.TemporaryDirectory() as room:
         folder = pathlib.Path(room)
         for name, text in zip(["accepted", "refused", "faulty"], ENDINGS):
@@ -132,13 +133,8 @@ def main(program):
         with concurrent.futures.ThreadPoolExecutor(os.cpu_count()) as pool:
             tried = [(case, pool.submit(refusing.wrong, *case)) for case in cases(refusing)]
         for (name, _, words, text, _), future in tried:
-            wrong = future.exception() or future.result()
-            passed += wrong is None
-            failed += wrong is not None
-            if wrong:
-                print(f"FAILED {name} {words} {text[:60]}: {wrong}")
-    print(f"{passed} passed, {failed} failed")
-    return 0 if failed == 0 else 1
+            tally.fault(f"{name} {words} {text[:60]}", future.exception() or future.result())
+    return tally.end()
 
 
 if __name__ == "__main__":

@@ -11,6 +11,7 @@ import pathlib
 import subprocess
 import sys
 
+from tally import Tally
 from worked_rows import rows, short_rows
 
 sys.path.append(str(pathlib.Path(__file__).parent.parent / "fuzz"))
@@ -31,16 +32,13 @@ def by_oracle(text):
 
 
 def main(replayed):
-    passed = failed = 0
+    tally = Tally()
     for row in [*rows(), *short_rows()]:
         report, status, error = replayed(row.text)
-        if row.is_met_by(report) and status == row.status() and error == b"":
-            passed += 1
-        else:
-            failed += 1
-            print(f"FAILED {row.name}: status {status}, {error!r}, report ends {report[-300:]!r}")
-    print(f"{passed} passed, {failed} failed")
-    return 0 if failed == 0 else 1
+        is_right = row.is_met_by(report) and status == row.status() and error == b""
+        tally.fault(row.name, "" if is_right else
+                    f"status {status}, {error!r}, report ends {report[-300:]!r}")
+    return tally.end()
 
 
 if __name__ == "__main__":

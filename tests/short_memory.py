@@ -13,6 +13,8 @@ import resource
 import subprocess
 import sys
 
+from tally import Tally
+
 STEP = 64  # KB
 LEAST, MOST = 2_048, 65_536  # KB
 MOVES = b"0 rlock\n0 section\n0 runlock\n0 section\n" * 16_384
@@ -44,17 +46,13 @@ def needed(program, text, fault):
 
 
 def main(program):
-    passed = failed = 0
+    tally = Tally()
     late = needed(program, BAD_LINE, b"fault line 2 BadLine\n")
     for name, text, fault in TEXTS:
         early = needed(program, text, fault)
-        if early and late and early < late:
-            passed += 1
-        else:
-            failed += 1
-            print(f"FAILED {name}: answered within {early} KB, a bad line within {late} KB")
-    print(f"{passed} passed, {failed} failed")
-    return 0 if failed == 0 else 1
+        tally.fault(name, "" if early and late and early < late else
+                    f"answered within {early} KB, a bad line within {late} KB")
+    return tally.end()
 
 
 if __name__ == "__main__":

@@ -5,14 +5,20 @@ class Tally:
     def __init__(self):
         self.passed = self.failed = 0
 
+    def fault(self, name, fault):
+        """One case: what is wrong with it, or nothing."""
+        if fault:
+            self.failed += 1
+            print(f"FAILED {name}: {fault}", flush=True)
+        else:
+            self.passed += 1
+
     def check(self, name, got, due):
         """One case: what came out, and what was due or a test of it."""
-        if due(got) if callable(due) else got == due:
-            self.passed += 1
-            return
-        self.failed += 1
-        print(f"FAILED {name}: {shown(got)}" + ("" if callable(due) else f", due {shown(due)}"),
-              flush=True)
+        if callable(due):
+            self.fault(name, "" if due(got) else shown(got))
+        else:
+            self.fault(name, "" if got == due else f"{shown(got)}, due {shown(due)}")
 
     def end(self):
         """Prints the count, and answers the status of the script."""

@@ -13,6 +13,8 @@ import sys
 import tempfile
 from pathlib import Path
 
+from tally import Tally
+
 TOP = Path(__file__).resolve().parent.parent
 WARNINGS = ["-std=c11", "-Wall", "-Wextra", "-pedantic", "-Werror"]
 HEADER = "lock ticket threads 1\n"
@@ -51,16 +53,14 @@ def fault_from_python(library, folder, trace, due, status):
 
 
 def main(library):
+    tally = Tally()
     with tempfile.TemporaryDirectory() as name:
         folder = Path(name)
-        faults = [fault_from_c(library, folder)]
-        faults += [fault_from_python(library, folder, *case) for case in TRACES]
-    for fault in faults:
-        if fault:
-            print(f"FAILED {fault}")
-    failed = sum(bool(fault) for fault in faults)
-    print(f"{len(faults) - failed} passed, {failed} failed")
-    return 1 if failed else 0
+        tally.fault("from C", fault_from_c(library, folder))
+        for trace, due, status in TRACES:
+            tally.fault(f"from Python: {due}",
+                        fault_from_python(library, folder, trace, due, status))
+    return tally.end()
 
 
 if __name__ == "__main__":

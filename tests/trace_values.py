@@ -17,6 +17,7 @@ import tempfile
 from pathlib import Path
 
 from random_runs import changed_value, has_value, random_run, seeded_words
+from tally import Tally
 
 AT_ONCE = 500  # traces of one call of the program
 
@@ -33,12 +34,13 @@ def spoil(dice, run):
     return k + 2, line.startswith("section")  # the header is line 1
 
 
-def is_fine(answer, line, is_count):
-    """Whether the answer for a trace fits the line that was changed; 0 where none was."""
+def fault_of(answer, line, is_count):
+    """What is wrong with the answer for a trace that was changed at a line, 0 where none was."""
     refused = answer.get("line", 0) if answer["ending"] == "refused" else 0
-    if answer["ending"] not in ("accepted", "refused"):
-        return False
-    return refused == line or is_count and (refused == 0 or refused > line)
+    if answer["ending"] in ("accepted", "refused") and (
+            refused == line or is_count and (refused == 0 or refused > line)):
+        return ""
+    return f"changed at {line}, answered {answer}"
 
 
 def write_trace(file, seed):
@@ -52,29 +54,26 @@ def write_trace(file, seed):
 
 
 def faults_of(program, seeds):
+    """What is wrong with the answer for each seed's trace."""
     with tempfile.TemporaryDirectory() as name:
         files = [Path(name) / f"{seed}.trace" for seed in seeds]
-        due = [write_trace(file, seed) for file, seed in zip(files, seeds)]
+        changed = [write_trace(file, seed) for file, seed in zip(files, seeds)]
         done = subprocess.run([program, "check", "--format", "json", *files],
                               capture_output=True, text=True)
     answers = [json.loads(text) for text in done.stdout.splitlines()]
     if len(answers) != len(files):
-        return [f"{len(answers)} answers for {len(files)} traces: {done.stderr}"]
-    return [f"seed {seed}: changed at {line}, answered {answer}"
-            for seed, answer, (line, is_count) in zip(seeds, answers, due)
-            if not is_fine(answer, line, is_count)]
+        return [f"{len(answers)} answers for {len(files)} traces: {done.stderr}"] * len(files)
+    return [fault_of(answer, *where) for answer, where in zip(answers, changed)]
 
 
 def main():
     program, seeds = seeded_words()
-    failed = 0
+    tally = Tally()
     for start in range(0, len(seeds), AT_ONCE):
-        faults = faults_of(program, seeds[start:start + AT_ONCE])
-        failed += len(faults)
-        for fault in faults:
-            print(f"FAILED {fault}", flush=True)
-    print(f"{len(seeds) - failed} passed, {failed} failed")
-    return 1 if failed else 0
+        some = seeds[start:start + AT_ONCE]
+        for seed, fault in zip(some, faults_of(program, some)):
+            tally.fault(f"seed {seed}", fault)
+    return tally.end()
 
 
 if __name__ == "__main__":

@@ -128,11 +128,16 @@ def rows():
     yield most_moves()
 
 
+def hand_over():
+    """The lines of a lesson without its comments, and those of its report."""
+    schedule, report = [(EXAMPLES / f"ticket-hand-over.{kind}").read_bytes().splitlines(True)
+                        for kind in ("schedule", "report")]
+    return [line for line in schedule if line[:1] != b"#"], report
+
+
 def cuts():
     """The schedule of a hand-over, cut after each byte. No move's word is the front of another."""
-    text = (EXAMPLES / "ticket-hand-over.schedule").read_bytes()
-    report = (EXAMPLES / "ticket-hand-over.report").read_bytes().splitlines(keepends=True)
-    lines = [line for line in text.splitlines(keepends=True) if line[:1] != b"#"]
+    lines, report = hand_over()
     text, header = b"".join(lines), len(lines[0])
     for k in range(len(text) + 1):
         _, _, rest = text[:k].rpartition(b"\n")
