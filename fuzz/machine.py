@@ -11,12 +11,11 @@ from locks.steps import WAITS, Words
 
 
 class Made(NamedTuple):
-    """A step that was made: its kind, the word that it was on, what that was, is, and the outcome.
-    A section is on no word of its own."""
+    """A step that was made. Of a section, which is on all words, no word is told."""
     kind: str
     word: object
-    found: int
-    left: int
+    found: int  # the word's value before the step
+    left: int  # and behind it
     outcome: str
 
 
@@ -45,10 +44,10 @@ class Machine:
 
     def giving_back(self, thread):
         """The calls by which the thread may give back what it holds."""
-        return HOLDING[self.held[thread]][1] if thread in self.held else ()
+        return HOLDING[self.held[thread]].ended_by if thread in self.held else ()
 
     def calls(self, thread):
-        """The calls that a thread may make that is in none."""
+        """The calls that a thread may make now, if it is in none."""
         return self.giving_back(thread) or self.lock.taking
 
     def refusal(self, thread, word):
@@ -126,11 +125,11 @@ class Machine:
     def _enter(self, thread, call):
         self.held[thread] = call
         assert not self.line or self.line[0] == thread, "another is first in line"
-        assert len(self.held) == 1 or self.sign() == HOLDING[call][0] == "r", "another is inside"
+        assert len(self.held) == 1 or self.sign() == HOLDING[call].sign == "r", "another is inside"
 
     def sign(self):
         """How a report marks those who hold."""
-        return HOLDING[next(iter(self.held.values()))][0] if self.held else "-"
+        return HOLDING[next(iter(self.held.values()))].sign if self.held else "-"
 
     def state(self):
         """Holders and queue, as a report shows them."""

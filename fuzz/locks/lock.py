@@ -1,27 +1,35 @@
 """What there is to know of a lock: its name, its words, its calls and steps."""
-# The call by which a thread holds a lock, how reports show such a holder, and the calls that give
-# it back.
+from typing import NamedTuple
+
+
+class Holding(NamedTuple):
+    sign: str  # of such a holder in a report
+    ended_by: tuple  # the calls that give it back
+
+
+# By the call through which a thread holds the lock.
 HOLDING = {
-    "acquire": ("", ("release",)),
-    "rlock": ("r", ("runlock",)),
-    "wlock": ("w", ("wunlock", "downgrade")),
-    "downgrade": ("r", ("runlock",)),
+    "acquire": Holding("", ("release",)),
+    "rlock": Holding("r", ("runlock",)),
+    "wlock": Holding("w", ("wunlock", "downgrade")),
+    "downgrade": Holding("r", ("runlock",)),
 }
-GIVING_BACK = {call for _, calls in HOLDING.values() for call in calls}
+GIVING_BACK = {call for holding in HOLDING.values() for call in holding.ended_by}
 TAKING = HOLDING.keys() - GIVING_BACK
 CALLS = TAKING | GIVING_BACK
 STEPS = {"read", "write", "swap", "cas", "add", "section"}
 
 
 class Lock:
-    """`calls` are the code of each call, `steps` the kinds of step that it makes, `words` the names
-    of the lock's words, and `record` those of the words that each thread has."""
+    """`calls` are generators, the code of each call, and `steps` the kinds of step that they make.
+    `words` are the names of the lock's words, and `record` those of the words that each thread has.
+    In the queue of a queue lock its holder is the first; else who enters leaves the queue."""
 
     def __init__(self, name, calls, steps, words, record=(), is_holder_in_line=False):
         self.name, self.steps, self.words, self.record = name, steps, words, record
         self.calls = {call.__name__: call for call in calls}
         self.taking = tuple(call for call in self.calls if call in TAKING)
-        self.is_holder_in_line = is_holder_in_line  # else who enters leaves the queue
+        self.is_holder_in_line = is_holder_in_line
 
     def all_words(self, threads):
         return [*self.words, *((word, t) for t in range(threads) for word in self.record)]
