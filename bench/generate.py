@@ -52,7 +52,7 @@ def come_and_go(machine, chance):
 
 def spin(machine, chance):
     """Thread 0 holds, the second does what it can, and then polls and fails."""
-    taking = machine.lock.taking[-1]
+    taking = machine.lock.taking[-1]  # of a read-write lock the writer's
     for thread in (0, 1):
         yield thread, taking
         while machine.due[thread]:

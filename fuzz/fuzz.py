@@ -70,7 +70,7 @@ def is_batch_right(program, texts, reports, workers):
 
 
 def shrink(pieces, differs):
-    """The pieces without as many runs of them as can be dropped while they still differ."""
+    """The pieces that are left when runs of them are dropped for as long as the rest differs."""
     sizes = [len(pieces) >> halved for halved in range(1, len(pieces).bit_length())]
     for size in [size for size in sizes if size > 12] + list(range(12, 0, -1)):
         at = 0

@@ -7,7 +7,7 @@ An edit is a file `crates/NAME/must-fail/EDIT.edit`, which the check must refuse
 `crates/NAME/twins/EDIT.edit`, which it must prove. It has a line `file: PATH` and then pairs of
 lines `old: TEXT` and `new: TEXT`; TEXT stands once in that file of the crate. A twin is its wrong
 body with a right value in the wrong one's place, and has its name. So the wrong body is refused for
-its value, and not since a loop, a call or a name changed for which no proof stands.
+its value, and not because a loop, a call or a name changed of which a proof speaks.
 
 The copy begins with what earlier checks kept in `out/`, and each edit is tried over what was proved
 for those before it. `rt ci` tries every wrong body from nothing, and is the judge. Prints

@@ -332,7 +332,8 @@ LIMITS = (3, 4, 5, 6, 8, 12, 16, 24, 32, 48, 64, 80, 96, 128, 160, 256, 512)  # 
 
 
 def memory():
-    """The answer is that of ample memory, or one line; both are met. 3 MB load no 65,536 names."""
+    """The answer is that of ample memory or the line about memory; each comes under some limit.
+    A batch is not tried within 3 MB, which are too few to start with 65,536 names."""
     batch, spinning = ["batch", "--workers"], ["spinning"] * 12
     reports = batch_text([SPINNING_REPORT] * 12)
     for what, words, stdin, report in (

@@ -36,7 +36,7 @@ class Run(NamedTuple):
 
 
 def line_of(machine, thread, count):
-    """Makes the step that is due: its line, where a section is the one of this count."""
+    """Makes the step that is due, and answers its line. A section is the one of this count."""
     made = machine.make(thread)
     if made.kind == "section":
         return f"section {count} {made.outcome}"
@@ -79,7 +79,7 @@ def has_value(line):
 
 
 def changed_value(dice, line, sums, values):
-    """The line with one of its numbers changed by one of the sums, modulo `values`."""
+    """The line with one of the sums added to one of its numbers, modulo `values`."""
     words = line.split(" ")
     at = dice.choice([i for i, word in enumerate(words) if word.isdigit()])
     words[at] = str((int(words[at]) + dice.choice(sums)) % values)

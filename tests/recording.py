@@ -4,12 +4,12 @@
     tests/recording.py LOCKTRACE LOCKREPLAY
 
 Builds examples/recording without a warning, sees that LR_OFF leaves nothing in the object code,
-walks the guide's way, runs under the sanitizers, and then runs each example by 50 seeds and by real
-threads. Of a right lock every run has to be accepted: the trace of a seeded run, the order found
-for the threads' logs, and each schedule of it; and threads have to have waited. Of a wrong one the
-trace has to be refused at the line where the mistake is first seen, which recording_mistakes.py
-finds by itself, and its logs have no order. The last line counts the cases; the status is 1 where
-one failed.
+does what docs/GUIDE.md says, runs under the sanitizers, and then runs each example by 50 seeds and
+by real threads. Of a right lock every run has to be accepted: the trace of a seeded run, the order
+found for the threads' logs, and each schedule of it; and threads have to have waited. Of a wrong
+one the trace has to be refused at the line where the mistake is first seen, which
+recording_mistakes.py finds by itself, and its logs have no order. The last line counts the cases;
+the status is 1 where one failed.
 """
 import os
 import re
@@ -193,7 +193,7 @@ def header(cases, folder):
 
 
 def guide(cases, runs):
-    """The way of docs/GUIDE.md: its lock by seeds and by threads, and with its mistake."""
+    """The lock of docs/GUIDE.md, by seeds and by threads, and with the mistake that it plants."""
     folder = runs.folder / "guide"
     (folder / "logs").mkdir(parents=True)
     trace = folder / "logs" / "run.trace"

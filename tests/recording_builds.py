@@ -33,7 +33,7 @@ def language(compiler):
 
 
 def build(compiler, example, mode, target, *more):
-    """What the compiler says; nothing where it is content."""
+    """What the compiler says; nothing where it has no error and no warning."""
     done = ran(compiler, *language(compiler), *WARNINGS, "-O2", "-pthread", f"-DLR_{mode}", *more,
                "-o", target, SOURCES / f"{example}.c")
     return done.stderr + ("" if done.returncode == 0 else f"status {done.returncode}")

@@ -28,7 +28,7 @@ const headerFault = (says, mended = null) => ({ say: [says, could(T.header)], me
 // The words as a line, with another one at a place.
 const withWord = (words, at, word) => words.map((one, i) => (i === at ? word : one)).join(' ');
 
-// Null where the number is one of the range; else what is wrong, and the number that was meant.
+// Null for a number in the range; else what is wrong, and the number that was probably meant.
 function numberFault(found, [least, most], says, range) {
   const inRange = (text) => NUMBER.test(text) && Number(text) >= least && Number(text) <= most;
   if (inRange(found)) return null;
@@ -93,8 +93,8 @@ function tooNarrow(words) {
   };
 }
 
-// The move that a line means which has the number of a thread, one word and signs: `acquire 0`,
-// `0: acquire`, `thread 0 acquire()`. Null where it is not plain.
+// The move that a line probably means, if it has a thread's number, one word and some signs:
+// `acquire 0`, `0: acquire`, `thread 0 acquire()`. Null where that is not clear.
 const SIGNS = /^[a-z0-9 .,:;()]+$/i;
 const THREAD_WORD = /^(t|thread)$/i;
 
@@ -144,7 +144,7 @@ const OF_TEXT = {
 };
 
 // {line, say: sentences, mended: the line that could stand there, returns: whether carriage returns
-// are the matter}
+// are what is wrong}
 export function faultAdvice(run, ownWords) {
   const { fault, text } = run;
   if (OF_TEXT[fault.name]) return OF_TEXT[fault.name](fault);

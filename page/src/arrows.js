@@ -1,7 +1,6 @@
-// The write that ended a wait, and the step that found it. A thread waits in the phases whose
-// line of code says `await`: from the move on that put it there where it is in line, else from
-// its first failed poll. The step that goes on had waited for the last change of a word that it
-// looks at.
+// The write that ended a wait, and the step that found it. A thread waits in a phase whose line of
+// code says `await`. The wait begins with the move into that phase if the thread is in line then,
+// and else with its first failed poll. It was ended by the last change of a word that is polled.
 
 import { IN_LINE, NO_WORD, OUTCOME } from './codes.js';
 import { placeAfter } from './run.js';
@@ -20,7 +19,7 @@ function noteChanges(records, move, changedAt) {
   if (records.alsoChanged(move) !== NO_WORD) changedAt.set(records.alsoChanged(move), move);
 }
 
-// Since which move its thread waits, after this move; 0 where it does not.
+// The move with which the wait of the thread began; 0 where it does not wait after this move.
 function waitingSince(records, move, since, awaited) {
   if (!awaited.has(records.phase(move))) return 0;
   if (records.outcome(move) === OUTCOME.waits) return since || move;

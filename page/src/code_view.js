@@ -4,7 +4,7 @@ import { ACTION, CALLS, PHASES } from './codes.js';
 import { html } from './markup.js';
 import { standingOf } from './shapes.js';
 
-// The phase or call whose lines the move was.
+// The phase or the call whose lines of code the move was.
 function madeLine(run, move) {
   if (!move) return null;
   const { records } = run;
@@ -35,7 +35,7 @@ function wasMade(line, made) {
   return line.phase !== undefined && line.phase === made.phase && line.kind !== 'inside';
 }
 
-// A phase of several lines has its threads at the first of them.
+// Where a phase has several lines, its threads stand at the first.
 function codeLine(view, line, here, threads) {
   const phase = line.phase !== undefined && html`data-phase="${PHASES[line.phase]}"`;
   return html`<div class="code-line ${line.kind || 'plain'} ${here && 'here'}" ${phase}

@@ -105,7 +105,7 @@ export function drawNow(page, view, state) {
   write(byId('spoken'), asks ? texts.spoken.hidden : spokenText(view, state));
 }
 
-// Last of all: it asks where things came to stand.
+// Called last, since it asks where things were laid out.
 export function revealCode() {
   const box = byId('code-lines');
   if (box.scrollHeight <= box.clientHeight) return;

@@ -47,7 +47,7 @@ export class Editor {
     this.drawGutter();
   }
 
-  // Hands on what was typed, now.
+  // Hands on what was typed, without more delay.
   settle() {
     clearTimeout(this.timer);
     const letters = this.returns ? this.area.value.replaceAll(RETURN_SIGN, '\r') : this.area.value;

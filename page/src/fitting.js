@@ -30,7 +30,7 @@ export function widthOf(text, kind) {
   return widths.get(key);
 }
 
-// The text where it fits the room, else as much of its beginning as does, and `…`.
+// The whole text if it fits the room, else as much of its beginning as fits, and `…`.
 export function fitted(text, room, kind) {
   if (text.length <= LONGEST && widthOf(text, kind) <= room) return text;
   const letters = [...text.slice(0, LONGEST)];

@@ -16,7 +16,7 @@ const NAMED_SPANS = ['reads', 'writes'];
 const ROOM_FOR_WORD = 84;
 const ROOM_FOR_UNLINKED = 170;
 const NARROW = 34;
-// What a mark found may stand a little over its column.
+// How far the value below a mark may reach over its column.
 const FOUND_ROOM = 1.15;
 const LOOKS = ['read', 'swap', 'add', 'section'];
 
@@ -94,7 +94,7 @@ const SHAPES = {
     width="5" height="24" rx="2"/>`,
 };
 
-// The shape says what came of the move.
+// The shape shows the outcome.
 function shape(records, move, x, y) {
   if (!casFails(records, move)) return SHAPES[records.outcome(move)](x, y);
   return html`<circle class="step fails" cx="${x}" cy="${y}" r="7.5"/>
@@ -167,7 +167,7 @@ function lane(view, layout, index) {
     ${laneMoves(view, layout, thread, middle)}`;
 }
 
-// From the write to the step that it let go on: down or up right behind the write, then along.
+// An arrow from the write to the step that it let go on: down or up first, then along.
 function arrowPath(layout, arrow, threadOf) {
   const [y1, y2] = [arrow.from, arrow.to]
     .map((move) => rounded(laneMiddle(layout, layout.lanes.indexOf(threadOf(move)))));

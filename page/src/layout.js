@@ -10,7 +10,7 @@ const GUTTER = { least: 122, share: 0.16 };
 export const NAME_EDGES = { left: 20, right: 10 };
 const COLUMN = { narrowest: 16, least: 44, most: 66, widest: 120 };
 const LANE = { tallest: 85, lowest: 38 };
-// From how many threads on only those that move are drawn.
+// Of more threads than these only those that move are drawn.
 const MANY_THREADS = 8;
 // How far along the view the current move stands in a long schedule.
 const HERE = 0.6;

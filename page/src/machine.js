@@ -12,7 +12,7 @@ const THREADS_AT = 192;
 const THREAD_BYTES = 16;
 const WORDS_AT = 1216;
 
-// A browser or Node of before the final standard takes the pages as a number.
+// A browser or Node from before the final standard takes the count of pages as a number.
 function growBy(memory, pages) {
   try {
     memory.grow(BigInt(pages));
@@ -32,7 +32,7 @@ export class Machine {
   constructor(module) {
     const { exports } = new WebAssembly.Instance(new WebAssembly.Module(module));
     this.exports = exports;
-    // Whole words of 8 bytes, so that no slice begins across one.
+    // The next multiple of 8, so that what is put there begins with a whole word.
     this.base = (Number(exports.__heap_base.value) + 7) & ~7;
     this.text = null;
   }

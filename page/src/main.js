@@ -20,7 +20,7 @@ function machineOf(data) {
   }
 }
 
-// Every text of the page that stands from the beginning.
+// The texts of the page that never change.
 function writeTexts() {
   const named = (path) => path.split('.').reduce((at, name) => at[name], texts);
   const all = (selector) => document.querySelectorAll(selector);

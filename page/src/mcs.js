@@ -59,7 +59,7 @@ const named = (value) => Number(value) - 1;
 
 const OWN_VARIABLE = { SetLocked: 'pred', LinkTo: 'pred', Grant: 'succ' };
 const RECORD = { narrowest: 130, widest: 156, height: 108, gap: 52, top: 96, row: 184, left: 19 };
-// So many records beside one another are not broken into rows for a larger picture's sake.
+// Up to so many records stay in one row, even where a picture of two rows would be larger.
 const BESIDE = 4;
 const MOST_NAMED = 8;
 // Records and the tail's box grow for names that threads were given, up to so much.
@@ -98,7 +98,7 @@ const STANDINGS = ['holds', 'line', 'call', 'rest'];
 const valueWidth = (names) => Math.max(0,
   ...[...names.given.keys()].map((thread) => widthOf(names.short(thread), 'word') + BOX_EDGES));
 
-// As wide as it needs in the head of a record or in its next.
+// A record as wide as the names need in its head and in its `next`.
 function widestRecord(names) {
   const beside = HEAD.left + HEAD.between + HEAD.right + Math.max(...STANDINGS.map(standingWidth));
   const heads = [...names.given.values()].map((name) => widthOf(name, 'name') + beside);
@@ -142,7 +142,7 @@ function ownVariable(view, state, thread, width) {
   </g>`;
 }
 
-// What the thread's standing leaves room for.
+// The thread's name, cut to the room beside its standing.
 function headName(names, thread, standing, width) {
   const room = width - HEAD.left - HEAD.between - standingWidth(standing) - HEAD.right;
   return fitted(names.short(thread), room, 'name');
@@ -246,7 +246,7 @@ function restingNote(view, state) {
   return named && atRest(named);
 }
 
-// The sentence of a look for a successor that finds none is another one.
+// A release that finds no successor has a sentence of its own.
 function variant(run, move, phase) {
   return phase === PHASE.ReadNext && run.records.found(move) === 0n ? 'nil' : null;
 }

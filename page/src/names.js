@@ -9,7 +9,7 @@ export class Names {
 
   has(thread) { return this.given.has(thread); }
   of(thread) { return this.given.get(thread) ?? texts.thread(thread); }
-  // Short enough for a small mark: the number, or a name's first letter where no other begins so.
+  // For a small mark: the number, or a name's first letter where no other name begins with it.
   mark(thread) {
     const name = this.given.get(thread);
     if (!name) return String(thread);

@@ -15,7 +15,7 @@ function distance(one, other) {
 
 const LONGEST = 20;
 
-// Near is: at most one change in three letters, when upper case and `_` for `-` are no change.
+// Near means at most one change in three letters. Upper case and `_` for `-` are no change.
 export function nearest(found, words) {
   if (!found || found.length > LONGEST || !words.length) return null;
   const plain = found.toLowerCase().replaceAll('_', '-');

@@ -29,7 +29,7 @@ function holdersList(view, state) {
 const LINK = html`<span class="gap">→</span>`;
 const GAP = html`<span class="gap missing" title="${texts.notLinked}">⇢</span>`;
 
-// Between two in line: an arrow, or a gap where a link is to be written yet.
+// Between two in line: an arrow, or a gap where the link is not written yet.
 function queueList(view, state) {
   if (!state.queue.length) return dash;
   return state.queue.map((thread, i) => {
@@ -92,7 +92,7 @@ function spokenMove({ run: { records }, names }, move) {
   return texts.spoken.did(who, word, OUTCOMES[records.outcome(move)]);
 }
 
-// The same for whoever listens.
+// The same as a text, for a screen reader.
 export function spokenText(view, state) {
   const { run, move, names } = view;
   const holds = state.holders.length ? names.list(state.holders) : texts.nobody;

@@ -16,7 +16,7 @@ export function adviceOf(session) {
   return run.refusal ? refusalAdvice(run, names) : null;
 }
 
-// What the text came to: the report's last line, and in words what is wrong and what could stand
+// The verdict on the text: the report's last line, and in words what is wrong and what could stand
 // there.
 export function verdictView(session, advice) {
   const { run } = session;
@@ -39,7 +39,7 @@ export function verdictView(session, advice) {
 export const nothingView = (verdict) => html`${verdict}<p>${T.begins}</p>
   <pre class="mono">${T.template}</pre><p class="hint">${T.forms(LOCK_NAMES.join(', '))}</p>`;
 
-// A file's bytes: no more than show that it is too long.
+// A file's bytes; of a long one just enough to show that it is too long.
 export async function bytesOfFile(file) {
   return new Uint8Array(await file.slice(0, MOST_BYTES + 1).arrayBuffer());
 }

@@ -352,7 +352,7 @@ export class Page {
     if (this.session.run.hasLock) show(byId('paper'), paper(this.session.view({ hidden: false })));
   }
 
-  // The address follows at some distance: browsers bear few changes of it a second.
+  // The address follows with a delay: browsers allow few changes of it a second.
   linkSoon() {
     clearTimeout(this.linking);
     this.linking = setTimeout(() => this.writeFragment(fragmentOf(this.session)), LINK_WAIT);

@@ -11,7 +11,7 @@ import { texts } from './texts.js';
 
 const T = texts.print;
 const STRIP = { width: 1040, column: 56, lane: 78 };
-// More than fit on some twenty sheets is cut to those around the current move.
+// These fit on some twenty sheets. Of more moves only those around the current one are printed.
 const MOST_PRINTED = 400;
 
 export function printedMoves(run, move) {

@@ -60,7 +60,7 @@ const radio = (name) => html`<label><input type="radio" name="outcome" value="${
 const field = (name, label, value) => html`<label class="field"><span>${label}</span>
   <input class="mono" name="${name}" value="${value}" spellcheck="false"></label>`;
 
-// Holders and line begin as they are: what changes is to be changed.
+// The fields begin with who holds and who is in line now, so only what changes is to be typed.
 export function quizForm(view, state) {
   const { run, move, names } = view;
   const [thread, word] = moveText(run, move + 1).split(' ');

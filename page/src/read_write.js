@@ -38,7 +38,7 @@ export function room(view, state, x, y, width) {
     ${tokens.length ? tokens : nobody}`;
 }
 
-// Whose next section is due: each gets the monitor for one section.
+// The threads that have a section due.
 export function callers(view, state) {
   return Array.from({ length: view.run.threads }, (_, thread) => thread)
     .filter((thread) => state.dueStep(thread) !== 0);
@@ -88,7 +88,7 @@ export function sectionMark(shortNames) {
   };
 }
 
-// Of a read-write lock: the columns of its lanes are wider, for its calls have longer words.
+// What the entries of `locks.js` share. The calls have long words, so the columns are wide.
 export const readWrite = {
   memory: 'Memory: who is where', leastColumn: 56, valueText: (_, value) => String(value),
 };

@@ -6,7 +6,7 @@ import { lettersOf } from './bytes.js';
 
 const TITLE = /^#! title (?<title>.+)$/;
 const REMARK = /^#! (?<what>ask|answer|name) (?<number>0|[1-9][0-9]{0,4}) (?<text>.+)$/;
-// A title may be missing: then it is the first comment's beginning.
+// Without a title it is the beginning of the first comment.
 const FIRST_SENTENCE = /^#+ ?(.+?)(?:[:.](?: |$)|$)/;
 
 function comments(text) {

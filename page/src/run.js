@@ -5,7 +5,7 @@ import { Records } from './machine.js';
 import { beforeLine } from './bytes.js';
 
 const STATES_KEPT = 256;
-// Faults that leave moves before them.
+// Faults before which moves may stand.
 const LATE_FAULTS = ['BadLine', 'TooManyMoves'];
 
 export class Run {
@@ -46,7 +46,7 @@ export class Run {
     return state;
   }
 
-  // How much of the text has to be read for so many moves: through the last one's line.
+  // How many bytes so many moves need: up to the end of the last one's line.
   bytesFor(moves) {
     if (!moves) return this.played.length;
     this.ends ??= lineEnds(this.played);
@@ -85,7 +85,7 @@ function playablePart(text, fault) {
   return LATE_FAULTS.includes(fault.name) ? beforeLine(text, fault.line) : new Uint8Array();
 }
 
-// Behind each line's line feed, or the text's end.
+// The place behind each line feed, and the text's end.
 function lineEnds(text) {
   const ends = [];
   for (let at = text.indexOf(10); at >= 0; at = text.indexOf(10, at + 1)) ends.push(at + 1);

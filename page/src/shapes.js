@@ -1,11 +1,11 @@
 // Shapes that more than one picture uses.
 
+import { STEPS } from './codes.js';
 import { fitted } from './fitting.js';
 import { html } from './markup.js';
 import { standingAfter } from './spans.js';
 
-// How a picture shows what a thread's standing is: by a class, and always by a word or a pattern
-// too.
+// How a picture shows a thread's standing: by a class, and always also by a word or a pattern.
 export const standingOf = (run, move, thread) => standingAfter(run, run.lastMoveOf(thread, move));
 
 const HATCHED = { line: 'hatch', reads: 'ruled' };
@@ -41,11 +41,11 @@ export function useOf(run, move, word) {
   return records.left(move) === records.found(move) && !writes(records, move) ? 'read' : 'changed';
 }
 
-// A write of the value that stood there is a write all the same.
-const WRITING = new Set([2, 3, 5]);
+// The steps that count as a change, even if they write the value that the word had.
+const WRITING = new Set(['write', 'swap', 'add'].map((step) => STEPS.indexOf(step)));
 const writes = (records, move) => WRITING.has(records.code(move));
 
-// A picture of the view's width, with how tall it is on the screen.
+// A picture as wide as the view. Its `height` is how tall it is on the screen.
 export function picture(view, height, label, body) {
   const { width, scale } = view;
   const drawn = html`<svg viewBox="0 0 ${width} ${height}" width="${width * scale}"

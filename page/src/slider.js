@@ -20,7 +20,7 @@ function kindOf(records, move) {
 
 const placeOf = (run, width, move) => EDGE + (width - 2 * EDGE) * move / Math.max(1, run.count);
 
-// A tick for each place where something is, once for every two dots of the screen.
+// A tick for each place where something is, at most one of a kind in two dots of the screen.
 function ticks(view, width) {
   const { run, remarks } = view;
   const seen = new Map();

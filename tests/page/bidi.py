@@ -41,7 +41,7 @@ class Firefox:
                 return answer["result"]
 
     def open(self, url):
-        """The page anew, not merely with another fragment."""
+        """Loads the page again, and does not just go to another fragment of it."""
         self.go("about:blank")
         self.go(url)
 

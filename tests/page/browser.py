@@ -58,7 +58,7 @@ def wait(driver, holds):
 
 
 def open_page(driver, fragment=""):
-    """The page anew, not merely with another fragment."""
+    """Loads the page again, and does not just go to another fragment of it."""
     driver.get("about:blank")
     driver.get(PAGE.as_uri() + fragment)
     wait(driver, lambda one: one.execute_script("return Boolean(window.lockreplay)"))
