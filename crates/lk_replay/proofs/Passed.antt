@@ -40,6 +40,15 @@ passes_on waited a between b waits old mid new (sent, appended, first) (more, ap
       ∙ ap (λ l. l ++ b) first ∙ append_assoc waited a b,
 )
 
+-- one text, and then a line, which waits
+pub passes_line : (done between line waits : List ℕ) (old mid : Option (List ℕ))
+    → Passes [] old done between mid → waits ≡ between ++ line
+    → Passes [] old (done ++ line) waits mid
+passes_line done between line waits old mid passed is =
+    subst (λ (xs : List ℕ). Passes [] old (done ++ line) xs mid) (sym is)
+    (passes_on [] done between line (between ++ line) old mid mid passed
+    (passes_kept between line mid))
+
 -- what waited and a prefix of a text, where the text is the beginning of a longer one
 pub prefix_of_more : (waited a b : List ℕ) (old new : Option (List ℕ))
     → AppendsPrefix old new (waited ++ a) → AppendsPrefix old new (waited ++ (a ++ b))

@@ -1,13 +1,11 @@
 -- The lines that are printed as the moves are played are those of the report.
+use Rattle.std.proofs.Common.{Err, Ok}
 use Rattle.std.proofs.Common.{◌≡◌, ℕ, ◌+◌, ◌<◌, ◌≤◌, ◌^◌, replicate, List, [], ◌∷◌, ◌++◌, length}
-use Rattle.std.proofs.Common.{drop, get_or, codes, Option, None, Some, IsTrue, ◌↔◌, Bool, true}
-use Rattle.std.proofs.Common.{false, not, is_some, inl, inr, refl, sym, ap, ◌∙◌, subst, arith}
-use Rattle.std.proofs.Common.{append_assoc, append-nil, length-append, length-drop}
+use Rattle.std.proofs.Common.{codes, Option, None, Some}
+use Rattle.std.proofs.Common.{refl, sym, ap, ◌∙◌, arith}
+use Rattle.std.proofs.Common.{append_assoc, append-nil, length-append}
 use Rattle.std.specs.List.{join_with_byte, slice_split}
 use Rattle.std.specs.Option.{option_map}
-use Rattle.std.proofs.lemmas.Bool.{cases_lt}
-use Rattle.std.proofs.lemmas.List.{drop_more}
-use Rattle.std.proofs.lemmas.Option.{none-some}
 use Rattle.std.proofs.lemmas.List.Splits.{join_with_byte-slice_split}
 use Rattle.lk_locks.specs.Entries.{entries_of}
 use Rattle.lk_locks.specs.State.{State}
@@ -16,7 +14,8 @@ use Rattle.lk_locks.specs.Sequential.{nobody}
 use Rattle.lk_locks.specs.invariants.Tracking.{IsTracked}
 use Rattle.lk_locks.proofs.Starting.{kept_start}
 use Rattle.std.proofs.lemmas.List.{get_or-replicate, length-replicate}
-use Rattle.lk_locks.specs.Steps.{change_of, next_state, refusal_of}
+use Rattle.lk_locks.specs.Steps.{after_move, answer_to, answer_unless, change_of, next_state}
+use Rattle.lk_locks.specs.Steps.{refusal_of, unless_refused}
 use Rattle.lk_locks.specs.declared.kinds.Entry.{Entry}
 use Rattle.lk_locks.specs.declared.kinds.LockKind.{LockKind}
 use Rattle.lk_locks.specs.declared.kinds.Outcome.{Outcome}
@@ -34,7 +33,6 @@ use Rattle.lk_replay.specs.Replay.{start_of, with_move}
 use Rattle.lk_replay.specs.Report.{holding_text, last_line, lines_text, move_text, queue_text}
 use Rattle.lk_replay.specs.Report.{replay_text, state_text}
 use Rattle.lk_replay.specs.Schedule.{Plan}
-use Rattle.lk_replay.specs.declared.played.Accepted.{Accepted}
 use Rattle.lk_replay.specs.declared.schedule.Line.{Line}
 
 -- the lines, and then the last line
@@ -57,13 +55,13 @@ lines_are kind count es (m ∷ ms) refused =
     ∙ ap (λ (ys : List ℕ). line ++ ys) (lines_are kind (count + 1) new ms refused)
 
 -- what a new printer prints is the report of the schedule
-pub replay_printed : (p : Plan) (f : Following) (s : State) (moves : List Line)
-    → f ≡ following p.kind []
-    → s ≡ start_of p → moves ≡ p.moves → let rest : Replay = replay_from s moves in
-    lines_from f 0 rest.made ++ last_line (0 + length rest.made) rest.refused
+pub replay_printed : (p : Plan) (f : Following) (count : ℕ) (s : State) (moves : List Line)
+    → f ≡ following p.kind [] → count ≡ 0 → s ≡ start_of p → moves ≡ p.moves
+    → let rest : Replay = replay_from s moves in
+    lines_from f count rest.made ++ last_line (count + length rest.made) rest.refused
     ≡ replay_text p.kind (replay_of p)
-replay_printed p f s moves follows starts are =
-    rw (follows, starts, are) (lines_are p.kind 0 [] (replay_of p).made (replay_of p).refused)
+replay_printed p f count s moves follows none starts are =
+    rw (follows, none, starts, are) (lines_are p.kind 0 [] (replay_of p).made (replay_of p).refused)
 
 -- a new lock agrees with a sequential object in which nobody is
 pub tracked_start : (p : Plan) → p.threads ≤ 64 → p.threads < 2 ^ p.bits
@@ -82,74 +80,70 @@ tracked_new p f s follows starts tracked = rw (follows, starts) tracked
 
 -- ---- the next move
 
-pub some_made : (s : State) (ls : List Line) → 0 < length (replay_from s ls).made → 0 < length ls
-some_made s [] some = some
-some_made s (l ∷ ls) some = omega arith
+accepted_by : (r : Option Refusal) (made o : Outcome) → Ok o ≡ answer_unless r made
+    → (r ≡ None) × (o ≡ made)
+accepted_by None made o is = (refl, cc)
+accepted_by (Some x) made o is = absurd (cc)
 
-accepted_of : (r : Option Refusal) (number : ℕ) (m : Made) (rest : Replay)
-    → 0 < length (refused_or r number (with_move m rest)).made → r ≡ None
-accepted_of None number m rest some = refl
-accepted_of (Some x) number m rest some = absurd (omega arith)
+refused_by : (r : Option Refusal) (made : Outcome) (x : Refusal)
+    → Err x ≡ answer_unless r made → r ≡ Some x
+refused_by None made x is = absurd (cc)
+refused_by (Some y) made x is = cc
 
--- the next move is accepted, and then come those behind it
-pub record IsNext (s : State) (moves : List Line) (i : ℕ) (l : Line) : Type 0 where
-  pub within : i < length moves
+-- the next move is accepted, with this outcome, and leads to this state
+pub record IsNext (s next : State) (moves rest : List Line) (l : Line) (o : Outcome) : Type 0 where
   pub accepted : refusal_of s l.thread l.action ≡ None
-  pub rest : replay_from s (drop i moves)
-      ≡ with_move (made_by s l) (replay_from (next_state s l.thread l.action) (drop (i + 1) moves))
+  pub outcome : o ≡ (change_of s l.thread l.action).outcome
+  pub state : next ≡ next_state s l.thread l.action
+  pub replay : replay_from s moves ≡ with_move (made_by s l) (replay_from next rest)
 
-pub next_of : (s : State) (moves : List Line) (i : ℕ) (d : Line)
-    → 0 < length (replay_from s (drop i moves)).made
-    → IsNext s moves i (get_or moves i d)
-next_of s moves i d some =
-    let within : i < length moves =
-    omega (arith, some_made s (drop i moves) some, length-drop i moves) in
-    let l : Line = get_or moves i d in
-    let after : Replay = replay_from (next_state s l.thread l.action) (drop (i + 1) moves) in
-    let parts : drop i moves ≡ l ∷ drop (i + 1) moves = drop_more moves i d within in
-    let accepted : refusal_of s l.thread l.action ≡ None =
-    accepted_of (refusal_of s l.thread l.action) l.number (made_by s l) after
-    (subst (λ (ls : List Line). 0 < length (replay_from s ls).made) parts some) in
+pub next_of : (s next : State) (moves rest : List Line) (l : Line) (o : Outcome)
+    → moves ≡ l ∷ rest → Ok o ≡ answer_to s l.thread l.action
+    → next ≡ after_move s l.thread l.action → IsNext s next moves rest l o
+next_of s next moves rest l o parts answer after =
+    let (accepted, outcome) =
+    accepted_by (refusal_of s l.thread l.action) (change_of s l.thread l.action).outcome o answer in
+    let state : next ≡ next_state s l.thread l.action =
+    after ∙ ap (λ (r : Option Refusal). unless_refused r (next_state s l.thread l.action) s)
+    accepted in
     record {
-      within = within;
       accepted = accepted;
-      rest = ap (replay_from s) parts
-          ∙ ap (λ (r : Option Refusal). refused_or r l.number (with_move (made_by s l) after))
-          accepted;
+      outcome = outcome;
+      state = state;
+      replay = ap (replay_from s) parts
+          ∙ ap (λ (r : Option Refusal). refused_or r l.number
+          (with_move (made_by s l) (replay_from (next_state s l.thread l.action) rest))) accepted
+          ∙ ap (λ (t : State). with_move (made_by s l) (replay_from t rest)) (sym state);
     }
 
-goes_on : (r : Option Refusal) (number : ℕ) (m : Made) (rest : Replay)
-    → option_map {U = ℕ × Refusal} (λ x. (number, x)) r ≡ None
-    → 0 < length (refused_or r number (with_move m rest)).made
-goes_on None number m rest none = omega arith
-goes_on (Some x) number m rest none = absurd (cc)
+-- no line is left, and nothing has changed
+pub record IsStopped (s next : State) (moves : List Line) : Type 0 where
+  pub state : next ≡ s
+  pub none : (replay_from next moves).made ≡ []
 
--- a move is left that is not refused
-line_left : (s : State) (ls : List Line) → 0 < length ls → next_refused s ls ≡ None
-    → 0 < length (replay_from s ls).made
-line_left s [] some none = some
-line_left s (l ∷ ls) some none =
-    goes_on (refusal_of s l.thread l.action) l.number (made_by s l) _ none
+pub stopped_at_end : (s : State) (moves : List Line) → moves ≡ [] → IsStopped s s moves
+stopped_at_end s moves none = record {
+  state = refl;
+  none = ap (λ (ls : List Line). (replay_from s ls).made) none;
+}
 
-not_refused : (s : State) (ls : List Line) → 0 < length (replay_from s ls).made
-    → next_refused s ls ≡ None
-not_refused s [] some = refl
-not_refused s (l ∷ ls) some =
-    ap (option_map {U = ℕ × Refusal} (λ x. (l.number, x)))
-    (accepted_of (refusal_of s l.thread l.action) l.number (made_by s l) _ some)
-
--- so it is told by whether the next is refused
-pub line_told : (s : State) (ls : List Line) (r : Option (ℕ × Refusal)) (b : Bool) → 0 < length ls
-    → r ≡ next_refused s ls
-    → is_some r ≡ not b → IsTrue b ↔ (0 < length (replay_from s ls).made)
-line_told s ls None true some is told = (λ _. line_left s ls some (sym is), λ _. refl)
-line_told s ls None false some is told = absurd (cc)
-line_told s ls (Some x) true some is told = absurd (cc)
-line_told s ls (Some x) false some is told = (
-  λ yes. let h : false ≡ true = yes in
-      absurd (cc),
-  λ made. absurd (none-some x (sym (is ∙ not_refused s ls made))),
-)
+pub stopped_by : (s next : State) (moves rest : List Line) (l : Line) (x : Refusal)
+    → moves ≡ l ∷ rest → Err x ≡ answer_to s l.thread l.action
+    → next ≡ after_move s l.thread l.action → IsStopped s next moves
+stopped_by s next moves rest l x parts answer after =
+    let refused : refusal_of s l.thread l.action ≡ Some x =
+    refused_by (refusal_of s l.thread l.action) (change_of s l.thread l.action).outcome x answer in
+    let state : next ≡ s =
+    after ∙ ap (λ (r : Option Refusal). unless_refused r (next_state s l.thread l.action) s)
+    refused in
+    record {
+      state = state;
+      none = ap (λ (t : State). (replay_from t moves).made) state
+          ∙ ap (λ (ls : List Line). (replay_from s ls).made) parts
+          ∙ ap (λ (r : Option Refusal). (refused_or r l.number
+          (with_move (made_by s l) (replay_from (next_state s l.thread l.action) rest))).made)
+          refused;
+    }
 
 stops : (r : Option Refusal) (number : ℕ) (m : Made) (rest : Replay)
     → length (refused_or r number (with_move m rest)).made ≡ 0
@@ -159,90 +153,53 @@ stops None number m rest none = absurd (omega arith)
 stops (Some x) number m rest none = refl
 
 -- where no line is left, the next move is refused, or there is none
-pub none_left : (s : State) (ls : List Line) → length (replay_from s ls).made ≡ 0
+none_left : (s : State) (ls : List Line) → length (replay_from s ls).made ≡ 0
     → (replay_from s ls).refused ≡ next_refused s ls
 none_left s [] none = refl
 none_left s (l ∷ ls) none = stops (refusal_of s l.thread l.action) l.number (made_by s l) _ none
 
-no_made : (f : Following) (count : ℕ) (ms : List Made) → length ms ≡ 0 → lines_from f count ms ≡ []
+pub last_is : (s : State) (i count : ℕ) (ls : List Line) (refused : Option (ℕ × Refusal))
+    → length (replay_from s ls).made ≡ 0 → i ≡ count → refused ≡ next_refused s ls
+    → last_line i refused ≡ last_line (count + length (replay_from s ls).made)
+    (replay_from s ls).refused
+last_is s i count ls refused none counted is =
+    ap (last_line i) (is ∙ sym (none_left s ls none))
+    ∙ ap (λ (k : ℕ). last_line k (replay_from s ls).refused) (omega (arith, none, counted))
+
+pub no_made : (f : Following) (count : ℕ) (ms : List Made) → length ms ≡ 0
+    → lines_from f count ms ≡ []
 no_made f count [] none = refl
 no_made f count (m ∷ ms) none = absurd (omega arith)
-
--- then no line is printed, and the last is that of the next move
-pub no_lines : (f : Following) (s : State) (i : ℕ) (ls : List Line) (b : Bool)
-    → IsTrue b ↔ (0 < length (replay_from s ls).made)
-    → b ≡ false → lines_from f i (replay_from s ls).made ≡ []
-no_lines f s i ls b told is = elim (cases_lt 0 (length (replay_from s ls).made)) [
-  | inl some ↦ let h : false ≡ true = sym is ∙ told.1 some in absurd (cc)
-  | inr none ↦ no_made f i (replay_from s ls).made (omega (arith, none))
-]
-
-pub last_is : (s : State) (i : ℕ) (ls : List Line) (refused : Option (ℕ × Refusal))
-    → length (replay_from s ls).made ≡ 0
-    → refused ≡ next_refused s ls
-    → last_line i refused ≡ last_line (i + length (replay_from s ls).made)
-    (replay_from s ls).refused
-last_is s i ls refused none is =
-    ap (last_line i) (is ∙ sym (none_left s ls none))
-    ∙ ap (λ (k : ℕ). last_line k (replay_from s ls).refused) (omega (arith, none))
 
 -- ---- one step of the printer
 
 -- the line that was printed, and the lines that are left
-pub line_printed : (old prefix : List ℕ) (f g : Following) (s next : State) (moves : List Line)
-    (i count : ℕ) (l : Line)
-    (outcome : Outcome) (es : List Entry) → IsNext s moves i l
-    → outcome ≡ (change_of s l.thread l.action).outcome
-    → es ≡ entries_of s l.thread l.action → g ≡ followed_by f es
-    → next ≡ next_state s l.thread l.action → count ≡ i + 1
+pub line_printed : (prefix : List ℕ) (f g : Following) (s next : State) (moves rest : List Line)
+    (i count : ℕ) (l : Line) (o : Outcome) (es : List Entry) → IsNext s next moves rest l o
+    → es ≡ entries_of s l.thread l.action → g ≡ followed_by f es → count ≡ i + 1
     → prefix ≡ move_text count
-    (record { line = l.number; thread = l.thread; action = l.action; outcome = outcome })
-    → old ≡ lines_from f i (replay_from s (drop i moves)).made
-    → old ≡ (prefix ++ followed_text g) ++ lines_from g (i + 1)
-    (replay_from next (drop (i + 1) moves)).made
-line_printed old prefix f g s next moves i count l outcome es n made added follows is counted
-    written old_is =
-    let a : Outcome → Accepted =
-    λ (o : Outcome). record {
-      line = l.number;
-      thread = l.thread;
-      action = l.action;
-      outcome =
-          o;
-    } in
-    let rest : State → List Made = λ (r : State). (replay_from r (drop (i + 1) moves)).made in
-    let after : State = next_state s l.thread l.action in
-    let more : Following = followed_by f (entries_of s l.thread l.action) in
-    let same : g ≡ more = follows ∙ ap (followed_by f) added in
-    let text : prefix ≡ move_text (i + 1) (made_by s l).accepted =
-    written ∙ ap (λ (k : ℕ). move_text k (a outcome)) counted
-    ∙ ap (λ (o : Outcome). move_text (i + 1) (a o)) made in
-    old_is ∙ ap (λ (r : Replay). lines_from f i r.made) n.rest
-    ∙ sym (ap (λ (xs : List ℕ). (xs ++ followed_text g) ++ lines_from g (i + 1) (rest next)) text
-    ∙ ap (λ (h : Following). (move_text (i + 1) (made_by s l).accepted ++ followed_text h)
-    ++ lines_from h (i + 1) (rest next)) same
-    ∙ ap (λ (r : State). (move_text (i + 1) (made_by s l).accepted ++ followed_text more)
-    ++ lines_from more (i + 1) (rest r)) is)
+    (record { line = l.number; thread = l.thread; action = l.action; outcome = o })
+    → lines_from f i (replay_from s moves).made
+    ≡ (prefix ++ followed_text g) ++ lines_from g count (replay_from next rest).made
+line_printed prefix f g s next moves rest i count l o es n added follows counted written =
+    ap (λ (r : Replay). lines_from f i r.made) n.replay
+    ∙ sym (rw (written, follows, counted, added, n.outcome) refl)
 
-pub left_more : (s next : State) (moves : List Line) (i : ℕ) (l : Line) → IsNext s moves i l
-    → next ≡ next_state s l.thread l.action
-    → length (replay_from next (drop (i + 1) moves)).made + 1
-    ≡ length (replay_from s (drop i moves)).made
-left_more s next moves i l n is =
-    ap (λ (r : State). length (replay_from r (drop (i + 1) moves)).made + 1) is
-    ∙ sym (ap (λ (r : Replay). length r.made) n.rest ∙ omega arith)
+pub left_more : (s next : State) (moves rest : List Line) (l : Line) (o : Outcome)
+    → IsNext s next moves rest l o
+    → length (replay_from next rest).made + 1 ≡ length (replay_from s moves).made
+left_more s next moves rest l o n =
+    sym (ap (λ (r : Replay). length r.made) n.replay ∙ omega arith)
 
-pub last_more : (s next : State) (moves : List Line) (i : ℕ) (l : Line) → IsNext s moves i l
-    → next ≡ next_state s l.thread l.action
-    → let new : Replay = replay_from next (drop (i + 1) moves) in
-    let old : Replay = replay_from s (drop i moves) in
-    last_line (i + 1 + length new.made) new.refused ≡ last_line (i + length old.made) old.refused
-last_more s next moves i l n is =
-    let after : Replay = replay_from (next_state s l.thread l.action) (drop (i + 1) moves) in
-    ap (λ (r : State). last_line (i + 1 + length (replay_from r (drop (i + 1) moves)).made)
-    (replay_from r (drop (i + 1) moves)).refused) is
-    ∙ ap (λ (k : ℕ). last_line k after.refused) (omega arith)
-    ∙ sym (ap (λ (r : Replay). last_line (i + length r.made) r.refused) n.rest)
+pub last_more : (s next : State) (moves rest : List Line) (i count : ℕ) (l : Line) (o : Outcome)
+    → IsNext s next moves rest l o → count ≡ i + 1
+    → let new : Replay = replay_from next rest in
+    let old : Replay = replay_from s moves in
+    last_line (count + length new.made) new.refused ≡ last_line (i + length old.made) old.refused
+last_more s next moves rest i count l o n counted =
+    let new : Replay = replay_from next rest in
+    ap (λ (k : ℕ). last_line k new.refused) (omega (arith, counted))
+    ∙ sym (ap (λ (r : Replay). last_line (i + length r.made) r.refused) n.replay)
 
 -- the next line, and then the rest
 pub next_parts : (whole done lines line rest last same : List ℕ) → lines ≡ line ++ rest

@@ -1,6 +1,6 @@
 -- Invariants: the lines of a report that are still to be printed, of moves that are played as they
 -- are printed.
-use Rattle.std.specs.Prelude.{◌≡◌, ℕ, ◌+◌, ◌≤◌, List, [], ◌∷◌, ◌++◌, Option, None, length}
+use Rattle.std.specs.Prelude.{ℕ, ◌+◌, ◌≤◌, List, [], ◌∷◌, ◌++◌, Option, None, length}
 use Rattle.std.specs.Option.{option_map}
 use Rattle.lk_locks.specs.State.{State}
 use Rattle.lk_locks.specs.Steps.{refusal_of}
@@ -37,10 +37,7 @@ printing f count rest = record {
   last = last_line (count + length rest.made) rest.refused;
 }
 
--- so many of the moves are printed, and what is followed agrees with the lock
-pub record IsPrinting (f : Following) (s : State) (count printed : ℕ)
-    (moves : List Line) : Type 0 where
-  pub counted : count ≡ printed
-  pub within : printed ≤ length moves
-  pub few : length moves ≤ 65536
+-- `count` moves were printed, and what is followed agrees with the lock
+pub record IsPrinting (f : Following) (s : State) (count : ℕ) (moves : List Line) : Type 0 where
+  pub few : count + length moves ≤ 65536
   pub tracked : IsTracked s f.sequential

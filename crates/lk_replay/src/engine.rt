@@ -32,8 +32,8 @@ fn print<W: Write>(
     ensures ending { IfOk result (λ ending. ending ≡ ending_of printer.old.last) }
     ensures fault { IfErr result (λ e. e ≡ RunFault.Write) }
 {
-    while printer.has_line() {
-        buffer.print(output, printer)?;
+    while buffer.print(printer) {
+        buffer.make_room(output)?;
     }
     let last = printer.last();
     buffer.push(output, last.as_slice())?;

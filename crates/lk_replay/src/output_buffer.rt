@@ -4,7 +4,7 @@
 //! It is std's `BufWriter` with a contract that says what was written where a write fails.
 
 ghost use Rattle.std.specs.Prelude.{◌≡◌, ℕ, List, ◌+◌, ◌++◌, ◌<◌, ◌≤◌, [], length, IfErr, IfOk};
-ghost use Rattle.std.specs.Prelude.{OnErr, OnOk};
+ghost use Rattle.std.specs.Prelude.{MatchBool, OnErr, OnOk};
 ghost use Rattle.std.specs.Io.KnownBytes.{Appends};
 ghost use Rattle.lk_replay.specs.Devices.{AppendsPrefix, Passes};
 
@@ -87,21 +87,8 @@ impl OutputBuffer {
         Ok(())
     }
 
-    // Prints the next line behind what waits.
-    fn keep_line(&mut self, printer: &mut Printer<'_>)
-        requires some { 0 < printer.old.left }
-        requires room { length self.old + 448 ≤ 65536 }
-        ensures kept { (line : List ℕ) × (self.new ≡ self.old ++ line)
-            × (printer.old.lines ≡ line ++ printer.new.lines) }
-        ensures left { printer.new.left + 1 ≡ printer.old.left }
-        ensures last { printer.new.last ≡ printer.old.last }
-    {
-        let len = printer.next(&mut self.bytes[self.len..]);
-        self.len += len;
-    }
-
     // Writes what waits, where a line might have no room behind it.
-    fn make_room<W: Write>(&mut self, output: &mut W) -> Result<(), RunFault>
+    pub(crate) fn make_room<W: Write>(&mut self, output: &mut W) -> Result<(), RunFault>
         ensures passed { OnOk result
             (Passes self.old (W.contents output.old) [] self.new (W.contents output.new)) }
         ensures room { OnOk result (length self.new + 448 ≤ 65536) }
@@ -117,26 +104,18 @@ impl OutputBuffer {
         Ok(())
     }
 
-    // Prints the next line, which goes behind what waits.
-    pub(crate) fn print<W: Write>(
-        &mut self,
-        output: &mut W,
-        printer: &mut Printer<'_>,
-    ) -> Result<(), RunFault>
-        requires { 0 < printer.old.left }
-        ensures passed { OnOk result
-            ((line : List ℕ)
-            × Passes self.old (W.contents output.old) line self.new (W.contents output.new)
-            × (printer.old.lines ≡ line ++ printer.new.lines)) }
-        ensures left { OnOk result (printer.new.left + 1 ≡ printer.old.left) }
+    // Prints lines behind what waits, as many as have room, and answers whether there are any.
+    pub(crate) fn print(&mut self, printer: &mut Printer<'_>) -> bool
+        requires { length self.old + 448 ≤ 65536 }
+        ensures lines { (lines : List ℕ) × (self.new ≡ self.old ++ lines)
+            × (printer.old.lines ≡ lines ++ printer.new.lines) }
+        ensures left { MatchBool result (printer.new.left < printer.old.left)
+            ((printer.new.lines ≡ []) × (printer.new.left ≡ 0)) }
         ensures last { printer.new.last ≡ printer.old.last }
-        ensures prefix { OnErr result
-            (AppendsPrefix (W.contents output.old) (W.contents output.new) self.old) }
-        ensures fault { IfErr result (λ e. e ≡ RunFault.Write) }
     {
-        self.make_room(output)?;
-        self.keep_line(printer);
-        Ok(())
+        let len = printer.fill(&mut self.bytes[self.len..]);
+        self.len += len;
+        len > 0
     }
 
     /// Sends all that waits, and flushes. Nothing waits then.

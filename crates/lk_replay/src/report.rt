@@ -27,6 +27,9 @@ const LONGEST_LISTED: usize = 3;
 
 const LONGEST_LAST: usize = 64;
 
+// The bytes that are printed at once.
+const PLACE: usize = 4_096;
+
 // How many lines a report has room for at once. More are seldom, and a schedule of many moves may
 // be refused at its first.
 const FIRST_LINES: usize = 1_024;
@@ -36,12 +39,14 @@ fn print_into(out: &mut Vec<u8>, printer: &mut Printer<'_>) -> Result<(), AllocE
     ensures { OnOk result
         (out.new.items ≡ out.old.items ++ (printer.old.lines ++ printer.old.last)) }
 {
-    let mut line = [0; LINE_ROOM];
-    while printer.has_line() {
-        let len = printer.next(&mut line);
-        out.extend_from_slice(&line[..len])?;
+    let mut lines = [0; PLACE];
+    loop {
+        let len = printer.fill(&mut lines);
+        if len == 0 {
+            return out.extend_from_slice(printer.last().as_slice());
+        }
+        out.extend_from_slice(&lines[..len])?;
     }
-    out.extend_from_slice(printer.last().as_slice())
 }
 
 // Reads a text, and prints its report.

@@ -215,6 +215,7 @@ impl Followed {
     pub fn write(&self, line: &mut [u8], at: usize) -> usize
         requires { at + 384 ≤ length line.old }
         ensures text { take result line.new ≡ take at line.old ++ followed_text self.now }
+        ensures some { 0 < result }
         ensures fits { result ≤ length line.new }
     {
         match family_of(self.kind) {

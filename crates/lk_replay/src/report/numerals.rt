@@ -45,6 +45,13 @@ impl Numeral {
         }
     }
 
+    /// The number.
+    pub fn number(&self) -> u32
+        ensures { result ≡ self.now }
+    {
+        self.number
+    }
+
     /// The number after this one. Its digits are printed anew only where more than the last one
     /// changes.
     pub fn count_on(&mut self)

@@ -1,7 +1,7 @@
 //! The lines of a report, one after another: a move is played where its line is printed. No line
 //! asks for memory.
 
-ghost use Rattle.std.specs.Prelude.{◌≡◌, ◌≤◌, drop, length, take};
+ghost use Rattle.std.specs.Prelude.{◌≡◌, ◌≤◌, length, take};
 ghost use Rattle.lk_locks.specs.Sequential.{nobody};
 ghost use Rattle.lk_locks.specs.invariants.Tracking.{IsTracked};
 ghost use Rattle.lk_replay.specs.Printing.{next_refused};
@@ -23,28 +23,25 @@ use std::marker::Model;
 /// holds and who waits.
 pub const LINE_ROOM: usize = 448;
 
-/// The moves of a schedule, how many of them are printed, and the lock on which they were played:
-/// its words and phases, and who holds and who waits.
+/// The moves of a schedule that are left, how many were printed, and the lock on which they were
+/// played: its words and phases, and who holds and who waits.
 #[derive(Drop)]
 pub struct Printer<'a> {
     moves: &'a [Line],
-    printed: usize,
     count: Numeral,
     machine: Machine<WordArray>,
     line: Followed,
 }
 
 impl<'a> Model for Printer<'a> {
-    ghost use Rattle.std.specs.Prelude.{drop};
     ghost use Rattle.lk_replay.specs.Printing.{IsPrinting, Printing, printing};
     ghost use Rattle.lk_replay.specs.Replay.{replay_from};
 
     ghost Value = { Printing };
 
-    ghost view = { λ a. printing a.line a.printed
-        (replay_from a.machine (drop a.printed a.moves.now)) };
+    ghost view = { λ a. printing a.line a.count (replay_from a.machine a.moves.now) };
 
-    ghost invariant = { λ a. IsPrinting a.line a.machine a.count a.printed a.moves.now };
+    ghost invariant = { λ a. IsPrinting a.line a.machine a.count a.moves.now };
 }
 
 // Writes `K T WORD OUTCOME hold ` of an accepted move, and answers where it ends.
@@ -76,25 +73,18 @@ fn new_machine(schedule: &Schedule) -> Machine<WordArray>
     Machine::new(kind, threads, words)
 }
 
-// The line of the move at a place, and why it is refused, where there is a move and it is.
-#[inline(always)]
-fn refused_at(machine: &Machine<WordArray>, moves: &[Line], at: usize) -> Option<(u32, Refusal)>
-    requires { at ≤ length moves.now }
-    ensures { result ≡ next_refused machine.now (drop at moves.now) }
+// The line of the next move, and why it is refused, where there is a move and it is.
+fn next_refused(machine: &Machine<WordArray>, moves: &[Line]) -> Option<(u32, Refusal)>
+    ensures { result ≡ next_refused machine.now moves.now }
 {
-    if at == moves.len() {
-        return None;
-    }
-    let line = moves[at];
-    match machine.check(line.thread, line.action) {
-        Ok(()) => None,
-        Err(refusal) => Some((line.number, refusal)),
-    }
+    let line = moves.first()?;
+    let refusal = machine.check(line.thread, line.action).err()?;
+    Some((line.number, refusal))
 }
 
 impl<'a> Printer<'a> {
-    ghost use Rattle.std.specs.Prelude.{◌≡◌, ◌+◌, ◌<◌, ◌≤◌, ◌↔◌, ◌++◌, [], IsTrue, false, length};
-    ghost use Rattle.std.specs.Prelude.{take};
+    ghost use Rattle.std.specs.Prelude.{◌≡◌, ◌+◌, ◌≤◌, ◌++◌, [], length, take, IfSome, MatchOption};
+    ghost use Rattle.std.specs.Prelude.{None, ◌<◌};
     ghost use Rattle.lk_replay.specs.Ending.{ending_of};
     ghost use Rattle.lk_replay.specs.Replay.{replay_of};
     ghost use Rattle.lk_replay.specs.Report.{replay_text};
@@ -108,39 +98,36 @@ impl<'a> Printer<'a> {
     {
         Printer {
             moves: schedule.moves(),
-            printed: 0,
             count: Numeral::of(0),
             machine: new_machine(schedule),
             line: Followed::new(schedule.kind()),
         }
     }
 
-    /// Whether there is a line before the last: a move is left, and it is not refused.
-    #[inline]
-    pub fn has_line(&self) -> bool
-        ensures left { IsTrue result ↔ (0 < self.now.left) }
-        ensures none { result ≡ false → self.now.lines ≡ [] }
-    {
-        self.printed < self.moves.len()
-            && refused_at(&self.machine, self.moves, self.printed).is_none()
-    }
-
-    /// Plays the next move, prints its line at the front of a place, and answers how long it is.
-    pub fn next(&mut self, place: &mut [u8]) -> usize
-        requires some { 0 < self.old.left }
-        requires room { 448 ≤ length place.old }
-        ensures lines { self.old.lines ≡ take result place.new ++ self.new.lines }
-        ensures fits { result ≤ length place.new }
-        ensures left { self.new.left + 1 ≡ self.old.left }
+    // Plays the next move, prints its line at the front of a place, and answers how long it is.
+    // There is none where no move is left, or the next is refused.
+    fn next(&mut self, place: &mut [u8]) -> Option<usize>
+        requires { 448 ≤ length place.old }
+        ensures lines { MatchOption result (self.new.lines ≡ [])
+            (λ len. self.old.lines ≡ take len place.new ++ self.new.lines) }
+        ensures left { MatchOption result (self.new.left ≡ 0)
+            (λ len. self.new.left + 1 ≡ self.old.left) }
+        ensures some { IfSome result (λ len. 0 < len) }
+        ensures fits { IfSome result (λ len. len ≤ length place.new) }
+        ensures kept { result ≡ None → self.new ≡ self.old }
         ensures last { self.new.last ≡ self.old.last }
     {
-        let line = self.moves[self.printed];
+        let (line, rest) = self.moves.split_first()?;
+        let line = *line;
         let mut added = Added::none();
-        let outcome = self
+        let played = self
             .machine
-            .make_adding(line.thread, line.action, &mut added);
+            .apply_adding(line.thread, line.action, &mut added);
+        let Ok(outcome) = played else {
+            return None;
+        };
         self.line.follow(added.as_slice());
-        self.printed += 1;
+        self.moves = rest;
         self.count.count_on();
         let accepted = Accepted {
             line: line.number,
@@ -149,7 +136,27 @@ impl<'a> Printer<'a> {
             outcome,
         };
         let at = write_prefix(place, &self.count, &accepted);
-        self.line.write(place, at)
+        Some(self.line.write(place, at))
+    }
+
+    /// Prints the next lines into a place, as many as have room whatever their length, and answers
+    /// where they end: at 0 only where no move is left, or the next is refused.
+    pub fn fill(&mut self, place: &mut [u8]) -> usize
+        requires { 448 ≤ length place.old }
+        ensures lines { self.old.lines ≡ take result place.new ++ self.new.lines }
+        ensures fits { result ≤ length place.new }
+        ensures fewer { 0 < result → self.new.left < self.old.left }
+        ensures none { result ≡ 0 → (self.new.lines ≡ []) × (self.new.left ≡ 0) }
+        ensures last { self.new.last ≡ self.old.last }
+    {
+        let mut len = 0;
+        while place.len() - len >= LINE_ROOM {
+            let Some(more) = self.next(&mut place[len..]) else {
+                return len;
+            };
+            len += more;
+        }
+        len
     }
 
     /// The last line: the refusal of the next move, or the end where there is none.
@@ -157,7 +164,7 @@ impl<'a> Printer<'a> {
         requires { self.now.left ≡ 0 }
         ensures { result ≡ self.now.last }
     {
-        let refused = refused_at(&self.machine, self.moves, self.printed);
-        last_line(self.printed as u32, refused)
+        let refused = next_refused(&self.machine, self.moves);
+        last_line(self.count.number(), refused)
     }
 }

@@ -1,5 +1,5 @@
--- What went, or waits, and what is left are the whole report.
-use Rattle.std.proofs.Common.{◌≡◌, ◌++◌, ℕ, List, []}
+-- What went, or waits, and what is left are the whole report, and a line has room.
+use Rattle.std.proofs.Common.{◌≡◌, ◌+◌, ◌++◌, ◌≤◌, ℕ, List, [], length}
 use Rattle.lk_replay.specs.Devices.{Passes}
 use Rattle.lk_replay.proofs.engine.print.Given as goal
 
@@ -10,6 +10,7 @@ invariant-loop-buffer g l =
     × (done ++ (l.printer.lines ++ l.printer.last)
     ≡ l.initial.printer.lines ++ l.initial.printer.last)
     × (l.printer.last ≡ l.initial.printer.last)
+    × (length l.buffer + 448 ≤ 65536)
 
 abbrev pub decreases-loop-buffer : goal.decreases-loop-buffer
 decreases-loop-buffer g l = l.printer.left

@@ -1,11 +1,13 @@
 -- What was appended, and then what is left, is all of it.
-use Rattle.std.proofs.Common.{◌≡◌, ◌++◌}
+use Rattle.std.proofs.Common.{◌≡◌, ◌≤◌, ◌++◌, length}
 use Rattle.lk_replay.proofs.report.print_into.Given as goal
 
-abbrev pub invariant-loop-line : goal.invariant-loop-line
-invariant-loop-line l =
-    l.out.items ++ (l.printer.lines ++ l.printer.last)
-    ≡ l.initial.out.items ++ (l.initial.printer.lines ++ l.initial.printer.last)
+abbrev pub invariant-loop-lines : goal.invariant-loop-lines
+invariant-loop-lines l = record {
+  parts : l.out.items ++ (l.printer.lines ++ l.printer.last)
+      ≡ l.initial.out.items ++ (l.initial.printer.lines ++ l.initial.printer.last);
+  room : 448 ≤ length l.lines;
+}
 
-abbrev pub decreases-loop-line : goal.decreases-loop-line
-decreases-loop-line l = l.printer.left
+abbrev pub decreases-loop-lines : goal.decreases-loop-lines
+decreases-loop-lines l = l.printer.left

@@ -1,91 +1,117 @@
--- The next move is played and printed, and the rest is left.
-use Rattle.std.proofs.Common.{ap, arith, drop, subst, sym, ◌∙◌, ◌+◌, ◌<◌, length, length-drop, ℕ}
+-- The next move is refused and nothing changes, or it is played and printed and the rest is left.
+use Rattle.std.proofs.Common.{ap, arith, length, refl, subst, sym, ◌∙◌}
 use Rattle.lk_locks.proofs.Tracking.{entries_may_come, tracked_on}
-use Rattle.lk_replay.proofs.Printed.{last_more, left_more, line_printed, next_of, some_made}
+use Rattle.lk_locks.specs.State.{State}
+use Rattle.lk_locks.specs.invariants.Tracking.{IsTracked}
+use Rattle.lk_replay.proofs.Printed.{IsNext, IsStopped, last_more, left_more, line_printed, next_of}
+use Rattle.lk_replay.proofs.Printed.{no_made, stopped_by}
 use Rattle.lk_replay.specs.Following.{Following}
-use Rattle.lk_replay.specs.Printing.{Printing}
+use Rattle.lk_replay.specs.Printing.{Printing, printing}
 use Rattle.lk_replay.specs.Replay.{replay_from}
 use Rattle.lk_replay.proofs.report.printer.Printer.next.Goals as goal
 
-pub make_adding-outcome-requires-clause-accepted : goal.make_adding-outcome-requires-clause-accepted
-make_adding-outcome-requires-clause-accepted c =
-    let some : 0 < length
-    (replay_from c.self.inside.machine
-    (drop c.self.inside.printed c.self.inside.moves.now)).made =
-    subst (λ (n : ℕ). 0 < n) (sym (ap (λ (p : Printing). p.left) c.self.view_is)) c.requires.some in
-    (next_of c.self.inside.machine c.self.inside.moves.now c.self.inside.printed _ some).accepted
+pub invariant_of-self : goal.invariant_of-self
+invariant_of-self c =
+    let stopped : IsStopped c.self.inside.machine c.apply_adding-played.new.self
+    c.self.inside.moves.now =
+    stopped_by _ _ _ _ _ _ c.in_ok-line.ensures.cases.0
+    (sym c.in_default.is ∙ c.apply_adding-played.ensures.answer)
+    c.apply_adding-played.ensures.after in
+    record {
+      few = c.self.invariant.few;
+      tracked = subst (λ (s : State). IsTracked s c.self.inside.line.sequential)
+          (sym stopped.state) c.self.invariant.tracked;
+    }
+
+pub returns-in_default-clause-lines : goal.returns-in_default-clause-lines
+returns-in_default-clause-lines c =
+    let stopped : IsStopped c.self.inside.machine c.apply_adding-played.new.self
+    c.self.inside.moves.now =
+    stopped_by _ _ _ _ _ _ c.in_ok-line.ensures.cases.0
+    (sym c.in_default.is ∙ c.apply_adding-played.ensures.answer)
+    c.apply_adding-played.ensures.after in
+    no_made c.self.inside.line c.self.inside.count _ (ap length stopped.none)
+
+pub returns-in_default-clause-left : goal.returns-in_default-clause-left
+returns-in_default-clause-left c =
+    let stopped : IsStopped c.self.inside.machine c.apply_adding-played.new.self
+    c.self.inside.moves.now =
+    stopped_by _ _ _ _ _ _ c.in_ok-line.ensures.cases.0
+    (sym c.in_default.is ∙ c.apply_adding-played.ensures.answer)
+    c.apply_adding-played.ensures.after in
+    ap length stopped.none
+
+pub returns-in_default-clause-kept : goal.returns-in_default-clause-kept
+returns-in_default-clause-kept c = λ _.
+    let stopped : IsStopped c.self.inside.machine c.apply_adding-played.new.self
+    c.self.inside.moves.now =
+    stopped_by _ _ _ _ _ _ c.in_ok-line.ensures.cases.0
+    (sym c.in_default.is ∙ c.apply_adding-played.ensures.answer)
+    c.apply_adding-played.ensures.after in
+    ap (λ (s : State). printing c.self.inside.line c.self.inside.count
+    (replay_from s c.self.inside.moves.now)) stopped.state
+    ∙ c.self.view_is
+
+pub returns-in_default-clause-last : goal.returns-in_default-clause-last
+returns-in_default-clause-last c =
+    ap (λ (p : Printing). p.last) (returns-in_default-clause-kept c refl)
 
 pub follow-requires : goal.follow-requires
 follow-requires c =
-    let some : 0 < length
-    (replay_from c.self.inside.machine
-    (drop c.self.inside.printed c.self.inside.moves.now)).made =
-    subst (λ (n : ℕ). 0 < n) (sym (ap (λ (p : Printing). p.left) c.self.view_is)) c.requires.some in
-    rw (c.as_slice.ensures.entries ∙ c.make_adding-outcome.ensures.entries)
+    let next : IsNext c.self.inside.machine c.apply_adding-played.new.self c.self.inside.moves.now
+    c.in_ok-line.rest.now c.in_ok-line.line.now c.in-Ok.outcome =
+    next_of _ _ _ _ _ _ c.in_ok-line.ensures.cases.0
+    (sym c.in-Ok.is ∙ c.apply_adding-played.ensures.answer) c.apply_adding-played.ensures.after in
+    rw (c.as_slice.ensures.entries ∙ c.in-Ok.ensures.entries)
     (entries_may_come c.self.inside.machine c.self.inside.line.sequential _ _
-    c.self.invariant.tracked
-    (next_of c.self.inside.machine c.self.inside.moves.now c.self.inside.printed _ some).accepted)
+    c.self.invariant.tracked next.accepted)
 
-pub invariant_of-self : goal.invariant_of-self
-invariant_of-self c =
-    let some : 0 < length
-    (replay_from c.self.inside.machine
-    (drop c.self.inside.printed c.self.inside.moves.now)).made =
-    subst (λ (n : ℕ). 0 < n) (sym (ap (λ (p : Printing). p.left) c.self.view_is)) c.requires.some in
+pub invariant_of-self-2 : goal.invariant_of-self-2
+invariant_of-self-2 c =
+    let next : IsNext c.self.inside.machine c.apply_adding-played.new.self c.self.inside.moves.now
+    c.in_ok-line.rest.now c.in_ok-line.line.now c.in-Ok.outcome =
+    next_of _ _ _ _ _ _ c.in_ok-line.ensures.cases.0
+    (sym c.in-Ok.is ∙ c.apply_adding-played.ensures.answer) c.apply_adding-played.ensures.after in
     record {
-      counted = c.count_on.ensures ∙ ap (λ (k : ℕ). k + 1) c.self.invariant.counted;
-      within = omega (
+      few = omega (
         arith,
-        some_made c.self.inside.machine _ some,
-        length-drop
-            c.self.inside.printed c.self.inside.moves.now,
+        c.self.invariant.few,
+        c.count_on.ensures,
+        c.in_ok-line.ensures.cases.1,
       );
-      few = c.self.invariant.few;
       tracked = tracked_on c.self.inside.machine _ c.self.inside.line.sequential _
-          c.as_slice.result.now _ _ c.self.invariant.tracked
-          (next_of c.self.inside.machine c.self.inside.moves.now c.self.inside.printed _
-          some).accepted
-          (c.as_slice.ensures.entries
-          ∙ c.make_adding-outcome.ensures.entries) c.make_adding-outcome.ensures.after
+          c.as_slice.result.now _ _ c.self.invariant.tracked next.accepted
+          (c.as_slice.ensures.entries ∙ c.in-Ok.ensures.entries) next.state
           (ap (λ (f : Following). f.sequential) c.follow.ensures);
     }
 
 pub returns-clause-lines : goal.returns-clause-lines
 returns-clause-lines c =
-    let some : 0 < length
-    (replay_from c.self.inside.machine
-    (drop c.self.inside.printed c.self.inside.moves.now)).made =
-    subst (λ (n : ℕ). 0 < n) (sym (ap (λ (p : Printing). p.left) c.self.view_is)) c.requires.some in
-    rw c.write.ensures.text
-    (line_printed _ _ c.self.inside.line c.follow.new.self c.self.inside.machine
-    c.make_adding-outcome.new.self
-    c.self.inside.moves.now c.self.inside.printed c.count_on.new.self _ c.make_adding-outcome.result
-    c.as_slice.result.now
-    (next_of c.self.inside.machine c.self.inside.moves.now c.self.inside.printed _ some)
-    c.make_adding-outcome.ensures.outcome (c.as_slice.ensures.entries
-    ∙ c.make_adding-outcome.ensures.entries) c.follow.ensures
-    c.make_adding-outcome.ensures.after (c.count_on.ensures
-    ∙ ap (λ (k : ℕ). k + 1) c.self.invariant.counted)
-    c.write_prefix-at.ensures.text (sym (ap (λ (p : Printing). p.lines) c.self.view_is)))
+    let next : IsNext c.self.inside.machine c.apply_adding-played.new.self c.self.inside.moves.now
+    c.in_ok-line.rest.now c.in_ok-line.line.now c.in-Ok.outcome =
+    next_of _ _ _ _ _ _ c.in_ok-line.ensures.cases.0
+    (sym c.in-Ok.is ∙ c.apply_adding-played.ensures.answer) c.apply_adding-played.ensures.after in
+    sym (ap (λ (p : Printing). p.lines) c.self.view_is)
+    ∙ rw c.write.ensures.text
+    (line_printed _ c.self.inside.line c.follow.new.self c.self.inside.machine
+    c.apply_adding-played.new.self c.self.inside.moves.now c.in_ok-line.rest.now
+    c.self.inside.count c.count_on.new.self _ c.in-Ok.outcome c.as_slice.result.now next
+    (c.as_slice.ensures.entries ∙ c.in-Ok.ensures.entries) c.follow.ensures c.count_on.ensures
+    c.write_prefix-at.ensures.text)
 
 pub returns-clause-left : goal.returns-clause-left
 returns-clause-left c =
-    let some : 0 < length
-    (replay_from c.self.inside.machine
-    (drop c.self.inside.printed c.self.inside.moves.now)).made =
-    subst (λ (n : ℕ). 0 < n) (sym (ap (λ (p : Printing). p.left) c.self.view_is)) c.requires.some in
-    left_more c.self.inside.machine _ c.self.inside.moves.now c.self.inside.printed _
-    (next_of c.self.inside.machine c.self.inside.moves.now c.self.inside.printed _ some)
-    c.make_adding-outcome.ensures.after
-    ∙ ap (λ (p : Printing). p.left) c.self.view_is
+    let next : IsNext c.self.inside.machine c.apply_adding-played.new.self c.self.inside.moves.now
+    c.in_ok-line.rest.now c.in_ok-line.line.now c.in-Ok.outcome =
+    next_of _ _ _ _ _ _ c.in_ok-line.ensures.cases.0
+    (sym c.in-Ok.is ∙ c.apply_adding-played.ensures.answer) c.apply_adding-played.ensures.after in
+    left_more _ _ _ _ _ _ next ∙ ap (λ (p : Printing). p.left) c.self.view_is
 
 pub returns-clause-last : goal.returns-clause-last
 returns-clause-last c =
-    let some : 0 < length
-    (replay_from c.self.inside.machine
-    (drop c.self.inside.printed c.self.inside.moves.now)).made =
-    subst (λ (n : ℕ). 0 < n) (sym (ap (λ (p : Printing). p.left) c.self.view_is)) c.requires.some in
-    last_more c.self.inside.machine _ c.self.inside.moves.now c.self.inside.printed _
-    (next_of c.self.inside.machine c.self.inside.moves.now c.self.inside.printed _ some)
-    c.make_adding-outcome.ensures.after
+    let next : IsNext c.self.inside.machine c.apply_adding-played.new.self c.self.inside.moves.now
+    c.in_ok-line.rest.now c.in_ok-line.line.now c.in-Ok.outcome =
+    next_of _ _ _ _ _ _ c.in_ok-line.ensures.cases.0
+    (sym c.in-Ok.is ∙ c.apply_adding-played.ensures.answer) c.apply_adding-played.ensures.after in
+    last_more _ _ _ _ c.self.inside.count c.count_on.new.self _ _ next c.count_on.ensures
     ∙ ap (λ (p : Printing). p.last) c.self.view_is
