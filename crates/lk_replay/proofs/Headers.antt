@@ -54,22 +54,6 @@ fails_first (read.TooManyMoves n) header moves m e = header_first header moves _
 fails_first (read.WordsTooNarrow n) header moves m e = header_first header moves _ e
 fails_first read.OutOfMemory header moves m e = wants_both header moves e m
 
-moves_next : (header : Header) (moves : Result (List Line) Fault) (fault : Fault)
-    → moves ≡ Err fault → with_header (Ok header) moves ≡ Err fault
-moves_next header moves fault e = ap (with_header (Ok header)) e
-
--- the moves' fault is the text's
-pub fails_next : (fault : ReadFault) (header : Header) (moves : Result (List Line) Fault)
-    → Fails fault moves → Fails fault (with_header (Ok header) moves)
-fails_next read.TooLong header moves e = moves_next header moves _ e
-fails_next (read.NoHeader n) header moves e = moves_next header moves _ e
-fails_next (read.BadHeader n) header moves e = moves_next header moves _ e
-fails_next (read.BadThreads n) header moves e = moves_next header moves _ e
-fails_next (read.BadLine n) header moves e = moves_next header moves _ e
-fails_next (read.TooManyMoves n) header moves e = moves_next header moves _ e
-fails_next (read.WordsTooNarrow n) header moves e = moves_next header moves _ e
-fails_next read.OutOfMemory header moves e = wants_both (Ok header) moves tt e
-
 -- the first line that is not skipped is the header
 pub header_here : (text rest line : List ℕ) (others : List (List ℕ)) (number : ℕ)
     → length text ≤ 1048576 → lines_of rest ≡ line ∷ others → is_skipped line ≡ false

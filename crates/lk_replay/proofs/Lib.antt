@@ -9,7 +9,6 @@ pub mod Digits
 pub mod Transfers
 pub mod Reports
 pub mod LastLines
-pub mod Lists
 pub mod Texts
 pub mod Listing
 pub mod Passed

@@ -1,17 +1,19 @@
 -- The text of a list of threads that one joins or leaves.
 use Rattle.std.proofs.Common.{◌≡◌, ℕ, ◌+◌, ◌-◌, ◌*◌, ◌<◌, ◌≤◌, List, [], ◌∷◌, ◌++◌, length, take}
 use Rattle.std.proofs.Common.{drop, decimal, eqb, nat_lt, Bool, true, false, refl, sym, ap}
-use Rattle.std.proofs.Common.{◌∙◌, subst, arith, append_assoc, append-nil, length-append, codes}
-use Rattle.std.proofs.Common.{IsTrue, ◌↔◌, None, inl, inr}
+use Rattle.std.proofs.Common.{◌∙◌, subst, arith, append_assoc, append-nil, length-append}
+use Rattle.std.proofs.Common.{IsTrue, ◌↔◌, inl, inr}
 use Rattle.std.specs.List.{AllByRecursion}
 use Rattle.std.proofs.Math.Seq.{drop-append_seam, take-append_seam}
 use Rattle.std.proofs.lemmas.Bool.{cases_Bool, eqb-true, le-ltb, lt-ltb}
 use Rattle.std.proofs.lemmas.Fmt.{length-decimal-le}
 use Rattle.lk_locks.specs.Sequential.{Sequential, IsAscending, has, is_head, joined, left_by}
-use Rattle.lk_replay.proofs.Lists.{later_append}
+use Rattle.std.proofs.lemmas.Grind.{flat_map-append}
 use Rattle.lk_replay.specs.Following.{above, up_to, AreListed}
-use Rattle.lk_locks.specs.Holding.{shared_by}
-use Rattle.lk_replay.specs.Report.{holding_text, later_numbers, queue_text}
+use Rattle.lk_replay.specs.Report.{later_numbers, queue_text}
+
+later_append : (xs ys : List ℕ) → later_numbers (xs ++ ys) ≡ later_numbers xs ++ later_numbers ys
+later_append xs ys = flat_map-append (λ (n : ℕ). 44 ∷ decimal n) xs ys
 
 abbrev pub AreBytes : List ℕ → Type 0
 AreBytes xs = AllByRecursion (λ t. t < 256) xs
@@ -188,23 +190,7 @@ reader_gone xs text t up gone a h is place wide =
           ∙ sym (ap later_numbers last.left ∙ later_append last.before (above xs t));
     }
 
--- one number's width more, up to a thread
-pub up_more : (xs : List ℕ) (x t bytes step : ℕ) → nat_lt t x ≡ false
-    → step ≡ length (decimal x) + 1
-    → bytes + step + length (later_numbers (up_to xs t))
-    ≡ bytes + length (later_numbers (up_to (x ∷ xs) t))
-up_more xs x t bytes step low wide =
-    rw low (omega (arith, wide, length-append (decimal x) (later_numbers (up_to xs t))))
-
 -- ---- bytes stay bytes
-
-pub all_push : (xs : List ℕ) (t : ℕ) → AreBytes xs → t < 256 → AreBytes (xs ++ t ∷ [])
-all_push [] t a b = (b, tt)
-all_push (x ∷ xs) t (c, a) b = (c, all_push xs t a b)
-
-pub all_rest : (xs : List ℕ) → AreBytes xs → AreBytes (drop 1 xs)
-all_rest [] a = tt
-all_rest (x ∷ xs) (b, a) = a
 
 pub all_joined : (xs : List ℕ) (t : ℕ) → AreBytes xs → t < 256 → AreBytes (joined xs t)
 all_joined [] t a b = (b, tt)
@@ -257,8 +243,3 @@ pub queue_shown : (xs text : List ℕ) → text ≡ later_numbers xs → 0 < len
     → drop 1 text ≡ queue_text xs
 queue_shown [] text is some = absurd (omega (arith, ap length is))
 queue_shown (x ∷ xs) text is some = ap (drop 1) is
-
-pub readers_shown : (xs text : List ℕ) → text ≡ later_numbers xs → 0 < length text
-    → codes "r" ++ drop 1 text ≡ holding_text (shared_by xs None)
-readers_shown [] text is some = absurd (omega (arith, ap length is))
-readers_shown (x ∷ xs) text is some = ap (λ (ys : List ℕ). codes "r" ++ drop 1 ys) is

@@ -1,11 +1,11 @@
 -- What one line does to what is read.
 use Rattle.std.proofs.Common.{◌≡◌, ℕ, ◌+◌, List, [], ◌∷◌, ◌++◌, length, Option, Some, None, Result}
-use Rattle.std.proofs.Common.{Ok, Err, Bool, true, false, ◌==◌, cond, refl, sym, ap, ◌∙◌}
-use Rattle.std.proofs.Common.{append_assoc, append-nil, arith}
-use Rattle.std.proofs.lemmas.Bool.{cond-true, cond-false, eqb-true}
+use Rattle.std.proofs.Common.{Ok, Err, Bool, true, false, ◌==◌, cond, refl, ap, ◌∙◌}
+use Rattle.std.proofs.Common.{append-nil, arith}
+use Rattle.std.proofs.lemmas.Bool.{cond-false, eqb-true}
 use Rattle.lk_replay.specs.declared.schedule.Line.{Line}
 use Rattle.lk_locks.specs.declared.kinds.Move.{Move}
-use Rattle.lk_replay.specs.Faults.{Fault, BadLine, TooManyMoves}
+use Rattle.lk_replay.specs.Faults.{Fault, BadLine}
 use Rattle.lk_replay.specs.Reads.{WantsMemory}
 use Rattle.lk_replay.specs.Schedule.{moves_from, moves_after, with_line, move_of}
 use Rattle.lk_replay.specs.Lines.{is_skipped, lines_of}
@@ -18,18 +18,6 @@ with_lines prefix (Err fault) = Err fault
 pub with_lines-nil : (read : Result (List Line) Fault) → with_lines [] read ≡ read
 with_lines-nil (Ok lines) = refl
 with_lines-nil (Err fault) = refl
-
-with_lines-more : (prefix : List Line) (line : Line) (read : Result (List Line) Fault)
-    → with_lines prefix (with_line line read) ≡ with_lines (prefix ++ line ∷ []) read
-with_lines-more prefix line (Ok lines) = ap Ok (sym (append_assoc prefix (line ∷ []) lines))
-with_lines-more prefix line (Err fault) = refl
-
-pub line_skipped : (number taken : ℕ) (lines : List (List ℕ)) (line : List ℕ)
-    (others : List (List ℕ))
-    → lines ≡ line ∷ others → is_skipped line ≡ true
-    → moves_from number taken lines ≡ moves_from (number + 1) taken others
-line_skipped number taken lines line others first skipped =
-    ap (moves_from number taken) first ∙ cond-true _ _ _ skipped
 
 line_read : (number taken : ℕ) (lines : List (List ℕ)) (line : List ℕ) (others : List (List ℕ))
     → lines ≡ line ∷ others → is_skipped line ≡ false
@@ -46,27 +34,6 @@ line_bad number taken lines line others first read none =
     line_read number taken lines line others first read
     ∙ ap (λ m. moves_after m number (taken == 65536) (moves_from (number + 1) (taken + 1) others))
     none
-
-pub line_over : (number taken : ℕ) (lines : List (List ℕ)) (line : List ℕ) (others : List (List ℕ))
-    (move : ℕ × Move)
-    → lines ≡ line ∷ others → is_skipped line ≡ false → move_of line ≡ Some move
-    → (taken == 65536) ≡ true → moves_from number taken lines ≡ Err (TooManyMoves number)
-line_over number taken lines line others move first read some full =
-    line_read number taken lines line others first read ∙ ap (λ m. moves_after m number
-    (taken == 65536) (moves_from (number + 1) (taken + 1) others)) some ∙ cond-true _ _ _ full
-
-pub line_taken : (prefix : List Line) (number taken : ℕ) (lines : List (List ℕ)) (line : List ℕ)
-    (others : List (List ℕ)) (move : ℕ × Move)
-    → lines ≡ line ∷ others → is_skipped line ≡ false → move_of line ≡ Some move
-    → (taken == 65536) ≡ false
-    → with_lines prefix (moves_from number taken lines)
-    ≡ with_lines (prefix ++ record { number = number; thread = move.0; action = move.1 } ∷ [])
-    (moves_from (number + 1) (taken + 1) others)
-line_taken prefix number taken lines line others move first read some room =
-    ap (with_lines prefix)
-    (line_read number taken lines line others first read ∙ ap (λ m. moves_after m number
-    (taken == 65536) (moves_from (number + 1) (taken + 1) others)) some ∙ cond-false _ _ _ room)
-    ∙ with_lines-more prefix _ _
 
 -- no text is left
 pub text_done : (prefix : List Line) (number taken : ℕ) (rest : List ℕ) → (length rest == 0) ≡ true

@@ -113,12 +113,6 @@ prefix_of_whole whole done waits text rest old mid new passed prefix parts =
     ∙ parts) (prefix_of_more [] (done ++ text) rest old new
     (prefix_after [] done waits text old mid new passed prefix))
 
--- all of it went on its way, and then what waited went out
-pub whole_passed : (whole waits : List ℕ) (old mid new : Option (List ℕ))
-    → Passes [] old whole waits mid → Appends mid new waits → Appends old new whole
-whole_passed whole waits old mid new (sent, appended, parts) appends =
-    subst (Appends old new) parts (Appends-trans old mid new sent waits appended appends)
-
 -- all of it went on its way, and then a prefix of what waited went out
 pub prefix_of_rest : (whole waits : List ℕ) (old mid new : Option (List ℕ))
     → Passes [] old whole waits mid → AppendsPrefix mid new waits → AppendsPrefix old new whole

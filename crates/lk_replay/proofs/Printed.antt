@@ -121,12 +121,6 @@ pub record IsStopped (s next : State) (moves : List Line) : Type 0 where
   pub state : next ≡ s
   pub none : (replay_from next moves).made ≡ []
 
-pub stopped_at_end : (s : State) (moves : List Line) → moves ≡ [] → IsStopped s s moves
-stopped_at_end s moves none = record {
-  state = refl;
-  none = ap (λ (ls : List Line). (replay_from s ls).made) none;
-}
-
 pub stopped_by : (s next : State) (moves rest : List Line) (l : Line) (x : Refusal)
     → moves ≡ l ∷ rest → Err x ≡ answer_to s l.thread l.action
     → next ≡ after_move s l.thread l.action → IsStopped s next moves
@@ -289,9 +283,3 @@ pub words_joined : (count thread word outcome : List ℕ)
     → ((count ++ 32 ∷ thread) ++ (codes " " ++ word ++ codes " ")) ++ (outcome ++ codes " hold ")
     ≡ count ++ codes " " ++ thread ++ codes " " ++ word ++ codes " " ++ outcome ++ codes " hold "
 words_joined count thread word outcome = simp append_assoc
-
--- the parts of a line's end, behind what stands before
-pub end_joined : (before holding waiting : List ℕ)
-    → (((before ++ holding) ++ codes " queue ") ++ waiting) ++ codes "\n" ≡ before
-    ++ (holding ++ codes " queue " ++ waiting ++ codes "\n")
-end_joined before holding waiting = simp append_assoc

@@ -24,14 +24,10 @@ use Rattle.lk_replay.specs.Replay.{Made, Replay, Replayed, made_by, refused_or, 
 use Rattle.lk_replay.specs.Replay.{replay_of, replayed_of, with_move}
 use Rattle.lk_replay.specs.Report.{plan_text, report_text}
 use Rattle.lk_replay.specs.Vocabulary.{is_plain_number, number_of, value_from}
-use Rattle.lk_replay.specs.declared.played.Accepted.{Accepted}
 use Rattle.lk_replay.specs.Whole.{AppendsAsTold, EveryReportIsAsPromised, IsAsTold, IsHistoryOf}
 use Rattle.lk_replay.specs.Whole.{IsReportOf, lock_of}
 use Rattle.lk_replay.specs.Schedule.{Plan, moves_from, plan_from, plan_of, with_header}
 use Rattle.lk_replay.specs.declared.schedule.Line.{Line}
-
-abbrev pub move_of_accepted : Accepted → ℕ × Move
-move_of_accepted a = (a.thread, a.action)
 
 abbrev pub moves_made : List Made → List (ℕ × Move)
 moves_made ms = map (λ a. (a.thread, a.action)) (map (λ m. m.accepted) ms)

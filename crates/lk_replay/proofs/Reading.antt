@@ -1,52 +1,20 @@
 -- What one line does to what is still to be read.
-use Rattle.std.proofs.Common.{◌≡◌, ℕ, ◌+◌, List, [], ◌∷◌, length, drop, Option, Some, None, is_none}
+use Rattle.std.proofs.Common.{◌≡◌, ℕ, ◌+◌, List, [], ◌∷◌, length, drop, Some, None}
 use Rattle.std.proofs.Common.{Result, Ok, Err, Bool, true, false, ◌==◌, refl, sym, ap, subst, ◌∙◌}
 use Rattle.std.proofs.Common.{arith}
-use Rattle.std.proofs.lemmas.Bool.{true≢false, cond-false}
+use Rattle.std.proofs.lemmas.Bool.{cond-false}
 use Rattle.lk_locks.specs.declared.kinds.Move.{Move}
 use Rattle.lk_replay.specs.declared.schedule.Line.{Line}
 use Rattle.lk_replay.specs.Faults.{Fault}
 use Rattle.lk_replay.specs.Lines.{is_skipped, lines_of}
 use Rattle.lk_replay.specs.Reading.{counted, moves_in}
 use Rattle.lk_replay.specs.Schedule.{Plan, moves_from, moves_after, move_of}
-use Rattle.lk_replay.proofs.Moves.{with_lines, line_taken, line_bad, text_done, with_lines-nil}
+use Rattle.lk_replay.proofs.Moves.{line_bad, text_done, with_lines-nil}
 
 -- what is counted, and so many before it
 abbrev pub more : ℕ → Result ℕ Fault → Result ℕ Fault
 more n (Ok m) = Ok (n + m)
 more n (Err fault) = Err fault
-
-one_more : (taken : ℕ) (line : Line) (read : Result (List Line) Fault)
-    → more taken (counted (with_lines (line ∷ []) read)) ≡ more (taken + 1) (counted read)
-one_more taken line (Ok lines) = ap Ok (omega arith)
-one_more taken line (Err fault) = refl
-
--- a move that is read, before the others
-pub line_first : (number taken : ℕ) (lines : List (List ℕ)) (line : List ℕ) (others : List (List ℕ))
-    (move : ℕ × Move)
-    → lines ≡ line ∷ others → is_skipped line ≡ false → move_of line ≡ Some move
-    → (taken == 65536) ≡ false
-    → moves_from number taken lines
-    ≡ with_lines (record { number = number; thread = move.0; action = move.1 } ∷ [])
-    (moves_from (number + 1) (taken + 1) others)
-line_first number taken lines line others move first read some room =
-    sym (with_lines-nil (moves_from number taken lines))
-    ∙ line_taken [] number taken lines line others move first read some room
-
-pub count_taken : (number taken : ℕ) (lines : List (List ℕ)) (line : List ℕ)
-    (others : List (List ℕ)) (move : ℕ × Move)
-    → lines ≡ line ∷ others → is_skipped line ≡ false → move_of line ≡ Some move
-    → (taken == 65536) ≡ false
-    → more taken (counted (moves_from number taken lines))
-    ≡ more (taken + 1) (counted (moves_from (number + 1) (taken + 1) others))
-count_taken number taken lines line others move first read some room =
-    ap (λ r. more taken (counted r))
-    (line_first number taken lines line others move first read some room)
-    ∙ one_more taken _ _
-
-pub some_move : (move : Option (ℕ × Move)) → is_none move ≡ false → (m : ℕ × Move) × (move ≡ Some m)
-some_move (Some m) h = (m, refl)
-some_move None h = absurd (true≢false h)
 
 pub no_more : (read : Result ℕ Fault) → more 0 read ≡ read
 no_more (Ok n) = ap Ok (omega arith)

@@ -19,7 +19,7 @@ use Rattle.lk_locks.specs.declared.kinds.Move.{Move}
 use Rattle.lk_locks.specs.declared.kinds.Outcome.{Outcome}
 use Rattle.lk_locks.specs.declared.kinds.Refusal.{Refusal}
 use Rattle.lk_locks.specs.declared.faults.PlayFault.{PlayFault}
-use Rattle.lk_locks.specs.declared.faults.PlayFault.TheVariants.{Refused, OutOfMemory}
+use Rattle.lk_locks.specs.declared.faults.PlayFault.TheVariants.{Refused}
 use Rattle.lk_replay.specs.declared.schedule.Line.{Line}
 use Rattle.lk_replay.specs.Replay.{Replay, Replayed, replay_from}
 use Rattle.lk_replay.specs.declared.played.Accepted.{Accepted}
@@ -38,9 +38,6 @@ after kind threads accepted added entries r = record {
   refused = r.refused;
 }
 
-ap2 : {A B C : Type 0} (f : A → B → C) {a b : A} {c d : B} → a ≡ b → c ≡ d → f a c ≡ f b d
-ap2 f e g = rw (e, g) refl
-
 -- what an answer of `play` tells
 pub was_accepted : (r : Option Refusal) (o p : Outcome) → IsPlayAnswer r o (Ok p)
     → (r ≡ None) × (p ≡ o)
@@ -55,11 +52,6 @@ refused_with (Some y) o x h = ap (λ z. Some z) (sym h)
 pub was_refused : (r : Option Refusal) (o : Outcome) (x : Refusal) (f : PlayFault) → f ≡ Refused x
     → IsPlayAnswer r o (Err f) → r ≡ Some x
 was_refused r o x f e a = refused_with r o x (subst (λ y. IsPlayAnswer r o (Err y)) e a)
-
-pub no_memory : (r : Option Refusal) (o p : Outcome) → IsPlayAnswer r o (Ok p)
-    → IsPlayAnswer r o (Err OutOfMemory)
-no_memory None o p h = tt
-no_memory (Some x) o p h = absurd h
 
 pub next_line : (ms : List Line) (i : ℕ) (d : Line) → i < length ms
     → drop i ms ≡ get_or ms i d ∷ drop (i + 1) ms
