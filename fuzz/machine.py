@@ -54,24 +54,26 @@ class Machine:
         """The reason why a move is refused, or None."""
         if thread >= self.threads:
             return "NoSuchThread"
+        due = self.due[thread]
+        if word == due:
+            return None
         if word not in self.lock.calls and word not in self.lock.steps:
             return "WrongLock"
-        due = self.due[thread]
         if word in CALLS:
             if due is not None:
                 return "Busy"
             if word in TAKING:
                 return "AlreadyHolds" if thread in self.held else None
             return None if word in self.giving_back(thread) else "NotHolder"
-        if due is None:
-            return "NoCall"
-        return None if word == due else f"WrongStep next {due}"
+        return "NoCall" if due is None else f"WrongStep next {due}"
 
     def play(self, thread, word):
         """Makes a move that is not refused; its outcome."""
         step = self.step[thread]
         if step is None:
-            return self._begin_call(thread, word)
+            self.call[thread] = word
+            self._start_code(thread)
+            return "called"
         if self.code[thread] is None:
             self._start_code(thread)
         answer = step.make(self.words)
@@ -94,11 +96,6 @@ class Machine:
         found = self.words.get(word)
         outcome = self.play(thread, kind)
         return Made(kind, word, found, self.words.get(word), outcome)
-
-    def _begin_call(self, thread, word):
-        self.call[thread] = word
-        self._start_code(thread)
-        return "called"
 
     def _start_code(self, thread):
         """Makes the generator of the pending call, and brings it to the step that is due."""

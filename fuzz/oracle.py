@@ -19,6 +19,7 @@ and reports, the limits and the refusals are this project's own.
 """
 import re
 import sys
+from functools import lru_cache
 
 from locks import CALLS, LOCKS, STEPS
 from machine import Machine
@@ -26,6 +27,8 @@ from machine import Machine
 MOST_BYTES = 1_048_576
 MOST_MOVES = 65_536
 MOST_THREADS = 64
+WORDS = CALLS | STEPS
+LONGEST_MOVE = len("255 ") + max(map(len, WORDS))
 
 
 class Fault(Exception):
@@ -57,13 +60,13 @@ def header_of(line, number):
     return name, threads, bits
 
 
-def move_of(line, number):
+@lru_cache(maxsize=20_000)
+def move_of(line):
+    """The thread and the word of a move, or None. The same few lines come again and again."""
     words = line.split(b" ")
     thread = decimal(words[0], 0, 255)
     word = words[-1].decode("latin-1")
-    if len(words) != 2 or thread is None or word not in CALLS | STEPS:
-        raise Fault(f"line {number} BadLine")
-    return thread, word
+    return (thread, word) if len(words) == 2 and thread is not None and word in WORDS else None
 
 
 def read_schedule(text):
@@ -79,10 +82,12 @@ def read_schedule(text):
     header = header_of(told[0][1], told[0][0])
     moves = []
     for number, line in told[1:]:
-        thread, word = move_of(line, number)
+        move = move_of(line) if len(line) <= LONGEST_MOVE else None
+        if move is None:
+            raise Fault(f"line {number} BadLine")
         if len(moves) == MOST_MOVES:
             raise Fault(f"line {number} TooManyMoves")
-        moves.append((number, thread, word))
+        moves.append((number, *move))
     return *header, moves
 
 

@@ -9,7 +9,7 @@ import wanted
 ROOT = Path(__file__).resolve().parent.parent
 SOURCES = ROOT / "examples" / "recording"
 HEADER = ROOT / "record" / "lockreplay_record.h"
-EXAMPLES = ["ticket", "mcs", "rw_simple", "rw_fifo", "ck_ticket", "ck_mcs"]
+EXAMPLES = sorted(path.stem for path in SOURCES.glob("*.c"))
 ALSO_C_PLUS_PLUS = ["rw_simple", "rw_fifo"]
 WARNINGS = ["-Wall", "-Wextra", "-Wpedantic", "-Werror"]
 SANITIZERS = ["address,undefined", "thread"]

@@ -69,6 +69,20 @@ export function monitorHeight(view, state) {
 const wordsText = (names, state) => names.map((name, word) => `${name} ${state.word(word)}`)
   .join(', ');
 
+// The sentences that name no more than the counts of readers that come and that go.
+export const sectionsSay = (coming, going) => ({
+  TryRead: {
+    waits: '{who} polls and waits: the flag is set.',
+    entered: `{who} finds the flag clear and counts itself: ${coming} is now {left}.`,
+  },
+  LeaveRead: { left: `{who} counts itself out: ${going} is now {left}. {who} has left.` },
+  LeaveWrite: { left: '{who} clears the flag, and has left.' },
+  TryDowngrade: {
+    entered: `{who} becomes a reader in one section: ${coming} is now {left}, and the flag is `
+      + 'clear.',
+  },
+});
+
 // Below the picture: who is inside, and the words.
 export function readersCaption(names) {
   return (view, state) => {

@@ -3,18 +3,14 @@
 
 import { html } from './markup.js';
 import {
-  monitor, monitorHeight, readersCaption, readWrite, room, sectionMark,
+  monitor, monitorHeight, readersCaption, readWrite, room, sectionMark, sectionsSay,
 } from './read_write.js';
 import { picture, useOf, wordBox } from './shapes.js';
 import { say } from './texts.js';
 import { handLegend, HANDS, hasWheel, wheelOf, wheelPlaced } from './wheel.js';
 
 const says = {
-  TryRead: {
-    waits: '{who} polls and waits: the flag is set.',
-    entered: '{who} finds the flag clear and counts itself: readAcquires is now {left}.',
-  },
-  LeaveRead: { left: '{who} counts itself out: readReleases is now {left}. {who} has left.' },
+  ...sectionsSay('readAcquires', 'readReleases'),
   TryWrite: {
     waits: '{who} polls and waits: the flag is set. {who} is not in line.',
     moved: '{who} sets the flag, and so is announced: no reader comes in any more. The '
@@ -26,11 +22,6 @@ const says = {
       + 'readers inside.',
     entered: '{who} finds the counts equal, {acquires} and {releases}: no reader is inside, '
       + 'and {who} writes.',
-  },
-  LeaveWrite: { left: '{who} clears the flag, and has left.' },
-  TryDowngrade: {
-    entered: '{who} becomes a reader in one section: readAcquires is now {left}, and the flag '
-      + 'is clear.',
   },
   wraps: 'After {found} comes {left}: the count has gone round.',
 };

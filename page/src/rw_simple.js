@@ -3,25 +3,16 @@
 
 import { html } from './markup.js';
 import {
-  monitor, monitorHeight, readersCaption, readWrite, room, sectionMark,
+  monitor, monitorHeight, readersCaption, readWrite, room, sectionMark, sectionsSay,
 } from './read_write.js';
 import { picture, useOf, wordBox } from './shapes.js';
 
 const says = {
-  TryRead: {
-    waits: '{who} polls and waits: the flag is set.',
-    entered: '{who} finds the flag clear and counts itself: readers is now {left}.',
-  },
-  LeaveRead: { left: '{who} counts itself out: readers is now {left}. {who} has left.' },
+  ...sectionsSay('readers', 'readers'),
   TryWrite: {
     waits: '{who} polls and waits: readers is {readers}, and the flag is {flag}. Both have to '
       + 'be 0.',
     entered: '{who} finds no reader and the flag clear, sets the flag, and writes.',
-  },
-  LeaveWrite: { left: '{who} clears the flag, and has left.' },
-  TryDowngrade: {
-    entered: '{who} becomes a reader in one section: readers is now {left}, and the flag is '
-      + 'clear.',
   },
 };
 
