@@ -4,4 +4,4 @@ stands here and nowhere else in Python; the oracle, the fuzzer and the tests tak
 from locks import mcs, rw_fifo, rw_simple, ticket
 from locks.lock import CALLS, HOLDING, STEPS, TAKING
 
-LOCKS = {room.LOCK.name: room.LOCK for room in (ticket, mcs, rw_simple, rw_fifo)}
+LOCKS = {file.LOCK.name: file.LOCK for file in (ticket, mcs, rw_simple, rw_fifo)}
