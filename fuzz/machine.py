@@ -6,7 +6,8 @@ line, and no writer is inside beside it. Where they do not, the machine stops wi
 """
 from typing import NamedTuple
 
-from locks import CALLS, HOLDING, LOCKS, TAKING
+from locks import LOCKS
+from locks.lock import CALLS, HOLDING, TAKING
 from locks.steps import WAITS, Words
 
 

@@ -21,7 +21,8 @@ import re
 import sys
 from functools import lru_cache
 
-from locks import CALLS, LOCKS, STEPS
+from locks import LOCKS
+from locks.lock import CALLS, STEPS
 from machine import Machine
 
 MOST_BYTES = 1_048_576

@@ -5,7 +5,8 @@ schedules reach deep into each lock. Some end in a refused move, some in a line 
 and some texts are changed byte by byte.
 """
 import oracle
-from locks import CALLS, LOCKS, STEPS
+from locks import LOCKS
+from locks.lock import CALLS, STEPS
 from machine import Machine
 
 NAMES = sorted(LOCKS)
