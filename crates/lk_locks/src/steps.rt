@@ -46,6 +46,7 @@ fn refusal_of_call(kind: LockKind, phase: Phase, op: Op) -> Option<Refusal>
 }
 
 /// Why a move of a thread in this phase is refused, where it belongs to the lock.
+#[inline(always)]
 pub fn refusal_in(kind: LockKind, phase: Phase, action: Move) -> Option<Refusal>
     ensures { result ≡ refusal_in kind phase action }
 {
