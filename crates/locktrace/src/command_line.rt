@@ -1,10 +1,8 @@
 //! The words after the program's name, and the job that they ask for. `clap` reads the words.
 
-use crate::checking::CheckJob;
-use crate::formats::Format;
-use crate::ordering::OrderJob;
 use clap::error::ErrorKind;
 use clap::{Arg, ArgAction, ArgMatches, Command, value_parser};
+use lk_trace_files::{CheckJob, Format, OrderJob};
 use std::alloc::{AllocError, AllocFailed, Global};
 
 /// What the program is asked to do. A file `-` is standard input.

@@ -4,26 +4,11 @@
 //! Reports, schedules and help go to standard output, every other line to standard error.
 #![tactic(auto)]
 
-mod check;
-mod checking;
 mod command_line;
-mod explain;
-mod failures;
-mod formats;
-mod lines;
-mod ordering;
-mod scheduling;
-mod sentences;
-mod summary;
-mod texts;
 
-use check::{Ending, worst};
-use checking::check_files;
 use command_line::{Job, ParseFault, parse_words};
-use explain::{Asked, explain_input};
-use failures::Failure;
-use ordering::order_logs;
-use scheduling::{Scheduled, write_schedule};
+use lk_trace_files::{Asked, Ending, Failure, Scheduled};
+use lk_trace_files::{check_files, explain_input, order_logs, worst, write_schedule};
 use std::alloc::Global;
 use std::io::{Eprint, ErrorKind, IsTerminal, Write};
 use std::process::ExitCode;

@@ -1,0 +1,213 @@
+-- A text ends accepted exactly where it is an accepted trace.
+use Rattle.std.proofs.Common.{◌≡◌, ℕ, ◌+◌, List, [], ◌∷◌, true, false, None, Some, Ok, Err, refl}
+use Rattle.std.proofs.Common.{sym, ap, ap₂, ◌∙◌, inl, inr}
+use Rattle.std.specs.Prelude.{Option, Result, ◌≢◌}
+use Rattle.std.proofs.lemmas.Bool.{cond-true, cond-false, cases_Bool}
+use Rattle.lk_locks.specs.Steps.{change_of}
+use Rattle.lk_replay.specs.Lines.{is_skipped, lines_of}
+use Rattle.lk_replay.specs.declared.header.Header.{Header}
+use Rattle.lk_trace.proofs.Agreeing.{agrees, agreed}
+use Rattle.lk_trace.specs.Checks.{Checked, checked, difference_of, answer_unless, unless_other}
+use Rattle.lk_trace.specs.Traces.{event_of, after_text_line, read_header_of, short_line_of}
+use Rattle.lk_trace.specs.Traces.{header_event, move_event, answer_event, after_header}
+use Rattle.lk_trace.specs.Traces.{after_move_line, new_checked}
+use Rattle.lk_trace.specs.declared.difference.Difference.{Difference}
+use Rattle.lk_trace.specs.declared.line.TraceLine.{TraceLine}
+use Rattle.lk_trace.specs.declared.trace.Event.{Event}
+use Rattle.lk_trace.specs.declared.trace.Event.TheVariants.{Skipped, Began, Made, Differs, Fault}
+use Rattle.lk_trace.specs.declared.trace.TextFault.{TextFault}
+use Rattle.lk_trace.specs.declared.trace.TextFault.TheVariants.{BadLine}
+use Rattle.lk_trace_files.specs.Accepted.{IsMove, AreMoves, IsHeader, IsTrace}
+use Rattle.lk_trace_files.specs.Verdicts.{Verdict, IsOfText, unless_ended, verdict, verdict_from}
+use Rattle.lk_trace_files.specs.Verdicts.{verdict_in, verdict_of}
+use Rattle.lk_trace_files.specs.declared.check.Ending.TheVariants.{Accepted, Refused, Unread, Faulty}
+use Rattle.lk_trace_files.specs.declared.check.Report.{Report}
+
+-- a line, and those behind it
+line_read : (n : ℕ) (r after : Option Checked) (e : Event) (line : List ℕ) (lines : List (List ℕ))
+    → event_of r line ≡ e → after_text_line r line ≡ after
+    → verdict_from n r (line ∷ lines) ≡ unless_ended n e (verdict_from (n + 1) after lines)
+unfolding verdict_from
+line_read n r after e line lines is now =
+    ap₂ (λ (x : Event) (y : Option Checked). unless_ended n x (verdict_from (n + 1) y lines)) is now
+
+skipped_line : (n : ℕ) (r : Option Checked) (line : List ℕ) (lines : List (List ℕ))
+    → is_skipped line ≡ true → verdict_from n r (line ∷ lines) ≡ verdict_from (n + 1) r lines
+skipped_line n r line lines skip =
+    line_read n r r Skipped line lines (cond-true (is_skipped line) _ _ skip)
+    (cond-true (is_skipped line) _ _ skip)
+
+header_line : (n : ℕ) (line : List ℕ) (lines : List (List ℕ)) (header : Header)
+    → is_skipped line ≡ false → read_header_of line ≡ Ok header
+    → verdict_from n None (line ∷ lines) ≡ verdict_from (n + 1) (Some (new_checked header)) lines
+header_line n line lines header stays read =
+    line_read n None (Some (new_checked header)) (Began header) line lines
+    (cond-false (is_skipped line) _ _ stays ∙ ap header_event read)
+    (cond-false (is_skipped line) _ _ stays ∙ ap after_header read)
+
+bad_header : (n : ℕ) (line : List ℕ) (lines : List (List ℕ)) (fault : TextFault)
+    → is_skipped line ≡ false → read_header_of line ≡ Err fault
+    → verdict_from n None (line ∷ lines) ≡ verdict Faulty n
+bad_header n line lines fault stays read =
+    line_read n None None (Fault fault) line lines
+    (cond-false (is_skipped line) _ _ stays ∙ ap header_event read)
+    (cond-false (is_skipped line) _ _ stays ∙ ap after_header read)
+
+made_line : (n : ℕ) (c : Checked) (line : List ℕ) (lines : List (List ℕ)) (l : TraceLine)
+    → is_skipped line ≡ false → short_line_of line ≡ Some l → difference_of c l ≡ None
+    → verdict_from n (Some c) (line ∷ lines) ≡ verdict_from (n + 1) (Some (checked c l)) lines
+made_line n c line lines l stays read none =
+    let came = (change_of c.lock.state l.thread l.action).outcome in
+    line_read n (Some c) (Some (checked c l)) (Made l came) line lines
+    (cond-false (is_skipped line) _ _ stays ∙ ap (move_event c) read
+    ∙ ap (λ (d : Option Difference). answer_event l (answer_unless d came)) none)
+    (cond-false (is_skipped line) _ _ stays
+    ∙ ap (λ (m : Option TraceLine). Some (after_move_line c m)) read
+    ∙ ap (λ (d : Option Difference). Some (unless_other d (checked c l) c)) none)
+
+other_line : (n : ℕ) (c : Checked) (line : List ℕ) (lines : List (List ℕ)) (l : TraceLine)
+    (difference : Difference)
+    → is_skipped line ≡ false → short_line_of line ≡ Some l
+    → difference_of c l ≡ Some difference
+    → verdict_from n (Some c) (line ∷ lines) ≡ verdict Refused n
+other_line n c line lines l difference stays read some =
+    let came = (change_of c.lock.state l.thread l.action).outcome in
+    line_read n (Some c) (Some c) (Differs l difference) line lines
+    (cond-false (is_skipped line) _ _ stays ∙ ap (move_event c) read
+    ∙ ap (λ (d : Option Difference). answer_event l (answer_unless d came)) some)
+    (cond-false (is_skipped line) _ _ stays
+    ∙ ap (λ (m : Option TraceLine). Some (after_move_line c m)) read
+    ∙ ap (λ (d : Option Difference). Some (unless_other d (checked c l) c)) some)
+
+bad_move : (n : ℕ) (c : Checked) (line : List ℕ) (lines : List (List ℕ)) → is_skipped line ≡ false
+    → short_line_of line ≡ None
+    → verdict_from n (Some c) (line ∷ lines) ≡ verdict Faulty n
+bad_move n c line lines stays read =
+    line_read n (Some c) (Some c) (Fault BadLine) line lines
+    (cond-false (is_skipped line) _ _ stays ∙ ap (move_event c) read)
+    (cond-false (is_skipped line) _ _ stays
+    ∙ ap (λ (m : Option TraceLine). Some (after_move_line c m)) read)
+
+-- the endings of equal verdicts
+ending_of : (a b : Verdict) → a ≡ b → a.ending ≡ b.ending
+ending_of a b is = ap (λ (v : Verdict). v.ending) is
+
+never_faulty : (a : Verdict) (n : ℕ) → a ≡ verdict Faulty n → a.ending ≡ Accepted → ⊥
+never_faulty a n is accepted =
+    let stays : Faulty ≡ Accepted = sym (ending_of a (verdict Faulty n) is) ∙ accepted in
+    cc
+
+never_refused : (a : Verdict) (n : ℕ) → a ≡ verdict Refused n → a.ending ≡ Accepted → ⊥
+never_refused a n is accepted =
+    let stays : Refused ≡ Accepted = sym (ending_of a (verdict Refused n) is) ∙ accepted in
+    cc
+
+agreed_move : (n : ℕ) (c : Checked) (line : List ℕ) (lines : List (List ℕ)) (l : TraceLine)
+    (d : Option Difference)
+    → is_skipped line ≡ false → short_line_of line ≡ Some l
+    → difference_of c l ≡ d → (verdict_from n (Some c) (line ∷ lines)).ending ≡ Accepted
+    → ((next : Checked) → (verdict_from (n + 1) (Some next) lines).ending ≡ Accepted
+    → AreMoves next lines)
+    → IsMove c line (λ next. AreMoves next lines)
+agreed_move n c line lines l None stays read none accepted rest = record {
+  kept = stays;
+  move = l;
+  read = read;
+  agrees = agrees c l none;
+  behind =
+      rest (checked c l)
+      (sym (ending_of _ _ (made_line n c line lines l stays read none)) ∙ accepted);
+}
+agreed_move n c line lines l (Some difference) stays read some accepted rest =
+    absurd (never_refused _ n (other_line n c line lines l difference stays read some) accepted)
+
+a_move : (n : ℕ) (c : Checked) (line : List ℕ) (lines : List (List ℕ)) (m : Option TraceLine)
+    → is_skipped line ≡ false → short_line_of line ≡ m
+    → (verdict_from n (Some c) (line ∷ lines)).ending ≡ Accepted
+    → ((next : Checked) → (verdict_from (n + 1) (Some next) lines).ending ≡ Accepted
+    → AreMoves next lines)
+    → IsMove c line (λ next. AreMoves next lines)
+a_move n c line lines None stays read accepted rest =
+    absurd (never_faulty _ n (bad_move n c line lines stays read) accepted)
+a_move n c line lines (Some l) stays read accepted rest =
+    agreed_move n c line lines l (difference_of c l) stays read refl accepted rest
+
+-- lines that end accepted are accepted moves
+moves_are : (n : ℕ) (c : Checked) (lines : List (List ℕ))
+    → (verdict_from n (Some c) lines).ending ≡ Accepted → AreMoves c lines
+moves_are n c [] accepted = tt
+moves_are n c (line ∷ lines) accepted = elim (cases_Bool (is_skipped line)) [
+  | inl skip ↦ inl (
+    skip,
+    moves_are (n + 1) c lines
+        (sym (ending_of _ _ (skipped_line n (Some c) line lines skip)) ∙ accepted),
+  )
+  | inr stays ↦ inr (a_move n c line lines (short_line_of line) stays refl accepted
+      (λ next. moves_are (n + 1) next lines))
+]
+
+no_more : (n : ℕ) (c : Checked) → (verdict_from n (Some c) []).ending ≡ Accepted
+unfolding verdict_from
+no_more n c = refl
+
+moves_end : (n : ℕ) (c : Checked) (lines : List (List ℕ)) → AreMoves c lines
+    → (verdict_from n (Some c) lines).ending ≡ Accepted
+moves_end n c [] moves = no_more n c
+moves_end n c (line ∷ lines) (inl moves) =
+    ending_of _ _ (skipped_line n (Some c) line lines moves.0) ∙ moves_end (n + 1) c lines moves.1
+moves_end n c (line ∷ lines) (inr moves) =
+    ending_of _ _
+    (made_line n c line lines moves.move moves.kept moves.read
+    (agreed c moves.move moves.agrees))
+    ∙ moves_end (n + 1) (checked c moves.move) lines moves.behind
+
+a_header : (n : ℕ) (line : List ℕ) (lines : List (List ℕ)) (h : Result Header TextFault)
+    → is_skipped line ≡ false → read_header_of line ≡ h
+    → (verdict_from n None (line ∷ lines)).ending ≡ Accepted → IsHeader line (λ c. AreMoves c lines)
+a_header n line lines (Ok header) stays read accepted = record {
+  kept = stays;
+  header = header;
+  read = read;
+  behind =
+      moves_are (n + 1) (new_checked header) lines
+      (sym (ending_of _ _ (header_line n line lines header stays read)) ∙ accepted);
+}
+a_header n line lines (Err fault) stays read accepted =
+    absurd (never_faulty _ n (bad_header n line lines fault stays read) accepted)
+
+no_header : (n : ℕ) → verdict_from n None [] ≡ verdict Faulty n
+unfolding verdict_from
+no_header n = refl
+
+trace_is : (n : ℕ) (lines : List (List ℕ)) → (verdict_from n None lines).ending ≡ Accepted
+    → IsTrace lines
+trace_is n [] accepted = never_faulty _ n (no_header n) accepted
+trace_is n (line ∷ lines) accepted = elim (cases_Bool (is_skipped line)) [
+  | inl skip ↦ inl (
+    skip,
+    trace_is (n + 1) lines (sym (ending_of _ _ (skipped_line n None line lines skip)) ∙ accepted),
+  )
+  | inr stays ↦ inr (a_header n line lines (read_header_of line) stays refl accepted)
+]
+
+trace_ends : (n : ℕ) (lines : List (List ℕ)) → IsTrace lines
+    → (verdict_from n None lines).ending ≡ Accepted
+trace_ends n [] trace = absurd trace
+trace_ends n (line ∷ lines) (inl trace) =
+    ending_of _ _ (skipped_line n None line lines trace.0) ∙ trace_ends (n + 1) lines trace.1
+trace_ends n (line ∷ lines) (inr trace) =
+    ending_of _ _ (header_line n line lines trace.header trace.kept trace.read)
+    ∙ moves_end (n + 1) (new_checked trace.header) lines trace.behind
+
+-- a report with the text's verdict is the text's
+pub of_text : (report : Report) (text : List ℕ)
+    → (report.ending ≢ Unread → verdict_in report ≡ verdict_of text) → IsOfText report text
+of_text report text is = record {
+  verdict_is = is;
+  accepted = λ read.
+      let same : report.ending ≡ (verdict_of text).ending =
+      ending_of (verdict_in report) (verdict_of text) (is read) in (
+        λ accepted. trace_is 1 (lines_of text) (sym same ∙ accepted),
+        λ trace. same ∙ trace_ends 1 (lines_of text) trace,
+      );
+}

@@ -1,0 +1,204 @@
+-- What is kept of a line means what the line means, and the verdict is read line by line.
+use Rattle.std.proofs.Common.{◌≡◌, ℕ, ◌+◌, ◌<◌, List, [], ◌∷◌, length, take, Bool, true, false}
+use Rattle.std.proofs.Common.{◌==◌, ◌||◌, None, Some, Result, Ok, Err, IfOk, IfSome, refl, subst}
+use Rattle.std.proofs.Common.{sym, ap, ap₂, ◌∙◌, arith, length-take-le, get_or-take, inl, inr}
+use Rattle.std.specs.Prelude.{Option, if◌then◌else◌, nat_lt}
+use Rattle.std.specs.Io.KnownBytes.{IsAtEnd, Keeps}
+use Rattle.std.proofs.lemmas.List.{take_all}
+use Rattle.std.proofs.lemmas.Bool.{cond-true, lt-ltb, cases_lt, eqb-true, false_from_ne_true}
+use Rattle.lk_replay.specs.Lines.{lines_of, is_skipped}
+use Rattle.lk_trace.specs.Checks.{Checked}
+use Rattle.lk_trace.specs.Traces.{event_of, after_text_line, read_header_of, short_line_of}
+use Rattle.lk_trace.specs.Traces.{header_event, move_event, unskipped_event, after_unskipped}
+use Rattle.lk_trace.specs.Traces.{after_header, after_move_line}
+use Rattle.lk_trace.specs.declared.trace.Event.{Event}
+use Rattle.lk_trace.specs.declared.trace.Event.TheVariants.{Skipped, Began, Made, Differs, Fault}
+use Rattle.lk_trace.specs.declared.trace.TextFault.TheVariants.{BadHeader}
+use Rattle.lk_trace_files.proofs.Accepting.{of_text}
+use Rattle.lk_trace_files.specs.Lines.{TakesLine}
+use Rattle.lk_trace_files.specs.Verdicts.{Verdict, IsOfText, at_end, unless_ended, verdict_from}
+use Rattle.lk_trace_files.specs.Verdicts.{verdict_in, verdict_of}
+use Rattle.lk_trace_files.specs.invariants.Following.{Follows, Reads}
+use Rattle.lk_trace_files.specs.declared.check.Ending.TheVariants.{Unread}
+use Rattle.lk_trace_files.specs.declared.check.Report.{Report}
+
+-- a line of more than 96 bytes is no header and no move
+long_header : (line : List ℕ) → 96 < length line → read_header_of line ≡ Err BadHeader
+long_header line long = cond-true (nat_lt 96 (length line)) _ _ (lt-ltb 96 (length line) long)
+
+long_move : (line : List ℕ) → 96 < length line → short_line_of line ≡ None
+long_move line long = cond-true (nat_lt 96 (length line)) _ _ (lt-ltb 96 (length line) long)
+
+not_zero : (n : ℕ) → 0 < n → (n == 0) ≡ false
+not_zero n some = false_from_ne_true (n == 0) (λ is. omega (arith, eqb-true n 0 is))
+
+same_skip : (line : List ℕ) → 97 < length line → is_skipped (take 97 line) ≡ is_skipped line
+same_skip line long =
+    let short : length (take 97 line) ≡ 97 = length-take-le 97 line (omega arith) in
+    ap₂ (λ a b. a || (b == 35))
+    (not_zero (length (take 97 line)) (omega arith)
+    ∙ sym (not_zero (length line) (omega arith)))
+    (get_or-take 97 line 0 0 (omega arith))
+
+same_event : (reading : Option Checked) (line : List ℕ) → 97 < length line
+    → unskipped_event reading (take 97 line) ≡ unskipped_event reading line
+same_event None line long =
+    let short : length (take 97 line) ≡ 97 = length-take-le 97 line (omega arith) in
+    ap header_event
+    (long_header (take 97 line) (omega arith) ∙ sym (long_header line (omega arith)))
+same_event (Some c) line long =
+    let short : length (take 97 line) ≡ 97 = length-take-le 97 line (omega arith) in
+    ap (move_event c) (long_move (take 97 line) (omega arith) ∙ sym (long_move line (omega arith)))
+
+same_after : (reading : Option Checked) (line : List ℕ) → 97 < length line
+    → after_unskipped reading (take 97 line) ≡ after_unskipped reading line
+same_after None line long =
+    let short : length (take 97 line) ≡ 97 = length-take-le 97 line (omega arith) in
+    ap after_header
+    (long_header (take 97 line) (omega arith) ∙ sym (long_header line (omega arith)))
+same_after (Some c) line long =
+    let short : length (take 97 line) ≡ 97 = length-take-le 97 line (omega arith) in
+    ap (λ m. Some (after_move_line c m))
+    (long_move (take 97 line) (omega arith) ∙ sym (long_move line (omega arith)))
+
+-- what is kept of a line comes to what the line comes to
+kept_event : (reading : Option Checked) (line kept : List ℕ) → kept ≡ take 97 line
+    → event_of reading kept ≡ event_of reading line
+kept_event reading line kept is = ap (event_of reading) is ∙ elim (cases_lt 97 (length line)) [
+  | inl long ↦
+      ap₂ (λ (b : Bool) (e : Event). if b then Skipped else e) (same_skip line long)
+      (same_event reading line long)
+  | inr short ↦ ap (event_of reading) (take_all 97 line short)
+]
+
+kept_after : (reading : Option Checked) (line kept : List ℕ) → kept ≡ take 97 line
+    → after_text_line reading kept ≡ after_text_line reading line
+kept_after reading line kept is =
+    ap (after_text_line reading) is ∙ elim (cases_lt 97 (length line)) [
+      | inl long ↦
+          ap₂ (λ (b : Bool) (e : Option Checked). if b then reading else e) (same_skip line long)
+          (same_after reading line long)
+      | inr short ↦ ap (after_text_line reading) (take_all 97 line short)
+    ]
+
+-- a line and those behind it
+step : (number : ℕ) (reading : Option Checked) (lines rest : List (List ℕ)) (line kept : List ℕ)
+    → lines ≡ line ∷ rest → kept ≡ take 97 line
+    → verdict_from number reading lines
+    ≡ unless_ended number (event_of reading kept)
+    (verdict_from (number + 1) (after_text_line reading kept) rest)
+unfolding verdict_from
+step number reading lines rest line kept is same =
+    ap (verdict_from number reading) is
+    ∙ ap₂ (λ (e : Event) (r : Option Checked). unless_ended number e
+    (verdict_from (number + 1) r rest))
+    (sym (kept_event reading line kept same)) (sym (kept_after reading line kept same))
+
+goes_on : (number : ℕ) (event : Event) (report : Report) (behind : Verdict)
+    → Follows number event true report → unless_ended number event behind ≡ behind
+goes_on number Skipped report behind follows = refl
+goes_on number (Began header) report behind follows = refl
+goes_on number (Made line outcome) report behind follows = refl
+goes_on number (Differs line difference) report behind follows =
+    let no : true ≡ false = follows.0 in
+    cc
+goes_on number (Fault fault) report behind follows = let no : true ≡ false = follows.0 in cc
+
+stops : (number : ℕ) (event : Event) (report : Report) (behind : Verdict)
+    → Follows number event false report → verdict_in report ≡ unless_ended number event behind
+stops number Skipped report behind follows = let no : false ≡ true = follows in cc
+stops number (Began header) report behind follows = let no : false ≡ true = follows in cc
+stops number (Made line outcome) report behind follows = let no : false ≡ true = follows in cc
+stops number (Differs line difference) report behind follows = follows.1
+stops number (Fault fault) report behind follows = follows.1
+
+-- nothing was read
+pub reads_new : (all left : Option (List ℕ)) → Keeps all left → Reads all left 1 None
+reads_new None left kept = tt
+reads_new (Some text) None kept = absurd kept
+reads_new (Some text) (Some rest) kept = ap verdict_of (sym kept)
+
+-- a line that does not end the text
+pub reads_on : (all old new : Option (List ℕ)) (number : ℕ) (reading : Option Checked)
+    (kept : List ℕ) (report : Report)
+    → Reads all old number reading → TakesLine old new kept
+    → Follows number (event_of reading kept) true report
+    → Reads all new (number + 1) (after_text_line reading kept)
+reads_on None old new number reading kept report reads taken follows = tt
+reads_on (Some text) None new number reading kept report reads taken follows = absurd reads
+reads_on (Some text) (Some rest) None number reading kept report reads taken follows = absurd taken
+reads_on (Some text) (Some rest) (Some behind) number reading kept report reads taken follows =
+    reads ∙ step number reading (lines_of rest) (lines_of behind) taken.0 kept taken.1 taken.2
+    ∙ goes_on number (event_of reading kept) report _ follows
+
+-- a line that ends it
+pub reads_last : (all old new : Option (List ℕ)) (number : ℕ) (reading : Option Checked)
+    (kept : List ℕ) (report : Report)
+    → Reads all old number reading → TakesLine old new kept
+    → Follows number (event_of reading kept) false report → IfSome all (IsOfText report)
+reads_last None old new number reading kept report reads taken follows = tt
+reads_last (Some text) None new number reading kept report reads taken follows = absurd reads
+reads_last (Some text) (Some rest) None number reading kept report reads taken follows =
+    absurd taken
+reads_last (Some text) (Some rest) (Some behind) number reading kept report reads taken follows =
+    of_text report text (λ _.
+    stops number (event_of reading kept) report _ follows
+    ∙ sym (reads
+    ∙ step number reading (lines_of rest) (lines_of behind) taken.0 kept taken.1 taken.2))
+
+no_lines : lines_of [] ≡ []
+unfolding lines_of
+no_lines = refl
+
+none_left : (number : ℕ) (reading : Option Checked)
+    → verdict_from number reading [] ≡ at_end number reading
+unfolding verdict_from
+none_left number reading = refl
+
+-- the end of the text
+pub reads_end : (all left : Option (List ℕ)) (number : ℕ) (reading : Option Checked)
+    (report : Report)
+    → Reads all left number reading → IsAtEnd left
+    → verdict_in report ≡ at_end number reading → IfSome all (IsOfText report)
+reads_end None left number reading report reads end is = tt
+reads_end (Some text) None number reading report reads end is = absurd reads
+reads_end (Some text) (Some rest) number reading report reads end is = of_text report text (λ _.
+    is
+    ∙ sym (reads ∙ ap (λ l. verdict_from number reading (lines_of l)) end
+    ∙ ap (verdict_from number reading) no_lines ∙ none_left number reading))
+
+-- the input failed
+pub reads_no_more : (all : Option (List ℕ)) (report : Report) → report.ending ≡ Unread
+    → IfSome all (IsOfText report)
+reads_no_more None report unread = tt
+reads_no_more (Some text) report unread = of_text report text (λ read. absurd (read unread))
+
+-- the same, as the line is passed on
+pub line_on : (all old new : Option (List ℕ)) (number : ℕ) (reading after : Option Checked)
+    (kept bytes : List ℕ) (on : Bool) (report : Report)
+    → Reads all old number reading
+    → TakesLine old new kept → bytes ≡ kept → Follows number (event_of reading bytes) on report
+    → on ≡ true → after ≡ after_text_line reading bytes → Reads all new (number + 1) after
+line_on all old new number reading after kept bytes true report reads taken same follows is now =
+    subst (Reads all new (number + 1)) (sym (now ∙ ap (after_text_line reading) same))
+    (reads_on all old new number reading kept report reads taken
+    (subst (λ l. Follows number (event_of reading l) true report) same follows))
+line_on all old new number reading after kept bytes false report reads taken same follows is now =
+    absurd (cc)
+
+pub line_last : (all old new : Option (List ℕ)) (number : ℕ) (reading : Option Checked)
+    (kept bytes : List ℕ) (on : Bool) (report : Report)
+    → Reads all old number reading
+    → TakesLine old new kept → bytes ≡ kept → Follows number (event_of reading bytes) on report
+    → on ≡ false → IfSome all (IsOfText report)
+line_last all old new number reading kept bytes true report reads taken same follows is =
+    absurd (cc)
+line_last all old new number reading kept bytes false report reads taken same follows is =
+    reads_last all old new number reading kept report reads taken
+    (subst (λ l. Follows number (event_of reading l) false report) same follows)
+
+-- the report of an input that failed
+pub reads_unread : {E : Type 0} (all : Option (List ℕ)) (r : Result Report E)
+    → IfOk r (λ report. report.ending ≡ Unread) → IfOk r (λ report. IfSome all (IsOfText report))
+reads_unread all (Ok report) unread = reads_no_more all report unread
+reads_unread all (Err e) unread = tt

@@ -1,0 +1,209 @@
+-- A line is taken part by part, and keeps its first 97 bytes.
+use Rattle.std.proofs.Common.{◌≡◌, ℕ, ◌+◌, ◌<◌, suc, zero, List, [], ◌∷◌, ◌++◌, length, get_or}
+use Rattle.std.proofs.Common.{take, drop, Bool, true, false, None, Some, refl, sym, ap, ◌∙◌, arith}
+use Rattle.std.proofs.Common.{take-append-drop, append_assoc, append-nil, length-append}
+use Rattle.std.proofs.Common.{get_or-take, length-take-le, ◌≤◌}
+use Rattle.std.specs.List.{slice_split}
+use Rattle.std.specs.Prelude.{Option, slice_range}
+use Rattle.std.specs.Io.KnownBytes.{Consumes, Keeps, IsAtEnd, prepend_known}
+use Rattle.std.proofs.KnownBytes.{Consumes-kept, Consumes-nil, Consumes-trans}
+use Rattle.std.proofs.lemmas.List.Splits.{slice_split_none, slice_split_at}
+use Rattle.std.proofs.lemmas.List.Elements.{All-append}
+use Rattle.std.proofs.lemmas.List.{get_or_default, drop_more, drop-drop}
+use Rattle.std.proofs.lemmas.Slice.{between_is, between_from_start}
+use Rattle.std.proofs.lemmas.Bool.{false_from_ne_true, eqb-true}
+use Rattle.memchr.specs.Find.{Nowhere, NoneBefore, Passes, is_byte}
+use Rattle.lk_replay.proofs.Cuts.{line_first, line_last}
+use Rattle.lk_replay.specs.Lines.{lines_of, is_line_feed}
+use Rattle.lk_trace_files.specs.Lines.{TakesLine}
+use Rattle.lk_trace_files.specs.invariants.Taken.{TakesPart, Taken}
+
+take_again : (n : ℕ) (xs ys : List ℕ) → take n (take n xs ++ ys) ≡ take n (xs ++ ys)
+take_again zero xs ys = refl
+take_again (suc n) [] ys = refl
+take_again (suc n) (x ∷ xs) ys = ap (λ l. x ∷ l) (take_again n xs ys)
+
+-- nothing yet
+pub taken_none : (old : Option (List ℕ)) (kept : List ℕ) → kept ≡ [] → Taken old old kept false
+taken_none old kept empty = record {
+  bytes = [];
+  flat = λ k d h. absurd (omega arith);
+  taken = Consumes-nil old;
+  kept_is = empty;
+  none = λ _. refl;
+  some_is = λ (e : false ≡ true). cc;
+}
+
+-- one part more
+pub taken_more : (old mid new : Option (List ℕ)) (before after : List ℕ) (some : Bool)
+    → Taken old mid before some → TakesPart false mid new before after → Taken old new after true
+taken_more old mid new before after some so part = record {
+  bytes = so.bytes ++ part.bytes;
+  flat = All-append (λ x. is_line_feed x ≡ false) so.bytes part.bytes so.flat part.flat;
+  taken = Consumes-trans old mid new so.bytes part.bytes so.taken part.taken;
+  kept_is =
+      part.kept_is ∙ ap (λ l. take 97 (l ++ part.bytes)) so.kept_is
+      ∙ take_again 97 so.bytes part.bytes;
+  none = λ (e : true ≡ false). cc;
+  some_is = λ _. omega (arith, length-append so.bytes part.bytes, part.some refl);
+}
+
+-- the line feed ends the line
+pub takes_line : (old mid new : Option (List ℕ)) (before after : List ℕ) (some : Bool)
+    → Taken old mid before some → TakesPart true mid new before after → TakesLine old new after
+takes_line None mid new before after some so part = tt
+takes_line (Some text) None new before after some so part = absurd so.taken
+takes_line (Some text) (Some y) None before after some so part = absurd part.taken
+takes_line (Some text) (Some y) (Some rest) before after some so part =
+    let line = so.bytes ++ part.bytes in
+    let whole : text ≡ line ++ 10 ∷ rest =
+    so.taken ∙ ap (λ l. so.bytes ++ l) (part.taken ∙ append_assoc part.bytes (10 ∷ []) rest)
+    ∙ sym (append_assoc so.bytes part.bytes (10 ∷ rest)) in
+    let cut : slice_split is_line_feed text ≡ line ∷ slice_split is_line_feed rest =
+    ap (slice_split is_line_feed) whole
+    ∙ slice_split_at is_line_feed line 10 rest
+    (All-append (λ x. is_line_feed x ≡ false) so.bytes part.bytes so.flat part.flat) refl in (
+      line,
+      line_first text line rest cut,
+      part.kept_is ∙ ap (λ l. take 97 (l ++ part.bytes)) so.kept_is
+          ∙ take_again 97 so.bytes part.bytes,
+    )
+
+-- the end of the input ends it too
+pub takes_last : (old new : Option (List ℕ)) (kept : List ℕ) → Taken old new kept true → IsAtEnd new
+    → TakesLine old new kept
+takes_last None new kept so end = tt
+takes_last (Some text) None kept so end = absurd so.taken
+takes_last (Some text) (Some rest) kept so end =
+    let whole : text ≡ so.bytes = so.taken ∙ ap (λ l. so.bytes ++ l) end ∙ append-nil so.bytes in
+    let line : lines_of text ≡ so.bytes ∷ lines_of [] =
+    ap lines_of whole
+    ∙ line_last so.bytes (so.some_is refl) (slice_split_none is_line_feed so.bytes so.flat) in
+    (so.bytes, line ∙ ap (λ l. so.bytes ∷ lines_of l) (sym end), so.kept_is)
+
+pub takes_none : (old new : Option (List ℕ)) (kept : List ℕ) → Taken old new kept false
+    → IsAtEnd new → IsAtEnd old
+takes_none None new kept so end = tt
+takes_none (Some text) None kept so end = absurd so.taken
+takes_none (Some text) (Some rest) kept so end = so.taken ∙ ap (λ l. l ++ rest) (so.none refl) ∙ end
+
+pub consumes_front : (known : Option (List ℕ)) (all front rest : List ℕ) → all ≡ front ++ rest
+    → Consumes (prepend_known all known) (prepend_known rest known) front
+consumes_front None all front rest is = tt
+consumes_front (Some xs) all front rest is = ap (λ l. l ++ xs) is ∙ append_assoc front rest xs
+
+-- the part up to the first line feed
+pub part_to : (ahead : List ℕ) (k : ℕ) (known : Option (List ℕ)) (before after : List ℕ)
+    → NoneBefore (Passes (is_byte 10) ahead) 0 (length ahead) k → Passes (is_byte 10) ahead k
+    → after ≡ take 97 (before ++ take k ahead)
+    → TakesPart true (prepend_known ahead known)
+    (prepend_known (drop (k + 1) ahead) known) before after
+part_to ahead k known before after none here kept =
+    let feed : get_or ahead k 0 ≡ 10 = eqb-true (get_or ahead k 0) 10 here in
+    let whole : ahead ≡ (take k ahead ++ 10 ∷ []) ++ drop (k + 1) ahead =
+    sym (take-append-drop k ahead)
+    ∙ ap (λ l. take k ahead ++ l)
+    (drop_more ahead k 0 none.high ∙ ap (λ b. b ∷ drop (k + 1) ahead) feed)
+    ∙ sym (append_assoc (take k ahead) (10 ∷ []) (drop (k + 1) ahead)) in
+    let short : length (take k ahead) ≡ k = length-take-le k ahead (omega (arith, none.high)) in
+    record {
+      bytes = take k ahead;
+      flat = λ i d h. let below : i < k = omega (arith, short, h) in
+          ap is_line_feed
+          (get_or-take k ahead i d below
+          ∙ get_or_default ahead i d 0 (omega (arith, none.high)))
+          ∙ false_from_ne_true _ (none.before i (omega arith) below);
+      taken = consumes_front known ahead (take k ahead ++ 10 ∷ []) (drop (k + 1) ahead) whole;
+      kept_is = kept;
+      some = λ (e : true ≡ false). cc;
+    }
+
+-- the whole of what was read ahead
+pub part_all : (ahead : List ℕ) (known : Option (List ℕ)) (before after : List ℕ)
+    → Nowhere (Passes (is_byte 10) ahead) 0 (length ahead) → 0 < length ahead
+    → after ≡ take 97 (before ++ ahead)
+    → TakesPart false (prepend_known ahead known) (prepend_known [] known) before after
+part_all ahead known before after none some kept = record {
+  bytes = ahead;
+  flat = λ i d h. ap is_line_feed (get_or_default ahead i d 0 h)
+      ∙ false_from_ne_true _ (none i (omega arith) h);
+  taken = consumes_front known ahead ahead [] (sym (append-nil ahead));
+  kept_is = kept;
+  some = λ _. some;
+}
+
+pub range_rest : (xs : List ℕ) (i j n : ℕ) → slice_range xs (i + n) j ≡ drop n (slice_range xs i j)
+range_rest xs i j n =
+    between_is xs (i + n) j ∙ sym (drop-drop n i (take j xs))
+    ∙ ap (drop n) (sym (between_is xs i j))
+
+pub range_empty : (xs : List ℕ) (i j : ℕ) → j ≤ i → slice_range xs i j ≡ []
+range_empty xs i j none = ap (λ n. take n (drop i xs)) {y = 0} (omega arith)
+
+-- a read behind all that was read ahead
+pub read_ahead : (old new : Option (List ℕ)) (before chunk : List ℕ) (n : ℕ) → before ≡ []
+    → Consumes old new (take n chunk)
+    → Keeps (prepend_known before old) (prepend_known (slice_range chunk 0 n) new)
+read_ahead None new before chunk n none taken = tt
+read_ahead (Some xs) None before chunk n none taken = absurd taken
+read_ahead (Some xs) (Some ys) before chunk n none taken =
+    ap (λ l. l ++ ys) (between_from_start chunk n) ∙ sym taken ∙ ap (λ l. l ++ xs) (sym none)
+
+-- a read that failed
+pub read_failed : (old new : Option (List ℕ)) (before after : List ℕ) → before ≡ [] → after ≡ []
+    → Keeps old new → Keeps (prepend_known before old) (prepend_known after new)
+read_failed None new before after none still kept = tt
+read_failed (Some xs) None before after none still kept = absurd kept
+read_failed (Some xs) (Some ys) before after none still kept =
+    ap (λ l. l ++ ys) still ∙ kept ∙ ap (λ l. l ++ xs) (sym none)
+
+-- nothing is left
+pub at_end : (known : Option (List ℕ)) (ahead : List ℕ) → ahead ≡ [] → IsAtEnd known
+    → IsAtEnd (prepend_known ahead known)
+at_end None ahead none end = tt
+at_end (Some xs) ahead none end = ap (λ l. l ++ xs) none ∙ end
+
+taken_kept : (old mid new : Option (List ℕ)) (kept : List ℕ) (some : Bool) → Taken old mid kept some
+    → Keeps mid new → Taken old new kept some
+taken_kept old mid new kept some so same = record {
+  bytes = so.bytes;
+  flat = so.flat;
+  taken = Consumes-kept old mid new so.bytes so.taken same;
+  kept_is = so.kept_is;
+  none = so.none;
+  some_is = so.some_is;
+}
+
+-- a part was taken that ends the line
+pub line_taken : (old mid next new : Option (List ℕ)) (before after : List ℕ) (some whole : Bool)
+    → Taken old mid before some → Keeps mid next
+    → TakesPart whole next new before after → whole ≡ true → TakesLine old new after
+line_taken old mid next new before after some true so same part is =
+    takes_line old next new before after some (taken_kept old mid next before some so same) part
+line_taken old mid next new before after some false so same part is = absurd (cc)
+
+-- a part was taken that does not
+pub part_taken : (old mid next new : Option (List ℕ)) (before after : List ℕ) (some whole : Bool)
+    → Taken old mid before some → Keeps mid next
+    → TakesPart whole next new before after → whole ≡ false → Taken old new after true
+part_taken old mid next new before after some true so same part is = absurd (cc)
+part_taken old mid next new before after some false so same part is =
+    taken_more old next new before after some (taken_kept old mid next before some so same) part
+
+-- the input ended behind a line, or behind nothing
+pub last_taken : (old mid new : Option (List ℕ)) (kept : List ℕ) (some : Bool)
+    → Taken old mid kept some → Keeps mid new → IsAtEnd new → some ≡ true → TakesLine old new kept
+last_taken old mid new kept true so same end is =
+    takes_last old new kept (taken_kept old mid new kept true so same) end
+last_taken old mid new kept false so same end is = absurd (cc)
+
+pub none_taken : (old mid new : Option (List ℕ)) (kept : List ℕ) (some : Bool)
+    → Taken old mid kept some → Keeps mid new → IsAtEnd new → some ≡ false → IsAtEnd old
+none_taken old mid new kept true so same end is = absurd (cc)
+none_taken old mid new kept false so same end is =
+    takes_none old new kept (taken_kept old mid new kept false so same) end
+
+-- nothing was read ahead
+pub keeps_new : (known : Option (List ℕ)) → Keeps known (prepend_known [] known)
+keeps_new None = tt
+keeps_new (Some xs) = refl

@@ -1,0 +1,17 @@
+-- Definitions. How a file ended, as the status of the program: the greatest wins. This project's
+-- own.
+use Rattle.std.specs.Prelude.{ℕ, List, [], ◌∷◌, max}
+use Rattle.lk_trace_files.specs.declared.check.Ending.{Ending}
+use Rattle.lk_trace_files.specs.declared.check.Ending.TheVariants.{Accepted, Refused, Unread, Faulty}
+
+-- 1 where a move or a value is refused, 3 where the file could not be read, 4 where it is no trace
+abbrev pub status_of : Ending → ℕ
+status_of Accepted = 0
+status_of Refused = 1
+status_of Unread = 3
+status_of Faulty = 4
+
+-- the greatest status of so many endings
+unfoldable pub greatest_status : List Ending → ℕ
+greatest_status [] = 0
+greatest_status (ending ∷ endings) = max (status_of ending) (greatest_status endings)

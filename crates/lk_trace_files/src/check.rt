@@ -1,0 +1,215 @@
+//! The check of one input: read line by line, up to the first line that differs from the machine or
+//! is none of a trace.
+
+ghost use Rattle.std.specs.Prelude.{◌≡◌, IfOk, IfSome, None};
+ghost use Rattle.lk_trace.specs.Traces.{after_text_line, event_of};
+ghost use Rattle.lk_trace_files.specs.Endings.{greatest_status, status_of};
+ghost use Rattle.lk_trace_files.specs.Verdicts.{IsOfText, at_end, verdict, verdict_in};
+ghost use Rattle.lk_trace_files.specs.invariants.Following.{Follows};
+
+use crate::lines::{Line, Lines};
+use crate::summary::{Summary, awaits_link};
+use crate::texts::{fault_text, put_difference, put_standing};
+use lk_locks::Outcome;
+use lk_trace::{Checker, Difference, Event, TextFault, TraceLine, TraceReader};
+use std::alloc::{AllocError, Global};
+use std::fmt::Write;
+use std::io::{Error, ErrorKind, Read};
+
+/// How an input ended, by the statuses of the program: the greatest wins.
+#[derive(Clone, Copy, PartialEq, Eq, Debug)]
+pub enum Ending {
+    Accepted,
+    Refused,
+    /// It could not be opened or read.
+    Unread,
+    /// The text is no trace.
+    Faulty,
+}
+
+impl Ending {
+    /// The status of the program where this is the worst ending.
+    pub fn status(self) -> u8
+        ensures { result ≡ status_of self }
+    {
+        match self {
+            Ending::Accepted => 0,
+            Ending::Refused => 1,
+            Ending::Unread => 3,
+            Ending::Faulty => 4,
+        }
+    }
+
+    /// Its name in JSON.
+    pub fn text(self) -> &'static str {
+        match self {
+            Ending::Accepted => "accepted",
+            Ending::Refused => "refused",
+            Ending::Unread => "unread",
+            Ending::Faulty => "faulty",
+        }
+    }
+}
+
+/// The greatest of the endings' statuses.
+pub fn worst(endings: &[Ending]) -> u8
+    ensures { result ≡ greatest_status endings.now }
+{
+    let mut status = 0;
+    for ending in endings {
+        status = ending.status().max(status);
+    }
+    status
+}
+
+/// What came of one input.
+#[derive(Drop)]
+pub struct Report {
+    pub ending: Ending,
+    /// The line that ended it, from 1; 0 where none did.
+    pub line: u64,
+    /// What is said of that line, or of the input.
+    pub message: String,
+    /// Who held and who was in the queue then.
+    pub standing: String,
+    pub summary: Summary,
+}
+
+impl Report {
+    fn new(alloc: Global) -> Report {
+        Report {
+            ending: Ending::Accepted,
+            line: 0,
+            message: String::new(alloc),
+            standing: String::new(alloc),
+            summary: Summary::new(),
+        }
+    }
+
+    fn settle(&mut self, ending: Ending, line: u64)
+        ensures { verdict_in self.new ≡ verdict ending line }
+    {
+        self.ending = ending;
+        self.line = line;
+    }
+
+    // Says in what a line differs, and who holds and waits.
+    fn explain(
+        &mut self,
+        checker: &Checker,
+        line: TraceLine,
+        difference: Difference,
+    ) -> Result<(), AllocError>
+        ensures { IfOk result (λ _. verdict_in self.new ≡ verdict_in self.old) }
+    {
+        self.message.push_str("refused: ")?;
+        put_difference(&mut self.message, checker.lock(), line, difference, &[])?;
+        put_standing(&mut self.standing, checker.lock())
+    }
+
+    // Counts a move that was made.
+    fn count(&mut self, trace: &TraceReader, line: TraceLine, outcome: Outcome) {
+        if let Some(checker) = trace.checker() {
+            let awaited = awaits_link(checker.phase(line.thread));
+            self.summary.note(checker.lock(), line, outcome, awaited);
+        }
+    }
+
+    // The text has no more lines.
+    fn end(&mut self, trace: &TraceReader, number: u64) -> Result<(), AllocError>
+        ensures { IfOk result (λ _. verdict_in self.new ≡ at_end number trace.now) }
+    {
+        if trace.checker().is_some() {
+            self.settle(Ending::Accepted, 0);
+            return Ok(());
+        }
+        self.settle(Ending::Faulty, number);
+        self.message.push_str(fault_text(TextFault::NoHeader))
+    }
+}
+
+/// A report of an input that could not be opened or read.
+pub fn unread(alloc: Global, error: &Error) -> Result<Report, AllocError>
+    ensures { IfOk result (λ report. report.ending ≡ Ending.Unread) }
+{
+    let mut report = Report::new(alloc);
+    write!(report.message, "{error}")?;
+    report.ending = Ending::Unread;
+    Ok(report)
+}
+
+// Reads a line of this number into the trace. True where it is to be read on.
+fn take_line(
+    trace: &mut TraceReader,
+    number: u64,
+    line: &[u8],
+    report: &mut Report,
+) -> Result<bool, AllocError>
+    ensures after { IfOk result (λ _. trace.new ≡ after_text_line trace.old line.now) }
+    ensures reported { IfOk result
+        (λ on. Follows number (event_of trace.old line.now) on report.new) }
+{
+    match trace.line(line) {
+        Event::Skipped | Event::Began(_) => Ok(true),
+        Event::Made(line, outcome) => {
+            report.count(trace, line, outcome);
+            Ok(true)
+        }
+        Event::Differs(line, difference) => {
+            report.settle(Ending::Refused, number);
+            if let Some(checker) = trace.checker() {
+                report.explain(checker, line, difference)?;
+            }
+            Ok(false)
+        }
+        Event::Fault(fault) => {
+            report.settle(Ending::Faulty, number);
+            report.message.push_str(fault_text(fault))?;
+            Ok(false)
+        }
+    }
+}
+
+/// Somebody who is told of each line.
+pub trait Watcher {
+    fn line(&mut self, number: u64);
+}
+
+/// Nobody is told.
+#[derive(Drop)]
+pub struct NoWatcher;
+
+impl Watcher for NoWatcher {
+    fn line(&mut self, number: u64) {
+        let _ = number;
+    }
+}
+
+/// Checks an input to its end, or up to the first line that ends it.
+pub fn check_input<R: Read + Drop, W: Watcher>(
+    alloc: Global,
+    input: R,
+    watcher: &mut W,
+) -> Result<Report, AllocError>
+    ensures { IfOk result (λ report. IfSome (R.remaining input) (IsOfText report)) }
+{
+    let mut report = Report::new(alloc);
+    let mut lines = Lines::new(alloc, input)?;
+    let mut line = Line::new();
+    let mut trace = TraceReader::new();
+    for number in 1..u64::MAX {
+        match lines.next_line(&mut line) {
+            Ok(true) => {}
+            Ok(false) => {
+                report.end(&trace, number)?;
+                return Ok(report);
+            }
+            Err(error) => return unread(alloc, &error),
+        }
+        if !take_line(&mut trace, number, line.bytes(), &mut report)? {
+            return Ok(report);
+        }
+        watcher.line(number);
+    }
+    unread(alloc, &Error::from(ErrorKind::FileTooLarge))
+}

@@ -1,0 +1,297 @@
+//! The job of checking files, by several threads where asked for. The reports come in the order of
+//! the files.
+
+ghost use Rattle.lk_trace_files.specs.Verdicts.{AreOfTexts};
+ghost use Rattle.std.specs.Prelude.{◌≡◌, ◌+◌, ◌++◌, ◌∷◌, [], IfOk, OnOk, length};
+
+use crate::check::{Ending, NoWatcher, Report, Watcher, check_input, unread};
+use crate::failures::Failure;
+use crate::formats::{Format, put_front, put_report};
+use std::alloc::{AllocError, Global};
+use std::fs;
+use std::io::{Read, Write};
+use std::rt::Runtime;
+use std::thread::{Threads, map_vec};
+use std::vec::IntoIter;
+
+/// What a check is asked for. A file `-` is standard input.
+#[derive(Debug, Drop)]
+pub struct CheckJob {
+    pub format: Format,
+    pub summary: bool,
+    /// How many threads share the files.
+    pub workers: u8,
+    pub files: Vec<String>,
+}
+
+// Tells a terminal how far a file is read.
+#[derive(Drop)]
+struct Progress<'a, R: Runtime> {
+    rt: &'a R,
+    name: &'a str,
+    shown: bool,
+}
+
+// Lines between two words of progress.
+const EVERY: u64 = 1_000_000;
+
+impl<R: Runtime> Watcher for Progress<'_, R> {
+    fn line(&mut self, number: u64) {
+        if number % EVERY == 0 {
+            let name = self.name;
+            let _ = eprint!(self.rt; "\r{name}: {number} lines");
+            self.shown = true;
+        }
+    }
+}
+
+impl<R: Runtime> Progress<'_, R> {
+    // Clears the line of the terminal.
+    fn end(&self) {
+        if self.shown {
+            let _ = eprint!(self.rt; "\r\x1b[K");
+        }
+    }
+}
+
+// The reports of a job, in the order of its files.
+#[derive(Drop)]
+struct Reports {
+    format: Format,
+    summary: bool,
+    // what waits to be written
+    text: String,
+    endings: Vec<Ending>,
+}
+
+impl Reports {
+    fn new(alloc: Global, job: &CheckJob) -> Result<Reports, AllocError>
+        ensures { IfOk result (λ reports. reports.endings.items ≡ []) }
+    {
+        let mut text = String::new(alloc);
+        put_front(&mut text, job.format, job.files.len())?;
+        Ok(Reports {
+            format: job.format,
+            summary: job.summary,
+            text,
+            endings: Vec::new(alloc),
+        })
+    }
+
+    // Writes the report of the next file, of this name.
+    fn put<O: Write>(&mut self, output: &mut O, name: &str, report: &Report) -> Result<(), Failure>
+        ensures { OnOk result
+            (self.new.endings.items ≡ self.old.endings.items ++ report.now.ending ∷ []) }
+    {
+        let number = self.endings.len().saturating_add(1);
+        put_report(
+            &mut self.text,
+            self.format,
+            number,
+            name,
+            report,
+            self.summary,
+        )?;
+        output.write_all(self.text.as_bytes())?;
+        self.text.clear();
+        self.endings.push(report.ending)?;
+        Ok(())
+    }
+}
+
+// Opens and checks the file of this name.
+fn check_file<R: Runtime, W: Watcher>(
+    rt: &R,
+    alloc: Global,
+    name: &str,
+    watcher: &mut W,
+) -> Result<Report, AllocError> {
+    if name == "-" {
+        return check_input(alloc, rt.reader(), watcher);
+    }
+    match fs::open(rt, name) {
+        Ok(file) => check_input(alloc, file, watcher),
+        Err(error) => unread(alloc, &error),
+    }
+}
+
+// Checks a file, and tells a terminal how far it is.
+fn check_shown<R: Runtime>(
+    rt: &R,
+    alloc: Global,
+    name: &str,
+    told: bool,
+) -> Result<Report, AllocError> {
+    if !told {
+        return check_file(rt, alloc, name, &mut NoWatcher);
+    }
+    let mut progress = Progress {
+        rt,
+        name,
+        shown: false,
+    };
+    let report = check_file(rt, alloc, name, &mut progress);
+    progress.end();
+    report
+}
+
+/// Checks inputs side by side, each by a thread of its own. The reports are in the order of the
+/// inputs, and are those of one after another.
+pub fn check_side_by_side<R: Threads + Sync, I: Read + Send + Drop>(
+    rt: &R,
+    alloc: Global,
+    inputs: Vec<I>,
+) -> Result<Vec<Result<Report, AllocError>>, AllocError>
+    ensures { IfOk result (λ reports. AreOfTexts I.remaining inputs.items reports.items) }
+{
+    map_vec(
+        rt,
+        inputs,
+        &|input: I| check_input(alloc, input, &mut NoWatcher),
+    )
+}
+
+// The inputs of a round, and where there is no input to be checked, the report.
+#[derive(Drop)]
+struct Round<I: Drop> {
+    inputs: Vec<I>,
+    early: Vec<Option<Report>>,
+}
+
+// Opens the files of a round. Standard input is checked at once.
+fn open_round<R: Runtime>(
+    rt: &R,
+    alloc: Global,
+    names: &[String],
+) -> Result<Round<R::File>, AllocError> {
+    let mut round = Round {
+        inputs: Vec::new(alloc),
+        early: Vec::new(alloc),
+    };
+    for name in names {
+        if name.as_str() == "-" {
+            let report = check_input(alloc, rt.reader(), &mut NoWatcher)?;
+            round.early.push(Some(report))?;
+            continue;
+        }
+        match fs::open(rt, name) {
+            Ok(file) => {
+                round.inputs.push(file)?;
+                round.early.push(None)?;
+            }
+            Err(error) => round.early.push(Some(unread(alloc, &error)?))?,
+        }
+    }
+    Ok(round)
+}
+
+// The reports of a round that are left.
+#[derive(Drop)]
+struct Checked {
+    early: IntoIter<Option<Report>>,
+    late: IntoIter<Result<Report, AllocError>>,
+}
+
+impl Checked {
+    // The next file's report. There is one for each.
+    fn next(&mut self) -> Result<Report, AllocError> {
+        match self.early.next() {
+            Some(Some(report)) => Ok(report),
+            Some(None) => match self.late.next() {
+                Some(report) => report,
+                None => Err(AllocError),
+            },
+            None => Err(AllocError),
+        }
+    }
+}
+
+// Checks the files of a round side by side, and writes their reports.
+fn check_round<R: Runtime + Threads + Sync, O: Write>(
+    rt: &R,
+    alloc: Global,
+    names: &[String],
+    reports: &mut Reports,
+    output: &mut O,
+) -> Result<(), Failure>
+where
+    R::File: Send,
+    ensures { OnOk result
+        (length reports.new.endings.items ≡ length reports.old.endings.items + length names.now) }
+{
+    let Round { inputs, early } = open_round(rt, alloc, names)?;
+    let mut checked = Checked {
+        early: early.into_iter(),
+        late: check_side_by_side(rt, alloc, inputs)?.into_iter(),
+    };
+    for name in names {
+        let report = checked.next()?;
+        reports.put(output, name, &report)?;
+    }
+    Ok(())
+}
+
+// Checks the files by rounds of as many as there are workers.
+fn check_rounds<R: Runtime + Threads + Sync, O: Write>(
+    rt: &R,
+    alloc: Global,
+    job: &CheckJob,
+    reports: &mut Reports,
+    output: &mut O,
+) -> Result<(), Failure>
+where
+    R::File: Send,
+    ensures { OnOk result
+        (length reports.new.endings.items
+        ≡ length reports.old.endings.items + length job.now.files.items) }
+{
+    let mut rest = job.files.as_slice();
+    while rest.len() > 0 {
+        let (names, behind) = rest.split_at((job.workers as usize).max(1).min(rest.len()));
+        check_round(rt, alloc, names, reports, output)?;
+        rest = behind;
+    }
+    Ok(())
+}
+
+// Checks the files one after another, and writes each report as soon as it is there.
+fn check_each<R: Runtime, O: Write>(
+    rt: &R,
+    alloc: Global,
+    files: &[String],
+    told: bool,
+    reports: &mut Reports,
+    output: &mut O,
+) -> Result<(), Failure>
+    ensures { OnOk result
+        (length reports.new.endings.items ≡ length reports.old.endings.items + length files.now) }
+{
+    for name in files {
+        let report = check_shown(rt, alloc, name, told)?;
+        reports.put(output, name, &report)?;
+    }
+    Ok(())
+}
+
+/// Checks the files, writes their reports, and gives their endings, in the order of the files.
+/// `told` where a terminal is told how far it is.
+pub fn check_files<R: Runtime + Threads + Sync, O: Write>(
+    rt: &R,
+    alloc: Global,
+    job: &CheckJob,
+    told: bool,
+    output: &mut O,
+) -> Result<Vec<Ending>, Failure>
+where
+    R::File: Send,
+    ensures { IfOk result (λ endings. length endings.items ≡ length job.now.files.items) }
+{
+    let mut reports = Reports::new(alloc, job)?;
+    if job.workers > 1 && job.files.len() > 1 {
+        check_rounds(rt, alloc, job, &mut reports, output)?;
+    } else {
+        check_each(rt, alloc, &job.files, told, &mut reports, output)?;
+    }
+    output.flush()?;
+    Ok(reports.endings)
+}

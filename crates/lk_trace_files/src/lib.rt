@@ -1,0 +1,28 @@
+//! Traces and logs as files: traces are checked, explained and written as schedules, and the logs of
+//! a run's threads are put into one order.
+//!
+//! `check_input` checks one input, and `check_files` the files of a job, with their reports in the
+//! form that it asks for. `explain_input` tells of each move of a trace, `write_schedule` writes it
+//! without its values, and `order_logs` orders logs. The program `locktrace` gives them its files.
+#![tactic(auto)]
+
+mod check;
+mod checking;
+mod explain;
+mod failures;
+mod formats;
+mod lines;
+mod ordering;
+mod scheduling;
+mod sentences;
+mod summary;
+mod texts;
+
+pub use check::{Ending, NoWatcher, Report, Watcher, check_input, unread, worst};
+pub use checking::{CheckJob, check_files, check_side_by_side};
+pub use explain::{Asked, explain_input};
+pub use failures::Failure;
+pub use formats::Format;
+pub use ordering::{OrderJob, order_logs};
+pub use scheduling::{Scheduled, write_schedule};
+pub use summary::Summary;

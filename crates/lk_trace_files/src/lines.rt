@@ -1,0 +1,168 @@
+//! The lines of an input, one after another, in memory that does not grow with it.
+//!
+//! Of each line the first 97 bytes are kept: no header and no move has more than 96, and of a
+//! comment nothing but its first byte matters.
+
+ghost use Rattle.std.specs.Prelude.{◌≤◌, ◌≡◌, ◌<◌, ◌++◌, [], false, true, length, take, IfOk};
+ghost use Rattle.std.specs.Prelude.{IfSome, Ok};
+ghost use Rattle.std.specs.Io.KnownBytes.{IsAtEnd, Keeps};
+
+#[cfg(test)]
+mod tests;
+
+use lk_trace::MOST_OF_A_LINE;
+use memchr::memchr;
+use std::alloc::{AllocError, Global};
+use std::io::{Error, ErrorKind, Read};
+
+/// The bytes of a line that are kept.
+const MOST_KEPT: usize = MOST_OF_A_LINE + 1;
+
+// Bytes asked of a reader at once.
+const CHUNK: usize = 65_536;
+
+/// A line, or what is kept of it.
+#[derive(Drop)]
+pub struct Line {
+    kept: [u8; 97],
+    count: usize,
+    whole: bool,
+    ghost inside: { count ≤ 97 },
+    ghost sized: { length kept ≡ 97 },
+}
+
+impl Line {
+    ghost use Rattle.lk_trace_files.specs.Lines.{kept};
+
+    /// Nothing is kept.
+    pub fn new() -> Line
+        ensures { kept result ≡ [] }
+    {
+        Line {
+            kept: [0; 97],
+            count: 0,
+            whole: false,
+        }
+    }
+
+    /// Its bytes, at most 97 of them.
+    pub fn bytes(&self) -> &[u8]
+        ensures { result.now ≡ kept self.now }
+    {
+        &self.kept[..self.count]
+    }
+
+    /// Whether its line feed was there.
+    pub fn is_whole(&self) -> bool
+        ensures { result ≡ self.now.whole }
+    {
+        self.whole
+    }
+
+    fn clear(&mut self)
+        ensures { kept self.new ≡ [] }
+    {
+        self.count = 0;
+        self.whole = false;
+    }
+
+    // Keeps as many of these bytes as have room.
+    fn keep(&mut self, bytes: &[u8])
+        ensures { kept self.new ≡ take 97 (kept self.old ++ bytes.now) }
+    {
+        let taken = bytes.len().min(MOST_KEPT - self.count);
+        let end = self.count + taken;
+        self.kept[self.count..end].copy_from_slice(&bytes[..taken]);
+        self.count = end;
+    }
+}
+
+/// An input that is read line by line.
+#[derive(Drop)]
+pub struct Lines<R> {
+    input: R,
+    chunk: Vec<u8>,
+    at: usize,
+    filled: usize,
+    ghost ordered: { at ≤ filled },
+    ghost inside: { filled ≤ length chunk.items },
+    ghost sized: { length chunk.items ≡ 65536 },
+}
+
+impl<R: Read + Drop> Lines<R> {
+    ghost use Rattle.lk_trace_files.specs.Lines.{TakesLine, kept, left};
+    ghost use Rattle.lk_trace_files.specs.invariants.Taken.{TakesPart};
+
+    /// Nothing was read yet.
+    pub fn new(alloc: Global, input: R) -> Result<Lines<R>, AllocError>
+        ensures { IfOk result (λ lines. Keeps (R.remaining input) (left R.remaining lines)) }
+    {
+        Ok(Lines {
+            input,
+            chunk: vec![in alloc; 0; CHUNK]?,
+            at: 0,
+            filled: 0,
+        })
+    }
+
+    // Reads on, where nothing is left of what was read ahead. False at the end of the input.
+    fn refill(&mut self) -> Result<bool, Error>
+        ensures kept { Keeps (left R.remaining self.old) (left R.remaining self.new) }
+        ensures some { result ≡ Ok true → self.new.at < self.new.filled }
+        ensures end { result ≡ Ok false → IsAtEnd (left R.remaining self.new) }
+    {
+        if self.at < self.filled {
+            return Ok(true);
+        }
+        let count = self.input.read(self.chunk.as_mut_slice())?;
+        self.at = 0;
+        self.filled = count;
+        Ok(count > 0)
+    }
+
+    // Takes what was read ahead, up to the first line feed. False where there is none.
+    fn take_part(&mut self, line: &mut Line) -> bool
+        requires { self.old.at < self.old.filled }
+        ensures { TakesPart result (left R.remaining self.old) (left R.remaining self.new)
+            (kept line.old) (kept line.new) }
+    {
+        let rest = &self.chunk[self.at..self.filled];
+        match memchr(b'\n', rest) {
+            Some(end) => {
+                line.keep(&rest[..end]);
+                line.whole = true;
+                self.at += end + 1;
+                true
+            }
+            None => {
+                line.keep(rest);
+                self.at = self.filled;
+                false
+            }
+        }
+    }
+
+    /// The next line, where there is one. The end of the last line may be missing.
+    ///
+    /// # Errors
+    ///
+    /// The input failed.
+    pub fn next_line(&mut self, line: &mut Line) -> Result<bool, Error>
+        ensures line { result ≡ Ok true
+            → TakesLine (left R.remaining self.old) (left R.remaining self.new) (kept line.new) }
+        ensures end { result ≡ Ok false → IsAtEnd (left R.remaining self.old) }
+    {
+        line.clear();
+        let mut some = false;
+        for _ in 0..u64::MAX {
+            if !self.refill()? {
+                return Ok(some);
+            }
+            if self.take_part(line) {
+                return Ok(true);
+            }
+            some = true;
+        }
+        Err(Error::from(ErrorKind::FileTooLarge))
+    }
+}

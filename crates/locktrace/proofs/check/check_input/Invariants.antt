@@ -1,8 +1,0 @@
--- What is left of the text ends as the text does.
-use Rattle.locktrace.specs.Lines.{left}
-use Rattle.locktrace.specs.invariants.Following.{Reads}
-use Rattle.locktrace.proofs.check.check_input.Given as goal
-
-abbrev pub invariant-loop-number : goal.invariant-loop-number
-invariant-loop-number g l =
-    Reads (g.R.Read.remaining l.fn.input) (left g.R.Read.remaining l.lines) l.number l.trace

@@ -1,7 +1,0 @@
--- One ending for each file so far.
-use Rattle.std.proofs.Common.{◌≡◌, ◌+◌, length}
-use Rattle.locktrace.proofs.checking.check_each.Given as goal
-
-abbrev pub invariant-loop-name : goal.invariant-loop-name
-invariant-loop-name _ l =
-    length l.reports.endings.items ≡ length l.initial.reports.endings.items + l.name-index
