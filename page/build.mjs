@@ -1,6 +1,6 @@
 #!/usr/bin/env node
-// Builds page/lockreplay.html, one file, from page/src, docs/LOCKS.md, examples/ and the proved
-// module:
+// Builds page/lockreplay.html, one file, from page/src, docs/LOCKS.md, examples/, VERSION and the
+// proved module:
 //
 //     node page/build.mjs MODULE.wasm            writes the page
 //     node page/build.mjs MODULE.wasm --check    fails where the page is not what this would write
@@ -45,6 +45,7 @@ function build(module) {
   const script = `${bundle(SOURCES, 'main.js')}\nstart(${asScript(data)});`;
   // Functions, so that no `$` of a source is taken for a sign of the replacement.
   return read('src', 'index.html').replace('{{STYLE}}', style)
+    .replace('{{VERSION}}', () => read('..', 'VERSION').trim())
     .replace('{{POLICY}}', () => policy(`\n${script}\n`)).replace('{{SCRIPT}}', () => script);
 }
 

@@ -1,9 +1,12 @@
 """The page by keys alone: not one click."""
+from pathlib import Path
+
 from selenium.webdriver.common.action_chains import ActionChains
 from selenium.webdriver.common.keys import Keys
 
 from browser import open_page, run, wait
 
+VERSION = (Path(__file__).resolve().parents[2] / "VERSION").read_text().strip()
 SHOWN = """
 return {
   position: document.getElementById('position').textContent,
@@ -70,6 +73,7 @@ def choosing_a_lesson(driver, _):
     until(driver, lessons=False, position="0 of 25", title="The third is linked before the second")
     press(driver, "?")
     until(driver, keys=True)
+    assert f"lockreplay {VERSION}" in driver.find_element("id", "keys").text
     press(driver, Keys.ESCAPE)
     until(driver, keys=False)
 

@@ -44,7 +44,7 @@ impl<T: Drop> From<AllocFailed<T>> for ParseFault {
 }
 
 /// The version of the program, as the file VERSION has it.
-const VERSION: &str = "0.9.0";
+const VERSION: &str = "1.0.0";
 
 /// The most workers of a check.
 pub const MOST_WORKERS: u8 = 64;
