@@ -20,7 +20,8 @@ use Rattle.lk_trace.specs.declared.trace.TextFault.TheVariants.{BadLine}
 use Rattle.lk_trace_files.specs.Accepted.{IsMove, AreMoves, IsHeader, IsTrace}
 use Rattle.lk_trace_files.specs.Verdicts.{Verdict, IsOfText, unless_ended, verdict, verdict_from}
 use Rattle.lk_trace_files.specs.Verdicts.{verdict_in, verdict_of}
-use Rattle.lk_trace_files.specs.declared.check.Ending.TheVariants.{Accepted, Refused, Unread, Faulty}
+use Rattle.lk_trace_files.specs.declared.check.Ending.TheVariants.{Accepted, Refused, Unread}
+use Rattle.lk_trace_files.specs.declared.check.Ending.TheVariants.{Faulty}
 use Rattle.lk_trace_files.specs.declared.check.Report.{Report}
 
 -- a line, and those behind it

@@ -2,7 +2,8 @@
 -- own.
 use Rattle.std.specs.Prelude.{ℕ, List, [], ◌∷◌, max}
 use Rattle.lk_trace_files.specs.declared.check.Ending.{Ending}
-use Rattle.lk_trace_files.specs.declared.check.Ending.TheVariants.{Accepted, Refused, Unread, Faulty}
+use Rattle.lk_trace_files.specs.declared.check.Ending.TheVariants.{Accepted, Refused, Unread}
+use Rattle.lk_trace_files.specs.declared.check.Ending.TheVariants.{Faulty}
 
 -- 1 where a move or a value is refused, 3 where the file could not be read, 4 where it is no trace
 abbrev pub status_of : Ending → ℕ

@@ -10,7 +10,8 @@ use Rattle.lk_trace.specs.declared.trace.Event.{Event}
 use Rattle.lk_trace.specs.declared.trace.Event.TheVariants.{Differs, Fault}
 use Rattle.lk_trace_files.specs.Accepted.{IsTrace}
 use Rattle.lk_trace_files.specs.declared.check.Ending.{Ending}
-use Rattle.lk_trace_files.specs.declared.check.Ending.TheVariants.{Accepted, Refused, Unread, Faulty}
+use Rattle.lk_trace_files.specs.declared.check.Ending.TheVariants.{Accepted, Refused, Unread}
+use Rattle.lk_trace_files.specs.declared.check.Ending.TheVariants.{Faulty}
 use Rattle.lk_trace_files.specs.declared.check.Report.{Report}
 
 -- how a text ends, and the line that ends it, from 1; 0 where none does

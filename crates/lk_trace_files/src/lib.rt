@@ -1,5 +1,5 @@
-//! Traces and logs as files: traces are checked, explained and written as schedules, and the logs of
-//! a run's threads are put into one order.
+//! Traces and logs as files: traces are checked, explained and written as schedules, and the logs
+//! of a run's threads are put into one order.
 //!
 //! `check_input` checks one input, and `check_files` the files of a job, with their reports in the
 //! form that it asks for. `explain_input` tells of each move of a trace, `write_schedule` writes it
