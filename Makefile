@@ -7,6 +7,8 @@
 # make test-library                    tries the static library for traces from C and from Python
 # make edits CRATE=NAME [EDIT=NAME]    tries a crate's wrong bodies and their right twins, or one of each
 # make twins    shows that the right twin of each wrong body that has one is proved
+# make programs builds lockreplay and locktrace, where they are missing or older than a source
+# make library  builds the static library for traces from C and from Python, likewise
 # make page     builds the page's module and page/lockreplay.html
 # make test-page                       fails where the page is not what its sources build to, and tests it in browsers
 # make demo     builds the program where it is missing or older than a source, and replays a schedule of two threads on a ticket lock
@@ -35,7 +37,7 @@ SHORT_FUZZ_SECONDS := 5
 SOAK_SECONDS := 3600
 EDIT := *
 
-.PHONY: test check edits twins demo bench soak tools
+.PHONY: test check edits twins demo programs library bench soak tools
 
 test: tools
 	tests/gate.sh
@@ -104,6 +106,10 @@ twins: tools
 
 demo: $(PROGRAM)
 	$(PROGRAM) replay < $(LESSON)
+
+programs: $(PROGRAM) $(TRACER)
+
+library: $(LIBRARY)
 
 bench: $(PROGRAM) tools
 	bench/run.py $(PROGRAM)
