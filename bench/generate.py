@@ -12,7 +12,7 @@
     alone-of-64      one thread of a ticket lock for 64 threads enters and leaves
     none             a header and no move: what it costs to start
 
-The same kind always gives the same text. Which step is due is asked of the fuzzer's oracle.
+The same kind always gives the same text. Which step is due the machine of fuzz/machine.py says.
 """
 import pathlib
 import random
@@ -33,7 +33,7 @@ def contend(machine, chance):
     """Who is outside queues up at once. Else the oldest moves, or one that waits looks."""
     outside = list(range(machine.threads))
     while True:
-        requests = machine.line
+        requests = machine.queue
         outside = [thread for thread in outside if thread not in requests]
         if outside:
             thread = outside[0]

@@ -31,7 +31,7 @@ class Machine:
         self.answers = [()] * threads  # what its steps answered so far
         self.code = [None] * threads  # its generator; None in a copy
         self.held = {}  # threads that hold, and the call by which each does
-        self.line = []  # the queue, oldest first
+        self.queue = []  # oldest first
         self.shown = "hold - queue -"  # holders and queue in a report; None where to be made anew
 
     def copy(self):
@@ -40,7 +40,7 @@ class Machine:
         other.lock, other.threads, other.words = self.lock, self.threads, self.words.copy()
         other.call, other.step, other.due = self.call[:], self.step[:], self.due[:]
         other.answers, other.code = self.answers[:], [None] * self.threads
-        other.held, other.line, other.shown = dict(self.held), self.line[:], self.shown
+        other.held, other.queue, other.shown = dict(self.held), self.queue[:], self.shown
         return other
 
     def giving_back(self, thread):
@@ -81,7 +81,7 @@ class Machine:
         if answer is WAITS:
             return "waits"
         if step.is_place_in_line:
-            self.line.append(thread)
+            self.queue.append(thread)
             self.shown = None
         try:
             step = self.code[thread].send(answer)
@@ -113,8 +113,8 @@ class Machine:
             self._enter(thread, call)
         else:
             del self.held[thread]
-        if thread in self.line and is_entering != self.lock.is_holder_in_line:
-            self.line.remove(thread)
+        if thread in self.queue and is_entering != self.lock.is_holder_in_line:
+            self.queue.remove(thread)
         self.call[thread] = self.step[thread] = self.due[thread] = self.code[thread] = None
         self.answers[thread] = ()
         self.shown = None
@@ -122,7 +122,7 @@ class Machine:
 
     def _enter(self, thread, call):
         self.held[thread] = call
-        assert not self.line or self.line[0] == thread, "another is first in line"
+        assert not self.queue or self.queue[0] == thread, "another is first in line"
         assert len(self.held) == 1 or self.sign() == HOLDING[call].sign == "r", "another is inside"
 
     def sign(self):
@@ -132,6 +132,6 @@ class Machine:
     def state(self):
         """Holders and queue, as a report shows them."""
         if self.shown is None:
-            holders, queue = ",".join(map(str, sorted(self.held))), ",".join(map(str, self.line))
+            holders, queue = ",".join(map(str, sorted(self.held))), ",".join(map(str, self.queue))
             self.shown = f"hold {self.sign()}{holders} queue {queue or '-'}"
         return self.shown

@@ -1,6 +1,6 @@
 """Random schedules and random texts, drawn from one generator of numbers.
 
-Most moves are the due step or a call that is allowed, found by walking the oracle's own state; so
+Most moves are the due step or a call that is allowed, as the machine of machine.py has them; so
 schedules reach deep into each lock. Some end in a refused move, some in a line that is no move,
 and some texts are changed byte by byte.
 """

@@ -1,15 +1,16 @@
 """The worked rows: texts, and the reports that a person wrote down for them.
 
-They stand in three places, and nowhere else:
+They stand in three kinds of files:
 
     examples/NAME.schedule, NAME.report      lessons
     tests/rows/NAME.schedule, NAME.report    whole reports that are no lesson
     tests/rows/TABLE.txt                     a text and its report on one line; the head of
                                              texts.txt says how they are written
 
-The two texts of examples/ that are too large to lie there are printed by examples/limits.sh. Two
-rows more are made by a rule, below. `rows.py` replays all of them, and `refusals.py` does so with
-each request for memory refused. What stands in no file, since it is made by a rule, is below.
+The two texts of examples/ that are too large to lie there are printed by examples/limits.sh. Rows
+that a rule makes stand in no file: `mcs_queue_of_64`, `most_moves`, and the many of `short_rows`.
+`rows.py` replays all of them, and `refusals.py` all but the short ones, with each request for
+memory refused.
 """
 import pathlib
 import re
