@@ -1,4 +1,4 @@
--- What each room proves of its lock: all other proofs rest on that, and know no lock.
+-- What each room proves of its lock. The proofs that the locks share rest on that and know none.
 use Rattle.lk_locks.proofs.Cases.{IsRoom}
 use Rattle.lk_locks.proofs.invariants.mcs
 use Rattle.lk_locks.proofs.invariants.rw_fifo

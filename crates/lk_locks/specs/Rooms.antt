@@ -1,6 +1,6 @@
--- Definitions. Which lock has which room, and which family it belongs to. All other files call
--- these and know no lock, and what is the same for each lock of a family goes by the family. This
--- project's own.
+-- Definitions. Which lock has which room, and which family it belongs to. What the locks share goes
+-- by these and knows no lock, and what is the same for each lock of a family goes by the family.
+-- This project's own.
 use Rattle.std.specs.Prelude.{ℕ, ◌+◌, ◌*◌, List, [], ◌∷◌, Option}
 use Rattle.lk_locks.specs.Change.{Change}
 use Rattle.lk_locks.specs.ticket

@@ -66,6 +66,8 @@ impl<W: Words> Keeper<W> {
     /// Plays a move, in this order: the refusal is decided, room for three entries is made, the
     /// move is made and recorded.
     ///
+    /// # Errors
+    ///
     /// After either fault nothing has changed. `OutOfMemory` is answered only where a growth of the
     /// history was refused; a refused move asks for no memory.
     pub fn play(&mut self, t: u8, m: Move) -> Result<Outcome, PlayFault>

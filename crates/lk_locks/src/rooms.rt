@@ -1,5 +1,5 @@
-//! Which lock has which room, and which family it belongs to. All other files call these functions
-//! and know no lock.
+//! Which lock has which room, and which family it belongs to. What the locks share calls these
+//! functions and knows no lock.
 
 ghost use Rattle.std.specs.Prelude.{◌≡◌, []};
 ghost use Rattle.std.specs.List.{list_any};

@@ -86,8 +86,11 @@ impl<W: Words> Tracker<W> {
         outcome
     }
 
-    /// Makes the move, or answers the first refusal that applies and changes nothing, as
-    /// `Machine::apply` does.
+    /// Makes the move, as `Machine::apply` does.
+    ///
+    /// # Errors
+    ///
+    /// The first refusal that applies. Then nothing has changed.
     pub fn apply(&mut self, t: u8, m: Move) -> Result<Outcome, Refusal>
         ensures answer { result ≡ answer_to self.old.state t m }
         ensures after { self.new ≡ after_tracked self.old t m }

@@ -26,6 +26,7 @@ use read_write::lowest_section;
 use std::alloc::{AllocError, Global};
 use ticket::Tickets;
 
+// The most threads of a lock.
 const MOST_THREADS: usize = 64;
 
 /// When a step is proposed.

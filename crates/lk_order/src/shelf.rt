@@ -51,6 +51,10 @@ impl Shelf {
     ghost use Rattle.lk_order.specs.Shelves.{empty_shelf, logs_of, threads_of};
 
     /// No log was taken yet.
+    ///
+    /// # Errors
+    ///
+    /// A request for memory was refused.
     pub fn new(alloc: Global) -> Result<Shelf, AllocError>
         ensures { IfOk result (λ shelf. shelf ≡ empty_shelf) }
     {

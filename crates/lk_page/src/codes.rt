@@ -8,6 +8,7 @@ ghost use Rattle.lk_page.specs.Codes.{refusal_code, refusal_step, fault_code, fa
 use lk_locks::{LockKind, Move, Op, Outcome, Phase, Refusal, StepKind};
 use lk_replay::ReadFault;
 
+/// The number of a lock.
 pub fn lock_code(kind: LockKind) -> u8
     ensures { result ≡ lock_code kind }
 {
@@ -57,6 +58,7 @@ pub fn action_codes(action: Move) -> (u8, u8)
     }
 }
 
+/// The number of an outcome.
 pub fn outcome_code(outcome: Outcome) -> u8
     ensures { result ≡ outcome_code outcome }
 {
@@ -69,6 +71,7 @@ pub fn outcome_code(outcome: Outcome) -> u8
     }
 }
 
+/// The number of a phase, without what it carries.
 pub fn phase_code(phase: Phase) -> u8
     ensures { result ≡ phase_code phase }
 {
@@ -122,6 +125,7 @@ pub fn due_code(due: Option<StepKind>) -> u8
     }
 }
 
+/// The number of a refusal, without the step that it names.
 pub fn refusal_code(refusal: Refusal) -> u32
     ensures { result ≡ refusal_code refusal }
 {

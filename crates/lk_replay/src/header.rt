@@ -60,6 +60,10 @@ fn named_lock(line: &[u8]) -> Option<(LockKind, &[u8])>
 }
 
 /// The header that line `number` is.
+///
+/// # Errors
+///
+/// What is wrong with the line: `BadHeader`, `BadThreads` or `WordsTooNarrow`, with its number.
 #[tactic(auto, unfolding(crate::specs::Header::header_of))]
 pub fn header_of(line: &[u8], number: u32) -> Result<Header, ReadFault>
     ensures some { IfOk result (λ header. 0 < header.threads) }

@@ -19,7 +19,9 @@ use std::io::{Error, ErrorKind, Read};
 /// How an input ended, by the statuses of the program: the greatest wins.
 #[derive(Clone, Copy, PartialEq, Eq, Debug)]
 pub enum Ending {
+    /// The text is an accepted trace.
     Accepted,
+    /// A line differs from the machine.
     Refused,
     /// It could not be opened or read.
     Unread,
@@ -129,6 +131,10 @@ impl Report {
 }
 
 /// A report of an input that could not be opened or read.
+///
+/// # Errors
+///
+/// A request for memory was refused.
 pub fn unread(alloc: Global, error: &Error) -> Result<Report, AllocError>
     ensures { IfOk result (λ report. report.ending ≡ Ending.Unread) }
 {
@@ -172,6 +178,7 @@ fn take_line(
 
 /// Somebody who is told of each line.
 pub trait Watcher {
+    /// The line of this number, from 1, was read.
     fn line(&mut self, number: u64);
 }
 
@@ -186,6 +193,10 @@ impl Watcher for NoWatcher {
 }
 
 /// Checks an input to its end, or up to the first line that ends it.
+///
+/// # Errors
+///
+/// A request for memory was refused. An input that fails is no error: that is reported.
 pub fn check_input<R: Read + Drop, W: Watcher>(
     alloc: Global,
     input: R,

@@ -137,6 +137,10 @@ fn check_shown<R: Runtime>(
 
 /// Checks inputs side by side, each by a thread of its own. The reports are in the order of the
 /// inputs, and are those of one after another.
+///
+/// # Errors
+///
+/// A request for memory was refused. One that was refused in a check stands in that report's place.
 pub fn check_side_by_side<R: Threads + Sync, I: Read + Send + Drop>(
     rt: &R,
     alloc: Global,
@@ -275,6 +279,11 @@ fn check_each<R: Runtime, O: Write>(
 
 /// Checks the files, writes their reports, and gives their endings, in the order of the files.
 /// `told` where a terminal is told how far it is.
+///
+/// # Errors
+///
+/// The output failed, or a request for memory was refused. A file that fails is no error: that is
+/// reported.
 pub fn check_files<R: Runtime + Threads + Sync, O: Write>(
     rt: &R,
     alloc: Global,

@@ -226,7 +226,12 @@ impl Telling<'_> {
 // Bytes that wait before they are written.
 const MOST_WAITING: usize = 65_536;
 
-/// Tells of each move of a trace that is asked for, and how it ended.
+/// Tells of each move of a trace that is asked for, and answers how the trace ended.
+///
+/// # Errors
+///
+/// The output failed, or a request for memory was refused. An input that fails is no error: that is
+/// told and answered.
 pub fn explain_input<R: Read + Drop, O: Write>(
     alloc: Global,
     input: R,

@@ -1,4 +1,4 @@
-//! What ends the program early.
+//! What ends a job early.
 
 use std::alloc::{AllocError, AllocFailed};
 use std::io::Error;
@@ -8,6 +8,7 @@ use std::io::Error;
 pub enum Failure {
     /// Standard output or a file to be written failed.
     Output(Error),
+    /// A request for memory was refused.
     Memory,
 }
 

@@ -52,7 +52,13 @@ fn write_found<R: Files>(
 }
 
 /// Puts the logs into one order and writes its trace and its schedules into the folder. What there
-/// is to say goes into `errors`.
+/// is to say goes into `errors`. The answer is the status of the program: 0 where there is an
+/// order, also up to where a log was cut short, 1 where a step cannot be placed, 3 where a log
+/// could not be read, 4 where the logs are not those of one run.
+///
+/// # Errors
+///
+/// A file could not be written, or a request for memory was refused.
 pub fn order_logs<R: Files>(
     rt: &R,
     alloc: Global,

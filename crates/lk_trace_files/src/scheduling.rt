@@ -24,6 +24,7 @@ pub enum Scheduled {
 }
 
 impl Scheduled {
+    /// The same as an ending of a check, which gives the status of the program.
     pub fn ending(&self) -> Ending {
         match self {
             Scheduled::Whole => Ending::Accepted,
@@ -32,7 +33,11 @@ impl Scheduled {
         }
     }
 
-    /// What is said of it.
+    /// What is said of it, of a file of this name.
+    ///
+    /// # Errors
+    ///
+    /// A request for memory was refused.
     pub fn text(&self, alloc: Global, name: &str) -> Result<String, Failure> {
         let mut text = String::new(alloc);
         text.push_str(name)?;
@@ -84,6 +89,11 @@ fn put_short(
 }
 
 /// Writes the schedule of a trace. Comments become empty lines, so that each line keeps its number.
+///
+/// # Errors
+///
+/// The output failed, or a request for memory was refused. An input that fails is no error: that is
+/// answered.
 pub fn write_schedule<R: Read + Drop, O: Write>(
     alloc: Global,
     input: R,

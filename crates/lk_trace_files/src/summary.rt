@@ -47,6 +47,7 @@ fn put_count(text: &mut String, count: u64, one: &str, several: &str) -> Result<
 }
 
 impl Summary {
+    /// Nothing is counted yet.
     pub fn new() -> Summary {
         Summary {
             seen: 0,

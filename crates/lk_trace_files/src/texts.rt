@@ -1,6 +1,6 @@
 //! What is said of differences and faults, and of who holds and who waits.
 
-use lk_locks::{Holders, LockKind, Move, Refusal, Tracker};
+use lk_locks::{Holders, LockKind, Refusal, Tracker};
 use lk_trace::{
     Difference, Seen, TextFault, TraceLine, WordName, lock_text, move_text, outcome_text, step_text,
 };

@@ -1,10 +1,13 @@
-//! A number that a call picks, as a type, since a split of a view is named by a type.
+//! A number that a call chooses, as a type: a table names each way to split a view by a type, and
+//! so the type has to say how much goes to the other seat.
 
 ghost use Rattle.std.specs.Prelude.{ℕ};
 
 use std::marker::Brand;
 
+/// A type that stands for a number.
 pub trait Amount {
+    /// The number.
     ghost amount: { ℕ };
 }
 

@@ -29,6 +29,7 @@ pub struct Opened<'a, G: Gate> {
 }
 
 impl<'a, G: Gate> Opened<'a, G> {
+    /// Tells the gate that a worker begins with the text of this number.
     pub fn begin(gate: &'a G, number: u32) -> Opened<'a, G> {
         gate.begin(number);
         Opened { gate, number }

@@ -1,6 +1,6 @@
 -- The room of the MCS queue lock: each step goes on with its call, and each move keeps the queue of
 -- the swaps.
-use Rattle.std.proofs.Common.{List, [], ap, arith, drop, false, inl, inr, length, refl}
+use Rattle.std.proofs.Common.{List, [], ap, arith, false, inl, inr, length, refl}
 use Rattle.std.proofs.Common.{set, slice_index, sym, true, ℕ, ◌*◌, ◌++◌, ◌+◌, ◌-◌, ◌<◌}
 use Rattle.std.proofs.Common.{◌∙◌, ◌∷◌, ◌≡◌, ◌≢◌, ◌≤◌, ◌^◌}
 use Rattle.std.proofs.lemmas.Bool.{eq-eqb, false≢true}
@@ -42,10 +42,7 @@ use Rattle.lk_locks.proofs.invariants.McsSteps.{keeps_length, links_fit, owed_is
 head_is : (q : List ℕ) (t : ℕ) (r : List ℕ) → q ≡ t ∷ r → is_head q t ≡ true
 head_is q t r e = rw e (eq-eqb t t refl)
 
-rest_is : (q : List ℕ) (t : ℕ) (r : List ℕ) → q ≡ t ∷ r → drop 1 q ≡ r
-rest_is q t r e = ap (drop 1) e
-
--- the head goes on goes_inside
+-- the head goes on, and changes nothing but its phase
 goes_inside : (ws : List ℕ) (ps : List Phase) (q : List ℕ) (t : ℕ) (p : Phase)
     (i : IsHeadOf ws ps q t) → t < length ps → IsFirst ws t i.rest p → IsQueue ws ps q
     → IsQueue ws (set ps t p) q

@@ -2,6 +2,7 @@
 
 use lk_locks::{Outcome, Phase};
 
+/// What a section of a thread in this phase, with this outcome, means.
 pub fn sentence(phase: Phase, outcome: Outcome) -> &'static str {
     match (phase, outcome) {
         (Phase::TryRead, Outcome::Entered) => "finds no writer: it reads",

@@ -2,6 +2,7 @@
 
 use lk_locks::{Outcome, Phase};
 
+/// What a step of a thread in this phase, with this outcome, means.
 pub fn sentence(phase: Phase, outcome: Outcome) -> &'static str {
     match (phase, outcome) {
         (Phase::TakeTicket, _) => "takes its ticket, and is in the queue from here on",

@@ -28,8 +28,10 @@ pub struct SeatState {
     pub made: LinkedList<Operation>,
 }
 
+/// What a table knows of the seats that are held together.
 pub type View = LinkedList<SeatState>;
 
+/// The two words, with their rule.
 pub type LiveWords = Shared<(), View, u64, TicketRule>;
 
 /// The words and the seats are a state of the ticket lock.
@@ -46,6 +48,7 @@ impl TableRule<(), View, u64> for TicketRule {
     ghost first = { λ takes. seat_state Idle 0 takes 0 0 0 [] ∷ [] };
 }
 
+/// The fetch-and-add on `next_ticket`.
 pub struct Take;
 
 impl Play<(), View> for Take {
@@ -55,6 +58,7 @@ impl Play<(), View> for Take {
     ghost then = { OfOne take_step TakeTells };
 }
 
+/// A load of `now_serving` by a seat that waits.
 pub struct Look;
 
 impl Play<(), View> for Look {
@@ -64,6 +68,7 @@ impl Play<(), View> for Look {
     ghost then = { OfOne look_step LookTells };
 }
 
+/// The load of `now_serving` by a seat that releases.
 pub struct ReadServing;
 
 impl Play<(), View> for ReadServing {
@@ -73,6 +78,7 @@ impl Play<(), View> for ReadServing {
     ghost then = { OfOne read_step ReadTells };
 }
 
+/// The store into `now_serving`.
 pub struct Pass;
 
 impl Play<(), View> for Pass {
@@ -82,7 +88,8 @@ impl Play<(), View> for Pass {
     ghost then = { OfOne pass_step PassTells };
 }
 
-// What a joined seat has is few, which the rule alone knows.
+// A load that changes nothing. It tells that the numbers of a joined seat are at most 2^40, which
+// the rule alone knows.
 pub struct Count;
 
 impl Play<(), View> for Count {
@@ -91,7 +98,8 @@ impl Play<(), View> for Count {
     ghost then = { Counts };
 }
 
-// Two seats side by side are apart, which the rule alone knows.
+// A load that changes nothing. It tells that two seats of one view do not both hold the lock, and
+// that their tickets differ, which the rule alone knows.
 pub struct Compare;
 
 impl Play<(), View> for Compare {
@@ -100,6 +108,7 @@ impl Play<(), View> for Compare {
     ghost then = { Compares };
 }
 
+/// A split: so many of a seat's takes go to a new seat.
 pub struct Cut<A> {
     amount: PhantomData<A>,
 }
@@ -112,6 +121,7 @@ impl<A: Amount> Split<View> for Cut<A> {
     ghost right = { cut_right A.amount };
 }
 
+/// A join: one seat has then what two had.
 pub struct Glue;
 
 impl Join<View> for Glue {

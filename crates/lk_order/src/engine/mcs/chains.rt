@@ -39,7 +39,7 @@ pub struct Chains {
     threads: usize,
 }
 
-// The number at a place of a place, or NONE.
+// The number of this thread and instance in a table, or NONE where the table has none.
 fn at(table: &[Vec<u32>], thread: usize, instance: usize) -> u32 {
     match table.get(thread) {
         Some(row) => row.get(instance).copied().unwrap_or(NONE),
