@@ -40,10 +40,10 @@ OUTSIDE = set("""
     futex parallel ssh rsync hosts Host Exitval RT_JOBS SimpleReadWriteLock FifoReadWriteLock
     mkdir libck tas
 """.split())
-# Files that the commands of a document write, and parts that are not built yet.
+# Files that the commands of a document write, and what a build does.
 WRITTEN = (
     "logs/*", "ordered/*", "try.c", "./try", "jobs.log", "run.trace", "run.schedule", "*.example",
-    "crates/lk_trace*", "crates/locktrace*", "*/out/*",
+    "*/out/*",
     "record/locktrace.h", "/dev/*", "{}*", "examples/fault-too-*", "*.c",
 )
 

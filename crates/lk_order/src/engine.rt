@@ -1,12 +1,12 @@
 //! Which thread's step comes next. It is proposed, and no more: a mistake here can only end in an
 //! order that is not found.
 //!
-//! Rounds take turns. Looks and calls change no word that another thread sees, so each is
-//! proposed as soon as the machine's word holds what it found: nothing is lost by it. Where none is
-//! left, a step that changes a word is proposed that nobody has still to look at before. Last come
-//! the steps that end what others may look at: the release of a ticket lock, and a swap that finds
-//! nobody; of these the one whose chain has no end comes behind the others. A monitor's sections
-//! come in the order of their count.
+//! Steps are proposed in rounds. A look is a step that changes no word that another thread can
+//! read. Looks and calls come first, each as soon as the machine's word holds what it found:
+//! nothing is lost by it. Where none is left, a step that changes a word is proposed that nobody
+//! has still to look at before. Last come the steps that end what others may look at: the release
+//! of a ticket lock, and a swap that finds nobody; of these the one whose chain has no end comes
+//! behind the others. A monitor's sections come in the order of their count.
 //!
 //! A thread whose step was not placed sleeps until a step is placed that it may have waited for:
 //! one on its word, or the section before its own. So each step is asked for as often as its word
@@ -37,7 +37,7 @@ enum Round {
     Last,
     /// A swap that finds nobody, and begins a chain whose end is cut off.
     CutOff,
-    /// A swap that finds nobody, and behind which nobody ever does.
+    /// A swap that finds nobody, after which no other swap does.
     Endless,
     /// The thread's log ends.
     Never,
@@ -178,7 +178,7 @@ impl Engine {
         }
     }
 
-    // A thread that may make its step in this round. Those that may not sleep.
+    // A thread that may make its step in this round. Those that may not are put to sleep.
     fn choose_in(&mut self, order: &Order, round: Round) -> Option<u8> {
         for i in 0..self.threads {
             let at = self.from.saturating_add(i);

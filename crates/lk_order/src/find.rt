@@ -28,8 +28,8 @@ pub struct Stuck {
 pub enum Ending {
     /// All lines of all logs are placed, and no log was cut short.
     Whole,
-    /// All lines of a log that was cut short are placed, and so are those of the others as far as
-    /// they go without what is missing.
+    /// All lines of a log that was cut short are placed, and those of each other log up to the
+    /// first step that needs a missing one.
     Cut,
     /// There is a step that cannot be placed.
     Stuck(Stuck),
@@ -42,7 +42,7 @@ pub struct Found {
     pub ending: Ending,
 }
 
-// How doubtful it is that the step itself is wrong, and not one before it that cannot be placed.
+// How likely another step is to blame that cannot be placed: 0 where it is surely this one.
 fn doubt(difference: Option<Difference>) -> u8 {
     match difference {
         Some(

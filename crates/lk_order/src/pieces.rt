@@ -25,8 +25,9 @@ pub struct Piece {
 #[derive(Drop)]
 pub struct Pieces<'a> {
     order: &'a Order,
-    // so many moves are in pieces or left out, and so many of these are in pieces
+    // how many moves are in pieces or left out so far
     at: usize,
+    // how many of these are in pieces
     given: usize,
     // whether the last piece ended where threads were in calls
     open: bool,
@@ -85,8 +86,8 @@ fn next_quiet(order: &Order, first: usize, busy: Busy) -> (usize, Busy)
     (order.len(), busy)
 }
 
-// Where the piece from this move on ends, and who is in a call there: at the last moment that has
-// nobody in one, or else where a schedule is full or the order ends.
+// Where the piece from this move on ends, and who is in a call there: at the last moment at which
+// nobody is in one, or else where a schedule is full or the order ends.
 fn end_of(order: &Order, first: usize, busy: Busy) -> (usize, Busy)
     requires { first < length order.now.trace }
     ensures some { first < result.0 }

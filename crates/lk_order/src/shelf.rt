@@ -10,7 +10,7 @@ use std::marker::Model;
 // The most threads of a lock.
 const MOST_THREADS: usize = 64;
 
-/// Why a log is none of the run.
+/// Why a log does not belong to the run.
 #[derive(Clone, Copy, PartialEq, Eq, Debug)]
 pub enum Unfit {
     /// It is of another lock, or another number of threads or bits, than the first one.

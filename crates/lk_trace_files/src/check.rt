@@ -1,5 +1,5 @@
 //! The check of one input: read line by line, up to the first line that differs from the machine or
-//! is none of a trace.
+//! is not a trace's.
 
 ghost use Rattle.std.specs.Prelude.{◌≡◌, IfOk, IfSome, None};
 ghost use Rattle.lk_trace.specs.Traces.{after_text_line, event_of};

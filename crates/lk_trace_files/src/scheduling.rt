@@ -18,7 +18,7 @@ const MOST_WAITING: usize = 65_536;
 #[derive(Debug, Drop)]
 pub enum Scheduled {
     Whole,
-    /// A line that is none of a trace.
+    /// A line that is not a trace's.
     Faulty(u64, TextFault),
     Unread(Error),
 }

@@ -45,8 +45,8 @@ pub fn link_of(phase: Phase) -> Option<u8> {
     }
 }
 
-/// The acquires of a run, and how many of each thread have swapped themselves in. Of another lock
-/// there are none.
+/// The acquires of a run, and how many of each thread have swapped themselves in. Empty for another
+/// lock.
 #[derive(Drop)]
 pub struct Acquires {
     begun: [usize; 64],

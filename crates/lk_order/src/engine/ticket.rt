@@ -17,7 +17,7 @@ pub fn round_of(step: StepKind, phase: Phase) -> Round {
     }
 }
 
-/// The thread of each ticket, in order, and how many are taken. Of another lock there are none.
+/// The thread of each ticket, in order, and how many are taken. Empty for another lock.
 #[derive(Drop)]
 pub struct Tickets {
     threads: Vec<u8>,

@@ -1,4 +1,4 @@
-//! A line that is none of a trace: the column, what stands there, what could stand there, and the
+//! A line that is not a trace's: the column, what stands there, what could stand there, and the
 //! nearest word.
 
 use crate::explain::grammar::{Due, Wrong, wrong_place};
@@ -8,7 +8,7 @@ use std::alloc::{AllocError, Global};
 use std::fmt::Write;
 use strsim::levenshtein;
 
-// Of words with more edits between them neither is meant for the other.
+// Words that differ by more edits are not suggested for one another.
 const MOST_EDITS: usize = 2;
 
 // The word that is most like this one, where one is: most of it has to be the same.

@@ -4,8 +4,7 @@
 //! predecessor is x, since both logs are in order. So the instances fall into chains. A chain ends
 //! before the next one begins, and a thread's instances come in its order: a chain may begin where
 //! each of its threads has no earlier instance left but in the chain itself. A chain that does not
-//! end comes last, since nothing that finds nobody can follow it; before it one whose end is cut
-//! off.
+//! end comes last, since no later swap can find nobody; before it one whose end is cut off.
 
 use super::instances::{Instance, Neighbor};
 use crate::engine::MOST_THREADS;
