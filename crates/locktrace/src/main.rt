@@ -7,8 +7,10 @@
 mod command_line;
 
 use command_line::{Job, ParseFault, parse_words};
-use lk_trace_files::{Asked, Ending, Failure, Scheduled};
-use lk_trace_files::{check_files, explain_input, order_logs, worst, write_schedule};
+use lk_trace_files::{
+    Asked, Ending, Failure, Scheduled, check_files, explain_input, order_logs, worst,
+    write_schedule,
+};
 use std::alloc::Global;
 use std::io::{Eprint, ErrorKind, IsTerminal, Write};
 use std::process::ExitCode;
