@@ -1,47 +1,36 @@
 #!/usr/bin/env bash
-# The proofs of `make test`: `rt ci`, and in parallel the page's module and the static library for
-# C, which `rt ci` does not build.
+# The proofs of `make test`, from nothing: `rt ci`, and then, over the libraries that it has proved,
+# the mutants and their twins, the page's module, and the static library for C, which `rt ci` proves
+# and does not build.
 #
-# `rt ci` moves away what its tree has built, so the two are built in a copy of the tree. Towards
-# its end `rt ci` leaves processors idle, since the wrong bodies of one crate are tried one after
-# another: the copy is built on these. Fails where either fails, and says which.
+# `rt ci` moves away what its tree has built. So all of this is done in a copy of the tree, and the
+# tree is given what was built: programs, tests, module and library. Says how long each part took.
 set -euo pipefail
 cd "$(dirname "$0")/.."
-readonly MODULE=crates/lk_page/out/lockreplay.wasm
-readonly LIBRARY=crates/lk_trace_c/out/liblk_trace_c.a
+readonly TREE=$PWD
+readonly BUILT="lockreplay/out/lockreplay locktrace/out/locktrace lk_page/out/lockreplay.wasm
+    lk_trace_c/out/liblk_trace_c.a lk_tests/out/lk_tests_tests"
 
 copy=$(mktemp -d)
-beside=
-end() {
-    [ -z "$beside" ] || kill -- "-$beside" 2> /dev/null || true
-    rm -rf "$copy"
-}
-trap end EXIT
+trap 'rm -rf "$copy"' EXIT
+tar --create --exclude=./.git --exclude=./dist --exclude='./crates/*/out' . |
+    tar --extract --directory="$copy"
+cd "$copy"
 
-git ls-files -z --cached --others --exclude-standard |
-    tar --create --null --ignore-failed-read --files-from=- | tar --extract --directory="$copy"
-
-# Two processors at most, for the memory's sake.
-build() {
-    cd "$copy"
-    JOBS=2 page/build-module.sh
-    cd crates/lk_trace_c
-    rt lib --jobs 2
+# part NAME COMMAND...: runs it, and says how long it took
+part() {
+    local name=$1 from=$SECONDS
+    shift
+    "$@"
+    echo "gate.sh: $name: $((SECONDS - from)) s"
 }
 
-set -m
-(build) > "$copy/told" 2>&1 &
-beside=$!
-set +m
-renice -n 10 -g "$beside" > /dev/null || true
-
-rt ci
-if ! wait "$beside"; then
-    cat "$copy/told"
-    echo "gate.sh: the page's module or the library for C was not built" >&2
-    exit 1
-fi
-beside=
-mkdir -p "${MODULE%/*}" "${LIBRARY%/*}"
-cp "$copy/$MODULE" "$MODULE"
-cp "$copy/$LIBRARY" "$LIBRARY"
+part "rt ci" rt ci
+part "mutants and twins" tests/mutants.py
+part "the page's module" env BUILT=1 page/build-module.sh
+part "the library for C" tests/static_library.py lk_trace_c x86_64-unknown-linux-gnu \
+    out/liblk_trace_c.a
+for file in $BUILT; do
+    mkdir -p "$TREE/crates/${file%/*}"
+    cp "crates/$file" "$TREE/crates/$file"
+done

@@ -29,8 +29,6 @@ mod log;
 mod order;
 mod pieces;
 mod shelf;
-#[cfg(test)]
-mod tests;
 
 pub use find::{Ending, Found, Stuck, find_order};
 pub use log::{Log, LogFault, LogReader};

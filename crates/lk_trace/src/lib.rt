@@ -14,8 +14,6 @@ mod numbers;
 mod parts;
 mod rw_fifo;
 mod rw_simple;
-#[cfg(test)]
-mod tests;
 mod ticket;
 mod trace;
 mod vocabulary;

@@ -23,6 +23,7 @@ pub use checking::{CheckJob, check_files, check_side_by_side};
 pub use explain::{Asked, explain_input};
 pub use failures::Failure;
 pub use formats::Format;
+pub use lines::{Line, Lines};
 pub use ordering::{OrderJob, order_logs};
 pub use scheduling::{Scheduled, write_schedule};
 pub use summary::Summary;

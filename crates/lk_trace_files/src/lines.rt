@@ -7,9 +7,6 @@ ghost use Rattle.std.specs.Prelude.{◌≤◌, ◌≡◌, ◌<◌, ◌++◌, [],
 ghost use Rattle.std.specs.Prelude.{IfSome, Ok};
 ghost use Rattle.std.specs.Io.KnownBytes.{IsAtEnd, Keeps};
 
-#[cfg(test)]
-mod tests;
-
 use lk_trace::MOST_OF_A_LINE;
 use memchr::memchr;
 use std::alloc::{AllocError, Global};

@@ -1,0 +1,80 @@
+"""Checks a copy of a crate with several mutants in it, and reads what `rt check` says of each.
+
+A function that is not proved is reported by its name, and hides no other. A caller of it can be
+reported too, since its own goals wait for the callee's proof: that says nothing of the caller.
+"""
+import re
+import shutil
+import subprocess
+from pathlib import Path
+
+from rattle_words import TOP, words_of
+
+PARTS = ["src", "specs", "proofs", "out/incremental"]
+VERDICT = re.compile(r"^fn (\S+): (proved|not proved|no proof|could not tell)(.*)$", re.MULTILINE)
+OWN_GOALS = re.compile(r"expected answers in|did not prove")
+# Errors of a proof that names what an edit took away: they say nothing of the contract.
+OF_NAMES = re.compile(r"has no field|is not in scope|has no `|was not admitted")
+
+
+class NotChecked(Exception):
+    """The check did not reach the prover; `files` are those in which it found errors."""
+
+    def __init__(self, said):
+        super().__init__(" ".join(said.strip().splitlines()[-3:])[:300])
+        self.files = {Path(file) for file in re.findall(r"^src/(\S+?):\d+:\d+: error", said, re.M)}
+
+
+class Lab:
+    """A copy of a crate, which begins with what earlier checks of the crate kept."""
+
+    def __init__(self, crate, folder):
+        self.folder = folder
+        self.words = words_of("check", crate, "out/incremental")
+        for part in PARTS:
+            if (TOP / "crates" / crate / part).is_dir():
+                shutil.copytree(TOP / "crates" / crate / part, folder / part)
+        (folder / "out").mkdir(exist_ok=True)
+        self.files = {path.relative_to(folder / "src"): path.read_text()
+                      for path in sorted((folder / "src").rglob("*.rt"))}
+
+    def write(self, files):
+        """Writes the files that differ from what is there."""
+        for path, text in files.items():
+            if (self.folder / "src" / path).read_text() != text:
+                (self.folder / "src" / path).write_text(text)
+
+    def check(self, files, functions):
+        """Whether these functions, or the whole crate if there are none, are proved with these
+        files, and what the check prints."""
+        self.write(files)
+        only = [f"--only={name.partition('::')[2]}" for name in sorted(functions)]
+        ran = subprocess.run([*self.words, *only], cwd=self.folder, text=True, errors="replace",
+                             stdout=subprocess.PIPE, stderr=subprocess.STDOUT, check=False)
+        self.write(self.files)
+        if not re.search(r"^(logic|only)=", ran.stdout, re.MULTILINE):
+            raise NotChecked(ran.stdout)
+        return ran.returncode == 0, ran.stdout
+
+
+def verdict_on(function, said):
+    """Whether a function is `proved` or `refused` by goals of its own, `shape` if only a proof
+    does not fit it any more, or `unclear`; and the line that says it."""
+    for name, status, more in VERDICT.findall(said):
+        if name != function and not name.startswith(f"{function}::"):
+            continue
+        line = f"{name}: {status}{more}"
+        if status == "proved" and name == function:
+            return "proved", line
+        if OWN_GOALS.search(more):
+            return "refused", line
+        if status == "not proved" and not more:
+            return ("shape" if is_shape_alone(name, said) else "refused"), line
+    return "unclear", ""
+
+
+def is_shape_alone(function, said):
+    """Whether each error in the function's proof is about a name that is gone."""
+    folder = "/".join(function.split("::")[1:])
+    errors = re.findall(rf"^\./proofs/{re.escape(folder)}/\S+: error: (.*)$", said, re.MULTILINE)
+    return bool(errors) and all(map(OF_NAMES.search, errors))

@@ -1,0 +1,89 @@
+"""A mutant or its right twin as a file, and the texts of a crate with it put in.
+
+A file `crates/NAME/mutants/MISTAKE.edit` or `crates/NAME/twins/MISTAKE.edit` has lines
+
+    function: NAME::module::function
+    old: TEXT
+    new: TEXT
+
+with further pairs, and further functions, as they are needed. The function is named as `rt check`
+names it, and TEXT is in its text once. For what is in no function, as a constant, a line
+`file: src/FILE.rt` takes the place of the first, and TEXT is in that file once.
+"""
+from pathlib import Path
+
+from rattle_functions import functions_of
+
+
+class BadEdit(Exception):
+    """Why an edit cannot be read or put in."""
+
+
+class Edit:
+    """One file: `functions` are those that it changes; `is_alone` if it changes something else."""
+
+    def __init__(self, path):
+        self.path, self.name = path, path.stem
+        self.crate = path.parent.parent.name
+        self.is_twin = path.parent.name == "twins"
+        self.pairs = list(pairs_of(path))
+        self.functions = {place for key, place, _, _ in self.pairs if key == "function"}
+        self.is_alone = any(key == "file" for key, _, _, _ in self.pairs)
+        if not self.pairs:
+            raise BadEdit("it changes nothing")
+
+    def __str__(self):
+        return f"{self.crate}/{self.path.parent.name}/{self.name}"
+
+    def paths(self, files):
+        """The files that it changes, by their paths below `src`."""
+        homes = functions_of(self.crate, files)
+        return {Path(place).relative_to("src") if key == "file" else homes[place][0]
+                for key, place, _, _ in self.pairs}
+
+    def put_in(self, files):
+        """The texts of a crate's files, by their paths below `src`, with the edit in them."""
+        for key, place, old, new in self.pairs:
+            change = in_function if key == "function" else in_file
+            files = change(self.crate, files, place, old, new)
+        return files
+
+
+def pairs_of(path):
+    """Key and place, old text and new text of each pair of lines."""
+    where = old = None
+    for line in path.read_text().splitlines():
+        key, _, text = line.partition(":")
+        text = text.removeprefix(" ")
+        if key in ("function", "file"):
+            where = key, text.strip()
+        elif key == "old":
+            old = text
+        elif key == "new" and where and old:
+            yield *where, old, text
+            old = None
+        else:
+            raise BadEdit(f"a line that has no place here: {line}")
+
+
+def changed(text, old, new, place):
+    if text.count(old) != 1:
+        raise BadEdit(f"{old!r} is in {place} {text.count(old)} times, and not once")
+    return text.replace(old, new)
+
+
+def in_function(crate, files, name, old, new):
+    found = functions_of(crate, files).get(name)
+    if found is None:
+        raise BadEdit(f"there is no function {name}")
+    path, first, last = found
+    lines = files[path].split("\n")
+    text = changed("\n".join(lines[first:last + 1]), old, new, name)
+    return {**files, path: "\n".join([*lines[:first], text, *lines[last + 1:]])}
+
+
+def in_file(_crate, files, name, old, new):
+    path = Path(name).relative_to("src")
+    if path not in files:
+        raise BadEdit(f"there is no file {name}")
+    return {**files, path: changed(files[path], old, new, name)}

@@ -1,0 +1,191 @@
+#!/usr/bin/env python3
+"""Tries mutants, which have to be refused, and their right twins, which have to be proved.
+
+    mutants.py [--lanes N] [CRATE | CRATE/MISTAKE]...     all crates if none is named
+
+A mutant, `crates/NAME/mutants/MISTAKE.edit`, is a change of one function by which it has that
+mistake. A twin, `crates/NAME/twins/MISTAKE.edit`, is the same change with a right value. So the
+mutant is refused for its value, and not because a loop, a call or a name changed of which a proof
+speaks. A twin of an edit in `must-fail` has the name of that edit.
+
+Mutants of different functions of a crate are tried in one check. A mutant counts as refused only
+if the check names its function with goals of its own. One that is unclear, since its function only
+calls another that is not proved, is tried again with others, and then alone. Changes of what is no
+function, as a constant, are tried alone. Crates are tried side by side, over what earlier checks
+kept in `out`.
+
+Prints each one that fares as it must not, then a table, then `N passed, M failed`.
+"""
+import argparse
+import os
+import sys
+import tempfile
+import time
+from concurrent.futures import ThreadPoolExecutor
+from pathlib import Path
+
+from mutant_checks import TOP, Lab, NotChecked, verdict_on
+from mutant_edits import BadEdit, Edit
+
+SIZE = 24  # mutants in one check: more of them take more memory, and gain little
+TRIES = 2  # in company, before an unclear one is tried alone
+
+
+class Crate:
+    """The mutants and twins of one crate, and how they fare."""
+
+    def __init__(self, name, edits):
+        self.name, self.edits, self.faults = name, edits, []
+        self.tries = dict.fromkeys(edits, 0)
+        self.well = {True: 0, False: 0}
+        self.checks, self.seconds = 0, 0.0
+
+    def run(self):
+        began = time.monotonic()
+        with tempfile.TemporaryDirectory(prefix=f"mutants-{self.name}-") as room:
+            lab = Lab(self.name, Path(room))
+            for is_twin in (False, True):
+                self.try_all(lab, [edit for edit in self.edits if edit.is_twin is is_twin])
+        self.seconds = time.monotonic() - began
+
+    def try_all(self, lab, waiting):
+        """Tries edits in groups; those that are left unclear wait for another group."""
+        while waiting:
+            group = group_of(waiting, self.tries)
+            rest = [edit for edit in waiting if edit not in group]
+            waiting = rest + self.try_group(lab, group)
+
+    def try_group(self, lab, group):
+        """Tries edits in one check, and answers those that are to be tried again."""
+        files, group = self.put_in(lab.files, group)
+        self.checks += 1
+        try:
+            is_proved, said = lab.check(files, functions_in(group))
+        except NotChecked as why:
+            return self.without_those_in(lab, why, group)
+        unclear = [edit for edit in group
+                   if not self.is_settled(edit, *verdict(edit, is_proved, said), len(group) == 1)]
+        for edit in unclear:
+            self.tries[edit] += 1
+        return unclear
+
+    def put_in(self, files, group):
+        """The files with each edit in them that can be put in, and these edits."""
+        good = []
+        for edit in group:
+            try:
+                files = edit.put_in(files)
+                good.append(edit)
+            except BadEdit as why:
+                self.fault(edit, str(why))
+        return files, good
+
+    def without_those_in(self, lab, why, group):
+        """After a check that did not reach the prover: those to try again. Each that changes one
+        of the files with errors is tried alone."""
+        if len(group) == 1:
+            self.fault(group[0], f"the prover was not reached: {why}")
+            return []
+        for edit in group:
+            if not why.files or edit.paths(lab.files) & why.files:
+                self.tries[edit] = TRIES
+        return group
+
+    def is_settled(self, edit, word, line, is_last):
+        """Notes how an edit fared, if that is clear."""
+        if word == ("proved" if edit.is_twin else "refused"):
+            self.well[edit.is_twin] += 1
+            return True
+        if is_last or word == "shape":
+            self.fault(edit, f"{word} {line[:160]}")
+        return is_last or word == "shape"
+
+    def fault(self, edit, text):
+        self.faults.append(edit)
+        print(f"FAILED {edit}: {text}", flush=True)
+
+
+def functions_in(group):
+    """The functions to be checked: none, which means all, after a change of what is no function."""
+    if any(edit.is_alone for edit in group):
+        return set()
+    return set().union(*(edit.functions for edit in group))
+
+
+def verdict(edit, is_proved, said):
+    """What a check says of an edit in it: a word of `verdict_on`, and a line."""
+    if is_proved:
+        return "proved", ""
+    if edit.is_alone:
+        return "refused", ""
+    found = [verdict_on(function, said) for function in sorted(edit.functions)]
+    return next((it for it in found if it[0] == "refused"), found[0])
+
+
+def group_of(waiting, tries):
+    """The next edits to try together: of different functions, or one that has to be alone."""
+    first = waiting[0]
+    if first.is_alone or tries[first] >= TRIES:
+        return [first]
+    group, functions = [], set()
+    for edit in waiting:
+        if len(group) < SIZE and not edit.is_alone and tries[edit] == tries[first] \
+                and functions.isdisjoint(edit.functions):
+            group.append(edit)
+            functions |= edit.functions
+    return group
+
+
+def edits_of(words):
+    """The edits that the words name, and the files that cannot be read."""
+    good, bad = [], []
+    for path in sorted(TOP.glob("crates/*/mutants/*")) + sorted(TOP.glob("crates/*/twins/*")):
+        crate = path.parent.parent
+        if words and crate.name not in words and f"{crate.name}/{path.stem}" not in words:
+            continue
+        try:
+            good.append(Edit(path))
+            if good[-1].is_twin and not has_mutant(crate, path.name):
+                bad.append((path, "no mutant has its name"))
+        except (BadEdit, OSError) as why:
+            bad.append((path, str(why)))
+    return good, bad
+
+
+def has_mutant(crate, name):
+    return any((crate / folder / name).exists() for folder in ("mutants", "must-fail"))
+
+
+def table(crates):
+    """How many were tried and fared as they must, a line a crate."""
+    yield f"{'crate':16}{'mutants':>9}{'refused':>9}{'twins':>7}{'proved':>8}{'checks':>8}{'s':>7}"
+    for crate in crates:
+        twins = sum(edit.is_twin for edit in crate.edits)
+        yield (f"{crate.name:16}{len(crate.edits) - twins:9}{crate.well[False]:9}{twins:7}"
+               f"{crate.well[True]:8}{crate.checks:8}{crate.seconds:7.0f}")
+
+
+def main(words, lanes):
+    edits, bad = edits_of(words)
+    for path, why in bad:
+        print(f"FAILED {path.relative_to(TOP)}: {why}")
+    named = {word.partition("/")[0] for word in words} - {edit.crate for edit in edits}
+    for name in sorted(named):
+        print(f"FAILED {name}: it has no such mutant")
+    crates = [Crate(name, [edit for edit in edits if edit.crate == name])
+              for name in sorted({edit.crate for edit in edits})]
+    with ThreadPoolExecutor(lanes) as pool:
+        list(pool.map(Crate.run, sorted(crates, key=lambda it: len(it.edits), reverse=True)))
+    print(*table(crates), sep="\n")
+    failed = len(bad) + len(named) + sum(len(crate.faults) for crate in crates)
+    print(f"{sum(sum(crate.well.values()) for crate in crates)} passed, {failed} failed")
+    return 1 if failed else 0
+
+
+if __name__ == "__main__":
+    parser = argparse.ArgumentParser(description=__doc__.splitlines()[0])
+    parser.add_argument("--lanes", type=int, default=len(os.sched_getaffinity(0)),
+                        help="crates that are tried side by side")
+    parser.add_argument("words", nargs="*", metavar="CRATE | CRATE/MISTAKE")
+    given = parser.parse_args()
+    sys.exit(main(given.words, given.lanes))

@@ -1,0 +1,28 @@
+#!/usr/bin/env python3
+"""Proves and compiles a crate of the kind `staticlib` over the libraries that are in `out` already.
+
+    static_library.py CRATE TARGET FILE
+
+Writes FILE, below the crate's folder. TARGET is the kit's name of a processor and a system. JOBS
+processors are used, one if it is not set. `rt lib` builds the libraries first.
+"""
+import os
+import subprocess
+import sys
+
+from rattle_words import TOP, kit_folder, words_of
+
+
+def main(crate, target, file):
+    folder = TOP / "crates" / crate
+    (folder / "out").mkdir(exist_ok=True)
+    how = ["--toolchain", kit_folder() / "toolchain", "--backend", "llvm", "--target", target,
+           "--links", f"{crate}=", "--jobs", os.environ.get("JOBS", "1"), "-o", file]
+    words = words_of("build", crate, f"out/incremental_{target}")
+    return subprocess.run([*words, *how], cwd=folder, check=False).returncode
+
+
+if __name__ == "__main__":
+    if len(sys.argv) != 4:
+        sys.exit(__doc__)
+    sys.exit(main(*sys.argv[1:]))
