@@ -82,7 +82,6 @@ SHELLS = {
         bind \\cu 'commandline ""'
     """),
 }
-PACKAGES = ["bash-completion", "zsh", "fish"]
 PATIENCE = 20  # seconds
 CLEAR, LINE = "\x15", "\x14"
 
@@ -144,7 +143,7 @@ def try_completions(tally, name, tree):
 
 
 def main(tree):
-    wanted.install(*PACKAGES)
+    wanted.install("completions")
     tally = Tally()
     for name in SHELLS:
         try_completions(tally, name, tree)

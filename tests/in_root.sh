@@ -1,11 +1,11 @@
 #!/usr/bin/env bash
-# Runs a command in a root that tests/root.sh made, with /proc, /dev and the network of this machine.
+# Runs a command in a root that tests/root.sh made, with this machine's /dev and network.
 #
 #     tests/in_root.sh [--see PATH]... FOLDER COMMAND...
 #
-# The command sees each PATH at its place, and cannot write there. It begins in / with an environment
-# of its own. Mounts and processes are in namespaces that end with the command, so nothing is left of
-# them however it ends. Its status is the command's.
+# The command sees each PATH at its place, and cannot write there. It begins in / with an
+# environment of its own. Mounts and processes are in namespaces that end with the command, so
+# nothing is left of them however it ends. Its status is the command's.
 set -euo pipefail
 readonly KEPT=${XDG_CACHE_HOME:-$HOME/.cache}/lockreplay/packages
 seen=()

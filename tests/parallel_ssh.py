@@ -157,7 +157,7 @@ def try_resumed(tally, name, work, command):
 
 
 def main(program):
-    wanted.install("openssh-client", "openssh-server", "parallel", "rsync")
+    wanted.install("hosts")
     tally = Tally()
     with tempfile.TemporaryDirectory() as name, ExitStack() as at_end:
         folder = Path(name)
