@@ -1,23 +1,4 @@
-# make test     the one test command: proves every crate and its tests, tries each wrong body, runs every test, and tries the built
-#               program on rows, failing devices, short and refused memory and random schedules, the page in browsers, and what is
-#               installed and packaged
-# make check    the quick check: builds the program, and tries it on rows, devices, short and refused memory and random schedules
-# make check CRATE=NAME                proves one crate; CRATE=lk_tests also runs the tests
-# make test-traces                     tries locktrace: its texts, random traces and logs, and locks that note their steps
-# make test-library                    tries the static library for traces from C and from Python
-# make edits CRATE=NAME [EDIT=NAME]    tries a crate's wrong bodies and their right twins, or one of each
-# make twins    shows that the right twin of each wrong body that has one is proved
-# make programs builds lockreplay and locktrace, where they are missing or older than a source
-# make library  builds the static library for traces from C and from Python, likewise
-# make page     builds the page's module and page/lockreplay.html
-# make test-page                       fails where the page is not what its sources build to, and tests it in browsers
-# make demo     builds the program where it is missing or older than a source, and replays a schedule of two threads on a ticket lock
-# make bench    measures the built program beside `cat`, a hand-written replayer and plain reading
-# make install, make uninstall         [PREFIX=/usr/local] [DESTDIR=]: what packaging/contents.txt lists
-# make dist, make deb                  a tarball, and a Debian package, in dist/
-# make release-checks                  tries what is installed and packaged, and two hosts over ssh
-# make soak     [SOAK_SECONDS=3600]    each long run once, and the fuzzer for what is left of the time
-#
+# The commands of this repository: `make` lists them, from the lines that begin with ## beside them.
 # docs/CHECKING.md says how long each takes, and where the time goes.
 
 PROGRAM := crates/lockreplay/out/lockreplay
@@ -36,19 +17,55 @@ FUZZ_SECONDS := 60
 SHORT_FUZZ_SECONDS := 5
 SOAK_SECONDS := 3600
 EDIT := *
+PROVE :=
 
-.PHONY: test check edits twins demo programs library bench soak tools
+.PHONY: help packages test gate test-built test-parts clean-room
+.PHONY: check edits twins demo programs library bench soak tools
 
-test: tools
+help:
+	@sed -n 's/^## //p' $(MAKEFILE_LIST) | awk -F ' [|] ' '{ printf "make %-29s%s\n", $$1, $$2 }'
+
+## demo | builds lockreplay, and replays a schedule of two threads
+demo: $(PROGRAM)
+	$(PROGRAM) replay < $(LESSON)
+
+## test | the one test command: proves all from nothing, then tries what is built
+test: gate
+	$(MAKE) --no-print-directory test-built
+
+gate:
+	tests/wanted.sh rt gate
 	tests/gate.sh
-	$(MAKE) --no-print-directory tried release-checks FUZZ_SECONDS=$(FUZZ_SECONDS)
-	tests/refuse/run.sh request crates/$(TESTS)/out/$(TESTS)_tests
-	$(MAKE) --no-print-directory test-page test-library test-traces
 
+# What `make test` does after the proofs, in this order.
+PARTS := tried release-checks test-refused test-page test-library test-traces
+
+## test-built | what `make test` does after the proofs
+test-built:
+	+for part in $(PARTS); do $(MAKE) --no-print-directory $$part || exit; done
+
+test-parts:
+	@echo $(PARTS)
+
+## clean-room [PROVE=1] | demo and test-built in a minimal Debian; PROVE=1: without kept proofs
+clean-room:
+	tests/clean_room.sh $(if $(PROVE),--prove)
+
+## packages | prints the command that installs what any target needs of Debian
+packages:
+	@tests/wanted.sh --list
+
+.PHONY: test-refused
+test-refused: tools
+	tests/refuse/run.sh request crates/$(TESTS)/out/$(TESTS)_tests
+
+## check | the quick check: builds the programs, and tries them without the long runs
+## check CRATE=NAME | proves one crate; for lk_tests it also runs the tests
 ifdef CRATE
 check: tools
+	tests/wanted.sh rt
 	cd crates/$(CRATE) && rt check && rt test
-	$(if $(filter $(CRATE),$(TESTS)),tests/refuse/run.sh request crates/$(CRATE)/out/$(CRATE)_tests)
+	$(if $(filter $(CRATE),$(TESTS)),$(MAKE) --no-print-directory test-refused)
 else
 check: $(PROGRAM) $(TRACER) tools
 	$(MAKE) --no-print-directory tried FUZZ_SECONDS=$(SHORT_FUZZ_SECONDS)
@@ -75,68 +92,77 @@ tried-fuzz:
 $(addprefix tried-,$(filter-out oracle layout fuzz,$(TRIED))): tried-%:
 	tests/$*.py $(PROGRAM)
 
-.PHONY: page test-page browsers
+.PHONY: page test-page
 
-page: $(MODULE) browsers
+## page | builds the page's module and page/lockreplay.html
+page: $(MODULE)
+	tests/wanted.sh page
 	node page/build.mjs $(MODULE)
 
-test-page: $(MODULE) $(PROGRAM) browsers
+## test-page | the page is what its sources build to, and works in two browsers
+test-page: $(MODULE) $(PROGRAM) tools
+	tests/wanted.sh page browsers
 	node page/build.mjs $(MODULE) --check
 	tests/page/module.mjs $(MODULE)
 	tests/page/run.py $(PROGRAM)
 
 .PHONY: test-library
 
+## test-library | tries the static library for traces, from C and from Python
 test-library: $(LIBRARY) tools
 	tests/trace_library.py $(LIBRARY)
 
 .PHONY: test-traces
 
+## test-traces | tries locktrace on texts, random traces and logs, and recorded locks
 test-traces: $(TRACER) $(PROGRAM) tools
 	tests/locktrace.py $(TRACER)
 	tests/trace_values.py $(TRACER)
 	tests/order_search.py $(TRACER)
 	tests/recording.py $(TRACER) $(PROGRAM)
 
+## edits CRATE=NAME [EDIT=NAME] | tries a crate's wrong bodies and right twins, or one of each
 edits: tools
 	tests/edits.py $(wildcard crates/$(CRATE)/must-fail/$(EDIT).edit crates/$(CRATE)/twins/$(EDIT).edit)
 
+## twins | each right twin of a wrong body is proved
 twins: tools
 	tests/edits.py $(wildcard crates/*/twins/*.edit)
 
-demo: $(PROGRAM)
-	$(PROGRAM) replay < $(LESSON)
-
+## programs | builds lockreplay and locktrace
 programs: $(PROGRAM) $(TRACER)
 
+## library | builds the static library for traces
 library: $(LIBRARY)
 
+## bench | measures lockreplay beside cat and a replayer written by hand
 bench: $(PROGRAM) tools
 	bench/run.py $(PROGRAM)
 	bench/batch.py $(PROGRAM)
 
-soak: $(PROGRAM) tools browsers
+## soak [SOAK_SECONDS=3600] | each long run once, then the fuzzer for the rest of the time
+soak: $(PROGRAM) tools
+	tests/wanted.sh browsers
 	tests/soak.sh $(PROGRAM) $(SOAK_SECONDS)
 
 include packaging/targets.mk
 
 $(PROGRAM): $(SOURCES)
+	tests/wanted.sh rt
 	cd crates/lockreplay && rt run -- replay < ../../$(LESSON) > /dev/null
 
 $(TRACER): $(SOURCES)
+	tests/wanted.sh rt
 	cd crates/locktrace && rt run -- check < stdin > /dev/null
 
 $(MODULE): $(MODULE_SOURCES) page/build-module.sh
+	tests/wanted.sh rt
 	page/build-module.sh
 
 $(LIBRARY): $(SOURCES)
+	tests/wanted.sh rt
 	cd crates/lk_trace_c && rt lib
 
-# Two browsers and what drives them, from Debian's packages where they are missing
-BROWSERS := chromium chromium-driver firefox-esr python3-selenium python3-websocket nodejs
-browsers:
-	@dpkg --status $(BROWSERS) > /dev/null 2>&1 || { apt-get update && apt-get install -y $(BROWSERS); }
-
-# Python 3 and a C compiler, from Debian's packages where they are missing
+# Python 3, a C compiler and git, with which most tests work
 tools:
-	@{ command -v python3 && command -v cc; } > /dev/null || { apt-get update && apt-get install -y python3 gcc libc6-dev; }
+	@tests/wanted.sh tools
