@@ -36,8 +36,8 @@ def build_of_the_guide(mode, folder, wrong):
     if wrong:
         text = text.replace("served != ticket", "served < ticket")
     (folder / "try.c").write_text(text)
-    return ran("gcc", "-O2", *WARNINGS, "-pthread", f"-DLR_{mode}", "-I", ROOT, "-o", "try",
-               "try.c", folder=folder).stderr
+    return ran("gcc", "-O2", *WARNINGS, "-pthread", f"-DLR_{mode}", "-I", ROOT / "record",
+               "-o", "try", "try.c", folder=folder).stderr
 
 
 def compilers():
