@@ -1,18 +1,20 @@
 # The commands of this repository: `make` lists them, from the lines that begin with ## beside them.
 # docs/CHECKING.md says how long each takes, and where the time goes.
 
+sources_of = $(shell find $(addprefix crates/,$(1)) -name out -prune \
+	-o \( -name '*.rt' -o -name '*.antt' \) -print)
+SOURCES := $(call sources_of,*)
 PROGRAM := crates/lockreplay/out/lockreplay
-SOURCES := $(shell find crates -name out -prune -o \( -name '*.rt' -o -name '*.antt' \) -print)
 TRACER  := crates/locktrace/out/locktrace
 LESSON  := examples/ticket-hand-over.schedule
 MODULE  := crates/lk_page/out/lockreplay.wasm
-# what the module is made of
-MODULE_SOURCES := $(shell find $(addprefix crates/,lk_words lk_locks lk_replay lk_page) -name out -prune \
-	-o \( -name '*.rt' -o -name '*.antt' \) -print)
+MODULE_SOURCES := $(call sources_of,lk_words lk_locks lk_replay lk_page)
 # the check of a trace, for C
 LIBRARY := crates/lk_trace_c/out/liblk_trace_c.a
 # the crate with the tests, in some of which each request for memory is refused in turn
 TESTS := lk_tests
+TESTS_BUILT := crates/$(TESTS)/out/$(TESTS)_tests
+TESTS_SOURCES := $(call sources_of,lk_words lk_locks lk_replay lk_workers $(TESTS))
 FUZZ_SECONDS := 60
 SHORT_FUZZ_SECONDS := 5
 SOAK_SECONDS := 3600
@@ -56,8 +58,8 @@ packages:
 	@tests/wanted.sh --list
 
 .PHONY: test-refused
-test-refused: tools
-	tests/refuse/run.sh request crates/$(TESTS)/out/$(TESTS)_tests
+test-refused: $(TESTS_BUILT) tools
+	tests/refuse/run.sh request $(TESTS_BUILT)
 
 ## check | the quick check: builds the programs, and tries them without the long runs
 ## check CRATE=NAME | proves one crate; for lk_tests it also runs the tests
@@ -67,7 +69,7 @@ check: tools
 	cd crates/$(CRATE) && rt check && rt test
 	$(if $(filter $(CRATE),$(TESTS)),$(MAKE) --no-print-directory test-refused)
 else
-check: $(PROGRAM) $(TRACER) tools
+check:
 	$(MAKE) --no-print-directory tried FUZZ_SECONDS=$(SHORT_FUZZ_SECONDS)
 	tests/locktrace.py $(TRACER)
 	tests/trace_values.py $(TRACER) --runs 1000
@@ -77,7 +79,7 @@ endif
 # The built program, and the rows by themselves, side by side. Nothing is proved here.
 TRIED := rows oracle process refusals writes short_memory memory documents documents_fail layout fuzz
 .PHONY: tried $(addprefix tried-,$(TRIED))
-tried:
+tried: $(PROGRAM) $(TRACER) tools
 	$(MAKE) --no-print-directory --jobs=$(shell nproc) --output-sync=target $(addprefix tried-,$(TRIED)) \
 	    FUZZ_SECONDS=$(FUZZ_SECONDS)
 
@@ -87,6 +89,8 @@ tried-layout:
 	tests/locks_code.py
 	tests/definitions.py
 	tests/style.py
+	tests/packages_list.py
+	tests/wanted_cases.py
 tried-fuzz:
 	fuzz/fuzz.py $(PROGRAM) --seconds $(FUZZ_SECONDS)
 $(addprefix tried-,$(filter-out oracle layout fuzz,$(TRIED))): tried-%:
@@ -162,6 +166,10 @@ $(MODULE): $(MODULE_SOURCES) page/build-module.sh
 $(LIBRARY): $(SOURCES)
 	tests/wanted.sh rt
 	cd crates/lk_trace_c && rt lib
+
+$(TESTS_BUILT): $(TESTS_SOURCES)
+	tests/wanted.sh rt
+	cd crates/$(TESTS) && rt test
 
 # Python 3, a C compiler and git, with which most tests work
 tools:

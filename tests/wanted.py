@@ -13,7 +13,7 @@ def environment():
 
 
 def install(*groups):
-    """Installs what is missing of groups of packages.txt, or ends the test as wanted.sh ends."""
+    """Installs what is missing of groups of packages.txt, or ends the test where that fails."""
     done = subprocess.run([Path(__file__).with_name("wanted.sh"), *groups], check=False)
     if done.returncode != 0:
         sys.exit(done.returncode)
