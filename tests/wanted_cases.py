@@ -25,7 +25,7 @@ outer  -          no-such-kit a kit
 APT_GET = """#!/bin/sh
 echo "$*" >> {folder}/asked
 case $* in
-*--assume-no*) printf '0 upgraded, 2 newly installed\\nNeed to get 7 kB\\nAfter this, 9 kB\\n'; exit 1 ;;
+*--assume-no*) printf '2 newly installed\\nNeed to get 7 kB\\nAfter this, 9 kB\\n'; exit 1 ;;
 *--yes*) {brings} ;;
 esac
 """
@@ -78,7 +78,7 @@ def main():
     status, said, asked = tried(0, brings, "lacks", "here")
     tally.check("root", (status, asked), (0, ["update", SIMULATED, INSTALLED]))
     tally.check("root: said", said, "These Debian packages are missing, and are installed now: "
-                "tool-bin tool-dev\n0 upgraded, 2 newly installed\nNeed to get 7 kB\n"
+                "tool-bin tool-dev\n2 newly installed\nNeed to get 7 kB\n"
                 "After this, 9 kB\n")
     status, said, asked = tried(0, "touch FOLDER/brought", "lacks")
     tally.check("brought nothing", (status, said.splitlines()[-1]),
