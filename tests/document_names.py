@@ -42,7 +42,7 @@ OUTSIDE = set("""
 """.split())
 # Files that the commands of a document write, and what a build does.
 WRITTEN = (
-    "logs/*", "ordered/*", "try.c", "./try", "jobs.log", "run.trace", "run.schedule", "*.example",
+    "logs/*", "ordered/*", "try.c", "./try", "jobs.log", "hosts.log", "run.trace", "run.schedule", "*.example",
     "*/out/*",
     "record/locktrace.h", "/dev/*", "{}*", "examples/fault-too-*", "*.c",
 )
