@@ -12,7 +12,8 @@ that a later block finds what an earlier one wrote. A comment above the fence sa
     <!-- with: PART -->         it is run where PART is built; else its commands are counted
     <!-- file: NAME -->         the block is the file NAME, and is saved before the next one is run
 
-A shell's block of another language fails, and so does a command that is indented and not fenced.
+A shell's block of another language fails, and so does a command that is indented and not fenced,
+and one that leaves the reader in another folder: `(cd FOLDER && ..)` does not.
 `document_names.py` looks at links, and at names in backticks. Prints how many commands ran and how
 many were marked, `N passed, M failed` last, and ends with 1 where one failed.
 """
@@ -34,6 +35,7 @@ OTHERS = {"locktrace": TOP / "crates/locktrace/out/locktrace",
 SHELLS = {"bash", "shell", "zsh", "fish", "shell-session"}
 INDENTED = re.compile(r" {4,}(\$ |(make|rt|gcc|git|awk|sed|node|parallel|python3) \S|"
                       r"lockreplay (replay|batch) |(tests|fuzz|bench)/\w+\.(py|sh)\b)")
+LEAVES = re.compile(r"(\$ )?(cd|pushd) ")
 SECONDS = 50
 OF_MAKE = {"MAKELEVEL", "MAKEFLAGS", "MFLAGS"}
 END = "status of this command:"
@@ -126,6 +128,8 @@ def run_script(block, room, tally, where):
 
 def try_block(block, room, tally, where):
     """Runs a block, counts it, or saves it."""
+    if block.language in ("sh", "console") and any(map(LEAVES.match, block.lines)):
+        tally.note(False, f"{where}: it leaves the reader in another folder")
     if "file" in block.marks:
         (room.path / block.marks["file"]).write_text("\n".join(block.lines) + "\n")
     elif block.language in SHELLS:
