@@ -87,8 +87,8 @@ copy_kept_proofs() {
 }
 
 demo() {
-    begin make demo
-    finish > "$room/demo"
+    begin make demo > "$room/demo"
+    finish
     tail -n 11 "$room/demo" | diff examples/ticket-hand-over.report -
 }
 
