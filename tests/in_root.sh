@@ -24,6 +24,8 @@ shift
 enter() {
     local root=$1 count=$2
     shift 2
+    # A mount of its own, as unshare wants it of / if the command makes another root in this one.
+    mount --bind "$root" "$root"
     mount -t proc proc "$root/proc"
     mount --rbind /dev "$root/dev"
     for path in "${@:1:count}"; do

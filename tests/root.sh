@@ -23,12 +23,20 @@ if [ -n "$(ls -A "$FOLDER")" ]; then
     exit 1
 fi
 
-# A name of its own until it is whole, since several may be made at once.
-if [ ! -e "$ARCHIVE" ]; then
+# Under another name until it is whole, since several may be made at once.
+make_archive() {
+    local made=$ARCHIVE.$$.tar said=$ARCHIVE.$$.said
     "$(dirname "$(readlink -f "$0")")/wanted.sh" root
-    mmdebstrap --quiet --variant=minbase --include="$*" "$SUITE" "$ARCHIVE.$$.tar"
-    mv "$ARCHIVE.$$.tar" "$ARCHIVE"
-fi
+    if ! mmdebstrap --variant=minbase ${1:+"--include=$1"} "$SUITE" "$made" 2> "$said"; then
+        cat "$said" >&2
+        rm -f "$made" "$said"
+        return 1
+    fi
+    rm "$said"
+    mv "$made" "$ARCHIVE"
+}
+
+[ -e "$ARCHIVE" ] || make_archive "$*"
 tar --extract --numeric-owner --xattrs --file="$ARCHIVE" --directory="$FOLDER"
 cp "$(readlink -f /etc/resolv.conf)" "$FOLDER/etc/resolv.conf"
 find "$KEPT/packages" -name '*.deb' \
