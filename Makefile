@@ -32,7 +32,9 @@ demo: $(PROGRAM)
 	$(PROGRAM) replay < $(LESSON)
 
 ## test | the one test command: proves all from nothing, then tries what is built
-test: gate
+test:
+	tests/wanted.sh --all
+	$(MAKE) --no-print-directory gate
 	$(MAKE) --no-print-directory test-built
 
 gate:

@@ -80,6 +80,8 @@ def main():
     tally.check("root: said", said, "These Debian packages are missing, and are installed now: "
                 "tool-bin tool-dev\n2 newly installed\nNeed to get 7 kB\n"
                 "After this, 9 kB\n")
+    tally.check("all groups", tried(1000, brings, "--all"),
+                (1, "wanted.sh: not on the path: no-such-kit, a kit\n", []))
     status, said, asked = tried(0, "touch FOLDER/brought", "lacks")
     tally.check("brought nothing", (status, said.splitlines()[-1]),
                 (1, "wanted.sh: installed, and still not there: no-such-tool"))
