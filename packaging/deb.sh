@@ -8,12 +8,15 @@ ROOT=$STAGE/root DOCUMENTS=$STAGE/root/usr/share/doc/lockreplay
 MAINTAINER='lockreplay maintainers <maintainers@users.noreply.wepuchay.example>'
 
 packaging/install.sh install "$ROOT/usr"
-# Debian's zsh looks for what packages bring in a folder of its own.
+# Debian's zsh has a folder of its own for what packages bring.
 mv "$ROOT/usr/share/zsh/site-functions" "$ROOT/usr/share/zsh/vendor-completions"
+# So has each architecture, for what is compiled. Paths in the file for pkg-config begin at itself.
+mkdir "$ROOT/usr/lib/$MULTIARCH"
+mv "$ROOT/usr/lib/liblk_trace_c.a" "$ROOT/usr/lib/pkgconfig" "$ROOT/usr/lib/$MULTIARCH"
+sed -i 's|^prefix=.*|&/..|' "$ROOT/usr/lib/$MULTIARCH/pkgconfig/locktrace.pc"
 find "$ROOT/usr/bin" -type f -exec strip --remove-section=.comment --remove-section=.note {} +
 find "$ROOT/usr/share/man" -type f -exec gzip --no-name --best {} +
 install -m 644 packaging/copyright "$DOCUMENTS/copyright"
-install -D -m 644 packaging/lintian-overrides "$ROOT/usr/share/lintian/overrides/lockreplay"
 {
     printf 'lockreplay (%s) unstable; urgency=low\n\n' "$VERSION"
     printf '  * CHANGELOG.md beside this file tells what changed.\n\n'

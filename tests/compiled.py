@@ -5,6 +5,7 @@ import sys
 from pathlib import Path
 
 VERSION = (Path(__file__).resolve().parent.parent / "VERSION").read_text().strip()
+FOLDERS = ("share", "lib", "lib/x86_64-linux-gnu")
 WARNINGS = ["-O2", "-Wall", "-Wextra", "-Werror"]
 RECORDS = """#include <lockreplay_record.h>
 int main(void) { lr_run *run = lr_open("mcs", 1, 64, 1, 0); lr_close(run); return run == NULL; }
@@ -31,7 +32,7 @@ def output(*words, **how):
 def asked(tree, *words):
     """What pkg-config answers of the packages of a tree."""
     environment = {"PATH": os.environ["PATH"],
-                   "PKG_CONFIG_PATH": f"{tree}/share/pkgconfig:{tree}/lib/pkgconfig"}
+                   "PKG_CONFIG_PATH": ":".join(f"{tree}/{folder}/pkgconfig" for folder in FOLDERS)}
     return output("pkg-config", *words, env=environment).split()
 
 

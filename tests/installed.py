@@ -47,7 +47,8 @@ def contents():
     for line in (TOP / "packaging" / "contents.txt").read_text().splitlines():
         if line and not line.startswith("#"):
             kind, source, target = line.split()
-            yield kind, target, [str(file.relative_to(TOP)) for file in TOP.glob(source)]
+            found = [file for file in TOP.glob(source) if file.stat().st_size > 0]
+            yield kind, target, [str(file.relative_to(TOP)) for file in found]
 
 
 def due_files():
