@@ -14,6 +14,7 @@ mv "$ROOT/usr/share/zsh/site-functions" "$ROOT/usr/share/zsh/vendor-completions"
 mkdir "$ROOT/usr/lib/$MULTIARCH"
 mv "$ROOT/usr/lib/liblk_trace_c.a" "$ROOT/usr/lib/pkgconfig" "$ROOT/usr/lib/$MULTIARCH"
 sed -i 's|^prefix=.*|&/..|' "$ROOT/usr/lib/$MULTIARCH/pkgconfig/locktrace.pc"
+# Here lintian asks for it; in the tarball functions keep their names, for debuggers and profilers.
 find "$ROOT/usr/bin" -type f -exec strip --remove-section=.comment --remove-section=.note {} +
 find "$ROOT/usr/share/man" -type f -exec gzip --no-name --best {} +
 install -m 644 packaging/copyright "$DOCUMENTS/copyright"

@@ -43,10 +43,6 @@ CASES = [
     ("lockreplay help rep", "lockreplay help replay "),
     *((f"lockreplay batch --workers {n}", f"lockreplay batch --workers {n} ") for n in range(1, 9)),
     *((f"lockreplay batch --workers {n}", f"lockreplay batch --workers {n}") for n in (0, 9, 10)),
-]
-
-# Of the second program, where the tree has it.
-TRACE_CASES = [
     ("locktrace ch", "locktrace check "),
     ("locktrace sch", "locktrace schedule "),
     ("locktrace --v", "locktrace --version "),
@@ -136,8 +132,7 @@ def try_completions(tally, name, tree):
         for file in ("handed-on.schedule", "a.schedule"):
             Path(folder, file).write_text("lock ticket threads 1\n")
         shell = Shell(name, tree, folder)
-        both = Path(tree, "bin", "locktrace").exists()
-        for typed, due in CASES + (TRACE_CASES if both else []):
+        for typed, due in CASES:
             tally.check(f"{name}: '{typed}' and Tab", shell.completed(typed), due)
         shell.end()
 
