@@ -24,8 +24,11 @@ ACCEPTED = "lock ticket threads 1\n0 acquire\n0 add next_ticket found 0\n"
 
 def output(*words, **how):
     """What a command prints, on either output, behind its status where that is not 0."""
-    ran = subprocess.run(words, stdout=subprocess.PIPE, stderr=subprocess.STDOUT, text=True,
-                         check=False, **how)
+    try:
+        ran = subprocess.run(words, stdout=subprocess.PIPE, stderr=subprocess.STDOUT, text=True,
+                             check=False, **how)
+    except OSError as error:
+        return f"it did not start: {error}"
     return ran.stdout if ran.returncode == 0 else f"status {ran.returncode}: {ran.stdout}"
 
 

@@ -111,7 +111,7 @@ def try_manual(tally, tree):
         tally.check(f"man {section} {name}", shown, lambda text: f"version {VERSION}." in text)
         warnings = re.findall(r".*: warning: .*", shown)
         tally.check(f"warnings of man {section} {name}", warnings, [])
-    (manual / "mandoc.db").unlink()
+    (manual / "mandoc.db").unlink(missing_ok=True)
 
 
 def try_words(tally, tree, name, commands, due):
