@@ -1,56 +1,77 @@
-# make test     the one test command: proves every crate and its tests, tries each wrong body, runs every test, and tries the built
-#               program on rows, failing devices, short and refused memory and random schedules, the page in browsers, and what is
-#               installed and packaged
-# make check    the quick check: builds the program, and tries it on rows, devices, short and refused memory and random schedules
-# make check CRATE=NAME                proves one crate; CRATE=lk_tests also runs the tests
-# make test-traces                     tries locktrace: its texts, random traces and logs, and locks that note their steps
-# make test-library                    tries the static library for traces from C and from Python
-# make edits CRATE=NAME [EDIT=NAME]    tries a crate's wrong bodies and their right twins, or one of each
-# make twins    shows that the right twin of each wrong body that has one is proved
-# make programs builds lockreplay and locktrace, where they are missing or older than a source
-# make library  builds the static library for traces from C and from Python, likewise
-# make page     builds the page's module and page/lockreplay.html
-# make test-page                       fails where the page is not what its sources build to, and tests it in browsers
-# make demo     builds the program where it is missing or older than a source, and replays a schedule of two threads on a ticket lock
-# make bench    measures the built program beside `cat`, a hand-written replayer and plain reading
-# make install, make uninstall         [PREFIX=/usr/local] [DESTDIR=]: what packaging/contents.txt lists
-# make dist, make deb                  a tarball, and a Debian package, in dist/
-# make release-checks                  tries what is installed and packaged, and two hosts over ssh
-# make soak     [SOAK_SECONDS=3600]    each long run once, and the fuzzer for what is left of the time
-#
+# The commands of this repository: `make` lists them, from the lines that begin with ## beside them.
 # docs/CHECKING.md says how long each takes, and where the time goes.
 
+sources_of = $(shell find $(addprefix crates/,$(1)) -name out -prune \
+	-o \( -name '*.rt' -o -name '*.antt' \) -print)
+SOURCES := $(call sources_of,*)
 PROGRAM := crates/lockreplay/out/lockreplay
-SOURCES := $(shell find crates -name out -prune -o \( -name '*.rt' -o -name '*.antt' \) -print)
 TRACER  := crates/locktrace/out/locktrace
 LESSON  := examples/ticket-hand-over.schedule
 MODULE  := crates/lk_page/out/lockreplay.wasm
-# what the module is made of
-MODULE_SOURCES := $(shell find $(addprefix crates/,lk_words lk_locks lk_replay lk_page) -name out -prune \
-	-o \( -name '*.rt' -o -name '*.antt' \) -print)
+MODULE_SOURCES := $(call sources_of,lk_words lk_locks lk_replay lk_page)
 # the check of a trace, for C
 LIBRARY := crates/lk_trace_c/out/liblk_trace_c.a
 # the crate with the tests, in some of which each request for memory is refused in turn
 TESTS := lk_tests
+TESTS_BUILT := crates/$(TESTS)/out/$(TESTS)_tests
+TESTS_SOURCES := $(call sources_of,lk_words lk_locks lk_replay lk_workers $(TESTS))
 FUZZ_SECONDS := 60
 SHORT_FUZZ_SECONDS := 5
 SOAK_SECONDS := 3600
 EDIT := *
+PROVE :=
 
-.PHONY: test check edits twins demo programs library bench soak tools
+.PHONY: help packages test gate test-built test-parts clean-room
+.PHONY: check edits twins demo programs library bench soak tools
 
-test: tools
+help:
+	@sed -n 's/^## //p' $(MAKEFILE_LIST) | awk -F ' [|] ' '{ printf "make %-29s%s\n", $$1, $$2 }'
+
+## demo | builds lockreplay, and replays a schedule of two threads
+demo: $(PROGRAM)
+	$(PROGRAM) replay < $(LESSON)
+
+## test | the one test command: proves all from nothing, then tries what is built
+test:
+	tests/wanted.sh --all
+	$(MAKE) --no-print-directory gate
+	$(MAKE) --no-print-directory test-built
+
+gate:
+	tests/wanted.sh rt gate
 	tests/gate.sh
-	$(MAKE) --no-print-directory tried release-checks FUZZ_SECONDS=$(FUZZ_SECONDS)
-	tests/refuse/run.sh request crates/$(TESTS)/out/$(TESTS)_tests
-	$(MAKE) --no-print-directory test-page test-library test-traces
 
+# What `make test` does after the proofs, in this order.
+PARTS := tried release-checks test-refused test-page test-library test-traces
+
+## test-built | what `make test` does after the proofs
+test-built:
+	+for part in $(PARTS); do $(MAKE) --no-print-directory $$part || exit; done
+
+test-parts:
+	@echo $(PARTS)
+
+## clean-room [PROVE=1] | demo and test-built in a minimal Debian; PROVE=1: without kept proofs
+clean-room:
+	tests/clean_room.sh $(if $(PROVE),--prove)
+
+## packages | prints the command that installs what any target needs of Debian
+packages:
+	@tests/wanted.sh --list
+
+.PHONY: test-refused
+test-refused: $(TESTS_BUILT) tools
+	tests/refuse/run.sh request $(TESTS_BUILT)
+
+## check | the quick check: builds the programs, and tries them without the long runs
+## check CRATE=NAME | proves one crate; for lk_tests it also runs the tests
 ifdef CRATE
 check: tools
+	tests/wanted.sh rt
 	cd crates/$(CRATE) && rt check && rt test
-	$(if $(filter $(CRATE),$(TESTS)),tests/refuse/run.sh request crates/$(CRATE)/out/$(CRATE)_tests)
+	$(if $(filter $(CRATE),$(TESTS)),$(MAKE) --no-print-directory test-refused)
 else
-check: $(PROGRAM) $(TRACER) tools
+check:
 	$(MAKE) --no-print-directory tried FUZZ_SECONDS=$(SHORT_FUZZ_SECONDS)
 	tests/locktrace.py $(TRACER)
 	tests/trace_values.py $(TRACER) --runs 1000
@@ -60,7 +81,7 @@ endif
 # The built program, and the rows by themselves, side by side. Nothing is proved here.
 TRIED := rows oracle process refusals writes short_memory memory documents documents_fail layout fuzz
 .PHONY: tried $(addprefix tried-,$(TRIED))
-tried:
+tried: $(PROGRAM) $(TRACER) tools
 	$(MAKE) --no-print-directory --jobs=$(shell nproc) --output-sync=target $(addprefix tried-,$(TRIED)) \
 	    FUZZ_SECONDS=$(FUZZ_SECONDS)
 
@@ -70,73 +91,88 @@ tried-layout:
 	tests/locks_code.py
 	tests/definitions.py
 	tests/style.py
+	tests/packages_list.py
+	tests/wanted_cases.py
 tried-fuzz:
 	fuzz/fuzz.py $(PROGRAM) --seconds $(FUZZ_SECONDS)
 $(addprefix tried-,$(filter-out oracle layout fuzz,$(TRIED))): tried-%:
 	tests/$*.py $(PROGRAM)
 
-.PHONY: page test-page browsers
+.PHONY: page test-page
 
-page: $(MODULE) browsers
+## page | builds the page's module and page/lockreplay.html
+page: $(MODULE)
+	tests/wanted.sh page
 	node page/build.mjs $(MODULE)
 
-test-page: $(MODULE) $(PROGRAM) browsers
+## test-page | the page is what its sources build to, and works in two browsers
+test-page: $(MODULE) $(PROGRAM) tools
+	tests/wanted.sh page browsers
 	node page/build.mjs $(MODULE) --check
 	tests/page/module.mjs $(MODULE)
 	tests/page/run.py $(PROGRAM)
 
 .PHONY: test-library
 
+## test-library | tries the static library for traces, from C and from Python
 test-library: $(LIBRARY) tools
 	tests/trace_library.py $(LIBRARY)
 
 .PHONY: test-traces
 
+## test-traces | tries locktrace on texts, random traces and logs, and recorded locks
 test-traces: $(TRACER) $(PROGRAM) tools
 	tests/locktrace.py $(TRACER)
 	tests/trace_values.py $(TRACER)
 	tests/order_search.py $(TRACER)
 	tests/recording.py $(TRACER) $(PROGRAM)
 
+## edits CRATE=NAME [EDIT=NAME] | tries a crate's wrong bodies and right twins, or one of each
 edits: tools
 	tests/edits.py $(wildcard crates/$(CRATE)/must-fail/$(EDIT).edit crates/$(CRATE)/twins/$(EDIT).edit)
 
+## twins | each right twin of a wrong body is proved
 twins: tools
 	tests/edits.py $(wildcard crates/*/twins/*.edit)
 
-demo: $(PROGRAM)
-	$(PROGRAM) replay < $(LESSON)
-
+## programs | builds lockreplay and locktrace
 programs: $(PROGRAM) $(TRACER)
 
+## library | builds the static library for traces
 library: $(LIBRARY)
 
+## bench | measures lockreplay beside cat and a replayer written by hand
 bench: $(PROGRAM) tools
 	bench/run.py $(PROGRAM)
 	bench/batch.py $(PROGRAM)
 
-soak: $(PROGRAM) tools browsers
+## soak [SOAK_SECONDS=3600] | each long run once, then the fuzzer for the rest of the time
+soak: $(PROGRAM) tools
+	tests/wanted.sh browsers
 	tests/soak.sh $(PROGRAM) $(SOAK_SECONDS)
 
 include packaging/targets.mk
 
 $(PROGRAM): $(SOURCES)
+	tests/wanted.sh rt
 	cd crates/lockreplay && rt run -- replay < ../../$(LESSON) > /dev/null
 
 $(TRACER): $(SOURCES)
+	tests/wanted.sh rt
 	cd crates/locktrace && rt run -- check < stdin > /dev/null
 
 $(MODULE): $(MODULE_SOURCES) page/build-module.sh
+	tests/wanted.sh rt
 	page/build-module.sh
 
 $(LIBRARY): $(SOURCES)
+	tests/wanted.sh rt
 	cd crates/lk_trace_c && rt lib
 
-# Two browsers and what drives them, from Debian's packages where they are missing
-BROWSERS := chromium chromium-driver firefox-esr python3-selenium python3-websocket nodejs
-browsers:
-	@dpkg --status $(BROWSERS) > /dev/null 2>&1 || { apt-get update && apt-get install -y $(BROWSERS); }
+$(TESTS_BUILT): $(TESTS_SOURCES)
+	tests/wanted.sh rt
+	cd crates/$(TESTS) && rt test
 
-# Python 3 and a C compiler, from Debian's packages where they are missing
+# Python 3, a C compiler and git, with which most tests work
 tools:
-	@{ command -v python3 && command -v cc; } > /dev/null || { apt-get update && apt-get install -y python3 gcc libc6-dev; }
+	@tests/wanted.sh tools

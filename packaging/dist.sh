@@ -4,10 +4,10 @@
 set -eu
 cd "$(dirname "$0")/.."
 . packaging/release.sh
-NAME=lockreplay-$VERSION-$(uname -s | tr '[:upper:]' '[:lower:]')-$(uname -m)
+NAME=lockreplay-$VERSION-$SYSTEM-$MACHINE
 packaging/install.sh install "$STAGE/$NAME"
-mkdir -p dist
-tar --create --directory="$STAGE" --sort=name --format=ustar --owner=root:0 --group=root:0 \
-    --mtime="@$TIME" "$NAME" | gzip --no-name --best > "dist/$NAME.tar.gz.part"
-mv "dist/$NAME.tar.gz.part" "dist/$NAME.tar.gz"
-echo "dist/$NAME.tar.gz"
+# In the format `gnu` headers have the same bytes from each version of tar; in `ustar` they do not.
+tar --create --directory="$STAGE" --sort=name --format=gnu --owner=root:0 --group=root:0 \
+    --mtime="@$SOURCE_DATE_EPOCH" --file="$STAGE/tar" "$NAME"
+gzip --no-name --best < "$STAGE/tar" > "$STAGE/$NAME.tar.gz"
+publish "$NAME.tar.gz"

@@ -4,58 +4,74 @@
 #   packaging/install.sh install FOLDER
 #   packaging/install.sh uninstall FOLDER
 #
-# FOLDER is DESTDIR and PREFIX together. What is taken away is each file that the list names, and
-# the whole folder of documents. Other folders stay, since others may use them.
+# FOLDER is DESTDIR and PREFIX together. Nothing is installed when a file of the list is missing.
+# What is taken away is each file that the list names, and the whole folder of documents. Other
+# folders stay, since others may use them.
 set -eu
 cd "$(dirname "$0")/.."
 umask 022
 LIST=packaging/contents.txt
 DOCUMENTS=share/doc/lockreplay
 
-# place KIND SOURCE TARGET: one file that is there, at one place
-place() {
-    mkdir -p "$(dirname "$3")"
-    rm -f "$3"
-    case $1 in
-    program) install -m 755 "$2" "$3" ;;
-    file) install -m 644 "$2" "$3" ;;
-    filled) sed "s/@VERSION@/$(cat VERSION)/g" "$2" > "$3" && chmod 644 "$3" ;;
-    link) ln -s "$2" "$3" ;;
-    *) echo "$LIST: no kind '$1'" >&2 && exit 1 ;;
-    esac
-}
+# Each of these is called by `each` with the KIND, SOURCE and TARGET of a line.
 
-# place_all KIND PATTERN TARGET NEEDED: each file that the pattern finds; it has to find one
-place_all() {
-    [ -z "$4" ] || [ -e "$4" ] || return 0
+# A build that was cut off leaves an empty file, which is none. A list of modules may be empty.
+look_at() {
     for source in $2; do
-        [ "$1" = link ] || [ -e "$source" ] || { echo "no file $source" >&2 && exit 1; }
-        place "$1" "$source" "$(place_of "$source" "$3")"
+        case $source in
+        */Lib.antt) ;;
+        *) [ -s "$source" ] || { echo "$LIST: there is no $source" >&2 && exit 1; } ;;
+        esac
     done
 }
 
-# place_of SOURCE TARGET: where the file lies in the end
-place_of() {
-    case $2 in
-    */) echo "$folder/$2$(basename "$1")" ;;
-    *) echo "$folder/$2" ;;
-    esac
+place_all() {
+    for source in $2; do
+        [ ! -s "$source" ] || place "$1" "$source" "$(place_of "$1" "$source" "$3")"
+    done
 }
 
 # in the folder of documents everything is this project's, so patterns are not asked what they found
 take_away() {
     case $3 in "$DOCUMENTS"/*) return ;; esac
-    rm -f "$(place_of "$2" "$3")"
+    rm -f "$(place_of "$1" "$2" "$3")"
+}
+
+# place KIND SOURCE PLACE: one file
+place() {
+    mkdir -p "$(dirname "$3")"
+    rm -f "$3"
+    case $1 in
+    program) install -m 755 "$2" "$3" ;;
+    file | kept) install -m 644 "$2" "$3" ;;
+    filled) sed "s/@VERSION@/$(cat VERSION)/g" "$2" > "$3" && chmod 644 "$3" ;;
+    *) echo "$LIST: no kind '$1'" >&2 && exit 1 ;;
+    esac
+}
+
+# place_of KIND SOURCE TARGET: where the file lies in the end
+place_of() {
+    case $1:$3 in
+    kept:*) echo "$folder/$3$2" ;;
+    *:*/) echo "$folder/$3$(basename "$2")" ;;
+    *) echo "$folder/$3" ;;
+    esac
+}
+
+each() {
+    grep -v -e '^#' -e '^$' "$LIST" | while read -r kind source target; do
+        "$1" "$kind" "$source" "$target"
+    done
 }
 
 case "$#${1-}" in
-2install) work=place_all ;;
-2uninstall) work=take_away ;;
+2install | 2uninstall) folder=$2 ;;
 *) sed -n '4,5s/^# *//p' "$0" >&2 && exit 2 ;;
 esac
-folder=$2
-grep -v '^#' "$LIST" | while read -r kind source target needed; do
-    [ -n "$kind" ] || continue
-    "$work" "$kind" "$source" "$target" "$needed"
-done
-[ "$work" = place_all ] || rm -rf "${folder:?}/$DOCUMENTS"
+if [ "$1" = install ]; then
+    each look_at
+    each place_all
+else
+    each take_away
+    rm -rf "${folder:?}/$DOCUMENTS"
+fi

@@ -1,19 +1,34 @@
 # shellcheck shell=sh disable=SC2034
-# What the scripts that package share: name, version and time of the release, and a folder to fill.
-# Read by `. packaging/release.sh` in the top folder; not run by itself.
+# What the scripts that package share: the version, day and machine of the release, and a folder to
+# fill. Read by `. packaging/release.sh` in the top folder; not run by itself.
 #
-# The same contents have to give the same bytes. So names are sorted, root owns all, and all files
-# have one time: SOURCE_DATE_EPOCH, or when VERSION was last changed, as git or the file has it.
+# The same contents have to give the same bytes on every machine. So names are sorted, root owns
+# all, and all files have one time: the day that CHANGELOG.md gives the version. git is not asked,
+# nor the environment: both differ between a clone, an archive and a container.
 umask 022
 export LC_ALL=C TZ=UTC0
 VERSION=$(cat VERSION)
-TIME=${SOURCE_DATE_EPOCH:-$(git log -1 --format=%ct -- VERSION 2> /dev/null || true)}
-TIME=${TIME:-$(stat --format=%Y VERSION)}
-export SOURCE_DATE_EPOCH="$TIME"
+DAY=$(sed -n "s/^## \[$VERSION\] - \([0-9-]*\)\$/\1/p" CHANGELOG.md)
+if [ -z "$DAY" ]; then
+    echo "CHANGELOG.md has no line '## [$VERSION] - YEAR-MONTH-DAY'" >&2
+    exit 1
+fi
+SOURCE_DATE_EPOCH=$(date --date="$DAY" +%s)
+export SOURCE_DATE_EPOCH
+# what `rt` builds for, whatever machine packages it
+SYSTEM=linux MACHINE=x86_64 ARCHITECTURE=amd64 MULTIARCH=x86_64-linux-gnu
 STAGE=$(mktemp -d)
 trap 'rm -rf "$STAGE"' EXIT
 
 # dated FOLDER: gives everything in it the time of the release
 dated() {
-    find "$1" -exec touch --no-dereference --date="@$TIME" {} +
+    find "$1" -exec touch --no-dereference --date="@$SOURCE_DATE_EPOCH" {} +
+}
+
+# publish FILE: brings a file of STAGE into dist/ whole, since it may be made by several at once
+publish() {
+    mkdir -p dist
+    cp "$STAGE/$1" "dist/$1.$$"
+    mv "dist/$1.$$" "dist/$1"
+    echo "dist/$1"
 }

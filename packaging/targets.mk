@@ -4,29 +4,57 @@ PREFIX  := /usr/local
 DESTDIR :=
 TREE     = $(DESTDIR)$(PREFIX)
 
-.PHONY: install uninstall dist deb release-checks
+# What packaging/contents.txt lists and a build makes: an artifact has all of it, and none is older
+# than what it is made of.
+PAGE  := page/lockreplay.html
+BUILT := $(PROGRAM) $(TRACER) $(LIBRARY) $(PAGE)
 
-install: $(PROGRAM)
+.PHONY: install install-built uninstall dist deb release-checks test-reproducible
+
+## install [PREFIX=/usr/local] [DESTDIR=] | builds and installs what packaging/contents.txt lists
+install: $(BUILT)
 	packaging/install.sh install '$(TREE)'
 
+## install-built | installs what was built, whatever its time; PREFIX and DESTDIR as above
+# Looks at no times, as in a clone into which built parts were copied: git gives all files new ones.
+install-built:
+	packaging/install.sh install '$(TREE)'
+
+## uninstall | removes it again
 uninstall:
 	packaging/install.sh uninstall '$(TREE)'
 
-dist: $(PROGRAM)
+## dist | a tarball of it, in dist/
+dist: $(BUILT)
 	packaging/dist.sh
 
-deb: $(PROGRAM)
+## deb | a Debian package of it, in dist/
+deb: $(BUILT)
+	tests/wanted.sh deb
 	packaging/deb.sh
 
-# Side by side. Debian packages that these need are installed by them where they are missing.
-release-checks: $(PROGRAM) tools
-	$(MAKE) --no-print-directory --jobs=$(shell nproc) --output-sync=target \
-	    release-packages release-installed release-hosts
+$(PAGE): $(MODULE) VERSION docs/LOCKS.md $(wildcard page/build.mjs page/build/* page/src/*.* \
+	page/src/style/* examples/*.schedule examples/README.md)
+	tests/wanted.sh page
+	node page/build.mjs $(MODULE)
 
-.PHONY: release-packages release-installed release-hosts
+# Side by side. Debian packages that these need are installed by them where they are missing.
+## release-checks | tries what is installed and packaged, and two hosts over ssh
+release-checks: $(BUILT) tools
+	$(MAKE) --no-print-directory --jobs=$(shell nproc) --output-sync=target \
+	    release-packages release-installed release-first-runs release-hosts
+
+.PHONY: release-packages release-installed release-first-runs release-hosts
 release-packages:
 	tests/packages.py
 release-installed:
 	tests/installed.py
+release-first-runs:
+	tests/first_runs.py
 release-hosts:
 	tests/parallel_ssh.py $(PROGRAM)
+
+# Makes the artifacts, and the programs over what is proved, again in other roots: the same bytes.
+## test-reproducible | makes the artifacts again under two Debians, and compares the bytes
+test-reproducible: $(BUILT) tools
+	tests/reproducible.py

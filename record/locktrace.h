@@ -1,4 +1,5 @@
 /* locktrace.h: the check of a trace (docs/TRACE.md) from C, C++ and whatever calls C.
+   SPDX-License-Identifier: Apache-2.0 OR MIT
 
    Link with liblk_trace_c.a. No call takes memory; the text and the records are the caller's. A
    text is opened once, which checks all of it, and then stepped through, a call for each move that

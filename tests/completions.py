@@ -43,10 +43,6 @@ CASES = [
     ("lockreplay help rep", "lockreplay help replay "),
     *((f"lockreplay batch --workers {n}", f"lockreplay batch --workers {n} ") for n in range(1, 9)),
     *((f"lockreplay batch --workers {n}", f"lockreplay batch --workers {n}") for n in (0, 9, 10)),
-]
-
-# Of the second program, where the tree has it.
-TRACE_CASES = [
     ("locktrace ch", "locktrace check "),
     ("locktrace sch", "locktrace schedule "),
     ("locktrace --v", "locktrace --version "),
@@ -82,7 +78,6 @@ SHELLS = {
         bind \\cu 'commandline ""'
     """),
 }
-PACKAGES = ["bash-completion", "zsh", "fish"]
 PATIENCE = 20  # seconds
 CLEAR, LINE = "\x15", "\x14"
 
@@ -137,14 +132,13 @@ def try_completions(tally, name, tree):
         for file in ("handed-on.schedule", "a.schedule"):
             Path(folder, file).write_text("lock ticket threads 1\n")
         shell = Shell(name, tree, folder)
-        both = Path(tree, "bin", "locktrace").exists()
-        for typed, due in CASES + (TRACE_CASES if both else []):
+        for typed, due in CASES:
             tally.check(f"{name}: '{typed}' and Tab", shell.completed(typed), due)
         shell.end()
 
 
 def main(tree):
-    wanted.install(*PACKAGES)
+    wanted.install("completions")
     tally = Tally()
     for name in SHELLS:
         try_completions(tally, name, tree)

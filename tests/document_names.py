@@ -42,9 +42,8 @@ OUTSIDE = set("""
 """.split())
 # Files that the commands of a document write, and what a build does.
 WRITTEN = (
-    "logs/*", "ordered/*", "try.c", "./try", "jobs.log", "run.trace", "run.schedule", "*.example",
-    "*/out/*",
-    "record/locktrace.h", "/dev/*", "{}*", "examples/fault-too-*", "*.c",
+    "logs/*", "ordered/*", "try.c", "./try", "jobs.log", "hosts.log", "run.trace", "run.schedule",
+    "*.example", "*/out/*", "record/locktrace.h", "/dev/*", "{}*", "examples/fault-too-*", "*.c",
 )
 
 

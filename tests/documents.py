@@ -9,10 +9,11 @@ status 0. Both run in a folder in which the repository's folders are seen, one f
 that a later block finds what an earlier one wrote. A comment above the fence says more:
 
     <!-- not run: REASON -->    the block cannot be run in a test; its commands are counted
-    <!-- with: PROGRAM -->      it is run where PROGRAM is built; else its commands are counted
+    <!-- with: PART -->         it is run where PART is built; else its commands are counted
     <!-- file: NAME -->         the block is the file NAME, and is saved before the next one is run
 
-A shell's block of another language fails, and so does a command that is indented and not fenced.
+A shell's block of another language fails, and so does a command that is indented and not fenced,
+and one that leaves the reader in another folder: `(cd FOLDER && ..)` does not.
 `document_names.py` looks at links, and at names in backticks. Prints how many commands ran and how
 many were marked, `N passed, M failed` last, and ends with 1 where one failed.
 """
@@ -28,11 +29,13 @@ from document_names import Names
 
 TOP = pathlib.Path(__file__).resolve().parent.parent
 DOCUMENTS = ("*.md", "docs/*.md", "*/README.md", "examples/recording/README.md")
-# Programs that a document may call besides `lockreplay`.
-OTHERS = {"locktrace": TOP / "crates/locktrace/out/locktrace"}
+# What a document may need besides `lockreplay`.
+OTHERS = {"locktrace": TOP / "crates/locktrace/out/locktrace",
+          "liblk_trace_c.a": TOP / "crates/lk_trace_c/out/liblk_trace_c.a"}
 SHELLS = {"bash", "shell", "zsh", "fish", "shell-session"}
 INDENTED = re.compile(r" {4,}(\$ |(make|rt|gcc|git|awk|sed|node|parallel|python3) \S|"
                       r"lockreplay (replay|batch) |(tests|fuzz|bench)/\w+\.(py|sh)\b)")
+LEAVES = re.compile(r"(\$ )?(cd|pushd) ")
 SECONDS = 50
 OF_MAKE = {"MAKELEVEL", "MAKEFLAGS", "MFLAGS"}
 END = "status of this command:"
@@ -80,11 +83,14 @@ class Room:
                          for it in commands)
         script = self.path.parent / "script"
         script.write_text(ends + "\n")
-        ran = subprocess.run(["bash", script], cwd=self.path, env=self.environment, text=True,
-                             stdin=subprocess.DEVNULL, stdout=subprocess.PIPE, check=False,
-                             stderr=subprocess.STDOUT, timeout=SECONDS, errors="replace")
-        parts = re.split(rf"\n{END} (\d+)\n", ran.stdout)
+        parts = re.split(rf"\n{END} (\d+)\n", self.printed(script))
         return [(text.splitlines(), int(status)) for text, status in zip(parts[::2], parts[1::2])]
+
+    def printed(self, script):
+        """What a script prints that is run in the folder."""
+        return subprocess.run(["bash", script], cwd=self.path, env=self.environment, text=True,
+                              stdin=subprocess.DEVNULL, stdout=subprocess.PIPE, check=False,
+                              stderr=subprocess.STDOUT, timeout=SECONDS, errors="replace").stdout
 
 
 class Tally:
@@ -122,6 +128,8 @@ def run_script(block, room, tally, where):
 
 def try_block(block, room, tally, where):
     """Runs a block, counts it, or saves it."""
+    if block.language in ("sh", "console") and any(map(LEAVES.match, block.lines)):
+        tally.note(False, f"{where}: it leaves the reader in another folder")
     if "file" in block.marks:
         (room.path / block.marks["file"]).write_text("\n".join(block.lines) + "\n")
     elif block.language in SHELLS:

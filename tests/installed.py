@@ -3,47 +3,34 @@
 
     tests/installed.py
 
-Every line of packaging/contents.txt has its file. Manual pages have no fault that mandoc finds,
-show the version, and name each word of the command line. pkg-config finds what users of the
-headers compile and link with; such programs are built and run. Completions are tried in their
-shells. The last line counts the cases; the status is 1 where one failed.
+Every line of packaging/contents.txt has its file, and without one of those that are built nothing
+is installed. Manual pages have no fault that mandoc finds, show the version, and name each word of
+the command line. pkg-config finds what users of the headers compile and link with; such programs
+are built and run. What documents name is installed. Completions are tried in their shells. The last
+line counts the cases; the status is 1 where one failed.
 """
 import os
 import re
-import subprocess
+import shutil
 import sys
 import tempfile
 from pathlib import Path
 
 import completions
 import wanted
+from compiled import output, try_compiled
+from installed_documents import try_documents
 from tally import Tally
 
 TOP = Path(__file__).resolve().parent.parent
 VERSION = (TOP / "VERSION").read_text().strip()
-PACKAGES = ["mandoc", "man-db", "groff-base", "pkgconf-bin", *completions.PACKAGES]
-WARNINGS = ["-O2", "-Wall", "-Wextra", "-Werror"]
 HELP_LINE = r"^ +(?:-\w, )?(?:--)?([a-z]+)(?: <[^>]*>)?(?:  |$)"  # `  -j, --jobs <N>  How many`
 FOREIGN = "another's\n"
-RECORDS = """#include <lockreplay_record.h>
-int main(void) { lr_run *run = lr_open("mcs", 1, 64, 1, 0); lr_close(run); return run == NULL; }
-"""
-CHECKS = """#include <locktrace.h>
-#include <string.h>
-int main(void)
-{
-    static const char text[] = "lock ticket threads 1\\n0 add\\n";
-    struct lt_answer answer;
-    return lt_check((const uint8_t *)text, strlen(text), NULL, 0, &answer) != LT_NO_CALL;
-}
-"""
-
-
-def output(*words, **how):
-    """What a command prints, on either output, behind its status where that is not 0."""
-    ran = subprocess.run(words, stdout=subprocess.PIPE, stderr=subprocess.STDOUT, text=True,
-                         check=False, **how)
-    return ran.stdout if ran.returncode == 0 else f"status {ran.returncode}: {ran.stdout}"
+# What builds each part that is built.
+BUILDS = {"crates/lockreplay/out/lockreplay": "cd crates/lockreplay && rt run",
+          "crates/locktrace/out/locktrace": "cd crates/locktrace && rt run",
+          "crates/lk_trace_c/out/liblk_trace_c.a": "cd crates/lk_trace_c && rt lib",
+          "page/lockreplay.html": "node page/build.mjs"}
 
 
 def make(target, folder):
@@ -55,26 +42,58 @@ def files(folder):
     return {str(file.relative_to(folder)) for file in folder.rglob("*") if not file.is_dir()}
 
 
+def contents():
+    """Each line of the list: kind, source, target, and the files that the source finds."""
+    for line in (TOP / "packaging" / "contents.txt").read_text().splitlines():
+        if line and not line.startswith("#"):
+            kind, source, target = line.split()
+            found = [file for file in TOP.glob(source) if file.stat().st_size > 0]
+            yield kind, target, [str(file.relative_to(TOP)) for file in found]
+
+
 def due_files():
     """Where each file of the list has to be."""
     due = set()
-    for line in (TOP / "packaging" / "contents.txt").read_text().splitlines():
-        if line == "" or line.startswith("#"):
-            continue
-        kind, source, target, *needed = line.split()
-        if needed and not (TOP / needed[0]).exists():
-            continue
-        found = [source] if kind == "link" else [str(file) for file in TOP.glob(source)]
-        due |= {target + os.path.basename(file) if target.endswith("/") else target
-                for file in found}
+    for kind, target, sources in contents():
+        for source in sources:
+            name = source if kind == "kept" else os.path.basename(source)
+            due.add(target + name if target.endswith("/") else target)
     return due
+
+
+def try_missing(tally, folder):
+    """A copy of what is installed from, without one part: nothing is installed, and it is named."""
+    copy, root = folder / "copy", folder / "nothing"
+    for source in ["packaging/contents.txt", "packaging/install.sh",
+                   *(source for _, _, sources in contents() for source in sources)]:
+        (copy / source).parent.mkdir(parents=True, exist_ok=True)
+        shutil.copy(TOP / source, copy / source)
+    words = [copy / "packaging" / "install.sh", "install", root]
+    for part in (*BUILDS, "record/locktrace.h", "packaging/man/locktrace.1"):
+        (copy / part).rename(folder / "part")
+        due = f"status 1: packaging/contents.txt: there is no {part}\n"
+        tally.check(f"without {part}", output(*words), due)
+        (copy / part).touch()
+        tally.check(f"with an empty {part}", output(*words), due)
+        (folder / "part").rename(copy / part)
+    tally.check("what was installed", root.exists(), False)
+    tally.check("with all parts", output(*words), "")
+
+
+def try_stale(tally):
+    """Which commands `make` would run, when a source is newer than all that was built of it."""
+    for target in ("install", "dist", "deb", "install-built"):
+        told = output("make", "--dry-run", "--what-if=crates/lk_words/src/lib.rt", target,
+                      cwd=TOP, env=wanted.environment())
+        for part, command in BUILDS.items():
+            tally.check(f"{target} with a stale {part}", command in told, target != "install-built")
 
 
 def try_files(tally, tree):
     tally.check("files", files(tree), due_files())
     for file in sorted(files(tree)):
-        mode = (tree / file).stat().st_mode & 0o777  # of a link, what it leads to
-        is_program = file.startswith("bin/") or file.endswith(".sh")
+        mode = (tree / file).stat().st_mode & 0o777
+        is_program = file.startswith("bin/") or file.endswith((".sh", ".py"))
         tally.check(f"mode of {file}", oct(mode), "0o755" if is_program else "0o644")
 
 
@@ -92,7 +111,7 @@ def try_manual(tally, tree):
         tally.check(f"man {section} {name}", shown, lambda text: f"version {VERSION}." in text)
         warnings = re.findall(r".*: warning: .*", shown)
         tally.check(f"warnings of man {section} {name}", warnings, [])
-    (manual / "mandoc.db").unlink()
+    (manual / "mandoc.db").unlink(missing_ok=True)
 
 
 def try_words(tally, tree, name, commands, due):
@@ -109,67 +128,35 @@ def try_words(tally, tree, name, commands, due):
 def try_programs(tally, tree):
     try_words(tally, tree, "lockreplay", [["replay"], ["batch"]],
               {"replay", "batch", "help", "workers"})
-    if (tree / "bin" / "locktrace").exists():
-        try_words(tally, tree, "locktrace", [["check"], ["explain"], ["order"], ["schedule"]],
-                  {"check", "explain", "order", "schedule", "help", "version", "format", "summary",
-                   "jobs", "moves", "names"})
-        tally.check("locktrace's version", output(tree / "bin" / "locktrace", "--version").split(),
+    try_words(tally, tree, "locktrace", [["check"], ["explain"], ["order"], ["schedule"]],
+              {"check", "explain", "order", "schedule", "help", "version", "format", "summary",
+               "jobs", "moves", "names"})
+    for word in ("--version", "-V"):
+        tally.check(f"locktrace {word}", output(tree / "bin" / "locktrace", word).split(),
                     ["locktrace", VERSION])
 
 
-def flags_of(tally, tree, name):
-    """What pkg-config says that a user of a header compiles and links with."""
-    environment = {"PATH": os.environ["PATH"],
-                   "PKG_CONFIG_PATH": f"{tree}/share/pkgconfig"}
-
-    def asked(*words):
-        return output("pkg-config", *words, name, env=environment).split()
-
-    tally.check(f"version of {name}", asked("--modversion"), [VERSION])
-    return asked("--cflags", "--libs")
-
-
-def try_text(tally, name, text, flags, folder):
-    """A program of a few lines, built with a package's flags from a folder of its own, and run."""
-    (folder / f"{name}.c").write_text(text)
-    built = output("cc", *WARNINGS, f"{name}.c", *flags, "-o", name, cwd=folder)
-    tally.check(f"{name}: built", built, "")
-    tally.check(f"{name}: run", output(folder / name), "")
-
-
-def try_headers(tally, tree, folder):
-    flags = flags_of(tally, tree, "lockreplay-record")
-    try_text(tally, "records", RECORDS, ["-DLR_VALUES", *flags], folder)
-    if (tree / "lib").exists():
-        try_text(tally, "checks", CHECKS, flags_of(tally, tree, "locktrace"), folder)
-    logs = folder / "logs"
-    logs.mkdir()
-    lock = tree / "share/doc/lockreplay/examples/recording/mcs.c"
-    built = output("cc", *WARNINGS, "-DLR_SEED", lock, *flags, "-o", folder / "mcs")
-    tally.check("a recorded lock is built", built, "")
-    tally.check("a recorded lock runs", output(folder / "mcs", "3", "20", "17", logs), "")
-    tally.check("its logs", sorted(file.name for file in logs.iterdir()),
-                ["run.trace", "thread-0.log", "thread-1.log", "thread-2.log"])
-
-
 def main():
-    wanted.install(*PACKAGES)
+    wanted.install("installed", "completions")
     tally = Tally()
     with tempfile.TemporaryDirectory() as folder:
         root, tree = Path(folder, "root"), Path(folder, "root/usr/local")
         (tree / "bin").mkdir(parents=True)
         (tree / "bin" / "other").write_text(FOREIGN)
-        tally.check("make install", make("install", root), "")
+        tally.check("make install", make("install-built", root), "")
         (tree / "bin" / "other").unlink()
         try_files(tally, tree)
         try_manual(tally, tree)
         try_programs(tally, tree)
-        try_headers(tally, tree, Path(folder))
+        try_compiled(tally, tree, Path(folder))
+        try_documents(tally, tree)
         for name in completions.SHELLS:
             completions.try_completions(tally, name, str(tree))
         (tree / "bin" / "other").write_text(FOREIGN)
         tally.check("make uninstall", make("uninstall", root), "")
         tally.check("what is left", files(root), {"usr/local/bin/other"})
+        try_missing(tally, Path(folder))
+    try_stale(tally)
     return tally.end()
 
 

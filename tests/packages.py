@@ -4,11 +4,12 @@ them runs with nothing else.
 
     tests/packages.py
 
-Makes both by `make dist` and `make deb`, unpacks each into an empty folder, and replays every
-example that is in there, with an empty environment; as root under `chroot`, where the folder and
-the C library are all there is. The reports were made by hand. The C library that is asked for
-has to be one that Debian 12 has. The last line counts the cases; the status is 1 where one
-failed.
+Makes both by `make dist` and `make deb`, and unpacks each into an empty folder. There `lockreplay`
+replays every example, and `locktrace` checks, explains, orders and writes schedules, with an empty
+environment; as root under `chroot`, where the folder and the C library are all there is. What is
+due was made by hand. Programs in C and Python are built on the header and the library. The C
+library that is asked for has to be one that Debian 12 has. The last line counts the cases; the
+status is 1 where one failed.
 """
 import os
 import re
@@ -18,19 +19,18 @@ import sys
 import tempfile
 from pathlib import Path
 
+import locktrace
 import wanted
+from compiled import output, try_compiled
 from tally import Tally
 
 TOP = Path(__file__).resolve().parent.parent
 VERSION = (TOP / "VERSION").read_text().strip()
 DEBIAN_12 = (2, 36)  # its version of glibc
+PROGRAMS = ("lockreplay", "locktrace")
 REFUSED = b"lock ticket threads 2\n0 release\n"
-
-
-def output(*words, **how):
-    ran = subprocess.run(words, stdout=subprocess.PIPE, stderr=subprocess.STDOUT, text=True,
-                         check=False, **how)
-    return ran.stdout if ran.returncode == 0 else f"status {ran.returncode}: {ran.stdout}"
+EXPLAINED = ("6: 0 swap: entered, tail 0 to 1; left finds nobody in the queue: it holds the lock; "
+             "held by 0; queue 0\n")
 
 
 def made(target, **how):
@@ -45,23 +45,24 @@ class Unpacked:
     """The root folder of an unpacked tree, with the C library in it, and where the tree lies."""
 
     def __init__(self, root, below):
-        self.root, self.below = root, below
-        self.program = root / below / "bin" / "lockreplay"
-        self.examples = root / below / "share" / "doc" / "lockreplay" / "examples"
-        for library in self.libraries():
+        self.root, self.tree = root, root / below
+        self.examples = self.tree / "share" / "doc" / "lockreplay" / "examples"
+        for library in {file for name in PROGRAMS for file in self.libraries(name)}:
             copy = root / library.lstrip("/")
             copy.parent.mkdir(parents=True, exist_ok=True)
             shutil.copy(library, copy)
 
-    def libraries(self):
-        return re.findall(r"(/\S+) \(0x", output("ldd", self.program))
+    def program(self, name):
+        return self.tree / "bin" / name
 
-    def run(self, *words, stdin=b""):
+    def libraries(self, name):
+        return re.findall(r"(/\S+) \(0x", output("ldd", self.program(name)))
+
+    def run(self, name, *words, stdin=b""):
         """Output, error and status; as root, the program sees the folder and nothing else."""
+        words = [self.inside(self.program(name)), *words]
         if os.geteuid() == 0:
-            words = ["/usr/sbin/chroot", self.root, f"/{self.below}/bin/lockreplay", *words]
-        else:
-            words = [self.program, *words]
+            words = ["/usr/sbin/chroot", self.root, *words]
         ran = subprocess.run(words, input=stdin, capture_output=True, check=False,
                              env={}, cwd=self.root)
         return ran.stdout, ran.stderr, ran.returncode
@@ -75,7 +76,7 @@ def status_of(report):
     return 0 if report.splitlines()[-1].startswith(b"end ") else 1
 
 
-def try_program(tally, name, tree):
+def try_replays(tally, name, tree):
     """Each example by itself, all of them as a batch, help, and words that ask for nothing."""
     reports = sorted(report for report in tree.examples.glob("*.report")
                      if report.with_suffix(".schedule").exists())
@@ -83,25 +84,51 @@ def try_program(tally, name, tree):
     for report in reports:
         due = report.read_bytes()
         text = report.with_suffix(".schedule").read_bytes()
-        tally.check(f"{name}: {report.stem}", tree.run("replay", stdin=text),
+        tally.check(f"{name}: {report.stem}", tree.run("lockreplay", "replay", stdin=text),
                     (due, b"", status_of(due)))
     files = [tree.inside(report.with_suffix(".schedule")) for report in reports]
     due = b"".join(b"file %d\n" % k + report.read_bytes() for k, report in enumerate(reports, 1))
-    tally.check(f"{name}: a batch", tree.run("batch", "--workers", "2", *files), (due, b"", 1))
-    tally.check(f"{name}: refused", tree.run("replay", stdin=REFUSED),
+    tally.check(f"{name}: a batch", tree.run("lockreplay", "batch", "--workers", "2", *files),
+                (due, b"", 1))
+    tally.check(f"{name}: refused", tree.run("lockreplay", "replay", stdin=REFUSED),
                 (b"refused line 2 NotHolder\n", b"", 1))
-    tally.check(f"{name}: help", tree.run("--help"),
+    tally.check(f"{name}: help", tree.run("lockreplay", "--help"),
                 lambda got: b"Usage: lockreplay <COMMAND>" in got[0] and got[1:] == (b"", 0))
-    tally.check(f"{name}: no words", tree.run()[2], 2)
+    tally.check(f"{name}: no words", tree.run("lockreplay")[2], 2)
+
+
+def try_traces(tally, name, tree):
+    """The commands of `locktrace`, on texts of tests/locktrace.py with what is due for them."""
+    def case(words, output, status, stdin=""):
+        tally.check(f"{name}: locktrace {words}",
+                    tree.run("locktrace", *words.split(), stdin=stdin.encode()),
+                    (output.encode(), b"", status))
+
+    case("--version", f"locktrace {VERSION}\n", 0)
+    case("check", "", 0, locktrace.GOOD)
+    case("check -", locktrace.OTHER_LINE.format("-", "-"), 1, locktrace.OTHER)
+    case("explain --moves 3..3 --names left,right", EXPLAINED, 0, locktrace.GOOD)
+    case("schedule", locktrace.SCHEDULE, 0, locktrace.GOOD)
+    texts = tree.root / "texts"
+    texts.mkdir()
+    for file, text in locktrace.LOGS.items():
+        (texts / file).write_text(text)
+    logs = " ".join(tree.inside(texts / file) for file in locktrace.LOGS)
+    made = tree.inside(texts / "made")
+    case(f"order {logs} -o {made}", "", 0)
+    case(f"check {made}/run.trace", "", 0)
+    case(f"schedule {made}/run.trace", (texts / "made" / "run-0001.schedule").read_text(), 0)
 
 
 def try_libraries(tally, name, tree):
-    """The program asks for the C library alone, and for no version that Debian 12 has not."""
-    asked = re.findall(r"NEEDED.*\[(.*)\]", output("readelf", "--dynamic", tree.program))
-    tally.check(f"{name}: libraries", asked, ["libc.so.6"])
-    versions = re.findall(r"GLIBC_(\d+)\.(\d+)", output("readelf", "--version-info", tree.program))
-    greatest = max(tuple(map(int, version)) for version in versions)
-    tally.check(f"{name}: version of the C library", greatest, lambda version: version <= DEBIAN_12)
+    """The programs ask for the C library alone, and for no version that Debian 12 has not."""
+    for program in map(tree.program, PROGRAMS):
+        what = f"{name}: {program.name}"
+        asked = re.findall(r"NEEDED.*\[(.*)\]", output("readelf", "--dynamic", program))
+        tally.check(f"{what}'s libraries", asked, ["libc.so.6"])
+        versions = re.findall(r"GLIBC_(\d+)\.(\d+)", output("readelf", "--version-info", program))
+        tally.check(f"{what}'s C library", max(tuple(map(int, pair)) for pair in versions),
+                    lambda version: version <= DEBIAN_12)
 
 
 def try_control(tally, package):
@@ -112,6 +139,9 @@ def try_control(tally, package):
     tally.check("deb: version", field("Version"), VERSION)
     tally.check("deb: depends", field("Depends"),
                 lambda text: re.fullmatch(r"libc6 \(>= 2\.(\d+)\)", text) is not None)
+    for part in ("locktrace", "page", "liblk_trace_c.a", "lockreplay_record.h", "Python",
+                 "x86-64-v2", "WebAssembly"):
+        tally.check(f"deb: names {part}", part in field("Description"), True)
     lint = ["lintian", "--allow-root", "--fail-on", "error,warning", package]
     tally.check("deb: lintian", output(*lint), "")
 
@@ -120,12 +150,13 @@ def try_again(tally, target, first):
     """The same bytes from another folder, under another umask, a second later."""
     before = first.read_bytes()
     with tempfile.TemporaryDirectory() as other:
-        how = {"umask": 0o077, "env": {**wanted.environment(), "TMPDIR": other, "TZ": "Asia/Tokyo"}}
+        how = {"umask": 0o077, "env": {**wanted.environment(), "TMPDIR": other, "TZ": "Asia/Tokyo",
+                                       "SOURCE_DATE_EPOCH": "1"}}
         tally.check(f"{target}: made again", made(target, **how).read_bytes() == before, True)
 
 
 def main():
-    wanted.install("binutils", "dpkg-dev", "lintian", "xz-utils")
+    wanted.install("tools", "deb", "packages", "installed")
     tally = Tally()
     tarball, package = made("dist"), made("deb")
     with tempfile.TemporaryDirectory() as folder:
@@ -138,8 +169,12 @@ def main():
         output("dpkg-deb", "--extract", package, Path(folder, "deb"))
         trees["deb"] = Unpacked(Path(folder, "deb"), "usr")
         for name, tree in trees.items():
-            try_program(tally, name, tree)
+            try_replays(tally, name, tree)
+            try_traces(tally, name, tree)
             try_libraries(tally, name, tree)
+            built = Path(folder, f"{name}-built")
+            built.mkdir()
+            try_compiled(tally, tree.tree, built)
     try_control(tally, package)
     try_again(tally, "dist", tarball)
     try_again(tally, "deb", package)

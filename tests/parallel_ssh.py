@@ -7,7 +7,8 @@ The hosts are two sshd of this machine (hosts.py). 200 random schedules are repl
 both: the reports come in the order of the files, and the statuses are right. Of 40 on the hosts,
 nothing is lost where one goes away in the middle. A run that was ended in the middle goes on where
 it was. Reports and statuses that are due are the oracle's. The commands are taken from the document
-as they stand there. The last line counts the cases; the status is 1 where one failed.
+as they stand there, and their logs stay where the next one finds them. The last line counts the
+cases; the status is 1 where one failed.
 """
 import os
 import random
@@ -46,7 +47,7 @@ class Work:
     def __init__(self, folder, program, hosts, count):
         self.folder, self.count = folder / f"work-{count}", count
         self.folder.mkdir()
-        self.log = self.folder / "jobs.log"
+        self.log = None  # that of the command which was begun last
         chance = random.Random(SEED)
         self.reports = []
         for number in range(1, count + 1):
@@ -63,6 +64,7 @@ class Work:
                             "PARALLEL_SSH": f"ssh -F {folder}/client"}
 
     def begin(self, command):
+        self.log = self.folder.joinpath(*re.findall(r"--joblog (\S+)", command))
         words = ["sh", "-c", f"exec {command}"]
         return subprocess.Popen(words, cwd=self.folder, env=self.environment,
                                 stdin=subprocess.DEVNULL, stderr=subprocess.DEVNULL)
@@ -90,7 +92,6 @@ class Work:
     def is_in_the_middle(self, jobs):
         return self.count // 4 <= len(jobs) < self.count
 
-
     def printed(self):
         return (self.folder / "reports").read_bytes()
 
@@ -109,16 +110,12 @@ def try_one_machine(tally, work):
                              for line in LINES_OF_THE_LOG.splitlines())
     tally.check("lines of refused moves", len(refused.splitlines()), sum(work.statuses))
     tally.check("lines of files not replayed", not_replayed, b"")
-    work.log.unlink()
     work.end(work.begin(AS_A_BATCH))
     tally.check("as a batch", work.printed(), oracle.batch_of(work.reports))
     work.end(work.begin(IN_GROUPS))
     groups = [work.reports[at:at + IN_GROUP] for at in range(0, work.count, IN_GROUP)]
     tally.check("in groups", work.printed(), b"".join(map(oracle.batch_of, groups)))
     try_resumed(tally, "one machine", work, RESUMED_HERE)
-    for report in work.folder.glob("*.report"):
-        report.unlink()
-    work.log.unlink()
 
 
 def try_several_hosts(tally, work):
@@ -157,7 +154,7 @@ def try_resumed(tally, name, work, command):
 
 
 def main(program):
-    wanted.install("openssh-client", "openssh-server", "parallel", "rsync")
+    wanted.install("hosts")
     tally = Tally()
     with tempfile.TemporaryDirectory() as name, ExitStack() as at_end:
         folder = Path(name)
@@ -173,7 +170,6 @@ def main(program):
         tally.check("schedules left on the hosts", left, [])
         few = Work(folder, program, hosts, FEW)
         try_resumed(tally, "hosts", few, RESUMED)
-        few.log.unlink()
         try_host_that_goes_away(tally, few, hosts[1])
     return tally.end()
 

@@ -18,9 +18,9 @@ import tempfile
 from concurrent.futures import ThreadPoolExecutor
 from pathlib import Path
 
+import wanted
 from recording_builds import (EXAMPLES, ROOT, SANITIZERS, WARNINGS, all_builds, build,
-                              build_of_the_guide, compilers, install_what_is_missing,
-                              is_nothing_left, language, ran)
+                              build_of_the_guide, compilers, is_nothing_left, language, ran)
 from recording_mistakes import MISTAKES, moves_of
 from tally import Tally
 
@@ -208,7 +208,7 @@ def guide(cases, runs):
 
 
 def main(locktrace, lockreplay):
-    install_what_is_missing()
+    wanted.install("recording")
     cases = Cases()
     with tempfile.TemporaryDirectory() as name:
         runs = Runs(Path(locktrace).resolve(), Path(lockreplay).resolve(), Path(name))

@@ -4,8 +4,6 @@ import shutil
 import subprocess
 from pathlib import Path
 
-import wanted
-
 ROOT = Path(__file__).resolve().parent.parent
 SOURCES = ROOT / "examples" / "recording"
 HEADER = ROOT / "record" / "lockreplay_record.h"
@@ -18,14 +16,6 @@ SANITIZERS = ["address,undefined", "thread"]
 def ran(*words, text=None, folder=None):
     return subprocess.run([str(word) for word in words], input=text, cwd=folder,
                           capture_output=True, text=True)
-
-
-def install_what_is_missing():
-    """A C and a C++ compiler, objdump, and Concurrency Kit's headers, from Debian's packages."""
-    missing = [package for package, tool in
-               [("gcc", "gcc"), ("g++", "g++"), ("binutils", "objdump")] if not shutil.which(tool)]
-    missing += [] if Path("/usr/include/ck_pr.h").exists() else ["libck-dev"]
-    wanted.install(*missing)
 
 
 def language(compiler):
@@ -46,8 +36,8 @@ def build_of_the_guide(mode, folder, wrong):
     if wrong:
         text = text.replace("served != ticket", "served < ticket")
     (folder / "try.c").write_text(text)
-    return ran("gcc", "-O2", *WARNINGS, "-pthread", f"-DLR_{mode}", "-I", ROOT, "-o", "try",
-               "try.c", folder=folder).stderr
+    return ran("gcc", "-O2", *WARNINGS, "-pthread", f"-DLR_{mode}", "-I", ROOT / "record",
+               "-o", "try", "try.c", folder=folder).stderr
 
 
 def compilers():

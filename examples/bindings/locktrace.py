@@ -3,9 +3,14 @@
 
     examples/bindings/locktrace.py LIBRARY TRACE
 
-LIBRARY is a shared library of liblk_trace_c.a:
+LIBRARY is a shared library, made once from liblk_trace_c.a. In the folder of that file, which
+`pkg-config --variable=libdir locktrace` prints where it is installed:
 
     cc -shared -o liblocktrace.so -Wl,--whole-archive liblk_trace_c.a -Wl,--no-whole-archive
+
+Status: 0 an accepted trace, 1 a refused one, 2 other words on the command line than these.
+
+SPDX-License-Identifier: Apache-2.0 OR MIT
 """
 import ctypes
 import sys
@@ -64,4 +69,7 @@ def main(library, trace):
 
 
 if __name__ == "__main__":
+    if len(sys.argv) != 3:
+        print(__doc__, file=sys.stderr)
+        sys.exit(2)
     sys.exit(main(*sys.argv[1:]))

@@ -6,7 +6,9 @@
      `locked`   is set before the swap: noted behind it, where there is a predecessor. Nobody looks
                 at it before the link
      the tail   is loaded before the compare-and-swap. Where that finds another record, there is no
-                compare-and-swap: the load is noted as one that failed. Else it is not noted */
+                compare-and-swap: the load is noted as one that failed. Else it is not noted
+
+   SPDX-License-Identifier: Apache-2.0 OR MIT */
 #define LOCK "mcs"
 enum { BITS = 64 };
 

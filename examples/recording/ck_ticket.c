@@ -4,7 +4,9 @@
    do the same, and note it. On x86 both counters are halves of one word of 32 bits, 16 bits each.
    So two operations are two steps of the machine each, and LR_JOIN keeps their notes together:
      the fetch-and-add    finds both counters: the add, and the first look at now_serving
-     the increment        of the half that is now_serving: the release's look and its write */
+     the increment        of the half that is now_serving: the release's look and its write
+
+   SPDX-License-Identifier: Apache-2.0 OR MIT */
 #define LOCK "ticket"
 enum { BITS = 16 };
 

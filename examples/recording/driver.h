@@ -6,7 +6,9 @@
    includes this file; then it defines `open_lock` and `one_round`: a call that takes the lock,
    `inside`, and a call that gives it back. The logs go to DIRECTORY. Status: 0 all threads ended;
    1 some hang, after SECONDS (60) or where a seeded run stands still, and their logs end there;
-   2 usage; 3 memory, a thread or a write was refused. */
+   2 usage; 3 memory, a thread or a write was refused.
+
+   SPDX-License-Identifier: Apache-2.0 OR MIT */
 #include <pthread.h>
 #include <sched.h>
 #include <stdint.h>

@@ -3,7 +3,9 @@
    After Mellor-Crummey and Scott (ACM TOCS 9(1), 1991). Two mistakes can be planted:
      -DLINKS_BEFORE_LOCKED   links itself to its predecessor and only then sets its own `locked`: a
                              grant that comes between the two is lost
-     -DGRANTS_WRONG_RECORD   grants to the last in line, not to the next: right while one waits */
+     -DGRANTS_WRONG_RECORD   grants to the last in line, not to the next: right while one waits
+
+   SPDX-License-Identifier: Apache-2.0 OR MIT */
 #define LOCK "mcs"
 enum { BITS = 64 };
 

@@ -1,5 +1,7 @@
 /* The monitor of the read-write examples, a POSIX mutex and a condition. Where its sections are
-   noted, it counts them. */
+   noted, it counts them.
+
+   SPDX-License-Identifier: Apache-2.0 OR MIT */
 
 typedef struct {
     pthread_mutex_t mutex;

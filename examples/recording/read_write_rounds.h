@@ -1,5 +1,7 @@
 /* What a thread of the read-write examples does in a round: it writes in one of three, and makes a
-   reading of every fourth writing before it gives that back; else it reads. */
+   reading of every fourth writing before it gives that back; else it reads.
+
+   SPDX-License-Identifier: Apache-2.0 OR MIT */
 
 static rw_lock the_lock;
 

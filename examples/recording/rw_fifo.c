@@ -3,7 +3,9 @@
    After Herlihy and Shavit, "The Art of Multiprocessor Programming", chapter 8, with a downgrade. A
    writer sets the flag first, and then waits for the readers that are inside. One mistake can be
    planted:
-     -DPASSES_ANNOUNCED_WRITER  a reader does not wait for a writer that itself waits for readers */
+     -DPASSES_ANNOUNCED_WRITER  a reader does not wait for a writer that itself waits for readers
+
+   SPDX-License-Identifier: Apache-2.0 OR MIT */
 #define LOCK "rw-fifo"
 enum { BITS = 8 };
 

@@ -2,7 +2,9 @@
 
    After Herlihy and Shavit, "The Art of Multiprocessor Programming", chapter 8, with a downgrade.
    One mistake can be planted:
-     -DWRITER_IGNORES_READERS  a writer looks at other writers alone, and enters beside readers */
+     -DWRITER_IGNORES_READERS  a writer looks at other writers alone, and enters beside readers
+
+   SPDX-License-Identifier: Apache-2.0 OR MIT */
 #define LOCK "rw-simple"
 enum { BITS = 64 };
 

@@ -4,7 +4,9 @@
      -DLESS_THAN              waits while the served ticket is less than its own: right until the
                               counters go round
      -DRELEASES_WRONG_TICKET  serves the ticket that is handed out next, not the one behind its own:
-                              right while nobody waits */
+                              right while nobody waits
+
+   SPDX-License-Identifier: Apache-2.0 OR MIT */
 #define LOCK "ticket"
 enum { BITS = 4, MASK = (1 << BITS) - 1 };
 

@@ -1,0 +1,106 @@
+#!/usr/bin/env bash
+# Runs the README's two commands on a clean machine: tests/clean_room.sh [--prove]
+#
+# The machine is a minimal Debian 12 with make, git and ca-certificates, which sees the kit and has
+# the committed tree. Shown is, with all set-up:
+#
+#   - `make demo` with nothing built. It is ended when the first crate is proved;
+#   - `make demo` over what this tree keeps of its proofs: the program is linked anew;
+#   - each part of what `make test` does after the proofs.
+#
+# With --prove no proofs are kept, so all that these need is proved from nothing, which takes an
+# hour. The gate itself, which tries the wrong bodies too, is not run. The first step that fails
+# ends the whole; nothing stays on the machine but what tests/root.sh keeps.
+set -euo pipefail
+cd "$(dirname "$0")/.."
+readonly TREE=/root/lockreplay PATIENCE=900 # seconds, for the first crate
+case $* in
+'' | --prove) prove=$* ;;
+*) echo "usage: tests/clean_room.sh [--prove]" >&2 && exit 2 ;;
+esac
+kit=$(readlink -f "$(dirname "$(rt doc)")")
+room=$(mktemp -d -p /var/tmp)
+readonly root=$room/root table=$room/table
+child=
+: > "$table"
+
+end() {
+    status=$?
+    [ -z "$child" ] || kill "$child" 2> /dev/null || true
+    wait
+    printf '\nSeconds  What was run in a clean Debian 12\n'
+    cat "$table"
+    [ "$status" = 0 ] || echo "clean_room.sh: it failed" >&2
+    rm -rf "$room" || { sleep 2 && rm -rf "$room"; }
+}
+trap end EXIT
+
+# begin WORD...: starts a command in the tree in the room
+begin() {
+    tests/in_root.sh --see "$kit" "$root" env --chdir="$TREE" "$@" &
+    child=$!
+}
+
+# finish: waits for it
+finish() {
+    local status=0
+    wait "$child" || status=$?
+    child=
+    return "$status"
+}
+
+# step NAME COMMAND...: runs a command here, and notes how long it took
+step() {
+    local from=$SECONDS
+    echo "== $1"
+    printf '%7s  %s\n' failed "$1" >> "$table"
+    "${@:2}"
+    sed -i '$d' "$table"
+    printf '%7d  %s\n' $((SECONDS - from)) "$1" >> "$table"
+}
+
+make_room() {
+    tests/root.sh bookworm "$root" make git ca-certificates
+    ln -s "$kit/bin/rt" "$root/usr/local/bin/rt"
+    git clone --quiet . "$root$TREE"
+}
+
+until_a_crate_is_proved() {
+    local last=$((SECONDS + PATIENCE))
+    begin make demo
+    until [ -e "$root$TREE/crates/lk_words/out/rlib/lk_words.rlib" ]; do
+        sleep 1
+        kill -0 "$child" 2> /dev/null || { finish && return 1; }
+        [ "$SECONDS" -lt "$last" ] || return 1
+    done
+    kill "$child"
+    finish || true
+    sleep 1
+    rm -rf "$root$TREE"/crates/*/out
+}
+
+copy_kept_proofs() {
+    for out in crates/*/out; do
+        cp -a "$out" "$root$TREE/$out"
+    done
+    rm "$root$TREE/crates/lockreplay/out/lockreplay"
+}
+
+demo() {
+    begin make demo > "$room/demo"
+    finish
+    tail -n 11 "$room/demo" | diff examples/ticket-hand-over.report -
+}
+
+part() {
+    begin make "$1"
+    finish
+}
+
+step "a minimal root, with the committed tree" make_room
+step "make demo, with nothing built, until a crate is proved" until_a_crate_is_proved
+[ -n "$prove" ] || step "a copy of the kept proofs" copy_kept_proofs
+step "make demo" demo
+for name in $(make --silent test-parts); do
+    step "make $name" part "$name"
+done
