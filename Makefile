@@ -18,14 +18,14 @@ TESTS_SOURCES := $(call sources_of,lk_words lk_locks lk_replay lk_workers $(TEST
 FUZZ_SECONDS := 60
 SHORT_FUZZ_SECONDS := 5
 SOAK_SECONDS := 3600
-EDIT := *
+MISTAKE :=
 PROVE :=
 
 .PHONY: help packages test gate test-built test-parts clean-room
-.PHONY: check edits twins demo programs library bench soak tools
+.PHONY: check mutants demo programs library bench soak tools
 
 help:
-	@sed -n 's/^## //p' $(MAKEFILE_LIST) | awk -F ' [|] ' '{ printf "make %-29s%s\n", $$1, $$2 }'
+	@sed -n 's/^## //p' $(MAKEFILE_LIST) | awk -F ' [|] ' '{ printf "make %-38s%s\n", $$1, $$2 }'
 
 ## demo | builds lockreplay, and replays a schedule of two threads
 demo: $(PROGRAM)
@@ -127,13 +127,12 @@ test-traces: $(TRACER) $(PROGRAM) tools
 	tests/order_search.py $(TRACER)
 	tests/recording.py $(TRACER) $(PROGRAM)
 
-## edits CRATE=NAME [EDIT=NAME] | tries a crate's wrong bodies and right twins, or one of each
-edits: tools
-	tests/edits.py $(wildcard crates/$(CRATE)/must-fail/$(EDIT).edit crates/$(CRATE)/twins/$(EDIT).edit)
-
-## twins | each right twin of a wrong body is proved
-twins: tools
-	tests/edits.py $(wildcard crates/*/twins/*.edit)
+## mutants CRATE=NAME [MISTAKE=NAME] | a crate's mutants are refused, their right twins proved
+mutants: tools
+	$(if $(CRATE),,$(error which crate? make mutants CRATE=NAME))
+	tests/wanted.sh rt
+	cd crates/$(CRATE) && rt check
+	tests/mutants.py $(CRATE)$(addprefix /,$(MISTAKE))
 
 ## programs | builds lockreplay and locktrace
 programs: $(PROGRAM) $(TRACER)

@@ -9,7 +9,7 @@
 #   - each part of what `make test` does after the proofs.
 #
 # With --prove no proofs are kept, so all that these need is proved from nothing, which takes an
-# hour. The gate itself, which tries the wrong bodies too, is not run. The first step that fails
+# hour. The gate itself, which tries the mutants too, is not run. The first step that fails
 # ends the whole; nothing stays on the machine but what tests/root.sh keeps.
 set -euo pipefail
 cd "$(dirname "$0")/.."

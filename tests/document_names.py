@@ -101,12 +101,12 @@ class Names:
             or any(fnmatch.fnmatchcase(name, way) for way in WRITTEN)
 
     def is_command(self, words):
-        """Whether a command of `make` has its target, variables, and the crate and edit named."""
+        """Whether a command of `make` has its target, variables, and the crate and mutant named."""
         given = dict(word.split("=", 1) for word in words if "=" in word)
         chosen = {word for word in words if "=" not in word}
-        edit, crate = given.get("EDIT", "NAME"), given.get("CRATE", "NAME")
+        mutant, crate = given.get("MISTAKE", "NAME"), given.get("CRATE", "NAME")
         return (chosen <= self.targets and given.keys() <= self.variables
-                and (edit == "NAME" or edit in self.defined)
+                and (mutant == "NAME" or mutant in self.defined)
                 and (crate == "NAME" or f"crates/{crate}" in self.files))
 
     def is_path(self, name):

@@ -42,7 +42,7 @@ FAULTY = {
     "no such file": "`crates/no_such_crate/src`",
     "no such target": "`make no-such-target`",
     "no such variable": "`make demo NOSUCH=1`",
-    "no such edit": "`make edits CRATE=lk_words EDIT=no_such_edit`",
+    "no such mutant": "`make mutants CRATE=lk_words MISTAKE=no_such_mutant`",
     "no such method": "`Keeper::no_such_method`",
     "a private function": "`Machine::make`",
     "no such name": "`no_such_name`",
