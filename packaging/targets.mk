@@ -11,7 +11,7 @@ BUILT := $(PROGRAM) $(TRACER) $(LIBRARY) $(PAGE)
 
 .PHONY: install install-built uninstall dist deb release-checks test-reproducible
 
-## install [PREFIX=/usr/local] [DESTDIR=] | builds and installs what packaging/contents.txt lists
+## install [PREFIX=] [DESTDIR=] | builds and installs what packaging/contents.txt lists
 install: $(BUILT)
 	packaging/install.sh install '$(TREE)'
 

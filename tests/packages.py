@@ -155,6 +155,16 @@ def try_again(tally, target, first):
         tally.check(f"{target}: made again", made(target, **how).read_bytes() == before, True)
 
 
+def try_undated(tally, folder):
+    """Without its day in CHANGELOG.md a version is not packaged."""
+    shutil.copytree(TOP / "packaging", folder / "packaging")
+    (folder / "VERSION").write_text("9.9.9\n")
+    shutil.copy(TOP / "CHANGELOG.md", folder)
+    for script in ("dist.sh", "deb.sh"):
+        tally.check(f"{script}: no day", output(folder / "packaging" / script),
+                    "status 1: CHANGELOG.md has no line '## [9.9.9] - YEAR-MONTH-DAY'\n")
+
+
 def main():
     wanted.install("tools", "deb", "packages", "installed")
     tally = Tally()
@@ -175,6 +185,7 @@ def main():
             built = Path(folder, f"{name}-built")
             built.mkdir()
             try_compiled(tally, tree.tree, built)
+        try_undated(tally, Path(folder, "undated"))
     try_control(tally, package)
     try_again(tally, "dist", tarball)
     try_again(tally, "deb", package)

@@ -2,8 +2,7 @@
 """Tests of page/lockreplay.html in real browsers: tests/page/run.py PROGRAM [MODULE...]
 
 Each module has its browser, three at a time. After each, the browser's log must have no error,
-and no request may have left the page. Needs Debian's chromium, chromium-driver, python3-selenium,
-firefox-esr and python3-websocket.
+and no request may have left the page. Needs what packages.txt has for browsers.
 """
 import concurrent.futures
 import importlib
