@@ -93,6 +93,7 @@ tried-layout:
 	tests/style.py
 	tests/packages_list.py
 	tests/wanted_cases.py
+	tests/mutant_cases.py
 tried-fuzz:
 	fuzz/fuzz.py $(PROGRAM) --seconds $(FUZZ_SECONDS)
 $(addprefix tried-,$(filter-out oracle layout fuzz,$(TRIED))): tried-%:

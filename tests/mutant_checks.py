@@ -58,19 +58,24 @@ class Lab:
 
 
 def verdict_on(function, said):
-    """Whether a function is `proved` or `refused` by goals of its own, `shape` if only a proof
-    does not fit it any more, or `unclear`; and the line that says it."""
-    for name, status, more in VERDICT.findall(said):
-        if name != function and not name.startswith(f"{function}::"):
-            continue
-        line = f"{name}: {status}{more}"
-        if status == "proved" and name == function:
-            return "proved", line
-        if OWN_GOALS.search(more):
-            return "refused", line
-        if status == "not proved" and not more:
-            return ("shape" if is_shape_alone(name, said) else "refused"), line
-    return "unclear", ""
+    """Whether a function, with its closures, is `proved` or `refused` by goals of its own, `shape`
+    if only a proof does not fit it any more, or `unclear`; and the line that says it."""
+    found = [(word_for(name, status, more, said), f"{name}: {status}{more}")
+             for name, status, more in VERDICT.findall(said)
+             if name == function or name.startswith(f"{function}::")]
+    order = ("refused", "shape", "unclear", "proved")
+    return min(found, key=lambda it: order.index(it[0]), default=("unclear", ""))
+
+
+def word_for(name, status, more, said):
+    """The word of `verdict_on` for one line of a check."""
+    if status == "proved":
+        return "proved"
+    if OWN_GOALS.search(more):
+        return "refused"
+    if status == "not proved" and not more:
+        return "shape" if is_shape_alone(name, said) else "refused"
+    return "unclear"
 
 
 def is_shape_alone(function, said):

@@ -1,0 +1,116 @@
+#!/usr/bin/env python3
+"""What tests/mutants.py makes of a file of a mutant, and of what a check prints.
+
+    mutant_cases.py
+
+The output of checks is that of `rt check`, shortened. No crate is checked.
+"""
+import sys
+import tempfile
+from pathlib import Path
+
+from mutant_checks import verdict_on
+from mutant_edits import BadEdit, Edit
+from mutants import TRIES, group_of
+from rattle_functions import functions_of
+from tally import Tally
+
+SOURCE = """pub struct Pair { left: u8 }
+
+impl Pair {
+    pub fn left(&self) -> u8
+        ensures { result ≡ self.now.left }
+    {
+        self.left
+    }
+}
+
+impl Clone for Pair {
+    fn clone(&self) -> Pair {
+        Pair { left: self.left }
+    }
+}
+
+trait Named {
+    fn name(&self) -> u8;
+}
+
+fn least() -> u8 {
+    0
+}
+"""
+FILES = {Path("lib.rt"): "mod pairs;\nuse pairs::Pair;\nimpl Pair {\n    fn zero() -> u8 {\n"
+                         "        0\n    }\n}\n", Path("pairs.rt"): SOURCE}
+NAMES = {"c::pairs::Pair::left", "c::pairs::PairClone::clone", "c::pairs::least",
+         "c::pairs::Pair::zero"}
+OWN = "fn c::f: no proof: expected answers in ./proofs/f/Answers.antt; `search` did not prove `r`"
+CALLS = "fn c::f: no proof: it calls `c::g`, which is not proved"
+BOTH = f"{OWN}; it calls `c::g`, which is not proved"
+GONE = "./proofs/f/Answers.antt:9:3: error: `returns`: `c.in-else` is not in scope"
+FALSE = "./proofs/f/Answers.antt:8:3: error: `returns`: expected type `0 ≤ 1`"
+VERDICTS = {
+    "own goals": (OWN, "refused"), "a callee alone": (CALLS, "unclear"),
+    "own goals and a callee": (BOTH, "refused"), "another function": ("fn c::g: proved", "unclear"),
+    "a longer name": (OWN.replace("c::f", "c::fg"), "unclear"),
+    "a closure": (OWN.replace("c::f", "c::f::{closure}"), "refused"),
+    "a closure of one that is proved":
+        (f"fn c::f: proved\n{OWN.replace('c::f', 'c::f::{closure}')}", "refused"),
+    "proved": ("fn c::f: proved", "proved"), "no answer": ("fn c::f: could not tell", "unclear"),
+    "answers that wait": ("fn c::f: not proved; it calls `c::g`, which is not proved", "unclear"),
+    "false answers": (f"{FALSE}\nfn c::f: not proved", "refused"),
+    "names that are gone": (f"{GONE}\nfn c::f: not proved", "shape"),
+    "a name and an answer": (f"{GONE}\n{FALSE}\nfn c::f: not proved", "refused"),
+}
+EDITS = {
+    "a value": ("function: c::pairs::least\nold: 0\nnew: 1\n", "    1\n"),
+    "a line that is twice in the file":
+        ("function: c::pairs::Pair::left\nold: self.left\nnew: 7\n", "        7\n    }\n}\n"),
+    "a constant": ("file: src/lib.rt\nold: mod pairs;\nnew: mod pears;\n", "mod pears;"),
+    "a function that is not there": ("function: c::pairs::most\nold: 0\nnew: 1\n", None),
+    "a text that is not there": ("function: c::pairs::least\nold: 2\nnew: 1\n", None),
+    "a text that is there twice": ("function: c::pairs::Pair::left\nold: left\nnew: l\n", None),
+    "no function": ("old: 0\nnew: 1\n", None), "nothing": ("", None),
+}
+
+
+def outcome(folder, text):
+    """The texts with an edit put in, or None if it cannot be."""
+    path = folder / "c" / "mutants" / "mistake.edit"
+    path.parent.mkdir(parents=True, exist_ok=True)
+    path.write_text(text)
+    try:
+        return "".join(Edit(path).put_in(FILES).values())
+    except BadEdit:
+        return None
+
+
+class Named:
+    """An edit of a function, of which nothing else is asked."""
+
+    def __init__(self, function):
+        self.functions, self.is_alone = {function}, function == ""
+
+
+def try_groups(tally):
+    first, same, other, alone = map(Named, ("f", "f", "g", ""))
+    new = dict.fromkeys((first, same, other, alone), 0)
+    tally.check("functions apart", group_of([first, same, other, alone], new), [first, other])
+    tally.check("a constant alone", group_of([alone, first], new), [alone])
+    tally.check("alone at last", group_of([first, other], {**new, first: TRIES}), [first])
+
+
+def main():
+    tally = Tally()
+    tally.check("names", set(functions_of("c", FILES)), NAMES)
+    for name, (said, due) in VERDICTS.items():
+        tally.check(name, verdict_on("c::f", said)[0], due)
+    with tempfile.TemporaryDirectory() as folder:
+        for name, (text, part) in EDITS.items():
+            tally.check(name, outcome(Path(folder), text),
+                        lambda got, part=part: got is None if part is None else part in got)
+    try_groups(tally)
+    return tally.end()
+
+
+if __name__ == "__main__":
+    sys.exit(main())
