@@ -68,6 +68,7 @@ tried-oracle:
 	tests/rows.py
 tried-layout:
 	tests/locks_code.py
+	tests/page_codes.py
 	tests/definitions.py
 	tests/style.py
 tried-fuzz:
