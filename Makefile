@@ -26,7 +26,7 @@ TRACER  := crates/locktrace/out/locktrace
 LESSON  := examples/ticket-hand-over.schedule
 MODULE  := crates/lk_page/out/lockreplay.wasm
 # what the module is made of
-MODULE_SOURCES := $(shell find $(addprefix crates/,lk_words lk_locks lk_replay lk_page) -name out -prune \
+MODULE_SOURCES := $(shell find $(addprefix crates/,lk_words lk_locks lk_replay lk_trace lk_page) -name out -prune \
 	-o \( -name '*.rt' -o -name '*.antt' \) -print)
 # the check of a trace, for C
 LIBRARY := crates/lk_trace_c/out/liblk_trace_c.a

@@ -14,8 +14,8 @@ readonly JOBS=${JOBS:-$(nproc)}
 kit=$(dirname "$(rt doc)")
 cd "$(dirname "${BASH_SOURCE[0]}")/../crates"
 
-# lk_replay, and lk_locks and lk_words below it
-(cd lk_replay && rt lib --jobs "$JOBS")
+# lk_trace, and what is below it
+(cd lk_trace && rt lib --jobs "$JOBS")
 
 library() {
   echo "--extern $1=$2/$1.rlib"
@@ -27,7 +27,8 @@ mkdir -p out
 "$kit/bin/rattle" build --crate-name lk_page src/lib.rt \
   $(library std "$kit/rlibs") $(library arrayvec "$kit/rlibs") \
   $(library lk_words ../lk_words/out/rlib) $(library lk_locks ../lk_locks/out/rlib) \
-  $(library lk_replay ../lk_replay/out/rlib) -L dependency="$kit/rlibs" \
+  $(library lk_replay ../lk_replay/out/rlib) $(library lk_trace ../lk_trace/out/rlib) \
+  -L dependency="$kit/rlibs" \
   --antt-project "$kit/rattle/logic/antt-project.json" --logic-built "$kit/logic_built" \
   --jobs "$JOBS" --links lk_page= --crate-type staticlib --toolchain "$kit/toolchain" \
   --backend llvm --target "$TARGET" --incremental out/incremental_wasm -o out/liblk_page_wasm.a
