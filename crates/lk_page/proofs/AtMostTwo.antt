@@ -129,6 +129,7 @@ pub two_touched : (before after : List ℕ) (first second : Touch) (a b : ℕ)
 two_touched before after first second a b two ha pre ca next hb mid cb w f l v g m = record {
   first_is = (rw w ha, f ∙ ap (slice_index before) (sym w), l ∙ ap (slice_index after) (sym w));
   second_is = (rw v hb, g ∙ ap (slice_index before) (sym v), m ∙ ap (slice_index after) (sym v));
+  apart = λ i h k. omega (arith, next, w, v, h, k);
   others = λ i h n k. elim (cases_lt i a) [
     | inl x ↦ pre i (omega arith) x
     | inr x ↦ elim (cases_lt a i) [

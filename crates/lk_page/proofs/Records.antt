@@ -1,5 +1,5 @@
 -- The record of a move that was made.
-use Rattle.std.proofs.Common.{◌≡◌, ℕ, ◌<◌, List, ◌++◌, length, slice_index, Option, None, Some}
+use Rattle.std.proofs.Common.{◌≡◌, ℕ, ◌<◌, List, ◌++◌, length, Option, None, Some}
 use Rattle.std.proofs.Common.{Result, Ok, refl, ap, sym, subst, ◌∙◌}
 use Rattle.std.proofs.lemmas.List.{get_or-set_same, length-set}
 use Rattle.lk_locks.specs.State.{State, phase_at}
@@ -9,19 +9,19 @@ use Rattle.lk_locks.specs.Entries.{entries_of}
 use Rattle.lk_locks.specs.Tracked.{Tracked, tracked, after_tracked, holding_in, waiting_in}
 use Rattle.lk_locks.specs.declared.kinds.Entry.{Entry}
 use Rattle.lk_locks.specs.declared.kinds.Move.{Move}
-use Rattle.lk_locks.specs.declared.kinds.Move.TheVariants.{Call, Step}
 use Rattle.lk_locks.specs.declared.kinds.Outcome.{Outcome}
 use Rattle.lk_locks.specs.declared.kinds.Phase.{Phase}
 use Rattle.lk_locks.specs.declared.kinds.Phase.TheVariants.{Idle}
 use Rattle.lk_locks.specs.declared.kinds.Refusal.{Refusal}
 use Rattle.lk_locks.proofs.Moves.{accepted_of, same_length}
 use Rattle.lk_replay.specs.declared.schedule.Line.{Line}
-use Rattle.lk_page.specs.Told.{AreTouched, IsUntouched, IsRecord, standing}
-use Rattle.lk_page.specs.Changes.{AreTwoAtMost, IsUnseen}
+use Rattle.lk_page.specs.Told.{AreTouched, IsOwn, IsRecord, own_word, standing}
+use Rattle.lk_page.specs.Changes.{AreTwoAtMost, AreOthersKept}
 use Rattle.lk_page.specs.Playing.{moment}
 use Rattle.lk_page.specs.declared.told.Standing.{Standing}
 use Rattle.lk_page.specs.declared.told.Touch.{Touch}
 use Rattle.lk_page.proofs.AtMostTwo.{two_at_most}
+use Rattle.lk_page.proofs.OwnWord.{others_kept}
 use Rattle.lk_page.proofs.Tracks.{tracked_on, holding_tracked, waiting_tracked}
 
 abbrev WasMade : Option Refusal → Outcome → Result Outcome Refusal → Type 0
@@ -71,27 +71,21 @@ few_changes k next t m before after a e b c =
     (sym (c ∙ ap (λ (s : State). s.words) (state_after k next t m a e)))
     (two_at_most k.state.kind k.state.bits k.state.words t (phase_at k.state.phases t) m))
 
--- a call changes no word
-pub untouched_by : (k next : Tracked) (t : ℕ) (m : Move) (seen : Option ℕ) (first : Option Touch)
-    (before after : List ℕ)
+-- a move that is on one word changes no other
+pub others_stay : (k next : Tracked) (t : ℕ) (m : Move) (before after : List ℕ) (own : Option ℕ)
     → refusal_of k.state t m ≡ None → next ≡ after_tracked k t m → before ≡ k.state.words
-    → after ≡ next.state.words → IsUnseen m seen
-    → (seen ≡ None → ((i : ℕ) → i < length before → slice_index after i ≡ slice_index before i)
-    → first ≡ None)
-    → IsUntouched m first
-untouched_by k next t (Call op) seen first before after a e b c u h =
-    h u (λ i d. ap (λ (ws : List ℕ). slice_index ws i)
-    (c ∙ ap (λ (s : State). s.words) (state_after k next t (Call op) a e) ∙ sym b))
-untouched_by k next t (Step step) seen first before after a e b c u h = tt
+    → after ≡ next.state.words → own ≡ own_word k.state t m → AreOthersKept before after own
+others_stay k next t m before after own a e b c o =
+    rw (b, c, state_after k next t m a e, o) (others_kept k.state t m)
 
 pub is_told : (k next : Tracked) (es : List Entry) (l : Line) (o : Outcome) (p : Phase)
-    (stand : Standing) (first second : Option Touch) (before after : List ℕ)
+    (stand : Standing) (first second : Option Touch) (before after : List ℕ) (own : Option ℕ)
     → k ≡ tracked k.state es → refusal_of k.state l.thread l.action ≡ None
     → next ≡ after_tracked k l.thread l.action
     → o ≡ (change_of k.state l.thread l.action).outcome → p ≡ phase_at next.state.phases l.thread
     → stand ≡ standing (holding_in next) (waiting_in next) l.thread
     → before ≡ k.state.words → after ≡ next.state.words → AreTouched before after first second
-    → IsUntouched l.action first
+    → own ≡ own_word k.state l.thread l.action → IsOwn (length before) own first second
     → IsRecord (moment k.state es) l (record {
       line = l.number;
       thread = l.thread;
@@ -102,7 +96,8 @@ pub is_told : (k next : Tracked) (es : List Entry) (l : Line) (o : Outcome) (p :
       first = first;
       second = second;
     })
-is_told k next es l o p stand first second before after h a e oe pe se be ae touched untouched =
+is_told k next es l o p stand first second before after own h a e oe pe se be ae
+    touched of owned =
     let new : State = next_state k.state l.thread l.action in
     let all : List Entry = es ++ entries_of k.state l.thread l.action in
     let g : next ≡ tracked new all =
@@ -119,5 +114,6 @@ is_told k next es l o p stand first second before after h a e oe pe se be ae tou
           subst (λ (ws : List ℕ). AreTouched ws new.words first second) be
           (subst (λ (ws : List ℕ). AreTouched before ws first second)
           (ae ∙ ap (λ (x : Tracked). x.state.words) g) touched);
-      untouched = untouched;
+      own = subst (λ (w : Option ℕ). IsOwn (length k.state.words) w first second) of
+          (subst (λ (ws : List ℕ). IsOwn (length ws) own first second) be owned);
     }

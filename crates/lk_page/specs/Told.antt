@@ -2,19 +2,20 @@
 -- project's own; what a move does, who holds and who waits is said by the definitions of the locks
 -- and of the replay alone.
 use Rattle.std.specs.Prelude.{◌≡◌, ◌≢◌, ℕ, ◌<◌, List, [], ◌∷◌, ◌++◌, length, slice_index, Option}
-use Rattle.std.specs.Prelude.{None, Some, Bool, false, eqb}
+use Rattle.std.specs.Prelude.{None, Some, option_map, Bool, false, eqb}
 use Rattle.lk_locks.specs.State.{State}
 use Rattle.lk_locks.specs.Steps.{refusal_of, change_of, next_state}
 use Rattle.lk_locks.specs.Entries.{entries_of}
 use Rattle.lk_locks.specs.Sequential.{has}
 use Rattle.lk_locks.specs.Holding.{Holding, Free, HeldBy, ReadBy, WrittenBy, holding_of, waiting_of}
 use Rattle.lk_locks.specs.declared.kinds.Move.{Move}
-use Rattle.lk_locks.specs.declared.kinds.Move.TheVariants.{Call, Step}
 use Rattle.lk_locks.specs.declared.kinds.Entry.{Entry}
 use Rattle.lk_locks.specs.declared.kinds.Refusal.{Refusal}
 use Rattle.lk_replay.specs.Schedule.{Plan}
 use Rattle.lk_replay.specs.Replay.{start_of, made_by}
 use Rattle.lk_replay.specs.declared.schedule.Line.{Line}
+use Rattle.lk_trace.specs.Checks.{word_of}
+use Rattle.lk_trace.specs.Names.{place_of}
 use Rattle.lk_page.specs.declared.told.Touch.{Touch}
 use Rattle.lk_page.specs.declared.told.Standing.{Standing}
 use Rattle.lk_page.specs.declared.told.Record.{Record}
@@ -61,21 +62,27 @@ abbrev pub IsChange : Option Touch → Type 0
 IsChange None = ⊥
 IsChange (Some t) = t.found ≢ t.left
 
--- The words that a move touched: all others stayed. The first of them stayed only where none
--- changed, and a second one changed.
+-- The words that a move touched: all others stayed. They are two different words. The first of them
+-- stayed only if none changed, and a second one changed.
 pub record AreTouched (before after : List ℕ) (first second : Option Touch) : Type 0 where
   pub first_is : IsTouch before after first
   pub second_is : IsTouch before after second
+  pub apart : (i : ℕ) → IsWord first i → IsWord second i → ⊥
   pub others : (i : ℕ) → i < length before → (IsWord first i → ⊥) → (IsWord second i → ⊥)
       → slice_index after i ≡ slice_index before i
   pub first_changed : (IsChange first → ⊥) → (i : ℕ) → i < length before
       → slice_index after i ≡ slice_index before i
   pub second_changed : second ≢ None → IsChange second
 
--- a call touches no word
-abbrev pub IsUntouched : Move → Option Touch → Type 0
-IsUntouched (Call op) touch = touch ≡ None
-IsUntouched (Step step) touch = Unit {0}
+-- the place of the word that a move of thread t is on, if it is on one word alone
+abbrev pub own_word : State → ℕ → Move → Option ℕ
+own_word s t m = option_map (place_of s.kind) (word_of s t m)
+
+-- A step on one of the words touches that word alone. A call, and a section, touches only what it
+-- changed.
+abbrev pub IsOwn : ℕ → Option ℕ → Option Touch → Option Touch → Type 0
+IsOwn size (Some word) first second = word < size → (IsWord first word × (second ≡ None))
+IsOwn size None first second = first ≢ None → IsChange first
 
 abbrev pub holds : Holding → ℕ → Bool
 holds Free t = false
@@ -100,4 +107,4 @@ pub record IsRecord (m : Moment) (l : Line) (r : Record) : Type 0 where
       ≡ (let n : Moment = after_line m l in
       standing (holding_of n.state.kind n.entries) (waiting_of n.state.kind n.entries) l.thread)
   pub touched : AreTouched m.state.words (after_line m l).state.words r.first r.second
-  pub untouched : IsUntouched l.action r.first
+  pub own : IsOwn (length m.state.words) (own_word m.state l.thread l.action) r.first r.second

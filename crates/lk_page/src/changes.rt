@@ -1,9 +1,8 @@
 //! Which words a move touched: the words before and after it are compared.
 
-ghost use Rattle.std.specs.Prelude.{◌≡◌, ◌+◌, ◌<◌, ◌≤◌, ℕ, length, slice_index, MatchOption, None};
-ghost use Rattle.std.specs.Prelude.{Some};
-ghost use Rattle.lk_page.specs.Told.{AreTouched};
-ghost use Rattle.lk_page.specs.Changes.{AreTwoAtMost, touch_at};
+ghost use Rattle.std.specs.Prelude.{◌≡◌, ◌+◌, ◌<◌, ◌≤◌, ℕ, length, slice_index, MatchOption};
+ghost use Rattle.lk_page.specs.Told.{AreTouched, IsOwn};
+ghost use Rattle.lk_page.specs.Changes.{AreTwoAtMost, AreOthersKept};
 
 use crate::told::Touch;
 
@@ -41,21 +40,17 @@ fn touch_of(before: &[u64], after: &[u64], word: usize) -> Touch
     }
 }
 
-/// The word that changed, or else the word that was looked at, and the second word that changed.
-pub fn touches(before: &[u64], after: &[u64], seen: Option<usize>) -> (Option<Touch>, Option<Touch>)
+/// The word that changed, or else the word that the move was on, and the second word that changed.
+pub fn touches(before: &[u64], after: &[u64], own: Option<usize>) -> (Option<Touch>, Option<Touch>)
     requires same { length before.now ≡ length after.now }
     requires few { length before.now ≤ 129 }
     requires changes { AreTwoAtMost before.now after.now }
+    requires kept { AreOthersKept before.now after.now own }
     ensures touched { AreTouched before.now after.now result.0 result.1 }
-    ensures untouched { seen ≡ None
-        → ((i : ℕ) → i < length before.now → slice_index after.now i ≡ slice_index before.now i)
-        → result.0 ≡ None }
-    ensures looked_at { (word : ℕ) → seen ≡ Some word → word < length before.now
-        → ((i : ℕ) → i < length before.now → slice_index after.now i ≡ slice_index before.now i)
-        → result.0 ≡ Some (touch_at before.now after.now word) }
+    ensures own { IsOwn (length before.now) own result.0 result.1 }
 {
     let Some(first) = changed_from(before, after, 0) else {
-        return match seen {
+        return match own {
             Some(word) if word < before.len() => (Some(touch_of(before, after, word)), None),
             _ => (None, None),
         };

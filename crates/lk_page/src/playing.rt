@@ -15,7 +15,7 @@ use crate::state::{STATE_BYTES, fault_bytes, state_bytes};
 use crate::told::{Record, Stopped};
 use lk_locks::{Tracker, words_needed};
 use lk_replay::ScheduleReader;
-use lk_words::{RecordingWords, WordArray};
+use lk_words::WordArray;
 
 // Writes record number `count`, where it fits wholly.
 fn put_record(records: &mut [u8], count: u32, told: &Record)
@@ -32,7 +32,7 @@ fn put_record(records: &mut [u8], count: u32, told: &Record)
 
 // Plays at most `most` moves, up to the first refused one.
 fn play_moves(
-    lock: &mut Tracker<RecordingWords<WordArray>>,
+    lock: &mut Tracker<WordArray>,
     reader: &mut ScheduleReader,
     most: u64,
     records: &mut [u8],
@@ -72,7 +72,7 @@ fn play_moves(
 }
 
 // The lock of a schedule, on which nothing was played.
-fn new_lock(reader: &ScheduleReader) -> Tracker<RecordingWords<WordArray>>
+fn new_lock(reader: &ScheduleReader) -> Tracker<WordArray>
     ensures { let plan = reader.now in
         result ≡ tracked (start plan.kind plan.bits
         (replicate (word_count plan.kind plan.threads) 0) plan.threads) [] }
@@ -80,7 +80,7 @@ fn new_lock(reader: &ScheduleReader) -> Tracker<RecordingWords<WordArray>>
     let kind = reader.kind();
     let threads = reader.threads();
     let words = WordArray::with_bits(words_needed(kind, threads), reader.bits());
-    Tracker::new(kind, threads, RecordingWords::new(words))
+    Tracker::new(kind, threads, words)
 }
 
 /// What `play` does.

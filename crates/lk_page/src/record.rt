@@ -5,8 +5,7 @@ ghost use Rattle.lk_locks.specs.Sequential.{has};
 ghost use Rattle.lk_locks.specs.Steps.{refusal_of, refused_with};
 ghost use Rattle.lk_locks.specs.Tracked.{tracked, after_tracked, holding_in, waiting_in};
 ghost use Rattle.lk_locks.specs.declared.kinds.Entry.{Entry};
-ghost use Rattle.lk_page.specs.Told.{IsRecord, standing};
-ghost use Rattle.lk_page.specs.Changes.{IsUnseen};
+ghost use Rattle.lk_page.specs.Told.{IsRecord, own_word, standing};
 ghost use Rattle.lk_page.specs.Layout.{record_bytes, touched_word, found_of, left_of};
 ghost use Rattle.lk_page.specs.Layout.{standing_code};
 
@@ -15,9 +14,10 @@ use crate::codes::{action_codes, outcome_code, phase_code, phase_number};
 use crate::layout::{put_bytes, put_u16, put_u32, put_u64};
 use crate::told::{Record, Standing, Touch};
 use arrayvec::ArrayVec;
-use lk_locks::{Holders, Move, Refusal, StepKind, Tracker};
+use lk_locks::{Holders, Move, Refusal, Tracker};
 use lk_replay::Line;
-use lk_words::{RecordingWords, WordArray};
+use lk_trace::{place_of, touched};
+use lk_words::WordArray;
 
 /// How many bytes a record has.
 pub const RECORD_BYTES: usize = 56;
@@ -28,7 +28,7 @@ fn has(threads: &[u8], thread: u8) -> bool
     threads.contains(&thread)
 }
 
-fn standing_of(lock: &Tracker<RecordingWords<WordArray>>, thread: u8) -> Standing
+fn standing_of(lock: &Tracker<WordArray>, thread: u8) -> Standing
     ensures { result ≡ standing (holding_in lock.now) (waiting_in lock.now) thread }
 {
     let (holds, writes) = match lock.holders() {
@@ -45,32 +45,30 @@ fn standing_of(lock: &Tracker<RecordingWords<WordArray>>, thread: u8) -> Standin
 }
 
 /// A copy of the words as they stand.
-pub fn words_of(lock: &Tracker<RecordingWords<WordArray>>) -> ArrayVec<u64, 129>
+pub fn words_of(lock: &Tracker<WordArray>) -> ArrayVec<u64, 129>
     ensures { result.items ≡ lock.now.state.words }
 {
     let mut copy = ArrayVec::new();
-    let _fits = copy.try_extend_from_slice(lock.machine().words().inner().as_slice());
+    let _fits = copy.try_extend_from_slice(lock.machine().words().as_slice());
     copy
 }
 
-// The word that a step looked at. A section looks at several, and a call at none.
-fn seen_word(lock: &Tracker<RecordingWords<WordArray>>, action: Move) -> Option<usize>
-    ensures { IsUnseen action result }
+// The word that a move is on. A section is on several, and a call on none.
+fn own_word(lock: &Tracker<WordArray>, thread: u8, action: Move) -> Option<usize>
+    ensures { result ≡ own_word lock.now.state thread action }
 {
+    let machine = lock.machine();
     match action {
-        Move::Call(_) | Move::Step(StepKind::Section) => None,
-        Move::Step(_) => {
-            let access = lock.machine().words().last()?;
-            Some(access.word)
+        Move::Step(_) if thread < machine.threads() => {
+            let name = touched(lock.kind(), thread, machine.phase(thread))?;
+            Some(place_of(lock.kind(), name))
         }
+        _ => None,
     }
 }
 
 /// Makes a move, and tells what it did.
-pub fn play_line(
-    lock: &mut Tracker<RecordingWords<WordArray>>,
-    line: &Line,
-) -> Result<Record, Refusal>
+pub fn play_line(lock: &mut Tracker<WordArray>, line: &Line) -> Result<Record, Refusal>
     ensures refused { refused_with result
         ≡ refusal_of lock.old.state line.now.thread line.now.action }
     ensures after { lock.new ≡ after_tracked lock.old line.now.thread line.now.action }
@@ -78,12 +76,12 @@ pub fn play_line(
         → IsRecord (record { state = lock.old.state; entries = es }) line.now told) }
 {
     let before = words_of(lock);
+    let own = own_word(lock, line.thread, line.action);
     let outcome = lock.apply(line.thread, line.action)?;
-    let seen = seen_word(lock, line.action);
     let after = words_of(lock);
     let old_words = before.as_slice();
     let new_words = after.as_slice();
-    let (first, second) = touches(old_words, new_words, seen);
+    let (first, second) = touches(old_words, new_words, own);
     let phase = lock.machine().phase(line.thread);
     let standing = standing_of(lock, line.thread);
     Ok(Record {

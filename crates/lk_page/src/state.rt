@@ -13,7 +13,7 @@ use crate::record::words_of;
 use crate::told::Stopped;
 use arrayvec::ArrayVec;
 use lk_locks::{Holders, Machine, Move, Op, Refusal, Tracker};
-use lk_words::{RecordingWords, WordArray, Words};
+use lk_words::{WordArray, Words};
 
 /// How many bytes a state has.
 pub const STATE_BYTES: usize = 2304;
@@ -38,7 +38,7 @@ pub fn fault_bytes(code: u32, line: u32) -> ArrayVec<u8, 2304>
 }
 
 // 1 where the call would be accepted.
-fn call_bit(machine: &Machine<RecordingWords<WordArray>>, thread: u8, op: Op) -> u8
+fn call_bit(machine: &Machine<WordArray>, thread: u8, op: Op) -> u8
     ensures bit { result ≡ call_bit machine.now thread op }
     ensures small { result ≤ 1 }
 {
@@ -49,7 +49,7 @@ fn call_bit(machine: &Machine<RecordingWords<WordArray>>, thread: u8, op: Op) ->
 }
 
 // The calls that would be accepted of a thread: bit k for the call with code k.
-fn allowed_calls(machine: &Machine<RecordingWords<WordArray>>, thread: u8) -> u8
+fn allowed_calls(machine: &Machine<WordArray>, thread: u8) -> u8
     ensures { result ≡ allowed_calls machine.now thread }
 {
     call_bit(machine, thread, Op::Acquire)
@@ -61,11 +61,7 @@ fn allowed_calls(machine: &Machine<RecordingWords<WordArray>>, thread: u8) -> u8
         + 64 * call_bit(machine, thread, Op::Downgrade)
 }
 
-fn put_thread(
-    out: &mut ArrayVec<u8, 2304>,
-    machine: &Machine<RecordingWords<WordArray>>,
-    thread: u8,
-)
+fn put_thread(out: &mut ArrayVec<u8, 2304>, machine: &Machine<WordArray>, thread: u8)
     requires thread { thread < length machine.now.phases }
     requires room { length out.old.items + 16 ≤ 2304 }
     ensures bytes { out.new.items ≡ out.old.items ++ own_bytes machine.now thread }
@@ -79,12 +75,7 @@ fn put_thread(
 }
 
 // A thread, or zeros where the lock has it not.
-fn put_place(
-    out: &mut ArrayVec<u8, 2304>,
-    machine: &Machine<RecordingWords<WordArray>>,
-    threads: u8,
-    thread: u8,
-)
+fn put_place(out: &mut ArrayVec<u8, 2304>, machine: &Machine<WordArray>, threads: u8, thread: u8)
     requires threads { threads ≡ length machine.now.phases }
     requires room { length out.old.items + 16 ≤ 2304 }
     ensures bytes { out.new.items ≡ out.old.items ++ thread_bytes machine.now thread }
@@ -98,11 +89,7 @@ fn put_place(
 }
 
 // All threads, and zeros for those that the lock has not.
-fn put_threads(
-    out: &mut ArrayVec<u8, 2304>,
-    machine: &Machine<RecordingWords<WordArray>>,
-    threads: u8,
-)
+fn put_threads(out: &mut ArrayVec<u8, 2304>, machine: &Machine<WordArray>, threads: u8)
     requires threads { threads ≡ length machine.now.phases }
     requires room { length out.old.items + 1024 ≤ 2304 }
     ensures bytes { out.new.items ≡ out.old.items ++ threads_bytes machine.now 0 64 }
@@ -164,7 +151,7 @@ fn stop_numbers(refused: Option<(u32, Refusal)>) -> [u32; 4]
 /// The bytes of a lock's state, where a schedule has `moves` moves.
 #[tactic(auto, unfolding(crate::specs::Layout::bytes_of_state))]
 pub fn state_bytes(
-    lock: &Tracker<RecordingWords<WordArray>>,
+    lock: &Tracker<WordArray>,
     threads: u8,
     moves: u32,
     stopped: Stopped,

@@ -1,6 +1,7 @@
 //! Worked rows, played on machines and keepers by one body for all four locks. What they expect was
 //! made by hand from the published algorithms.
 
+mod long;
 mod operations;
 mod parts;
 mod recorded;

@@ -34,3 +34,13 @@ AgreesOn c t m (InSection count outcome) = AgreesOnSection c t m count outcome
 pub record Agrees (c : Checked) (l : TraceLine) : Type 0 where
   pub accepted : refusal_of c.lock.state l.thread l.action ≡ None
   pub seen : AgreesOn c l.thread l.action l.seen
+
+-- the count that a line gives
+abbrev pub count_in : Seen → Option ℕ
+count_in (InSection count outcome) = count
+count_in seen = None
+
+-- a count that a line gives is the last one afterwards, and a line without one leaves it
+pub record IsCounted (before : ℕ) (given : Option ℕ) (after : ℕ) : Type 0 where
+  pub given_is : IfSome given (λ n. after ≡ n)
+  pub stays : given ≡ None → after ≡ before

@@ -2,10 +2,10 @@
 //! compared with the machine's words.
 
 ghost use Rattle.std.specs.Prelude.{◌≡◌, ◌<◌, ◌≤◌, ◌^◌, ◌↔◌, Bool, None, Some, slice_index, length};
-ghost use Rattle.std.specs.Prelude.{IsOk, SomeIff};
+ghost use Rattle.std.specs.Prelude.{IsOk, OnOk, SomeIff};
 ghost use Rattle.lk_locks.specs.State.{phase_at};
 ghost use Rattle.lk_locks.specs.Steps.{refusal_of};
-ghost use Rattle.lk_trace.specs.Agreement.{Agrees};
+ghost use Rattle.lk_trace.specs.Agreement.{Agrees, IsCounted, count_in};
 ghost use Rattle.lk_trace.specs.Checks.{after_line, answer_to, count_given, count_other};
 ghost use Rattle.lk_trace.specs.Checks.{difference_of, found_other, left_other, other_word};
 ghost use Rattle.lk_trace.specs.Checks.{outcome_other, same_outcome, seen_other, stands};
@@ -255,6 +255,8 @@ impl Checker {
     /// The first difference. Then nothing has changed.
     pub fn step(&mut self, line: TraceLine) -> Result<Outcome, Difference>
         ensures accepted { IsOk result ↔ Agrees self.old line }
+        ensures counted { OnOk result
+            (IsCounted self.old.sections (count_in line.seen) self.new.sections) }
         ensures answer { result ≡ answer_to self.old line }
         ensures after { self.new ≡ after_line self.old line }
     {

@@ -7,6 +7,7 @@ use lk_locks::{Keeper, LockKind, Machine, Move, PlayFault, Refusal, StepKind};
 use lk_words::WordArray;
 use std::alloc::Global;
 use std::process::Abort;
+use std::test::Fail;
 
 // Plays the moves, after which one more is refused, by a machine and a keeper alike.
 fn refuses(
@@ -131,4 +132,25 @@ fn release_waits_for_the_link(rt: HostRuntime) {
         (0, READ),
     ];
     refuses(&rt, machine, keeper, &moves, (0, WRITE), WRONG_READ);
+}
+
+#[test]
+fn texts_of_refusals(rt: HostRuntime) -> Result<(), Fail> {
+    let alloc = rt.alloc();
+    for (refusal, text) in [
+        (NoSuchThread, "no such thread"),
+        (WrongLock, "the lock has no such operation or step"),
+        (Busy, "the thread has a pending call"),
+        (NotHolder, "the thread does not hold the lock so"),
+        (AlreadyHolds, "the thread holds the lock already"),
+        (NoCall, "the thread has no pending call"),
+        (WRONG_ADD, "the thread's next step is another"),
+    ] {
+        assert_eq!(rt; format!(in alloc; "{refusal}")?.as_str(), text);
+        let fault = PlayFault::Refused(refusal);
+        assert_eq!(rt; format!(in alloc; "{fault}")?.as_str(), text);
+    }
+    let memory = PlayFault::OutOfMemory;
+    assert_eq!(rt; format!(in alloc; "{memory}")?.as_str(), "out of memory");
+    Ok(())
 }

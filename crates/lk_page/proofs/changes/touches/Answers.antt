@@ -13,21 +13,3 @@ returns-in-Some-changed_from-clause-touched c =
     c.touch_of-2.ensures.word c.touch_of-2.ensures.found c.touch_of-2.ensures.left
     c.touch_of-in-Some-changed_from.ensures.word c.touch_of-in-Some-changed_from.ensures.found
     c.touch_of-in-Some-changed_from.ensures.left
-
-pub returns-in-Some-changed_from-clause-untouched
-    : goal.returns-in-Some-changed_from-clause-untouched
-returns-in-Some-changed_from-clause-untouched c =
-    λ none same. absurd (c.in-Some.ensures.3 (same c.in-Some.first c.in-Some.ensures.1))
-
-pub returns-in-None-clause-untouched : goal.returns-in-None-clause-untouched
-returns-in-None-clause-untouched c =
-    λ none same. absurd (c.in-Some.ensures.3 (same c.in-Some.first c.in-Some.ensures.1))
-
-pub returns-in-Some-changed_from-clause-looked_at
-    : goal.returns-in-Some-changed_from-clause-looked_at
-returns-in-Some-changed_from-clause-looked_at c =
-    λ word seen low same. absurd (c.in-Some.ensures.3 (same c.in-Some.first c.in-Some.ensures.1))
-
-pub returns-in-None-clause-looked_at : goal.returns-in-None-clause-looked_at
-returns-in-None-clause-looked_at c =
-    λ word seen low same. absurd (c.in-Some.ensures.3 (same c.in-Some.first c.in-Some.ensures.1))

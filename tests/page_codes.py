@@ -1,0 +1,131 @@
+#!/usr/bin/env python3
+"""Compares the numbers that the page knows with the definitions of the page's module.
+
+The module's code is proved against the definitions of crates/lk_page/specs. That the page reads its
+numbers as these definitions mean them is not proved. Here each name and number of
+page/src/codes.js, and the order of the page's locks and of its ways to hold one, is compared with
+the definitions. So is the table of codes in docs/MODULE.md. Prints `N passed, M failed`, and ends
+with 1 if one failed.
+"""
+import pathlib
+import re
+import sys
+
+from locks_code import CALLS
+from tally import Tally
+
+TOP = pathlib.Path(__file__).resolve().parent.parent
+SPECS = TOP / "crates" / "lk_page" / "specs"
+PAGE = TOP / "page" / "src"
+LOCKS = {"Ticket": "ticket", "Mcs": "mcs", "RwSimple": "rw-simple", "RwFifo": "rw-fifo"}
+ACTIONS = {"Call": "call", "Step": "step"}
+# who holds: a report's letter, and the page's text
+HELD = {"ReadBy": ("r", "asReader"), "WrittenBy": ("w", "asWriter")}
+# of a kind of code: its definition, its list in codes.js, its row in docs/MODULE.md, and its words
+KINDS = (("op_code", "CALLS", "call", CALLS.get),
+         ("step_code", "STEPS", "step", str.lower),
+         ("outcome_code", "OUTCOMES", "outcome", str.lower),
+         ("refusal_code", "REFUSALS", "refusal", str),
+         ("fault_code", "FAULTS", "fault", str),
+         ("phase_code", "PHASES", "phase", str))
+# of the bits of a standing: their field in the definition, and their name in codes.js
+BITS = {"holds": "HOLDS", "is_queued": "IN_LINE", "writes": "AS_WRITER"}
+# the fault that the module cannot have, since it takes no memory
+OF_THE_LIBRARY = {"OutOfMemory": 7}
+
+
+def read(path):
+    return path.read_text(encoding="utf-8")
+
+
+def defined(text, definition, word=str):
+    """The number of each name, by the equations of a definition."""
+    found = re.findall(rf"^{definition} \(?(\w+).*? = (\d+)$", text, re.MULTILINE)
+    return {word(name): int(number) for name, number in found}
+
+
+def listed(text, name, entry=r"'([\w-]*)'"):
+    """The place of each word in a list of JavaScript. An empty word only takes a place."""
+    words = re.search(rf"\b{name} = \[(.*?)\];", text, re.DOTALL).group(1)
+    return {word: at for at, word in enumerate(re.findall(entry, words)) if word}
+
+
+def named(text, name):
+    """The numbers of an object of JavaScript."""
+    pairs = re.search(rf"\b{name} = \{{(.*?)\}};", text).group(1)
+    return {word: int(number) for word, number in re.findall(r"(\w+): (\d+)", pairs)}
+
+
+def constant(text, name):
+    return int(re.search(rf"\b{name} = (\d+);", text).group(1))
+
+
+def in_table(text, row):
+    """A row of the table of codes in docs/MODULE.md."""
+    codes = re.search(rf"^\| {row} \| (\d.*) \|$", text, re.MULTILINE).group(1)
+    return {word: int(number) for number, word in re.findall(r"(\d+) ([\w-]+)", codes)}
+
+
+def compare_codes(tally, codes, page, table):
+    for definition, name, row, word in KINDS:
+        due = defined(codes, definition, word)
+        more = OF_THE_LIBRARY if name == "FAULTS" else {}
+        tally.check(f"{name} in codes.js", listed(page, name), {**due, **more})
+        tally.check(f"{row} in MODULE.md", in_table(table, row), due)
+    tally.check("ACTION", named(page, "ACTION"), defined(codes, "action_code", ACTIONS.get))
+    locks = defined(codes, "lock_code", LOCKS.get)
+    files = listed(read(PAGE / "locks.js"), "LOCKS", r"(\w+)")
+    names = {re.sub("[A-Z]", lambda big: f"-{big[0].lower()}", name): at
+             for name, at in files.items()}
+    tally.check("LOCKS in locks.js", names, locks)
+    tally.check("lock in MODULE.md", in_table(table, "lock"), locks)
+
+
+def compare_layout(tally, layout, page):
+    bits = re.search(r"^standing_code s = (.*)$", layout, re.MULTILINE).group(1)
+    due = {BITS[field]: int(factor or 1)
+           for factor, field in re.findall(r"(?:(\d+) \* )?bit s\.(\w+)", bits)}
+    tally.check("bits of a standing", {name: constant(page, name) for name in BITS.values()}, due)
+    tally.check("NO_WORD", constant(page, "NO_WORD"), defined(layout, "touched_word")["None"])
+    holding = defined(layout, "holding_code")
+    letters = listed(read(PAGE / "report.js"), "HOLDER_LETTERS")
+    modes = listed(read(PAGE / "now.js"), "MODES", r"''|texts\.(\w+)")
+    for name, (letter, mode) in HELD.items():
+        tally.check(f"{name} in report.js", letters[letter], holding[name])
+        tally.check(f"{name} in now.js", modes[mode], holding[name])
+    writer = constant(read(PAGE / "read_write.js"), "WRITER")
+    tally.check("WRITER in read_write.js", writer, holding["WrittenBy"])
+
+
+def compare_answers(tally, page):
+    written = read(SPECS / "Written.antt")
+    ends = defined(written, "answer_of")
+    due = {"accepted": ends["None"], "refused": ends["Some"],
+           "fault": int(re.search(r"\(answer ≡ (\d+)\)", written).group(1)),
+           "short": int(re.search(r"\(result ≡ (\d+)\)",
+                                  read(SPECS.parent / "src" / "lib.rt")).group(1))}
+    tally.check("ANSWER", named(page, "ANSWER"), due)
+
+
+def compare_limits(tally, page):
+    text = read(TOP / "crates" / "lk_replay" / "src" / "schedule.rt")
+    limits = {name: int(number.replace("_", "")) for name, number
+              in re.findall(r"^pub const (MOST_\w+): usize = ([\d_]+);", text, re.MULTILINE)}
+    for name in ("MOST_BYTES", "MOST_MOVES"):
+        tally.check(name, constant(page, name), limits[name])
+
+
+def main():
+    tally = Tally()
+    page = read(PAGE / "codes.js")
+    compare_codes(tally, read(SPECS / "Codes.antt"), page, read(TOP / "docs" / "MODULE.md"))
+    compare_layout(tally, read(SPECS / "Layout.antt"), page)
+    compare_answers(tally, page)
+    compare_limits(tally, page)
+    return tally.end()
+
+
+if __name__ == "__main__":
+    if sys.argv[1:]:
+        sys.exit(__doc__)
+    sys.exit(main())
