@@ -162,7 +162,7 @@ $(TRACER): $(SOURCES)
 	tests/wanted.sh rt
 	cd crates/locktrace && rt run -- check < stdin > /dev/null
 
-$(MODULE): $(MODULE_SOURCES) page/build-module.sh
+$(MODULE): $(MODULE_SOURCES) page/build-module.sh tests/static_library.py tests/rattle_words.py
 	tests/wanted.sh rt
 	page/build-module.sh
 

@@ -60,5 +60,6 @@ kept_new kind threads bits logs lock at run few is zeros = record {
   few = few;
   own = own_of kind threads bits logs run;
   inside = All-nil (IsInside logs);
+  quiet = λ k place none. absurd (cc);
   counted = zeros;
 }

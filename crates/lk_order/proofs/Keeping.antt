@@ -1,7 +1,7 @@
 -- What is kept of an order stays so when a line is placed, and when none is.
 use Rattle.std.proofs.Common.{◌≡◌, ℕ, ◌+◌, ◌<◌, ◌≤◌, List, [], ◌∷◌, ◌++◌, Option, Some, None}
 use Rattle.std.proofs.Common.{Ok, Err, length, map, get_or, set, refl, sym, ap, ap₂, ◌∙◌}
-use Rattle.std.proofs.Common.{subst, arith}
+use Rattle.std.proofs.Common.{subst, arith, ◌↔◌, IsTrue}
 use Rattle.std.proofs.Common.{inl, inr}
 use Rattle.std.specs.List.{All, slice_get}
 use Rattle.std.proofs.lemmas.Bool.{cases_order}
@@ -18,10 +18,11 @@ use Rattle.lk_trace.specs.declared.line.TraceLine.{TraceLine}
 use Rattle.lk_order.specs.Logs.{ThreadLog}
 use Rattle.lk_order.specs.Runs.{moves_of}
 use Rattle.lk_order.specs.Orders.{Ordered, IsOrder, placed_of, next_line, with_line, after_next}
-use Rattle.lk_order.specs.Orders.{unless_differs}
-use Rattle.lk_order.specs.Picked.{no_line, line_at, picked, IsInside, IsKept}
+use Rattle.lk_order.specs.Orders.{unless_differs, AreIdle}
+use Rattle.lk_order.specs.Picked.{no_line, line_at, picked, IsInside, IsKept, KeepsQuiet}
 use Rattle.lk_order.specs.declared.order.Place.{Place}
 use Rattle.lk_order.proofs.Placing.{order_more, counted_more}
+use Rattle.lk_order.proofs.Quiet.{quiet_more}
 
 -- a line that differs changes nothing
 is_difference : (other : Option Difference) (outcome : Outcome) (difference : Difference)
@@ -106,19 +107,25 @@ pub kept_more : (o : Ordered) (places places' : List Place) (at : List ℕ) (t :
     → places' ≡ places ++ place ∷ [] → next_line o t ≡ Some line → line.thread ≡ t → t < 256
     → length at ≡ 256
     → Agrees o.lock line → place.thread ≡ t → place.at ≡ get_or at t 0
+    → o.trace ≡ picked o.logs places → IsTrue place.quiet ↔ AreIdle (checked o.lock line)
     → IsKept (with_line o line) places' (set at t (get_or at t 0 + 1))
-kept_more o places places' at t line place kept more next own small long agrees thread where_at =
+kept_more o places places' at t line place kept more next own small long agrees thread where_at was
+    idle =
     let at_is : place.at ≡ placed_of o t = where_at ∙ kept.counted t small in
     let next_own : next_line o line.thread ≡ Some line = ap (next_line o) own ∙ next in
     let below : line.thread < o.threads = below_threads o line.thread line kept.order next_own in
+    let order = order_more o line kept.order next_own below agrees in
     record {
-      order = order_more o line kept.order next_own below agrees;
+      order = order;
       few = kept.few;
       own = kept.own;
       inside =
           subst (All (IsInside o.logs)) (sym more)
           (All-append (IsInside o.logs) places (place ∷ []) kept.inside (All-cons (IsInside o.logs)
           place [] (inside_is o t line place next thread at_is) (All-nil (IsInside o.logs))));
+      quiet =
+          subst (KeepsQuiet (with_line o line)) (sym more)
+          (quiet_more o places line place order was kept.quiet idle);
       counted = subst (λ (u : ℕ). (k : ℕ) → k < 256
           → get_or (set at u (get_or at u 0 + 1)) k 0 ≡ placed_of (with_line o line) k) own
           (counted_more o line at long (omega (arith, own)) kept.counted);

@@ -1,6 +1,7 @@
 mod Own
 mod LastSpace
 mod Placing
+mod Quiet
 mod Keeping
 mod Beginning
 mod Ends

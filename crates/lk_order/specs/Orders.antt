@@ -5,6 +5,7 @@ use Rattle.std.specs.Prelude.{Option, Some, None, Result, Ok, Err, filter}
 use Rattle.std.specs.List.{All, slice_get}
 use Rattle.lk_locks.specs.declared.kinds.LockKind.{LockKind}
 use Rattle.lk_locks.specs.declared.kinds.Outcome.{Outcome}
+use Rattle.lk_locks.specs.declared.kinds.Phase.TheVariants.{Idle}
 use Rattle.lk_trace.specs.Agreement.{Agrees}
 use Rattle.lk_trace.specs.Checks.{Checked, new_lock, checked, difference_of, answer_to}
 use Rattle.lk_trace.specs.declared.difference.Difference.{Difference}
@@ -43,6 +44,14 @@ IsAccepted c (line ∷ rest) = Agrees c line × IsAccepted (checked c line) rest
 abbrev pub after_lines : Checked → List TraceLine → Checked
 after_lines c [] = c
 after_lines c (line ∷ rest) = after_lines (checked c line) rest
+
+-- each thread is idle: it is in no call, and holds nothing
+abbrev pub AreIdle : Checked → Type 0
+AreIdle c = All (λ phase. phase ≡ Idle) c.lock.state.phases
+
+-- nobody is in a call and nobody holds after the first k lines
+abbrev pub IsQuiet : Ordered → ℕ → Type 0
+IsQuiet o k = AreIdle (after_lines (new_lock o.kind o.threads o.bits) (take k o.trace))
 
 -- what is promised of an order
 pub record IsOrder (o : Ordered) : Type 0 where

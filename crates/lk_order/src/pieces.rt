@@ -2,13 +2,11 @@
 //! nobody holds.
 
 ghost use Rattle.std.specs.Prelude.{◌≡◌, ◌+◌, ◌-◌, ◌<◌, ◌≤◌, IfSome, MatchOption, length};
-ghost use Rattle.lk_order.specs.Cuts.{IsEnd, IsNextPiece};
+ghost use Rattle.lk_order.specs.Orders.{IsQuiet};
+ghost use Rattle.lk_order.specs.Cuts.{IsBusy, IsEnd, IsNextPiece, IsPieceEnd};
 
 use crate::Order;
 use std::marker::Model;
-
-// The most threads of a lock.
-const MOST_THREADS: usize = 64;
 
 /// The most moves of a piece: a schedule's. A move's line is at most 13 bytes, as in `63
 /// downgrade`, so that a piece has fewer bytes than a schedule may have.
@@ -29,9 +27,6 @@ pub struct Pieces<'a> {
     at: usize,
     // how many of these are in pieces
     given: usize,
-    // whether the last piece ended where threads were in calls
-    open: bool,
-    busy: Busy,
 }
 
 impl<'a> Model for Pieces<'a> {
@@ -45,70 +40,43 @@ impl<'a> Model for Pieces<'a> {
     ghost invariant = { λ a. (a.given ≤ a.at) × (a.at ≤ length a.order.now.trace) };
 }
 
-// Which threads are in a call or hold.
-#[derive(Clone, Copy)]
-struct Busy {
-    threads: [bool; 64],
-    count: usize,
-}
-
-impl Busy {
-    fn note(&mut self, thread: u8, idle: bool) {
-        let t = thread as usize;
-        if t >= MOST_THREADS {
-            return;
-        }
-        if !idle && !self.threads[t] {
-            self.count = self.count.saturating_add(1);
-        } else if idle && self.threads[t] {
-            self.count = self.count.saturating_sub(1);
-        }
-        self.threads[t] = !idle;
-    }
-}
-
-// The first moment, from this move on, at which nobody is in a call, or else the order's end; and
-// who is in a call there.
-fn next_quiet(order: &Order, first: usize, busy: Busy) -> (usize, Busy)
-    requires { first ≤ length order.now.trace }
-    ensures behind { first ≤ result.0 }
-    ensures inside { result.0 ≤ length order.now.trace }
+// The first moment from this move on at which nobody is in a call and nobody holds, or else the
+// order's end.
+fn next_quiet(order: &Order, from: usize) -> usize
+    requires { from ≤ length order.now.trace }
+    ensures behind { from ≤ result }
+    ensures inside { result ≤ length order.now.trace }
+    ensures busy { IsBusy order.now from result }
+    ensures quiet { result < length order.now.trace → IsQuiet order.now result }
 {
-    let mut busy = busy;
-    for k in first..order.len() {
-        if busy.count == 0 {
-            return (k, busy);
-        }
-        if let Some((thread, idle)) = order.step_at(k) {
-            busy.note(thread, idle);
+    for k in from..order.len() {
+        if order.is_quiet_at(k) {
+            return k;
         }
     }
-    (order.len(), busy)
+    order.len()
 }
 
-// Where the piece from this move on ends, and who is in a call there: at the last moment at which
-// nobody is in one, or else where a schedule is full or the order ends.
-fn end_of(order: &Order, first: usize, busy: Busy) -> (usize, Busy)
+// Where the piece from this move on ends: where the order ends, if a schedule has room up to there.
+// Else it is the last moment at which nobody is in a call, or where a schedule is full.
+fn end_of(order: &Order, first: usize) -> usize
     requires { first < length order.now.trace }
-    ensures some { first < result.0 }
-    ensures few { result.0 ≤ first + 65536 }
-    ensures inside { result.0 ≤ length order.now.trace }
+    ensures some { first < result }
+    ensures few { result ≤ first + 65536 }
+    ensures inside { result ≤ length order.now.trace }
+    ensures end { IsPieceEnd order.now first result }
 {
     let most = order.len().min(first.saturating_add(MOST_MOVES));
-    let mut busy = busy;
-    let mut quiet = None;
-    for k in first..most {
-        if let Some((thread, idle)) = order.step_at(k) {
-            busy.note(thread, idle);
-        }
-        if busy.count == 0 {
-            quiet = Some((k + 1, busy));
+    if most == order.len() {
+        return most;
+    }
+    let mut end = most;
+    for k in first + 1..most + 1 {
+        if order.is_quiet_at(k) {
+            end = k;
         }
     }
-    match quiet {
-        Some(end) if most < order.len() => end,
-        _ => (most, busy),
-    }
+    end
 }
 
 impl<'a> Pieces<'a> {
@@ -120,11 +88,6 @@ impl<'a> Pieces<'a> {
             order,
             at: 0,
             given: 0,
-            open: false,
-            busy: Busy {
-                threads: [false; 64],
-                count: 0,
-            },
         }
     }
 
@@ -143,20 +106,14 @@ impl<'a> Pieces<'a> {
         ensures next { MatchOption result (IsEnd self.old self.new)
             (IsNextPiece self.old self.new) }
     {
-        let (first, busy) = if self.open {
-            next_quiet(self.order, self.at, self.busy)
-        } else {
-            (self.at, self.busy)
-        };
+        let first = next_quiet(self.order, self.at);
         if first >= self.order.len() {
             self.at = first;
             return None;
         }
-        let (end, busy) = end_of(self.order, first, busy);
+        let end = end_of(self.order, first);
         self.at = end;
         self.given += end - first;
-        self.busy = busy;
-        self.open = busy.count > 0;
         Some(Piece {
             first,
             moves: end - first,
