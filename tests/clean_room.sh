@@ -89,6 +89,7 @@ copy_kept_proofs() {
 demo() {
     begin make demo > "$room/demo"
     finish
+    cat "$room/demo"
     tail -n 11 "$room/demo" | diff examples/ticket-hand-over.report -
 }
 

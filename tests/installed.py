@@ -26,6 +26,7 @@ TOP = Path(__file__).resolve().parent.parent
 VERSION = (TOP / "VERSION").read_text().strip()
 HELP_LINE = r"^ +(?:-\w, )?(?:--)?([a-z]+)(?: <[^>]*>)?(?:  |$)"  # `  -j, --jobs <N>  How many`
 FOREIGN = "another's\n"
+LICENCE = "SPDX-License-Identifier: Apache-2.0 OR MIT"
 # What builds each part that is built.
 BUILDS = {"crates/lockreplay/out/lockreplay": "cd crates/lockreplay && rt run",
           "crates/locktrace/out/locktrace": "cd crates/locktrace && rt run",
@@ -59,6 +60,23 @@ def due_files():
             name = source if kind == "kept" else os.path.basename(source)
             due.add(target + name if target.endswith("/") else target)
     return due
+
+
+def try_licences(tally, tree):
+    """What is copied alone says its licence, and the texts are there."""
+    documents = tree / "share" / "doc" / "lockreplay"
+    alone = [*tree.glob("include/*"), *documents.glob("examples/recording/*.[ch]"),
+             *documents.glob("examples/bindings/*"), *documents.glob("page/*")]
+    tally.check("files that are copied alone", len(alone), lambda count: count >= 13)
+    for file in alone:
+        tally.check(f"licence of {file.name}", LICENCE in file.read_text(), True)
+    tally.check("the Apache licence", (documents / "LICENSE-APACHE").read_text(),
+                Path("/usr/share/common-licenses/Apache-2.0").read_text())
+    notices = dict(re.findall(r"^(\S+) [^\n]*\n-+\n\n(.*?)(?:\n\n\n|\Z)",
+                              (documents / "THIRD-PARTY").read_text(), re.MULTILINE | re.DOTALL))
+    for crate in ("clap", "strsim", "thiserror", "itoa", "memchr", "arrayvec", "fast-float2"):
+        tally.check(f"notice of {crate}", notices.get(crate, ""),
+                    lambda text: "Permission is hereby granted" in text)
 
 
 def try_missing(tally, folder):
@@ -150,6 +168,7 @@ def main():
         try_programs(tally, tree)
         try_compiled(tally, tree, Path(folder))
         try_documents(tally, tree)
+        try_licences(tally, tree)
         for name in completions.SHELLS:
             completions.try_completions(tally, name, str(tree))
         (tree / "bin" / "other").write_text(FOREIGN)

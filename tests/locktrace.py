@@ -7,6 +7,7 @@ not end, devices that take nothing, little memory, several threads, and a termin
 What is wanted is written by hand from docs/LOCKTRACE.md and docs/TRACE.md. The last line counts the
 cases; the status is 1 where one failed.
 """
+import contextlib
 import json
 import os
 import pty
@@ -262,13 +263,22 @@ def memory(program):
                         {"answered", "refused"})
 
 
+def all_from(terminal_end):
+    """What was written to a terminal that nobody writes to any more. One read may give a part."""
+    parts = []
+    with contextlib.suppress(OSError):  # the end, as Linux says it
+        while part := os.read(terminal_end, 4_096):
+            parts.append(part)
+    return b"".join(parts)
+
+
 def terminal(program):
     reader, writer = pty.openpty()
     text = "lock ticket threads 2\n" + "# a comment\n" * 2_100_000
     got = program.run("check", "-", stdin=text, stderr=writer)
     os.close(writer)
     program.tally.check("terminal: status", got[2], 0)
-    program.tally.check("terminal: progress", os.read(reader, 4_096),
+    program.tally.check("terminal: progress", all_from(reader),
                         lambda shown: b"-: 1000000 lines" in shown and b"-: 2000000 lines" in shown)
     os.close(reader)
     program.case("no terminal, no progress", ["check", "-"], 0, stdin=text)
