@@ -15,7 +15,7 @@ AWAITED = ["acquire", "write next left 0", "swap tail found 1", "write locked le
 RETURNED = ["release", "read next found 0", "cas tail done", *SWAPPED[:2], "swap tail found 1"]
 
 # The lock, the moves of threads 0 and 1 with the last lines of their logs, the status, and what is
-# said. A step that the lock cannot make, or that leaves another value, is surely wrong. Less certain
+# said. A step that the lock cannot make, or that leaves another value, is surely wrong; less so
 # are, in this order, an outcome, a value that was found, and a step that waits for another.
 ENDINGS = [
     ("a wrong step beside a cut log", "mcs", SWAPPED,
