@@ -65,6 +65,8 @@ EDITS = {
     "a value": ("function: c::pairs::least\nold: 0\nnew: 1\n", "    1\n"),
     "a line that is twice in the file":
         ("function: c::pairs::Pair::left\nold: self.left\nnew: 7\n", "        7\n    }\n}\n"),
+    "a line that begins as another": ("function: c::pairs::PairClone::clone\nold: Pair { left: "
+                                      "self.left }\nnew: Pair { left: 0 }\n", "Pair { left: 0 }"),
     "a constant": ("file: src/lib.rt\nold: mod pairs;\nnew: mod pears;\n", "mod pears;"),
     "a function that is not there": ("function: c::pairs::most\nold: 0\nnew: 1\n", None),
     "a text that is not there": ("function: c::pairs::least\nold: 2\nnew: 1\n", None),

@@ -7,9 +7,11 @@ A file `crates/NAME/mutants/MISTAKE.edit` or `crates/NAME/twins/MISTAKE.edit` ha
     new: TEXT
 
 with further pairs, and further functions, as they are needed. The function is named as `rt check`
-names it, and TEXT is in its text once. For what is in no function, as a constant, a line
-`file: src/FILE.rt` takes the place of the first, and TEXT is in that file once.
+names it, and TEXT is one line of it, or in it once; spaces around TEXT do not count. For what is in
+no function, as a constant, a line `file: src/FILE.rt` takes the place of the first, and TEXT is in
+that file once.
 """
+import re
 from pathlib import Path
 
 from rattle_functions import functions_of
@@ -54,9 +56,9 @@ def pairs_of(path):
     where = old = None
     for line in path.read_text().splitlines():
         key, _, text = line.partition(":")
-        text = text.removeprefix(" ")
+        text = text.strip()
         if key in ("function", "file"):
-            where = key, text.strip()
+            where = key, text
         elif key == "old":
             old = text
         elif key == "new" and where and old:
@@ -67,9 +69,14 @@ def pairs_of(path):
 
 
 def changed(text, old, new, place):
-    if text.count(old) != 1:
+    """The text with the one line that is `old`, or the one part that is, made `new`."""
+    lines = re.findall(rf"(?m)^[ \t]*{re.escape(old)}$", text)
+    whole = lines[0] if len(lines) == 1 else None
+    if whole is None and text.count(old) != 1:
         raise BadEdit(f"{old!r} is in {place} {text.count(old)} times, and not once")
-    return text.replace(old, new)
+    if whole is None:
+        return text.replace(old, new)
+    return re.sub(rf"(?m)^{re.escape(whole)}$", lambda _: whole.replace(old, new), text)
 
 
 def in_function(crate, files, name, old, new):
