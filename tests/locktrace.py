@@ -19,6 +19,7 @@ import tempfile
 import threading
 from pathlib import Path
 
+import logs_by_hand
 from tally import Tally
 
 TOP = Path(__file__).resolve().parent.parent
@@ -333,7 +334,7 @@ def main(path):
         for name, text in TEXTS.items():
             (program.folder / name).write_text(text)
         for part in (words_and_texts, summaries, explained, refusals_by_name, formats, by_threads,
-                     devices, memory, terminal, orders, bad_logs):
+                     devices, memory, terminal, orders, bad_logs, *logs_by_hand.PARTS):
             part(program)
     return tally.end()
 
