@@ -6,6 +6,7 @@ before are in a log once.
 """
 import argparse
 import sys
+from itertools import islice
 from pathlib import Path
 from typing import NamedTuple
 
@@ -54,18 +55,30 @@ def is_in_vain(line, last):
         line.endswith("waits") and last.endswith("waits")
 
 
-def random_run(dice):
-    name, threads = dice.choice(list(LOCKS)), dice.randint(1, 4)
+def turns(dice, threads):
+    """Whose turn it is, without end, and whether the thread may take the lock then. Some threads
+    are slow, and in some runs a thread goes on for a while, or rests before it takes the lock
+    again. So some runs have a queue that does not end, and some have many queues."""
+    pace = [dice.choice([1, 4, 20]) for _ in range(threads)]
+    longest, rest = dice.choice([1, 1, 4, 12]), dice.choice([0, 0, 0.7, 0.95])
+    while True:
+        for thread in dice.choices(range(threads), pace) * dice.randint(1, longest):
+            yield thread, dice.random() >= rest
+
+
+def random_run(dice, most_threads=4, most_turns=120):
+    name, threads = dice.choice(list(LOCKS)), dice.randint(1, most_threads)
     bits = dice.choice([bits for bits in (2, 3, 4, 64) if threads < 1 << bits])
     run = Run(name, threads, bits, [])
     machine, last, sections = run.machine(), [""] * threads, 0
-    for _ in range(dice.randint(4, 120)):
-        thread = dice.randrange(threads)
+    for thread, may_take in islice(turns(dice, threads), dice.randint(4, most_turns)):
         if machine.due[thread]:
             line = line_of(machine, thread, sections + 1)
             if is_in_vain(line, last[thread]):
                 continue
             sections += line.startswith("section")
+        elif not may_take and thread not in machine.held:
+            continue
         else:
             line = dice.choice(machine.calls(thread))
             machine.play(thread, line)
