@@ -29,7 +29,7 @@ impl Tickets {
     pub fn new(alloc: Global, order: &Order) -> Result<Tickets, AllocError> {
         let mut takes = Vec::new(alloc);
         for log in order.logs() {
-            takes.push(takes_of(alloc, log.moves())?)?;
+            takes.push(takes_of(alloc, log.moves(), log.is_cut())?)?;
         }
         Ok(Tickets {
             threads: ticket_order(alloc, &takes, order.bits())?,
