@@ -181,8 +181,7 @@ impl LogReader {
     pub fn number(&self) -> u32
         ensures { result ≡ self.now.number }
     {
-        let LogReader { number, .. } = self;
-        *number
+        self.number
     }
 
     // Reads the next line.
