@@ -12,7 +12,12 @@ readonly BUILT="lockreplay/out/lockreplay locktrace/out/locktrace lk_page/out/lo
     lk_trace_c/out/liblk_trace_c.a lk_tests/out/lk_tests_tests"
 
 copy=$(mktemp -d)
-trap 'rm -rf "$copy"' EXIT
+beside=
+end() {
+    [ -z "$beside" ] || kill -- "-$beside" 2> /dev/null || true
+    rm -rf "$copy"
+}
+trap end EXIT
 tar --create --exclude=./.git --exclude=./dist --exclude='./crates/*/out' . |
     tar --extract --directory="$copy"
 cd "$copy"
@@ -25,11 +30,19 @@ part() {
     echo "gate.sh: $name: $((SECONDS - from)) s"
 }
 
+build() {
+    BUILT=1 JOBS=1 page/build-module.sh
+    tests/static_library.py lk_trace_c x86_64-unknown-linux-gnu out/liblk_trace_c.a
+}
+
 part "rt ci" rt ci
+set -m
+build > built 2>&1 &
+beside=$!
+set +m
 part "mutants and twins" tests/mutants.py
-part "the page's module" env BUILT=1 page/build-module.sh
-part "the library for C" tests/static_library.py lk_trace_c x86_64-unknown-linux-gnu \
-    out/liblk_trace_c.a
+wait "$beside" || { cat built && echo "gate.sh: module or library was not built" >&2 && exit 1; }
+beside=
 for file in $BUILT; do
     mkdir -p "$TREE/crates/${file%/*}"
     cp "crates/$file" "$TREE/crates/$file"
