@@ -15,7 +15,8 @@ use Rattle.lk_trace.specs.declared.trace.Event.{Event}
 use Rattle.lk_trace.specs.declared.trace.Event.TheVariants.{Skipped, Began, Made, Differs, Fault}
 use Rattle.lk_trace.specs.declared.trace.TextFault.TheVariants.{BadHeader}
 use Rattle.lk_trace_files.proofs.Accepting.{of_text}
-use Rattle.lk_trace_files.specs.Lines.{TakesLine}
+use Rattle.lk_trace_files.specs.Lines.{TakesLine, kept}
+use Rattle.lk_trace_files.specs.declared.lines.Line.{Line}
 use Rattle.lk_trace_files.specs.Verdicts.{Verdict, IsOfText, at_end, unless_ended, verdict_from}
 use Rattle.lk_trace_files.specs.Verdicts.{verdict_in, verdict_of}
 use Rattle.lk_trace_files.specs.invariants.Following.{Follows, Reads}
@@ -120,31 +121,33 @@ reads_new (Some text) (Some rest) kept = ap verdict_of (sym kept)
 
 -- a line that does not end the text
 pub reads_on : (all old new : Option (List ℕ)) (number : ℕ) (reading : Option Checked)
-    (kept : List ℕ) (report : Report)
-    → Reads all old number reading → TakesLine old new kept
-    → Follows number (event_of reading kept) true report
-    → Reads all new (number + 1) (after_text_line reading kept)
-reads_on None old new number reading kept report reads taken follows = tt
-reads_on (Some text) None new number reading kept report reads taken follows = absurd reads
-reads_on (Some text) (Some rest) None number reading kept report reads taken follows = absurd taken
-reads_on (Some text) (Some rest) (Some behind) number reading kept report reads taken follows =
-    reads ∙ step number reading (lines_of rest) (lines_of behind) taken.0 kept taken.1 taken.2
-    ∙ goes_on number (event_of reading kept) report _ follows
+    (line : Line) (report : Report)
+    → Reads all old number reading → TakesLine old new line
+    → Follows number (event_of reading (kept line)) true report
+    → Reads all new (number + 1) (after_text_line reading (kept line))
+reads_on None old new number reading line report reads taken follows = tt
+reads_on (Some text) None new number reading line report reads taken follows = absurd reads
+reads_on (Some text) (Some rest) None number reading line report reads taken follows = absurd taken
+reads_on (Some text) (Some rest) (Some behind) number reading line report reads taken follows =
+    reads ∙ step number reading (lines_of rest) (lines_of behind) taken.bytes
+    (kept line) taken.first taken.kept_is
+    ∙ goes_on number (event_of reading (kept line)) report _ follows
 
 -- a line that ends it
 pub reads_last : (all old new : Option (List ℕ)) (number : ℕ) (reading : Option Checked)
-    (kept : List ℕ) (report : Report)
-    → Reads all old number reading → TakesLine old new kept
-    → Follows number (event_of reading kept) false report → IfSome all (IsOfText report)
-reads_last None old new number reading kept report reads taken follows = tt
-reads_last (Some text) None new number reading kept report reads taken follows = absurd reads
-reads_last (Some text) (Some rest) None number reading kept report reads taken follows =
+    (line : Line) (report : Report)
+    → Reads all old number reading → TakesLine old new line
+    → Follows number (event_of reading (kept line)) false report → IfSome all (IsOfText report)
+reads_last None old new number reading line report reads taken follows = tt
+reads_last (Some text) None new number reading line report reads taken follows = absurd reads
+reads_last (Some text) (Some rest) None number reading line report reads taken follows =
     absurd taken
-reads_last (Some text) (Some rest) (Some behind) number reading kept report reads taken follows =
+reads_last (Some text) (Some rest) (Some behind) number reading line report reads taken follows =
     of_text report text (λ _.
-    stops number (event_of reading kept) report _ follows
+    stops number (event_of reading (kept line)) report _ follows
     ∙ sym (reads
-    ∙ step number reading (lines_of rest) (lines_of behind) taken.0 kept taken.1 taken.2))
+    ∙ step number reading (lines_of rest) (lines_of behind) taken.bytes
+    (kept line) taken.first taken.kept_is))
 
 no_lines : lines_of [] ≡ []
 unfolding lines_of
@@ -175,26 +178,26 @@ reads_no_more (Some text) report unread = of_text report text (λ read. absurd (
 
 -- the same, as the line is passed on
 pub line_on : (all old new : Option (List ℕ)) (number : ℕ) (reading after : Option Checked)
-    (kept bytes : List ℕ) (on : Bool) (report : Report)
+    (line : Line) (bytes : List ℕ) (on : Bool) (report : Report)
     → Reads all old number reading
-    → TakesLine old new kept → bytes ≡ kept → Follows number (event_of reading bytes) on report
+    → TakesLine old new line → bytes ≡ kept line → Follows number (event_of reading bytes) on report
     → on ≡ true → after ≡ after_text_line reading bytes → Reads all new (number + 1) after
-line_on all old new number reading after kept bytes true report reads taken same follows is now =
+line_on all old new number reading after line bytes true report reads taken same follows is now =
     subst (Reads all new (number + 1)) (sym (now ∙ ap (after_text_line reading) same))
-    (reads_on all old new number reading kept report reads taken
+    (reads_on all old new number reading line report reads taken
     (subst (λ l. Follows number (event_of reading l) true report) same follows))
-line_on all old new number reading after kept bytes false report reads taken same follows is now =
+line_on all old new number reading after line bytes false report reads taken same follows is now =
     absurd (cc)
 
 pub line_last : (all old new : Option (List ℕ)) (number : ℕ) (reading : Option Checked)
-    (kept bytes : List ℕ) (on : Bool) (report : Report)
+    (line : Line) (bytes : List ℕ) (on : Bool) (report : Report)
     → Reads all old number reading
-    → TakesLine old new kept → bytes ≡ kept → Follows number (event_of reading bytes) on report
+    → TakesLine old new line → bytes ≡ kept line → Follows number (event_of reading bytes) on report
     → on ≡ false → IfSome all (IsOfText report)
-line_last all old new number reading kept bytes true report reads taken same follows is =
+line_last all old new number reading line bytes true report reads taken same follows is =
     absurd (cc)
-line_last all old new number reading kept bytes false report reads taken same follows is =
-    reads_last all old new number reading kept report reads taken
+line_last all old new number reading line bytes false report reads taken same follows is =
+    reads_last all old new number reading line report reads taken
     (subst (λ l. Follows number (event_of reading l) false report) same follows)
 
 -- the report of an input that failed

@@ -2,7 +2,7 @@
 use Rattle.std.proofs.Common.{◌≡◌, ℕ, ◌+◌, ◌<◌, suc, zero, List, [], ◌∷◌, ◌++◌, length, get_or}
 use Rattle.std.proofs.Common.{take, drop, Bool, true, false, None, Some, refl, sym, ap, ◌∙◌, arith}
 use Rattle.std.proofs.Common.{take-append-drop, append_assoc, append-nil, length-append}
-use Rattle.std.proofs.Common.{get_or-take, length-take-le, ◌≤◌}
+use Rattle.std.proofs.Common.{get_or-take, length-take-le, ◌≤◌, subst}
 use Rattle.std.specs.List.{slice_split}
 use Rattle.std.specs.Prelude.{Option, slice_range}
 use Rattle.std.specs.Io.KnownBytes.{Consumes, Keeps, IsAtEnd, prepend_known}
@@ -15,7 +15,8 @@ use Rattle.std.proofs.lemmas.Bool.{false_from_ne_true, eqb-true}
 use Rattle.memchr.specs.Find.{Nowhere, NoneBefore, Passes, is_byte}
 use Rattle.lk_replay.proofs.Cuts.{line_first, line_last}
 use Rattle.lk_replay.specs.Lines.{lines_of, is_line_feed}
-use Rattle.lk_trace_files.specs.Lines.{TakesLine}
+use Rattle.lk_trace_files.specs.Lines.{TakesLine, kept, with_end}
+use Rattle.lk_trace_files.specs.declared.lines.Line.{Line}
 use Rattle.lk_trace_files.specs.invariants.Taken.{TakesPart, Taken}
 
 take_again : (n : ℕ) (xs ys : List ℕ) → take n (take n xs ++ ys) ≡ take n (xs ++ ys)
@@ -24,18 +25,20 @@ take_again (suc n) [] ys = refl
 take_again (suc n) (x ∷ xs) ys = ap (λ l. x ∷ l) (take_again n xs ys)
 
 -- nothing yet
-pub taken_none : (old : Option (List ℕ)) (kept : List ℕ) → kept ≡ [] → Taken old old kept false
-taken_none old kept empty = record {
+pub taken_none : (old : Option (List ℕ)) (line : Line) → kept line ≡ [] → line.whole ≡ false
+    → Taken old old line false
+taken_none old line empty unended = record {
   bytes = [];
   flat = λ k d h. absurd (omega arith);
   taken = Consumes-nil old;
   kept_is = empty;
+  whole_is = unended;
   none = λ _. refl;
   some_is = λ (e : false ≡ true). cc;
 }
 
 -- one part more
-pub taken_more : (old mid new : Option (List ℕ)) (before after : List ℕ) (some : Bool)
+pub taken_more : (old mid new : Option (List ℕ)) (before after : Line) (some : Bool)
     → Taken old mid before some → TakesPart false mid new before after → Taken old new after true
 taken_more old mid new before after some so part = record {
   bytes = so.bytes ++ part.bytes;
@@ -44,12 +47,13 @@ taken_more old mid new before after some so part = record {
   kept_is =
       part.kept_is ∙ ap (λ l. take 97 (l ++ part.bytes)) so.kept_is
       ∙ take_again 97 so.bytes part.bytes;
+  whole_is = part.whole_is ∙ so.whole_is;
   none = λ (e : true ≡ false). cc;
   some_is = λ _. omega (arith, length-append so.bytes part.bytes, part.some refl);
 }
 
 -- the line feed ends the line
-pub takes_line : (old mid new : Option (List ℕ)) (before after : List ℕ) (some : Bool)
+pub takes_line : (old mid new : Option (List ℕ)) (before after : Line) (some : Bool)
     → Taken old mid before some → TakesPart true mid new before after → TakesLine old new after
 takes_line None mid new before after some so part = tt
 takes_line (Some text) None new before after some so part = absurd so.taken
@@ -62,30 +66,41 @@ takes_line (Some text) (Some y) (Some rest) before after some so part =
     let cut : slice_split is_line_feed text ≡ line ∷ slice_split is_line_feed rest =
     ap (slice_split is_line_feed) whole
     ∙ slice_split_at is_line_feed line 10 rest
-    (All-append (λ x. is_line_feed x ≡ false) so.bytes part.bytes so.flat part.flat) refl in (
-      line,
-      line_first text line rest cut,
-      part.kept_is ∙ ap (λ l. take 97 (l ++ part.bytes)) so.kept_is
-          ∙ take_again 97 so.bytes part.bytes,
-    )
+    (All-append (λ x. is_line_feed x ≡ false) so.bytes part.bytes so.flat part.flat) refl in
+    record {
+      bytes = line;
+      first = line_first text line rest cut;
+      kept_is =
+          part.kept_is ∙ ap (λ l. take 97 (l ++ part.bytes)) so.kept_is
+          ∙ take_again 97 so.bytes part.bytes;
+      whole_is =
+          subst (λ (b : Bool). text ≡ with_end b line ++ rest) (sym part.whole_is)
+          (whole ∙ sym (append_assoc line (10 ∷ []) rest));
+    }
 
 -- the end of the input ends it too
-pub takes_last : (old new : Option (List ℕ)) (kept : List ℕ) → Taken old new kept true → IsAtEnd new
-    → TakesLine old new kept
-takes_last None new kept so end = tt
-takes_last (Some text) None kept so end = absurd so.taken
-takes_last (Some text) (Some rest) kept so end =
+pub takes_last : (old new : Option (List ℕ)) (line : Line) → Taken old new line true → IsAtEnd new
+    → TakesLine old new line
+takes_last None new line so end = tt
+takes_last (Some text) None line so end = absurd so.taken
+takes_last (Some text) (Some rest) line so end =
     let whole : text ≡ so.bytes = so.taken ∙ ap (λ l. so.bytes ++ l) end ∙ append-nil so.bytes in
-    let line : lines_of text ≡ so.bytes ∷ lines_of [] =
+    let first : lines_of text ≡ so.bytes ∷ lines_of [] =
     ap lines_of whole
     ∙ line_last so.bytes (so.some_is refl) (slice_split_none is_line_feed so.bytes so.flat) in
-    (so.bytes, line ∙ ap (λ l. so.bytes ∷ lines_of l) (sym end), so.kept_is)
+    record {
+      bytes = so.bytes;
+      first = first ∙ ap (λ l. so.bytes ∷ lines_of l) (sym end);
+      kept_is = so.kept_is;
+      whole_is =
+          subst (λ (b : Bool). text ≡ with_end b so.bytes ++ rest) (sym so.whole_is) so.taken;
+    }
 
-pub takes_none : (old new : Option (List ℕ)) (kept : List ℕ) → Taken old new kept false
+pub takes_none : (old new : Option (List ℕ)) (line : Line) → Taken old new line false
     → IsAtEnd new → IsAtEnd old
-takes_none None new kept so end = tt
-takes_none (Some text) None kept so end = absurd so.taken
-takes_none (Some text) (Some rest) kept so end = so.taken ∙ ap (λ l. l ++ rest) (so.none refl) ∙ end
+takes_none None new line so end = tt
+takes_none (Some text) None line so end = absurd so.taken
+takes_none (Some text) (Some rest) line so end = so.taken ∙ ap (λ l. l ++ rest) (so.none refl) ∙ end
 
 pub consumes_front : (known : Option (List ℕ)) (all front rest : List ℕ) → all ≡ front ++ rest
     → Consumes (prepend_known all known) (prepend_known rest known) front
@@ -93,18 +108,19 @@ consumes_front None all front rest is = tt
 consumes_front (Some xs) all front rest is = ap (λ l. l ++ xs) is ∙ append_assoc front rest xs
 
 -- the part up to the first line feed
-pub part_to : (ahead : List ℕ) (k : ℕ) (known : Option (List ℕ)) (before after : List ℕ)
+pub part_to : (ahead rest : List ℕ) (k : ℕ) (known : Option (List ℕ)) (before after : Line)
+    → rest ≡ drop (k + 1) ahead
     → NoneBefore (Passes (is_byte 10) ahead) 0 (length ahead) k → Passes (is_byte 10) ahead k
-    → after ≡ take 97 (before ++ take k ahead)
-    → TakesPart true (prepend_known ahead known)
-    (prepend_known (drop (k + 1) ahead) known) before after
-part_to ahead k known before after none here kept =
+    → kept after ≡ take 97 (kept before ++ take k ahead) → after.whole ≡ true
+    → TakesPart true (prepend_known ahead known) (prepend_known rest known) before after
+part_to ahead rest k known before after rest_is none here stays whole_is =
     let feed : get_or ahead k 0 ≡ 10 = eqb-true (get_or ahead k 0) 10 here in
-    let whole : ahead ≡ (take k ahead ++ 10 ∷ []) ++ drop (k + 1) ahead =
+    let whole : ahead ≡ (take k ahead ++ 10 ∷ []) ++ rest =
     sym (take-append-drop k ahead)
     ∙ ap (λ l. take k ahead ++ l)
     (drop_more ahead k 0 none.high ∙ ap (λ b. b ∷ drop (k + 1) ahead) feed)
-    ∙ sym (append_assoc (take k ahead) (10 ∷ []) (drop (k + 1) ahead)) in
+    ∙ sym (append_assoc (take k ahead) (10 ∷ []) (drop (k + 1) ahead))
+    ∙ ap (λ l. (take k ahead ++ 10 ∷ []) ++ l) (sym rest_is) in
     let short : length (take k ahead) ≡ k = length-take-le k ahead (omega (arith, none.high)) in
     record {
       bytes = take k ahead;
@@ -113,22 +129,24 @@ part_to ahead k known before after none here kept =
           (get_or-take k ahead i d below
           ∙ get_or_default ahead i d 0 (omega (arith, none.high)))
           ∙ false_from_ne_true _ (none.before i (omega arith) below);
-      taken = consumes_front known ahead (take k ahead ++ 10 ∷ []) (drop (k + 1) ahead) whole;
-      kept_is = kept;
+      taken = consumes_front known ahead (take k ahead ++ 10 ∷ []) rest whole;
+      kept_is = stays;
+      whole_is = whole_is;
       some = λ (e : true ≡ false). cc;
     }
 
 -- the whole of what was read ahead
-pub part_all : (ahead : List ℕ) (known : Option (List ℕ)) (before after : List ℕ)
+pub part_all : (ahead : List ℕ) (known : Option (List ℕ)) (before after : Line)
     → Nowhere (Passes (is_byte 10) ahead) 0 (length ahead) → 0 < length ahead
-    → after ≡ take 97 (before ++ ahead)
+    → kept after ≡ take 97 (kept before ++ ahead) → after.whole ≡ before.whole
     → TakesPart false (prepend_known ahead known) (prepend_known [] known) before after
-part_all ahead known before after none some kept = record {
+part_all ahead known before after none some stays whole_is = record {
   bytes = ahead;
   flat = λ i d h. ap is_line_feed (get_or_default ahead i d 0 h)
       ∙ false_from_ne_true _ (none i (omega arith) h);
   taken = consumes_front known ahead ahead [] (sym (append-nil ahead));
-  kept_is = kept;
+  kept_is = stays;
+  whole_is = whole_is;
   some = λ _. some;
 }
 
@@ -163,19 +181,20 @@ pub at_end : (known : Option (List ℕ)) (ahead : List ℕ) → ahead ≡ [] →
 at_end None ahead none end = tt
 at_end (Some xs) ahead none end = ap (λ l. l ++ xs) none ∙ end
 
-taken_kept : (old mid new : Option (List ℕ)) (kept : List ℕ) (some : Bool) → Taken old mid kept some
-    → Keeps mid new → Taken old new kept some
-taken_kept old mid new kept some so same = record {
+taken_kept : (old mid new : Option (List ℕ)) (line : Line) (some : Bool) → Taken old mid line some
+    → Keeps mid new → Taken old new line some
+taken_kept old mid new line some so same = record {
   bytes = so.bytes;
   flat = so.flat;
   taken = Consumes-kept old mid new so.bytes so.taken same;
   kept_is = so.kept_is;
+  whole_is = so.whole_is;
   none = so.none;
   some_is = so.some_is;
 }
 
 -- a part was taken that ends the line
-pub line_taken : (old mid next new : Option (List ℕ)) (before after : List ℕ) (some whole : Bool)
+pub line_taken : (old mid next new : Option (List ℕ)) (before after : Line) (some whole : Bool)
     → Taken old mid before some → Keeps mid next
     → TakesPart whole next new before after → whole ≡ true → TakesLine old new after
 line_taken old mid next new before after some true so same part is =
@@ -183,7 +202,7 @@ line_taken old mid next new before after some true so same part is =
 line_taken old mid next new before after some false so same part is = absurd (cc)
 
 -- a part was taken that does not
-pub part_taken : (old mid next new : Option (List ℕ)) (before after : List ℕ) (some whole : Bool)
+pub part_taken : (old mid next new : Option (List ℕ)) (before after : Line) (some whole : Bool)
     → Taken old mid before some → Keeps mid next
     → TakesPart whole next new before after → whole ≡ false → Taken old new after true
 part_taken old mid next new before after some true so same part is = absurd (cc)
@@ -191,17 +210,17 @@ part_taken old mid next new before after some false so same part is =
     taken_more old next new before after some (taken_kept old mid next before some so same) part
 
 -- the input ended behind a line, or behind nothing
-pub last_taken : (old mid new : Option (List ℕ)) (kept : List ℕ) (some : Bool)
-    → Taken old mid kept some → Keeps mid new → IsAtEnd new → some ≡ true → TakesLine old new kept
-last_taken old mid new kept true so same end is =
-    takes_last old new kept (taken_kept old mid new kept true so same) end
-last_taken old mid new kept false so same end is = absurd (cc)
+pub last_taken : (old mid new : Option (List ℕ)) (line : Line) (some : Bool)
+    → Taken old mid line some → Keeps mid new → IsAtEnd new → some ≡ true → TakesLine old new line
+last_taken old mid new line true so same end is =
+    takes_last old new line (taken_kept old mid new line true so same) end
+last_taken old mid new line false so same end is = absurd (cc)
 
-pub none_taken : (old mid new : Option (List ℕ)) (kept : List ℕ) (some : Bool)
-    → Taken old mid kept some → Keeps mid new → IsAtEnd new → some ≡ false → IsAtEnd old
-none_taken old mid new kept true so same end is = absurd (cc)
-none_taken old mid new kept false so same end is =
-    takes_none old new kept (taken_kept old mid new kept false so same) end
+pub none_taken : (old mid new : Option (List ℕ)) (line : Line) (some : Bool)
+    → Taken old mid line some → Keeps mid new → IsAtEnd new → some ≡ false → IsAtEnd old
+none_taken old mid new line true so same end is = absurd (cc)
+none_taken old mid new line false so same end is =
+    takes_none old new line (taken_kept old mid new line false so same) end
 
 -- nothing was read ahead
 pub keeps_new : (known : Option (List ℕ)) → Keeps known (prepend_known [] known)

@@ -1,6 +1,7 @@
 -- Definitions. The lines of an input, taken one after another; of each its first 97 bytes are kept.
 -- This project's own.
-use Rattle.std.specs.Prelude.{◌≡◌, ℕ, List, ◌∷◌, ⊤, take, slice_range, Option, None, Some}
+use Rattle.std.specs.Prelude.{◌≡◌, ℕ, List, [], ◌∷◌, ◌++◌, ⊤, take, slice_range}
+use Rattle.std.specs.Prelude.{Option, None, Some, Bool, true, false}
 use Rattle.std.specs.Io.KnownBytes.{prepend_known}
 use Rattle.lk_replay.specs.Lines.{lines_of}
 use Rattle.lk_trace_files.specs.declared.lines.Line.{Line}
@@ -15,9 +16,21 @@ abbrev pub left : {R : Type 0} → (R → Option (List ℕ)) → Lines R → Opt
 left remaining lines =
     prepend_known (slice_range lines.chunk.items lines.at lines.filled) (remaining lines.input)
 
--- of the bytes that were left the first line is gone, and its first 97 bytes are kept
-abbrev pub TakesLine : Option (List ℕ) → Option (List ℕ) → List ℕ → Type 0
-TakesLine None new kept = ⊤
-TakesLine (Some text) None kept = ⊥
-TakesLine (Some text) (Some rest) kept =
-    (line : List ℕ) × (lines_of text ≡ line ∷ lines_of rest) × (kept ≡ take 97 line)
+-- the bytes of a line, with its line feed if that was there
+abbrev pub with_end : Bool → List ℕ → List ℕ
+with_end true bytes = bytes ++ 10 ∷ []
+with_end false bytes = bytes
+
+-- it is the first line of the text, which goes on with the rest: its first 97 bytes are kept, and
+-- whether its line feed was there
+pub record IsFirstLine (text rest : List ℕ) (line : Line) : Type 0 where
+  pub bytes : List ℕ
+  pub first : lines_of text ≡ bytes ∷ lines_of rest
+  pub kept_is : kept line ≡ take 97 bytes
+  pub whole_is : text ≡ with_end line.whole bytes ++ rest
+
+-- the first line of the bytes that were left is taken
+abbrev pub TakesLine : Option (List ℕ) → Option (List ℕ) → Line → Type 0
+TakesLine None new line = ⊤
+TakesLine (Some text) None line = ⊥
+TakesLine (Some text) (Some rest) line = IsFirstLine text rest line

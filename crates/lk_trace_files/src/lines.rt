@@ -33,7 +33,8 @@ impl Line {
 
     /// Nothing is kept.
     pub fn new() -> Line
-        ensures { kept result ≡ [] }
+        ensures kept { kept result ≡ [] }
+        ensures whole { result.whole ≡ false }
     {
         Line {
             kept: [0; 97],
@@ -57,7 +58,8 @@ impl Line {
     }
 
     fn clear(&mut self)
-        ensures { kept self.new ≡ [] }
+        ensures kept { kept self.new ≡ [] }
+        ensures whole { self.new.whole ≡ false }
     {
         self.count = 0;
         self.whole = false;
@@ -65,7 +67,8 @@ impl Line {
 
     // Keeps as many of these bytes as have room.
     fn keep(&mut self, bytes: &[u8])
-        ensures { kept self.new ≡ take 97 (kept self.old ++ bytes.now) }
+        ensures kept { kept self.new ≡ take 97 (kept self.old ++ bytes.now) }
+        ensures whole { self.new.whole ≡ self.old.whole }
     {
         let taken = bytes.len().min(MOST_KEPT - self.count);
         let end = self.count + taken;
@@ -87,7 +90,7 @@ pub struct Lines<R> {
 }
 
 impl<R: Read + Drop> Lines<R> {
-    ghost use Rattle.lk_trace_files.specs.Lines.{TakesLine, kept, left};
+    ghost use Rattle.lk_trace_files.specs.Lines.{TakesLine, left};
     ghost use Rattle.lk_trace_files.specs.invariants.Taken.{TakesPart};
 
     /// Nothing was read yet.
@@ -121,7 +124,7 @@ impl<R: Read + Drop> Lines<R> {
     fn take_part(&mut self, line: &mut Line) -> bool
         requires { self.old.at < self.old.filled }
         ensures { TakesPart result (left R.remaining self.old) (left R.remaining self.new)
-            (kept line.old) (kept line.new) }
+            line.old line.new }
     {
         let rest = &self.chunk[self.at..self.filled];
         match memchr(b'\n', rest) {
@@ -146,7 +149,7 @@ impl<R: Read + Drop> Lines<R> {
     /// The input failed.
     pub fn next_line(&mut self, line: &mut Line) -> Result<bool, Error>
         ensures line { result ≡ Ok true
-            → TakesLine (left R.remaining self.old) (left R.remaining self.new) (kept line.new) }
+            → TakesLine (left R.remaining self.old) (left R.remaining self.new) line.new }
         ensures end { result ≡ Ok false → IsAtEnd (left R.remaining self.old) }
     {
         line.clear();

@@ -6,8 +6,8 @@ use Rattle.lk_trace_files.proofs.Keeping.{keeps}
 use Rattle.lk_trace_files.specs.Lines.{kept}
 use Rattle.lk_trace_files.proofs.lines.Line.keep.Goals as goal
 
-pub returns : goal.returns
-returns c =
+pub returns-clause-kept : goal.returns-clause-kept
+returns-clause-kept c =
     let line = c.args.self.now in
     let bytes = c.args.bytes.now in
     let taken = c.min-taken.result in

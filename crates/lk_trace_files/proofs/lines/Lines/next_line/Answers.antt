@@ -4,7 +4,7 @@ use Rattle.lk_trace_files.proofs.Taken.{taken_none, line_taken, part_taken, last
 use Rattle.lk_trace_files.proofs.lines.Lines.next_line.Goals as goal
 
 pub loop-init : goal.loop-init
-loop-init g c = taken_none _ _ c.clear.ensures
+loop-init g c = taken_none _ _ c.clear.ensures.kept c.clear.ensures.whole
 
 pub loop-preserved : goal.loop-preserved
 loop-preserved g c =

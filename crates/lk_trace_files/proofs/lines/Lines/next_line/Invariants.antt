@@ -1,9 +1,9 @@
 -- The bytes of the line so far.
-use Rattle.lk_trace_files.specs.Lines.{kept, left}
+use Rattle.lk_trace_files.specs.Lines.{left}
 use Rattle.lk_trace_files.specs.invariants.Taken.{Taken}
 use Rattle.lk_trace_files.proofs.lines.Lines.next_line.Given as goal
 
 abbrev pub invariant-loop : goal.invariant-loop
 invariant-loop g l =
     Taken (left g.R.Read.remaining l.initial.self) (left g.R.Read.remaining l.self)
-    (kept l.line) l.some
+    l.line l.some

@@ -1,7 +1,7 @@
 -- The part up to the first line feed, or all that was read ahead.
 use Rattle.std.proofs.Common.{◌≡◌, ◌+◌, ◌-◌, ◌++◌, ◌∙◌, true, false, length, length-drop}
 use Rattle.std.proofs.Common.{length-take-le, take, drop, ap, sym, subst, arith, None, Some, List}
-use Rattle.std.proofs.Common.{ℕ}
+use Rattle.std.proofs.Common.{ℕ, refl}
 use Rattle.std.specs.Io.KnownBytes.{prepend_known}
 use Rattle.std.specs.Prelude.{slice_range}
 use Rattle.memchr.specs.Find.{IsFirstByte, is_byte}
@@ -20,12 +20,10 @@ returns-in-Some g c =
     subst
     (λ (l : List ℕ). IsFirstByte (is_byte 10) (slice_range l lines.at lines.filled) (Some end))
     c.deref.ensures.value c.in-Some.ensures in
-    subst (λ (l : List ℕ). TakesPart true (prepend_known ahead known) (prepend_known l known)
-    (kept c.args.line.now) (kept c.keep.new.self))
-    (sym (range_rest lines.chunk.items lines.at lines.filled (end + 1)))
-    (part_to ahead end known _ _ found.0 found.1
-    (c.keep.ensures ∙ ap (λ (l : List ℕ). take 97 (kept c.args.line.now ++ take end
-    (slice_range l lines.at lines.filled))) c.deref.ensures.value))
+    part_to ahead (slice_range lines.chunk.items (lines.at + (end + 1)) lines.filled) end known _ _
+    (range_rest lines.chunk.items lines.at lines.filled (end + 1)) found.0 found.1
+    (c.keep.ensures.kept ∙ ap (λ (l : List ℕ). take 97 (kept c.args.line.now ++ take end
+    (slice_range l lines.at lines.filled))) c.deref.ensures.value) refl
 
 pub returns-in-None : goal.returns-in-None
 returns-in-None g c =
@@ -39,9 +37,9 @@ returns-in-None g c =
     subst (λ (l : List ℕ). IsFirstByte (is_byte 10) (slice_range l lines.at lines.filled) None)
     c.deref.ensures.value c.in-None.ensures in
     subst (λ (l : List ℕ). TakesPart false (prepend_known ahead known) (prepend_known l known)
-    (kept c.args.line.now) (kept c.keep-in-None.new.self))
+    c.args.line.now c.keep-in-None.new.self)
     (sym (range_empty lines.chunk.items lines.filled lines.filled (omega arith)))
     (part_all ahead known _ _ found (omega (arith, c.requires, size))
-    (c.keep-in-None.ensures
+    (c.keep-in-None.ensures.kept
     ∙ ap (λ (l : List ℕ). take 97 (kept c.args.line.now ++ slice_range l lines.at lines.filled))
-    c.deref.ensures.value))
+    c.deref.ensures.value) c.keep-in-None.ensures.whole)
