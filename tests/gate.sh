@@ -1,7 +1,7 @@
 #!/usr/bin/env bash
-# The proofs of `make test`, from nothing: `rt ci`, and then, over the libraries that it has proved,
-# the mutants and their twins, the page's module, and the static library for C, which `rt ci` proves
-# and does not build.
+# The proofs of `make test`, from nothing: `rt ci`, and over the libraries that it has proved the
+# mutants and their twins, the page's module, and the static library for C, which `rt ci` proves and
+# does not build.
 #
 # `rt ci` moves away what its tree has built. So all of this is done in a copy of the tree, and the
 # tree is given what was built: programs, tests, module and library. Says how long each part took.
@@ -26,23 +26,27 @@ cd "$copy"
 part() {
     local name=$1 from=$SECONDS
     shift
-    "$@"
+    "$@" || return
     echo "gate.sh: $name: $((SECONDS - from)) s"
 }
 
 build() {
-    BUILT=1 JOBS=1 page/build-module.sh
-    tests/static_library.py lk_trace_c x86_64-unknown-linux-gnu out/liblk_trace_c.a
+    BUILT=1 JOBS=2 page/build-module.sh &&
+        tests/static_library.py lk_trace_c x86_64-unknown-linux-gnu out/liblk_trace_c.a
 }
 
-part "rt ci" rt ci
+# The chain of proofs leaves processors idle: the mutants take them, at the lowest priority.
+: > proved
 set -m
-build > built 2>&1 &
+nice -n 19 tests/mutants.py --beside proved > tried 2>&1 &
 beside=$!
 set +m
-part "mutants and twins" tests/mutants.py
-wait "$beside" || { cat built && echo "gate.sh: module or library was not built" >&2 && exit 1; }
+part "rt ci" rt ci > >(tee proved)
+part "module and library" build > built 2>&1 || { cat built && exit 1; }
+cat built
+part "mutants after that" wait "$beside" || { cat tried && exit 1; }
 beside=
+cat tried
 for file in $BUILT; do
     mkdir -p "$TREE/crates/${file%/*}"
     cp "crates/$file" "$TREE/crates/$file"

@@ -1,7 +1,7 @@
 #!/usr/bin/env python3
 """Tries mutants, which have to be refused, and their right twins, which have to be proved.
 
-    mutants.py [--lanes N] [CRATE | CRATE/MISTAKE]...     all crates if none is named
+    mutants.py [--lanes N] [--beside LOG] [CRATE | CRATE/MISTAKE]...     all crates if none is named
 
 A mutant, `crates/NAME/mutants/MISTAKE.edit`, is a change of one function by which it has that
 mistake. A twin, `crates/NAME/twins/MISTAKE.edit`, is the same change with a right value. So the
@@ -12,7 +12,7 @@ Mutants of different functions of a crate are tried in one check. A mutant count
 if the check names its function with goals of its own. One that is unclear, since its function only
 calls another that is not proved, is tried again with others, and then alone. Changes of what is no
 function, as a constant, are tried alone. Crates are tried side by side, over what earlier checks
-kept in `out`.
+kept in `out`; with --beside, each when `rt ci`, whose output LOG is, has proved what is below it.
 
 Prints each one that fares as it must not, then a table, then `N passed, M failed`.
 """
@@ -24,8 +24,9 @@ import time
 from concurrent.futures import ThreadPoolExecutor
 from pathlib import Path
 
-from mutant_checks import TOP, Lab, NotChecked, verdict_on
+from mutant_checks import Lab, NotChecked, verdict_on
 from mutant_edits import BadEdit, Edit
+from rattle_words import TOP, libraries_below
 
 SIZE = 24  # mutants in one check: more of them take more memory, and gain little
 TRIES = 2  # in company, before an unclear one is tried alone
@@ -40,7 +41,8 @@ class Crate:
         self.well = {True: 0, False: 0}
         self.checks, self.seconds = 0, 0.0
 
-    def run(self):
+    def run(self, log):
+        wait_for(libraries_below(self.name), log)
         began = time.monotonic()
         with tempfile.TemporaryDirectory(prefix=f"mutants-{self.name}-") as room:
             lab = Lab(self.name, Path(room))
@@ -112,6 +114,14 @@ def functions_in(group):
     return set().union(*(edit.functions for edit in group))
 
 
+def wait_for(libraries, log):
+    """Waits until the output of `rt ci`, if there is any, says that libraries are proved. Whoever
+    runs both ends this if `rt ci` fails."""
+    due = {f"rt: {name} proved" for name in libraries}
+    while log and not due <= set(log.read_text().splitlines()):
+        time.sleep(1)
+
+
 def verdict(edit, is_proved, said):
     """What a check says of an edit in it: a word of `verdict_on`, and a line."""
     if is_proved:
@@ -165,7 +175,7 @@ def table(crates):
                f"{crate.well[True]:8}{crate.checks:8}{crate.seconds:7.0f}")
 
 
-def main(words, lanes):
+def main(words, lanes, log):
     edits, bad = edits_of(words)
     for path, why in bad:
         print(f"FAILED {path.relative_to(TOP)}: {why}")
@@ -174,8 +184,10 @@ def main(words, lanes):
         print(f"FAILED {name}: it has no such mutant")
     crates = [Crate(name, [edit for edit in edits if edit.crate == name])
               for name in sorted({edit.crate for edit in edits})]
+    # those that can begin first, and of these the longest
+    crates.sort(key=lambda it: (len(libraries_below(it.name)) if log else 0, -len(it.edits)))
     with ThreadPoolExecutor(lanes) as pool:
-        list(pool.map(Crate.run, sorted(crates, key=lambda it: len(it.edits), reverse=True)))
+        list(pool.map(lambda it: it.run(log), crates))
     print(*table(crates), sep="\n")
     failed = len(bad) + len(named) + sum(len(crate.faults) for crate in crates)
     print(f"{sum(sum(crate.well.values()) for crate in crates)} passed, {failed} failed")
@@ -186,6 +198,7 @@ if __name__ == "__main__":
     parser = argparse.ArgumentParser(description=__doc__.splitlines()[0])
     parser.add_argument("--lanes", type=int, default=len(os.sched_getaffinity(0)),
                         help="crates that are tried side by side")
+    parser.add_argument("--beside", type=Path, metavar="LOG", help="the output of `rt ci` so far")
     parser.add_argument("words", nargs="*", metavar="CRATE | CRATE/MISTAKE")
     given = parser.parse_args()
-    sys.exit(main(given.words, given.lanes))
+    sys.exit(main(given.words, given.lanes, given.beside))
