@@ -99,11 +99,11 @@ def changed_value(dice, line, sums, values):
     return " ".join(words)
 
 
-def seeded_words(runs=10_000):
+def seeded_words():
     """The command line: the program's path, and the seeds of the runs."""
     words = argparse.ArgumentParser()
     words.add_argument("program")
-    words.add_argument("--runs", type=int, default=runs)
+    words.add_argument("--runs", type=int, default=10_000)
     words.add_argument("--seed", type=int, default=1)
     given = words.parse_args()
     return Path(given.program).resolve(), range(given.seed, given.seed + given.runs)
