@@ -8,7 +8,7 @@
 set -euo pipefail
 cd "$(dirname "$0")/.."
 readonly TREE=$PWD
-readonly BUILT="lockreplay/out/lockreplay locktrace/out/locktrace lk_page/out/lockreplay.wasm
+readonly MADE="lockreplay/out/lockreplay locktrace/out/locktrace lk_page/out/lockreplay.wasm
     lk_trace_c/out/liblk_trace_c.a lk_tests/out/lk_tests_tests"
 
 copy=$(mktemp -d)
@@ -47,7 +47,7 @@ cat built
 part "mutants after that" wait "$beside" || { cat tried && exit 1; }
 beside=
 cat tried
-for file in $BUILT; do
+for file in $MADE; do
     mkdir -p "$TREE/crates/${file%/*}"
     cp "crates/$file" "$TREE/crates/$file"
 done
