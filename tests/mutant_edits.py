@@ -28,6 +28,7 @@ class Edit:
         self.path, self.name = path, path.stem
         self.crate = path.parent.parent.name
         self.is_twin = path.parent.name == "twins"
+        self.has_twin = (path.parent.parent / "twins" / path.name).exists() and not self.is_twin
         self.pairs = list(pairs_of(path))
         self.functions = {place for key, place, _, _ in self.pairs if key == "function"}
         self.is_alone = any(key == "file" for key, _, _, _ in self.pairs)

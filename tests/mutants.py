@@ -9,7 +9,8 @@ mutant is refused for its value, and not because a loop, a call or a name change
 speaks. A twin of an edit in `must-fail` has the name of that edit.
 
 Mutants of different functions of a crate are tried in one check. A mutant counts as refused only
-if the check names its function with goals of its own. One that is unclear, since its function only
+if the check names its function with goals of its own; if all that is wrong is that a proof names
+what the mutant took away, only if it has a twin. One that is unclear, since its function only
 calls another that is not proved, is tried again with others, and then alone. Changes of what is no
 function, as a constant, are tried alone. Crates are tried side by side, over what earlier checks
 kept in `out`; with --beside, each when `rt ci`, whose output LOG is, has proved what is below it.
@@ -95,6 +96,8 @@ class Crate:
 
     def is_settled(self, edit, word, line, is_last):
         """Notes how an edit fared, if that is clear."""
+        if word == "shape" and edit.has_twin:
+            word = "refused"  # the twin, which has the same shape, is proved
         if word == ("proved" if edit.is_twin else "refused"):
             self.well[edit.is_twin] += 1
             return True
