@@ -31,6 +31,12 @@ impl Clone for Pair {
     }
 }
 
+impl From<Other> for Pair {
+    fn from(other: Other) -> Pair {
+        other.pair
+    }
+}
+
 trait Named {
     fn name(&self) -> u8;
 }
@@ -42,7 +48,7 @@ fn least() -> u8 {
 FILES = {Path("lib.rt"): "mod pairs;\nuse pairs::Pair;\nimpl Pair {\n    fn zero() -> u8 {\n"
                          "        0\n    }\n}\n", Path("pairs.rt"): SOURCE}
 NAMES = {"c::pairs::Pair::left", "c::pairs::PairClone::clone", "c::pairs::least",
-         "c::pairs::Pair::zero"}
+         "c::pairs::Pair::zero", "c::pairs::PairFromOther::from"}
 OWN = "fn c::f: no proof: expected answers in ./proofs/f/Answers.antt; `search` did not prove `r`"
 CALLS = "fn c::f: no proof: it calls `c::g`, which is not proved"
 BOTH = f"{OWN}; it calls `c::g`, which is not proved"

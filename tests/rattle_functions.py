@@ -41,9 +41,13 @@ def without_parameters(head):
 
 
 def owner_of(head):
-    """Type and trait of an impl by its head, without parameters and paths; no trait is ''."""
+    """Type and trait of an impl by its head. The type has no parameters and no path; the trait has
+    its parameters after it, as `FromRunFault` of `From<RunFault>`. No trait is ''."""
     words = [word.rpartition("::")[2] for word in without_parameters(head).split()]
-    return (words[2], words[0]) if words[1:2] == ["for"] else (words[0], "")
+    if words[1:2] != ["for"]:
+        return words[0], ""
+    given = re.search(rf"\b{words[0]}<(\w+)> for\b", head)
+    return words[2], words[0] + (given[1] if given else "")
 
 
 def impls_of(lines):
