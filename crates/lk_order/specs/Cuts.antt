@@ -41,7 +41,7 @@ pub record IsNextPiece (old new : Cut) (piece : Piece) : Type 0 where
   pub inside : new.at ≤ length new.order.trace
   pub ends : IsPieceEnd old.order piece.first new.at
 
--- no piece is left: nowhere could one begin, and the moves behind the last one are left out
+-- no piece is left: nowhere could one begin, and the moves after the last one are left out
 pub record IsEnd (old new : Cut) : Type 0 where
   pub order_is : new.order ≡ old.order
   pub busy : IsBusy old.order old.at (length old.order.trace)
