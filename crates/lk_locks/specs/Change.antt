@@ -1,7 +1,14 @@
 -- Definitions. What a step leaves, and the arithmetic of words. This project's own.
-use Rattle.std.specs.Prelude.{ℕ, ◌+◌, ◌-◌, ◌%◌, ◌^◌, List, set, slice_index}
+use Rattle.std.specs.Prelude.{ℕ, ◌+◌, ◌-◌, ◌%◌, ◌^◌, List, set, slice_index, Option, None, Some}
+use Rattle.lk_words.specs.Operations.{Performed, performed}
+use Rattle.lk_words.specs.declared.operation.Operation.{Operation}
+use Rattle.lk_words.specs.declared.operation.Operation.TheVariants as op
+use Rattle.lk_words.specs.declared.operation.Answer.{Answer}
+use Rattle.lk_locks.specs.declared.kinds.StepKind.{StepKind}
+use Rattle.lk_locks.specs.declared.kinds.StepKind.TheVariants.{Read, Write, Swap, Cas, Add}
 use Rattle.lk_locks.specs.declared.kinds.Phase.{Phase}
 use Rattle.lk_locks.specs.declared.kinds.Outcome.{Outcome}
+use Rattle.lk_locks.specs.declared.kinds.Outcome.TheVariants.{Waits}
 
 -- the words, the phase of the thread that stepped, and the outcome
 pub record Change : Type 0 where
@@ -11,6 +18,23 @@ pub record Change : Type 0 where
 
 abbrev pub to : List ℕ → Phase → Outcome → Change
 to words phase outcome = record { words = words; phase = phase; outcome = outcome }
+
+-- the kind of step that an operation is
+abbrev pub kind_of : Operation → StepKind
+kind_of (op.Read i) = Read
+kind_of (op.Write i v) = Write
+kind_of (op.Swap i v) = Swap
+kind_of (op.CompareAndSwap i old new) = Cas
+kind_of (op.FetchAndAdd i d) = Add
+
+-- a step is one operation, and what its answer leads to
+abbrev pub lead : (Phase → List ℕ → Answer → Change) → Phase → Performed → Change
+lead after p e = after p e.words e.answer
+
+abbrev pub step_by : (Phase → List ℕ → Answer → Change) → ℕ → List ℕ → Phase → Option Operation
+    → Change
+step_by after bits ws p None = to ws p Waits
+step_by after bits ws p (Some operation) = lead after p (performed bits ws operation)
 
 -- words of so many bits go round
 abbrev pub plus_one : ℕ → ℕ → ℕ

@@ -1,8 +1,9 @@
 -- Definitions. Which lock has which room, and which family it belongs to. What the locks share goes
 -- by these and knows no lock, and what is the same for each lock of a family goes by the family.
 -- This project's own.
-use Rattle.std.specs.Prelude.{ℕ, ◌+◌, ◌*◌, List, [], ◌∷◌, Option}
-use Rattle.lk_locks.specs.Change.{Change}
+use Rattle.std.specs.Prelude.{ℕ, ◌+◌, ◌*◌, List, [], ◌∷◌, Option, None, option_map}
+use Rattle.lk_words.specs.declared.operation.Operation.{Operation}
+use Rattle.lk_locks.specs.Change.{Change, kind_of}
 use Rattle.lk_locks.specs.ticket
 use Rattle.lk_locks.specs.mcs
 use Rattle.lk_locks.specs.read_write
@@ -43,15 +44,23 @@ after_call Ticket p op = ticket.after_call p op
 after_call Mcs p op = mcs.after_call p op
 after_call kind p op = read_write.after_call p op
 
--- the step that a thread in this phase takes next. There is none where it has no pending call
+-- What thread t in this phase does next, if that is one operation on one word. A section of a
+-- read-write lock is on all words of its monitor.
+abbrev pub operation_of : LockKind → ℕ → ℕ → Phase → Option Operation
+operation_of Ticket bits t p = ticket.operation bits p
+operation_of Mcs bits t p = mcs.operation t p
+operation_of kind bits t p = None
+
+-- The step that a thread in this phase takes next. There is none if it has no pending call. Which
+-- kind it is depends on neither thread nor bits.
 abbrev pub step_due : LockKind → Phase → Option StepKind
-step_due Ticket p = ticket.step_due p
-step_due Mcs p = mcs.step_due p
+step_due Ticket p = option_map kind_of (ticket.operation 64 p)
+step_due Mcs p = option_map kind_of (mcs.operation 0 p)
 step_due kind p = read_write.step_due p
 
 -- a step of thread t in this phase
 abbrev pub step_of : LockKind → ℕ → List ℕ → ℕ → Phase → Change
-step_of Ticket bits ws t p = ticket.step bits t ws p
+step_of Ticket bits ws t p = ticket.step bits ws p
 step_of Mcs bits ws t p = mcs.step bits t ws p
 step_of RwSimple bits ws t p = rw_simple.step bits ws p
 step_of RwFifo bits ws t p = rw_fifo.step bits ws p

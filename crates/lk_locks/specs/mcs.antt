@@ -5,9 +5,14 @@
 -- Multiprocessors", ACM TOCS 9(1), 1991, section 2.4, with the release that has compare-and-swap.
 -- Different here: each thread has one record, and thread i's is record i + 1, so that 0 is nil; the
 -- last write of a release uses the successor that was read last, without reading it again.
-use Rattle.std.specs.Prelude.{ℕ, ◌+◌, ◌-◌, ◌*◌, ◌==◌, List, [], ◌∷◌, slice_index, set, Option, None}
-use Rattle.std.specs.Prelude.{Some, if◌then◌else◌}
-use Rattle.lk_locks.specs.Change.{Change, to}
+use Rattle.std.specs.Prelude.{ℕ, ◌+◌, ◌-◌, ◌*◌, ◌==◌, List, [], ◌∷◌, Option, None, Some, true, false}
+use Rattle.std.specs.Prelude.{if◌then◌else◌}
+use Rattle.lk_words.specs.declared.operation.Operation.{Operation}
+use Rattle.lk_words.specs.declared.operation.Operation.TheVariants.{Read, Write, Swap}
+use Rattle.lk_words.specs.declared.operation.Operation.TheVariants.{CompareAndSwap}
+use Rattle.lk_words.specs.declared.operation.Answer.{Answer}
+use Rattle.lk_words.specs.declared.operation.Answer.TheVariants.{Found, Swapped}
+use Rattle.lk_locks.specs.Change.{Change, to, step_by}
 use Rattle.lk_locks.specs.Acts.{acts}
 use Rattle.lk_locks.specs.declared.kinds.Phase.{Phase}
 use Rattle.lk_locks.specs.declared.kinds.Phase.TheVariants.{Idle, ClearNext, SwapTail, SetLocked}
@@ -15,8 +20,6 @@ use Rattle.lk_locks.specs.declared.kinds.Phase.TheVariants.{LinkTo, AwaitGrant, 
 use Rattle.lk_locks.specs.declared.kinds.Phase.TheVariants.{CasTail, AwaitLink, Grant}
 use Rattle.lk_locks.specs.declared.kinds.Op.{Op}
 use Rattle.lk_locks.specs.declared.kinds.Op.TheVariants.{Acquire, Release}
-use Rattle.lk_locks.specs.declared.kinds.StepKind.{StepKind}
-use Rattle.lk_locks.specs.declared.kinds.StepKind.TheVariants.{Read, Write, Swap, Cas}
 use Rattle.lk_locks.specs.declared.kinds.Outcome.{Outcome}
 use Rattle.lk_locks.specs.declared.kinds.Outcome.TheVariants.{Moved, Waits, Entered, Left}
 use Rattle.lk_locks.specs.declared.kinds.Entry.{Entry}
@@ -38,43 +41,43 @@ after_call Idle Acquire = Some ClearNext
 after_call McsInside Release = Some ReadNext
 after_call p op = None
 
--- the step that a thread takes next
-abbrev pub step_due : Phase → Option StepKind
-step_due ClearNext = Some Write
-step_due SwapTail = Some Swap
-step_due (SetLocked j) = Some Write
-step_due (LinkTo j) = Some Write
-step_due AwaitGrant = Some Read
-step_due ReadNext = Some Read
-step_due CasTail = Some Cas
-step_due AwaitLink = Some Read
-step_due (Grant j) = Some Write
-step_due p = None
+-- what a thread i in this phase does next
+abbrev pub operation : ℕ → Phase → Option Operation
+operation i ClearNext = Some (Write (next i) 0)
+operation i SwapTail = Some (Swap tail (i + 1))
+operation i (SetLocked j) = Some (Write (locked i) 1)
+operation i (LinkTo j) = Some (Write (next j) (i + 1))
+operation i AwaitGrant = Some (Read (locked i))
+operation i ReadNext = Some (Read (next i))
+operation i CasTail = Some (CompareAndSwap tail (i + 1) 0)
+operation i AwaitLink = Some (Read (next i))
+operation i (Grant j) = Some (Write (locked j) 0)
+operation i p = None
 
--- thread i reads its successor: it goes on to grant that, or does otherwise where there is none yet
-abbrev pub grant_next_or : ℕ → List ℕ → Change → Change
-grant_next_or i ws otherwise =
-    if slice_index ws (next i) == 0
-    then otherwise
-    else to ws (Grant (slice_index ws (next i) - 1)) Moved
+-- the successor that was read is granted the lock, if there is one
+abbrev pub grant_or : ℕ → List ℕ → Change → Change
+grant_or found ws otherwise =
+    if found == 0 then otherwise else to ws (Grant (found - 1)) Moved
+
+-- what the answer leads to, with the words as they are then
+abbrev pub after : Phase → List ℕ → Answer → Change
+after ClearNext ws answer = to ws SwapTail Moved
+after SwapTail ws (Found p) =
+    if p == 0 then to ws McsInside Entered else to ws (SetLocked (p - 1)) Moved
+after (SetLocked j) ws answer = to ws (LinkTo j) Moved
+after (LinkTo j) ws answer = to ws AwaitGrant Moved
+after AwaitGrant ws (Found l) =
+    if l == 0 then to ws McsInside Entered else to ws AwaitGrant Waits
+after ReadNext ws (Found s) = grant_or s ws (to ws CasTail Moved)
+after CasTail ws (Swapped true) = to ws Idle Left
+after CasTail ws (Swapped false) = to ws AwaitLink Moved
+after AwaitLink ws (Found s) = grant_or s ws (to ws AwaitLink Waits)
+after (Grant j) ws answer = to ws Idle Left
+after p ws answer = to ws p Waits
 
 -- a step of thread i in this phase
 abbrev pub step : ℕ → ℕ → List ℕ → Phase → Change
-step bits i ws ClearNext = to (set ws (next i) 0) SwapTail Moved
-step bits i ws SwapTail =
-    if slice_index ws tail == 0
-    then to (set ws tail (i + 1)) McsInside Entered
-    else to (set ws tail (i + 1)) (SetLocked (slice_index ws tail - 1)) Moved
-step bits i ws (SetLocked j) = to (set ws (locked i) 1) (LinkTo j) Moved
-step bits i ws (LinkTo j) = to (set ws (next j) (i + 1)) AwaitGrant Moved
-step bits i ws AwaitGrant =
-    if slice_index ws (locked i) == 0 then to ws McsInside Entered else to ws AwaitGrant Waits
-step bits i ws ReadNext = grant_next_or i ws (to ws CasTail Moved)
-step bits i ws CasTail =
-    if slice_index ws tail == i + 1 then to (set ws tail 0) Idle Left else to ws AwaitLink Moved
-step bits i ws AwaitLink = grant_next_or i ws (to ws AwaitLink Waits)
-step bits i ws (Grant j) = to (set ws (locked j) 0) Idle Left
-step bits i ws p = to ws p Waits
+step bits i ws p = step_by after bits ws p (operation i p)
 
 -- The entries of such a step. An acquire acts where it swaps the tail, and returns where the lock
 -- is granted; a release acts where it leaves.

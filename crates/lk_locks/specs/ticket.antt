@@ -5,19 +5,18 @@
 -- Multiprocessors", ACM TOCS 9(1), 1991, section 2.2. Different here: words have B bits, so tickets
 -- go round; the pause between two reads of `now_serving` is no step; a release is two steps, a read
 -- of `now_serving` and a write of the value read plus one.
---
--- Each step is one of the four events of `laws`, on the word that it reads or writes.
-use Rattle.std.specs.Prelude.{ℕ, List, [], ◌∷◌, slice_index, set, Option, None, Some}
-use Rattle.lk_locks.specs.Change.{Change, to}
+use Rattle.std.specs.Prelude.{ℕ, ◌==◌, List, [], ◌∷◌, Option, None, Some, if◌then◌else◌}
+use Rattle.lk_words.specs.declared.operation.Operation.{Operation}
+use Rattle.lk_words.specs.declared.operation.Operation.TheVariants.{Read, Write, FetchAndAdd}
+use Rattle.lk_words.specs.declared.operation.Answer.{Answer}
+use Rattle.lk_words.specs.declared.operation.Answer.TheVariants.{Found}
+use Rattle.lk_locks.specs.Change.{Change, to, step_by, plus_one}
 use Rattle.lk_locks.specs.Acts.{acts}
-use Rattle.lk_locks.specs.laws.{Event, take_event, look_event, read_event, pass_event}
 use Rattle.lk_locks.specs.declared.kinds.Phase.{Phase}
 use Rattle.lk_locks.specs.declared.kinds.Phase.TheVariants.{Idle, TakeTicket, AwaitTurn}
 use Rattle.lk_locks.specs.declared.kinds.Phase.TheVariants.{TicketInside, ReadServing, PassOn}
 use Rattle.lk_locks.specs.declared.kinds.Op.{Op}
 use Rattle.lk_locks.specs.declared.kinds.Op.TheVariants.{Acquire, Release}
-use Rattle.lk_locks.specs.declared.kinds.StepKind.{StepKind}
-use Rattle.lk_locks.specs.declared.kinds.StepKind.TheVariants.{Read, Write, Add}
 use Rattle.lk_locks.specs.declared.kinds.Outcome.{Outcome}
 use Rattle.lk_locks.specs.declared.kinds.Outcome.TheVariants.{Moved, Waits, Entered, Left}
 use Rattle.lk_locks.specs.declared.kinds.Entry.{Entry}
@@ -36,28 +35,26 @@ after_call Idle Acquire = Some TakeTicket
 after_call (TicketInside t) Release = Some (ReadServing t)
 after_call p op = None
 
--- the step that a thread takes next
-abbrev pub step_due : Phase → Option StepKind
-step_due TakeTicket = Some Add
-step_due (AwaitTurn t) = Some Read
-step_due (ReadServing t) = Some Read
-step_due (PassOn v) = Some Write
-step_due p = None
+-- what a thread in this phase does next
+abbrev pub operation : ℕ → Phase → Option Operation
+operation bits TakeTicket = Some (FetchAndAdd next_ticket 1)
+operation bits (AwaitTurn t) = Some (Read now_serving)
+operation bits (ReadServing t) = Some (Read now_serving)
+operation bits (PassOn v) = Some (Write now_serving (plus_one bits v))
+operation bits p = None
 
--- an event that writes its word, and one that only reads
-abbrev pub writes : List ℕ → ℕ → Event → Change
-writes ws word e = to (set ws word e.word) e.phase e.outcome
+-- what the answer leads to, with the words as they are then
+abbrev pub after : Phase → List ℕ → Answer → Change
+after TakeTicket ws (Found t) = to ws (AwaitTurn t) Moved
+after (AwaitTurn t) ws (Found v) =
+    if v == t then to ws (TicketInside t) Entered else to ws (AwaitTurn t) Waits
+after (ReadServing t) ws (Found v) = to ws (PassOn v) Moved
+after (PassOn v) ws answer = to ws Idle Left
+after p ws answer = to ws p Waits
 
-abbrev pub reads : List ℕ → Event → Change
-reads ws e = to ws e.phase e.outcome
-
--- a step of thread i in this phase
-abbrev pub step : ℕ → ℕ → List ℕ → Phase → Change
-step bits i ws TakeTicket = writes ws next_ticket (take_event bits (slice_index ws next_ticket))
-step bits i ws (AwaitTurn t) = reads ws (look_event t (slice_index ws now_serving))
-step bits i ws (ReadServing t) = reads ws (read_event (slice_index ws now_serving))
-step bits i ws (PassOn v) = writes ws now_serving (pass_event bits v)
-step bits i ws p = to ws p Waits
+-- a step of a thread in this phase
+abbrev pub step : ℕ → List ℕ → Phase → Change
+step bits ws p = step_by after bits ws p (operation bits p)
 
 -- The entries of such a step. An acquire acts where it takes its ticket, and returns where that is
 -- served.

@@ -76,7 +76,7 @@ impl<W: Words> Keeper<W> {
         ensures played { OnOk result (self.new ≡ after_play self.old t m) }
         ensures kept { OnErr result (self.new ≡ self.old) }
     {
-        if let Some(refusal) = self.lock.machine().refusal(t, m) {
+        if let Err(refusal) = self.lock.machine().check(t, m) {
             return Err(PlayFault::Refused(refusal));
         }
         if self.history.make_room().is_err() {

@@ -5,24 +5,35 @@
 //! Different here: each thread has one record, and thread `i`'s is record `i + 1`, so that 0 is
 //! nil; the last write of a release uses the successor that was read last.
 
-ghost use Rattle.std.specs.Prelude.{◌≡◌, ◌+◌, [], false, true};
-ghost use Rattle.lk_locks.specs.mcs.{next, locked, after_call, step_due, step, entries};
+ghost use Rattle.std.specs.Prelude.{◌≡◌, ◌+◌, ◌-◌, ◌<◌, ◌≤◌, ℕ, List, []};
+ghost use Rattle.lk_locks.specs.mcs.{next, locked, after_call, operation, after, step, entries};
 ghost use Rattle.lk_locks.specs.Rooms.{word_count};
-ghost use Rattle.lk_locks.specs.invariants.mcs.{is_inside};
+ghost use Rattle.lk_locks.specs.invariants.mcs.{IsLink};
 ghost use Rattle.lk_locks.specs.invariants.WellFormed.{IsReady};
 ghost use Rattle.lk_locks.specs.declared.kinds.LockKind.TheVariants.{Mcs};
 
 use crate::entries::Added;
-use crate::{Entry, Op, Outcome, Phase, StepKind};
-use lk_words::Words;
+use crate::{Entry, Op, Outcome, Phase};
+use lk_words::{Answer, Operation, Words, perform};
 
 const TAIL: usize = 0;
+
+const NIL: u64 = 0;
 
 // The number of a thread's record, where 0 is nil.
 fn record(thread: u8) -> u64
     ensures { result ≡ thread + 1 }
 {
     thread as u64 + 1
+}
+
+// The thread of a record that is not nil.
+fn thread_of(link: u64) -> u8
+    requires least { 0 < link }
+    requires most { link ≤ 64 }
+    ensures { result ≡ link - 1 }
+{
+    (link - 1) as u8
 }
 
 // The word of a thread's successor.
@@ -57,98 +68,72 @@ pub fn after_call(phase: Phase, op: Op) -> Option<Phase>
     }
 }
 
-/// The step that a thread takes next.
-pub fn step_due(phase: Phase) -> Option<StepKind>
-    ensures { result ≡ step_due phase }
+/// What a thread in this phase does next: one operation on one word.
+#[inline(always)]
+pub fn operation(thread: u8, phase: Phase) -> Option<Operation>
+    ensures { result ≡ operation thread phase }
 {
     match phase {
-        Phase::ClearNext | Phase::SetLocked(_) | Phase::LinkTo(_) | Phase::Grant(_) => {
-            Some(StepKind::Write)
-        }
-        Phase::SwapTail => Some(StepKind::Swap),
-        Phase::AwaitGrant | Phase::ReadNext | Phase::AwaitLink => Some(StepKind::Read),
-        Phase::CasTail => Some(StepKind::Cas),
+        Phase::ClearNext => Some(Operation::Write {
+            word: next(thread),
+            value: NIL,
+        }),
+        Phase::SwapTail => Some(Operation::Swap {
+            word: TAIL,
+            value: record(thread),
+        }),
+        Phase::SetLocked(_) => Some(Operation::Write {
+            word: locked(thread),
+            value: 1,
+        }),
+        Phase::LinkTo(predecessor) => Some(Operation::Write {
+            word: next(predecessor),
+            value: record(thread),
+        }),
+        Phase::AwaitGrant => Some(Operation::Read {
+            word: locked(thread),
+        }),
+        Phase::ReadNext | Phase::AwaitLink => Some(Operation::Read { word: next(thread) }),
+        Phase::CasTail => Some(Operation::CompareAndSwap {
+            word: TAIL,
+            old: record(thread),
+            new: NIL,
+        }),
+        Phase::Grant(successor) => Some(Operation::Write {
+            word: locked(successor),
+            value: 0,
+        }),
         _ => None,
     }
 }
 
-/// Whether a thread in this phase is between the step that enters and the step that leaves.
-pub fn is_inside(phase: Phase) -> bool
-    ensures { result ≡ is_inside phase }
+/// What the answer of that operation leads to.
+#[inline(always)]
+pub fn after(phase: Phase, answer: Answer) -> (Phase, Outcome)
+    requires { IsLink phase answer }
+    ensures words { (ws : List ℕ) → (after phase ws answer).words ≡ ws }
+    ensures phase { (ws : List ℕ) → result.0 ≡ (after phase ws answer).phase }
+    ensures outcome { (ws : List ℕ) → result.1 ≡ (after phase ws answer).outcome }
 {
-    matches!(
-        phase,
-        Phase::McsInside | Phase::ReadNext | Phase::CasTail | Phase::AwaitLink | Phase::Grant(_)
-    )
-}
-
-// One step of an acquire.
-fn step_of_acquire<W: Words>(words: &mut W, thread: u8, phase: Phase) -> (Phase, Outcome)
-    requires ready { IsReady Mcs (W.width words.old) (W.list words.old) thread phase }
-    requires outside { is_inside phase ≡ false }
-    ensures words { W.list words.new
-        ≡ (step (W.width words.old) thread (W.list words.old) phase).words }
-    ensures phase { result.0 ≡ (step (W.width words.old) thread (W.list words.old) phase).phase }
-    ensures outcome { result.1
-        ≡ (step (W.width words.old) thread (W.list words.old) phase).outcome }
-    ensures width { W.width words.new ≡ W.width words.old }
-{
-    match phase {
-        Phase::ClearNext => {
-            words.write(next(thread), 0);
-            (Phase::SwapTail, Outcome::Moved)
+    match (phase, answer) {
+        (Phase::ClearNext, _) => (Phase::SwapTail, Outcome::Moved),
+        (Phase::SwapTail | Phase::AwaitGrant, Answer::Found(0)) => {
+            (Phase::McsInside, Outcome::Entered)
         }
-        Phase::SwapTail => match words.swap(TAIL, record(thread)) {
-            0 => (Phase::McsInside, Outcome::Entered),
-            previous => (Phase::SetLocked((previous - 1) as u8), Outcome::Moved),
-        },
-        Phase::SetLocked(before) => {
-            words.write(locked(thread), 1);
-            (Phase::LinkTo(before), Outcome::Moved)
+        (Phase::SwapTail, Answer::Found(link)) => {
+            (Phase::SetLocked(thread_of(link)), Outcome::Moved)
         }
-        Phase::LinkTo(before) => {
-            words.write(next(before), record(thread));
-            (Phase::AwaitGrant, Outcome::Moved)
+        (Phase::SetLocked(predecessor), _) => (Phase::LinkTo(predecessor), Outcome::Moved),
+        (Phase::LinkTo(_), _) => (Phase::AwaitGrant, Outcome::Moved),
+        (Phase::ReadNext, Answer::Found(0)) => (Phase::CasTail, Outcome::Moved),
+        (Phase::ReadNext | Phase::AwaitLink, Answer::Found(link)) if link != 0 => {
+            (Phase::Grant(thread_of(link)), Outcome::Moved)
         }
-        Phase::AwaitGrant => match words.read(locked(thread)) {
-            0 => (Phase::McsInside, Outcome::Entered),
-            _ => (phase, Outcome::Waits),
-        },
-        _ => (phase, Outcome::Waits),
-    }
-}
-
-// One step of a release.
-fn step_of_release<W: Words>(words: &mut W, thread: u8, phase: Phase) -> (Phase, Outcome)
-    requires ready { IsReady Mcs (W.width words.old) (W.list words.old) thread phase }
-    requires inside { is_inside phase ≡ true }
-    ensures words { W.list words.new
-        ≡ (step (W.width words.old) thread (W.list words.old) phase).words }
-    ensures phase { result.0 ≡ (step (W.width words.old) thread (W.list words.old) phase).phase }
-    ensures outcome { result.1
-        ≡ (step (W.width words.old) thread (W.list words.old) phase).outcome }
-    ensures width { W.width words.new ≡ W.width words.old }
-{
-    match phase {
-        Phase::ReadNext => match words.read(next(thread)) {
-            0 => (Phase::CasTail, Outcome::Moved),
-            after => (Phase::Grant((after - 1) as u8), Outcome::Moved),
-        },
-        Phase::CasTail => {
-            if words.compare_and_swap(TAIL, record(thread), 0) {
-                (Phase::Idle, Outcome::Left)
-            } else {
-                (Phase::AwaitLink, Outcome::Moved)
-            }
-        }
-        Phase::AwaitLink => match words.read(next(thread)) {
-            0 => (phase, Outcome::Waits),
-            after => (Phase::Grant((after - 1) as u8), Outcome::Moved),
-        },
-        Phase::Grant(after) => {
-            words.write(locked(after), 0);
-            (Phase::Idle, Outcome::Left)
-        }
+        // nobody came after this thread: the queue is empty again
+        (Phase::CasTail, Answer::Swapped(true)) => (Phase::Idle, Outcome::Left),
+        // another thread has swapped the tail and has not linked itself yet
+        (Phase::CasTail, Answer::Swapped(false)) => (Phase::AwaitLink, Outcome::Moved),
+        (Phase::Grant(_), _) => (Phase::Idle, Outcome::Left),
         _ => (phase, Outcome::Waits),
     }
 }
@@ -163,10 +148,9 @@ pub fn step<W: Words>(words: &mut W, thread: u8, phase: Phase) -> (Phase, Outcom
         ≡ (step (W.width words.old) thread (W.list words.old) phase).outcome }
     ensures width { W.width words.new ≡ W.width words.old }
 {
-    if is_inside(phase) {
-        step_of_release(words, thread, phase)
-    } else {
-        step_of_acquire(words, thread, phase)
+    match operation(thread, phase) {
+        Some(operation) => after(phase, perform(words, operation)),
+        None => (phase, Outcome::Waits),
     }
 }
 

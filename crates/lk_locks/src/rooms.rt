@@ -1,10 +1,11 @@
 //! Which lock has which room, and which family it belongs to. What the locks share calls these
 //! functions and knows no lock.
 
-ghost use Rattle.std.specs.Prelude.{◌≡◌, []};
+ghost use Rattle.std.specs.Prelude.{◌≡◌, ◌≤◌, []};
+ghost use Rattle.lk_locks.specs.Change.{kind_of};
 ghost use Rattle.std.specs.List.{list_any};
 ghost use Rattle.lk_locks.specs.Rooms.{family_of, word_count, steps_of, after_call, step_due};
-ghost use Rattle.lk_locks.specs.Rooms.{step_of, step_entries};
+ghost use Rattle.lk_locks.specs.Rooms.{operation_of, step_of, step_entries};
 ghost use Rattle.lk_locks.specs.Steps.{same_step};
 ghost use Rattle.lk_locks.specs.invariants.WellFormed.{IsReady};
 
@@ -12,7 +13,7 @@ use crate::entries::Added;
 use crate::{
     Family, LockKind, Op, Outcome, Phase, StepKind, mcs, read_write, rw_fifo, rw_simple, ticket,
 };
-use lk_words::Words;
+use lk_words::{Operation, Words};
 
 /// The family of a lock.
 #[inline]
@@ -63,13 +64,39 @@ pub(crate) fn after_call(kind: LockKind, phase: Phase, op: Op) -> Option<Phase>
     }
 }
 
+// The kind of step that makes an operation.
+fn kind_of(operation: Operation) -> StepKind
+    ensures { result ≡ kind_of operation }
+{
+    match operation {
+        Operation::Read { .. } => StepKind::Read,
+        Operation::Write { .. } => StepKind::Write,
+        Operation::Swap { .. } => StepKind::Swap,
+        Operation::CompareAndSwap { .. } => StepKind::Cas,
+        Operation::FetchAndAdd { .. } => StepKind::Add,
+    }
+}
+
+/// What a thread in this phase does next, if that is one operation on one word of so many bits.
+pub fn operation_of(kind: LockKind, bits: u8, thread: u8, phase: Phase) -> Option<Operation>
+    requires least { 2 ≤ bits }
+    requires most { bits ≤ 64 }
+    ensures { result ≡ operation_of kind bits thread phase }
+{
+    match kind {
+        LockKind::Ticket => ticket::operation(bits, phase),
+        LockKind::Mcs => mcs::operation(thread, phase),
+        LockKind::RwSimple | LockKind::RwFifo => None,
+    }
+}
+
 /// The step that a thread in this phase takes next, where it has a pending call.
 pub(crate) fn step_due(kind: LockKind, phase: Phase) -> Option<StepKind>
     ensures { result ≡ step_due kind phase }
 {
     match kind {
-        LockKind::Ticket => ticket::step_due(phase),
-        LockKind::Mcs => mcs::step_due(phase),
+        LockKind::Ticket => Some(kind_of(ticket::operation(64, phase)?)),
+        LockKind::Mcs => Some(kind_of(mcs::operation(0, phase)?)),
         LockKind::RwSimple | LockKind::RwFifo => read_write::step_due(phase),
     }
 }
@@ -91,7 +118,7 @@ pub(crate) fn take_step<W: Words>(
     ensures width { W.width words.new ≡ W.width words.old }
 {
     match kind {
-        LockKind::Ticket => ticket::step(words, thread, phase),
+        LockKind::Ticket => ticket::step(words, phase),
         LockKind::Mcs => mcs::step(words, thread, phase),
         LockKind::RwSimple => rw_simple::step(words, phase),
         LockKind::RwFifo => rw_fifo::step(words, phase),

@@ -5,15 +5,13 @@
 //! of `now_serving` is no step, and a release is two steps, a read of `now_serving` and a write of
 //! the value read plus one.
 
-ghost use Rattle.std.specs.Prelude.{◌≡◌, []};
-ghost use Rattle.lk_locks.specs.ticket.{after_call, step_due, step, entries};
-ghost use Rattle.lk_locks.specs.invariants.WellFormed.{IsReady};
-ghost use Rattle.lk_locks.specs.declared.kinds.LockKind.TheVariants.{Ticket};
+ghost use Rattle.std.specs.Prelude.{◌≡◌, ◌^◌, ◌<◌, ◌≤◌, ℕ, List, [], length};
+ghost use Rattle.lk_locks.specs.ticket.{after_call, operation, after, step, entries};
 
 use crate::arithmetic::plus_one;
 use crate::entries::Added;
-use crate::{Entry, Op, Outcome, Phase, StepKind};
-use lk_words::Words;
+use crate::{Entry, Op, Outcome, Phase};
+use lk_words::{Answer, Operation, Words, perform};
 
 /// How many words the lock has.
 pub const WORDS: usize = 2;
@@ -33,51 +31,59 @@ pub fn after_call(phase: Phase, op: Op) -> Option<Phase>
     }
 }
 
-/// The step that a thread takes next.
-pub fn step_due(phase: Phase) -> Option<StepKind>
-    ensures { result ≡ step_due phase }
+/// What a thread in this phase does next: one operation on one word of so many bits.
+#[inline(always)]
+pub fn operation(bits: u8, phase: Phase) -> Option<Operation>
+    requires least { 2 ≤ bits }
+    requires most { bits ≤ 64 }
+    ensures { result ≡ operation bits phase }
 {
     match phase {
-        Phase::TakeTicket => Some(StepKind::Add),
-        Phase::AwaitTurn(_) | Phase::ReadServing(_) => Some(StepKind::Read),
-        Phase::PassOn(_) => Some(StepKind::Write),
+        Phase::TakeTicket => Some(Operation::FetchAndAdd {
+            word: NEXT_TICKET,
+            addend: 1,
+        }),
+        Phase::AwaitTurn(_) | Phase::ReadServing(_) => {
+            Some(Operation::Read { word: NOW_SERVING })
+        }
+        Phase::PassOn(serving) => Some(Operation::Write {
+            word: NOW_SERVING,
+            value: plus_one(bits, serving),
+        }),
         _ => None,
     }
 }
 
+/// What the answer of that operation leads to.
+#[inline(always)]
+pub fn after(phase: Phase, answer: Answer) -> (Phase, Outcome)
+    ensures words { (ws : List ℕ) → (after phase ws answer).words ≡ ws }
+    ensures phase { (ws : List ℕ) → result.0 ≡ (after phase ws answer).phase }
+    ensures outcome { (ws : List ℕ) → result.1 ≡ (after phase ws answer).outcome }
+{
+    match (phase, answer) {
+        (Phase::TakeTicket, Answer::Found(ticket)) => (Phase::AwaitTurn(ticket), Outcome::Moved),
+        (Phase::AwaitTurn(ticket), Answer::Found(serving)) if serving == ticket => {
+            (Phase::TicketInside(ticket), Outcome::Entered)
+        }
+        (Phase::ReadServing(_), Answer::Found(serving)) => (Phase::PassOn(serving), Outcome::Moved),
+        (Phase::PassOn(_), _) => (Phase::Idle, Outcome::Left),
+        _ => (phase, Outcome::Waits),
+    }
+}
+
 /// One step of a thread in this phase, with its new phase.
-pub fn step<W: Words>(words: &mut W, thread: u8, phase: Phase) -> (Phase, Outcome)
-    requires { IsReady Ticket (W.width words.old) (W.list words.old) thread phase }
-    ensures words { W.list words.new
-        ≡ (step (W.width words.old) thread (W.list words.old) phase).words }
-    ensures phase { result.0 ≡ (step (W.width words.old) thread (W.list words.old) phase).phase }
-    ensures outcome { result.1
-        ≡ (step (W.width words.old) thread (W.list words.old) phase).outcome }
+pub fn step<W: Words>(words: &mut W, phase: Phase) -> (Phase, Outcome)
+    requires words { 2 ≤ length (W.list words.old) }
+    requires one { 1 < 2 ^ W.width words.old }
+    ensures words { W.list words.new ≡ (step (W.width words.old) (W.list words.old) phase).words }
+    ensures phase { result.0 ≡ (step (W.width words.old) (W.list words.old) phase).phase }
+    ensures outcome { result.1 ≡ (step (W.width words.old) (W.list words.old) phase).outcome }
     ensures width { W.width words.new ≡ W.width words.old }
 {
-    match phase {
-        Phase::TakeTicket => {
-            let ticket = words.fetch_and_add(NEXT_TICKET, 1);
-            (Phase::AwaitTurn(ticket), Outcome::Moved)
-        }
-        Phase::AwaitTurn(ticket) => {
-            let serving = words.read(NOW_SERVING);
-            if serving == ticket {
-                (Phase::TicketInside(ticket), Outcome::Entered)
-            } else {
-                (phase, Outcome::Waits)
-            }
-        }
-        Phase::ReadServing(_) => {
-            let serving = words.read(NOW_SERVING);
-            (Phase::PassOn(serving), Outcome::Moved)
-        }
-        Phase::PassOn(serving) => {
-            let bits = words.bits();
-            words.write(NOW_SERVING, plus_one(bits, serving));
-            (Phase::Idle, Outcome::Left)
-        }
-        _ => (phase, Outcome::Waits),
+    match operation(words.bits(), phase) {
+        Some(operation) => after(phase, perform(words, operation)),
+        None => (phase, Outcome::Waits),
     }
 }
 

@@ -64,9 +64,9 @@ impl<W: Words> Tracker<W> {
         }
     }
 
-    // Makes a move that is not refused, and fills in the entries that it adds.
+    /// Makes a move that the machine accepts, and fills in the entries that it adds.
     #[inline]
-    pub(crate) fn make(&mut self, t: u8, m: Move, added: &mut Added) -> Outcome
+    pub fn make(&mut self, t: u8, m: Move, added: &mut Added) -> Outcome
         requires accepted { refusal_of self.old.state t m ≡ None }
         requires none { added.old ≡ [] }
         ensures outcome { result ≡ (change_of self.old.state t m).outcome }
@@ -74,7 +74,7 @@ impl<W: Words> Tracker<W> {
             (entries_of self.old.state t m) }
         ensures entries { added.new ≡ entries_of self.old.state t m }
     {
-        let outcome = self.machine.make_adding(t, m, added);
+        let outcome = self.machine.make(t, m, added);
         match m {
             // a call is no act, so the sequential object and the holder stay
             Move::Call(_) => {}
@@ -95,9 +95,7 @@ impl<W: Words> Tracker<W> {
         ensures answer { result ≡ answer_to self.old.state t m }
         ensures after { self.new ≡ after_tracked self.old t m }
     {
-        if let Some(refusal) = self.machine.refusal(t, m) {
-            return Err(refusal);
-        }
+        self.machine.check(t, m)?;
         let mut added = Added::none();
         Ok(self.make(t, m, &mut added))
     }

@@ -5,10 +5,10 @@ use Rattle.std.proofs.Common.{true, unwrap_or, ℕ, ◌+◌, ◌<◌, ◌==◌, 
 use Rattle.std.proofs.lemmas.Bool.{cases_lt}
 use Rattle.std.proofs.lemmas.Bool.Decides.{eqb_tells}
 use Rattle.std.proofs.lemmas.List.{get_or-set_other, get_or-set_same, length-set, set_past}
-use Rattle.lk_locks.specs.Change.{Change}
+use Rattle.lk_locks.specs.Change.{Change, lead}
 use Rattle.lk_locks.specs.Steps.{has_op, refusal_in}
 use Rattle.lk_locks.specs.invariants.mcs.{AreLinks, IsPhase, owed}
-use Rattle.lk_locks.specs.mcs.{after_call, entries, locked, next, step}
+use Rattle.lk_locks.specs.mcs.{after, after_call, entries, locked, next, step}
 use Rattle.lk_locks.proofs.Cases.{AreOf, Begins, Fits, GoesOn, KeepsLength, either_way}
 use Rattle.lk_locks.specs.declared.kinds.Family.TheVariants.{Queue}
 use Rattle.lk_locks.specs.declared.kinds.LockKind.TheVariants.{Mcs}
@@ -32,7 +32,8 @@ goes_on bits t ws AwaitGrant =
 goes_on bits t ws ReadNext =
     either_way (GoesOn Mcs t ReadNext) (slice_index ws (next t) == 0) _ _ refl refl
 goes_on bits t ws CasTail =
-    either_way (GoesOn Mcs t CasTail) (slice_index ws 0 == t + 1) _ _ refl refl
+    either_way (λ e. GoesOn Mcs t CasTail (lead after CasTail e)) (slice_index ws 0 == t + 1) _ _
+    refl refl
 goes_on bits t ws AwaitLink =
     either_way (GoesOn Mcs t AwaitLink) (slice_index ws (next t) == 0) _ _ refl refl
 goes_on bits t ws p = refl
@@ -69,7 +70,8 @@ keeps_length bits t ws AwaitGrant =
 keeps_length bits t ws ReadNext =
     either_way (KeepsLength ws) (slice_index ws (next t) == 0) _ _ refl refl
 keeps_length bits t ws CasTail =
-    either_way (KeepsLength ws) (slice_index ws 0 == t + 1) _ _ (length-set _ _ _) refl
+    either_way (λ e. KeepsLength ws (lead after CasTail e)) (slice_index ws 0 == t + 1) _ _
+    (length-set _ _ _) refl
 keeps_length bits t ws AwaitLink =
     either_way (KeepsLength ws) (slice_index ws (next t) == 0) _ _ refl refl
 keeps_length bits t ws (Grant j) = length-set _ _ _
@@ -87,7 +89,8 @@ step_fits n bits t ws AwaitGrant h f l =
     either_way (Fits Mcs n) (slice_index ws (locked t) == 0) _ _ tt tt
 step_fits n bits t ws ReadNext h f l =
     either_way (Fits Mcs n) (slice_index ws (next t) == 0) _ _ tt (omega (arith, l.1 t h))
-step_fits n bits t ws CasTail h f l = either_way (Fits Mcs n) (slice_index ws 0 == t + 1) _ _ tt tt
+step_fits n bits t ws CasTail h f l =
+    either_way (λ e. Fits Mcs n (lead after CasTail e)) (slice_index ws 0 == t + 1) _ _ tt tt
 step_fits n bits t ws AwaitLink h f l =
     either_way (Fits Mcs n) (slice_index ws (next t) == 0) _ _ tt (omega (arith, l.1 t h))
 step_fits n bits t ws (Grant j) h f l = tt
@@ -128,7 +131,7 @@ links_fit n bits t ws AwaitGrant h l =
 links_fit n bits t ws ReadNext h l =
     either_way (λ (c : Change). AreLinks n c.words) (slice_index ws (next t) == 0) _ _ l l
 links_fit n bits t ws CasTail h l =
-    either_way (λ (c : Change). AreLinks n c.words) (slice_index ws 0 == t + 1) _ _
+    either_way (λ e. AreLinks n (lead after CasTail e).words) (slice_index ws 0 == t + 1) _ _
     (set_links n ws _ 0 (omega arith) l) l
 links_fit n bits t ws AwaitLink h l =
     either_way (λ (c : Change). AreLinks n c.words) (slice_index ws (next t) == 0) _ _ l l

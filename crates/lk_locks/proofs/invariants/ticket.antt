@@ -16,8 +16,7 @@ use Rattle.lk_locks.specs.Rooms.{after_call}
 use Rattle.lk_locks.specs.Steps.{has_op, move_change, refusal_in}
 use Rattle.lk_locks.specs.invariants.Rooms.{AgreeAs, AreLinks, IsPhaseOf}
 use Rattle.lk_locks.specs.invariants.ticket.{IsQueue, owed, ticket_of}
-use Rattle.lk_locks.specs.laws.{Event}
-use Rattle.lk_locks.specs.ticket.{entries, now_serving, reads, step}
+use Rattle.lk_locks.specs.ticket.{entries, now_serving, step}
 use Rattle.lk_locks.proofs.Cases.{AreOf, Begins, Fits, GoesOn, IsAgreed, IsRoom, IsTaken}
 use Rattle.lk_locks.proofs.Cases.{KeepsLength, either_way}
 use Rattle.lk_locks.proofs.Threads.{all_idle, bool_tells}
@@ -39,10 +38,9 @@ use Rattle.lk_locks.proofs.Requests.{allows_acquire, allows_release}
 use Rattle.lk_locks.specs.Rooms.{family_of}
 
 -- each step adds the next entries of the pending call
-goes_on : (bits t : ℕ) (ws : List ℕ) (p : Phase) → GoesOn Ticket t p (step bits t ws p)
+goes_on : (bits t : ℕ) (ws : List ℕ) (p : Phase) → GoesOn Ticket t p (step bits ws p)
 goes_on bits t ws (AwaitTurn x) =
-    either_way (λ (e : Event). GoesOn Ticket t (AwaitTurn x) (reads ws e))
-    (slice_index ws now_serving == x) _ _ refl refl
+    either_way (GoesOn Ticket t (AwaitTurn x)) (slice_index ws now_serving == x) _ _ refl refl
 goes_on bits t ws p = refl
 
 -- a call begins where the one before it is finished
@@ -65,17 +63,18 @@ few_entries t (PassOn x) Left = omega arith
 few_entries t p o = omega arith
 
 -- no step changes how many words there are
-keeps_length : (bits t : ℕ) (ws : List ℕ) (p : Phase) → KeepsLength ws (step bits t ws p)
+keeps_length : (bits t : ℕ) (ws : List ℕ) (p : Phase) → KeepsLength ws (step bits ws p)
 keeps_length bits t ws TakeTicket = length-set _ _ _
 keeps_length bits t ws (PassOn v) = length-set _ _ _
+keeps_length bits t ws (AwaitTurn x) =
+    either_way (KeepsLength ws) (slice_index ws now_serving == x) _ _ refl refl
 keeps_length bits t ws p = refl
 
 -- the new phase is one of the lock's
 step_fits : (n bits t : ℕ) (ws : List ℕ) (p : Phase) → t < n → IsPhaseOf Ticket n p
-    → AreLinks Ticket n ws → Fits Ticket n (step bits t ws p)
+    → AreLinks Ticket n ws → Fits Ticket n (step bits ws p)
 step_fits n bits t ws (AwaitTurn x) h f l =
-    either_way (λ (e : Event). Fits Ticket n (reads ws e)) (slice_index ws now_serving == x) _ _
-    refl refl
+    either_way (Fits Ticket n) (slice_index ws now_serving == x) _ _ refl refl
 step_fits n bits t ws TakeTicket h f l = refl
 step_fits n bits t ws (ReadServing x) h f l = refl
 step_fits n bits t ws (PassOn x) h f l = refl

@@ -3,6 +3,8 @@
 -- linked at most moments.
 use Rattle.std.specs.Prelude.{◌≡◌, ◌≢◌, ℕ, ◌+◌, ◌<◌, ◌≤◌, List, [], ◌∷◌, length, slice_index, Bool}
 use Rattle.std.specs.Prelude.{true, false, IsTrue}
+use Rattle.lk_words.specs.declared.operation.Answer.{Answer}
+use Rattle.lk_words.specs.declared.operation.Answer.TheVariants.{Found}
 use Rattle.lk_locks.specs.State.{phase_at}
 use Rattle.lk_locks.specs.Acts.{acts}
 use Rattle.lk_locks.specs.Sequential.{has, is_head}
@@ -48,14 +50,11 @@ owed i AwaitLink = acts i Release
 owed i (Grant j) = acts i Release
 owed i p = []
 
--- between the step that enters and the step that leaves
-abbrev pub is_inside : Phase → Bool
-is_inside McsInside = true
-is_inside ReadNext = true
-is_inside CasTail = true
-is_inside AwaitLink = true
-is_inside (Grant j) = true
-is_inside p = false
+-- an answer that names a thread, or none: a link is below 65, since there are at most 64 threads
+abbrev pub IsLink : Phase → Answer → Type 0
+IsLink AwaitGrant answer = Unit {0}
+IsLink p (Found link) = link ≤ 64
+IsLink p answer = Unit {0}
 
 -- the words of thread i's record
 abbrev pub next_of : List ℕ → ℕ → ℕ

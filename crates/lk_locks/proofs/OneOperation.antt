@@ -1,0 +1,93 @@
+-- Each step of a queue lock that is accepted is one operation, of the kind that the move names.
+use Rattle.std.proofs.Common.{List, None, Option, Some, refl, sym, ℕ, ◌≡◌, ◌==◌, if◌then◌else◌}
+use Rattle.lk_words.specs.Operations.{performed}
+use Rattle.lk_words.specs.declared.operation.Answer.{Answer}
+use Rattle.lk_words.specs.declared.operation.Answer.TheVariants.{Found, Swapped}
+use Rattle.std.proofs.Common.{false, option_map, true}
+use Rattle.lk_words.specs.declared.operation.Operation.{Operation}
+use Rattle.lk_locks.specs.Change.{Change, kind_of, step_by}
+use Rattle.lk_locks.specs.OneOperation.{IsMade, IsOneOperation, IsStepOf}
+use Rattle.lk_locks.specs.Rooms.{family_of, step_of}
+use Rattle.lk_locks.specs.State.{State, phase_at}
+use Rattle.lk_locks.specs.Steps.{next_state, refusal_at, refusal_in, refusal_of, same_step}
+use Rattle.lk_locks.specs.mcs
+use Rattle.lk_locks.specs.ticket
+use Rattle.lk_locks.specs.declared.kinds.LockKind.{LockKind}
+use Rattle.lk_locks.specs.declared.kinds.LockKind.TheVariants.{Mcs, RwFifo, RwSimple, Ticket}
+use Rattle.lk_locks.specs.declared.kinds.Move.{Move}
+use Rattle.lk_locks.specs.declared.kinds.Move.TheVariants.{Call, Step}
+use Rattle.lk_locks.specs.declared.kinds.Phase.{Phase}
+use Rattle.lk_locks.specs.declared.kinds.Phase.TheVariants.{AwaitGrant, AwaitLink, AwaitTurn}
+use Rattle.lk_locks.specs.declared.kinds.Phase.TheVariants.{CasTail, ClearNext, ReadNext}
+use Rattle.lk_locks.specs.declared.kinds.Phase.TheVariants.{ReadServing, SwapTail, TakeTicket}
+use Rattle.lk_locks.specs.declared.kinds.Refusal.{Refusal}
+use Rattle.lk_locks.specs.declared.kinds.Refusal.TheVariants.{WrongStep}
+use Rattle.lk_locks.specs.declared.kinds.StepKind.{StepKind}
+use Rattle.lk_locks.specs.declared.kinds.StepKind.TheVariants.{Add, Cas, Read, Section, Swap, Write}
+use Rattle.lk_locks.proofs.Cases.{either_way}
+use Rattle.lk_locks.proofs.Moves.{accepted_of}
+
+abbrev Keeps : List ℕ → Change → Type 0
+Keeps ws c = c.words ≡ ws
+
+-- what an answer leads to leaves the words to the operation
+ticket_keeps : (p : Phase) (ws : List ℕ) (a : Answer) → Keeps ws (ticket.after p ws a)
+ticket_keeps (AwaitTurn t) ws (Found v) = either_way (Keeps ws) (v == t) _ _ refl refl
+ticket_keeps TakeTicket ws (Found v) = refl
+ticket_keeps (ReadServing t) ws (Found v) = refl
+ticket_keeps p ws a = refl
+
+mcs_keeps : (p : Phase) (ws : List ℕ) (a : Answer) → Keeps ws (mcs.after p ws a)
+mcs_keeps SwapTail ws (Found v) = either_way (Keeps ws) (v == 0) _ _ refl refl
+mcs_keeps AwaitGrant ws (Found v) = either_way (Keeps ws) (v == 0) _ _ refl refl
+mcs_keeps ReadNext ws (Found v) = either_way (Keeps ws) (v == 0) _ _ refl refl
+mcs_keeps AwaitLink ws (Found v) = either_way (Keeps ws) (v == 0) _ _ refl refl
+mcs_keeps CasTail ws (Swapped true) = refl
+mcs_keeps CasTail ws (Swapped false) = refl
+mcs_keeps p ws a = refl
+
+same : (a b : StepKind) → (if same_step a b then None else Some (WrongStep a)) ≡ None → a ≡ b
+same Read Read r = refl
+same Write Write r = refl
+same Swap Swap r = refl
+same Cas Cas r = refl
+same Add Add r = refl
+same Section Section r = refl
+same a b r = cc
+
+by_one : (after : Phase → List ℕ → Answer → Change)
+    → ((p : Phase) (ws : List ℕ) (a : Answer) → Keeps ws (after p ws a)) → (kind : LockKind)
+    (bits : ℕ) (ws : List ℕ) (p : Phase) (k : StepKind) (o : Option Operation)
+    → refusal_at kind p (option_map kind_of o) (Step k) ≡ None
+    → IsMade bits ws k o (step_by after bits ws p o).words
+by_one after keeps kind bits ws p k None r = cc
+by_one after keeps kind bits ws p k (Some o) r =
+    (same (kind_of o) k r, sym (keeps p (performed bits ws o).words (performed bits ws o).answer))
+
+-- which kind of step is due does not depend on thread and bits
+ticket_kind : (bits : ℕ) (p : Phase)
+    → option_map kind_of (ticket.operation 64 p) ≡ option_map kind_of (ticket.operation bits p)
+ticket_kind bits TakeTicket = refl
+ticket_kind bits p = refl
+
+mcs_kind : (t : ℕ) (p : Phase)
+    → option_map kind_of (mcs.operation 0 p) ≡ option_map kind_of (mcs.operation t p)
+mcs_kind t ClearNext = refl
+mcs_kind t p = refl
+
+made : (kind : LockKind) (bits : ℕ) (ws : List ℕ) (t : ℕ) (p : Phase) (k : StepKind)
+    → refusal_in kind p (Step k) ≡ None
+    → IsStepOf kind bits ws t p k (step_of kind bits ws t p).words
+made Ticket bits ws t p k r =
+    by_one ticket.after ticket_keeps Ticket bits ws p k (ticket.operation bits p)
+    (rw (ticket_kind bits p) at r)
+made Mcs bits ws t p k r =
+    by_one mcs.after mcs_keeps Mcs bits ws p k (mcs.operation t p) (rw (mcs_kind t p) at r)
+made RwSimple bits ws t p k r = tt
+made RwFifo bits ws t p k r = tt
+
+pub one_operation : (s : State) (t : ℕ) (m : Move) → refusal_of s t m ≡ None
+    → IsOneOperation s t m (next_state s t m).words
+one_operation s t (Call op) r = refl
+one_operation s t (Step k) r =
+    made s.kind s.bits s.words t (phase_at s.phases t) k (accepted_of s t (Step k) r).fits

@@ -1,0 +1,72 @@
+-- Definitions. What one operation does to the words, and what it answers.
+--
+-- The five operations are those of Mellor-Crummey and Scott, ACM TOCS 9(1), 1991. Different here:
+-- they come one after another, and words have B bits.
+use Rattle.std.specs.Prelude.{ℕ, ◌+◌, ◌%◌, ◌^◌, ◌<◌, ◌==◌, List, slice_index, slice_set}
+use Rattle.std.specs.Prelude.{if◌then◌else◌, true, false}
+use Rattle.lk_words.specs.declared.operation.Operation.{Operation}
+use Rattle.lk_words.specs.declared.operation.Operation.TheVariants.{Read, Write, Swap}
+use Rattle.lk_words.specs.declared.operation.Operation.TheVariants.{CompareAndSwap, FetchAndAdd}
+use Rattle.lk_words.specs.declared.operation.Answer.{Answer}
+use Rattle.lk_words.specs.declared.operation.Answer.TheVariants.{Nothing, Found, Swapped}
+use Rattle.lk_words.specs.declared.operation.Effect.{Effect}
+
+-- the word that an operation is on
+abbrev pub word_of : Operation → ℕ
+word_of (Read i) = i
+word_of (Write i v) = i
+word_of (Swap i v) = i
+word_of (CompareAndSwap i old new) = i
+word_of (FetchAndAdd i d) = i
+
+-- what it leaves in a word in which this stands
+abbrev pub left_by : ℕ → ℕ → Operation → ℕ
+left_by bits found (Read i) = found
+left_by bits found (Write i v) = v
+left_by bits found (Swap i v) = v
+left_by bits found (CompareAndSwap i old new) = if found == old then new else found
+left_by bits found (FetchAndAdd i d) = (found + d) % 2 ^ bits
+
+-- what it answers
+abbrev pub answer_of : ℕ → Operation → Answer
+answer_of found (Read i) = Found found
+answer_of found (Write i v) = Nothing
+answer_of found (Swap i v) = Found found
+answer_of found (CompareAndSwap i old new) = Swapped (found == old)
+answer_of found (FetchAndAdd i d) = Found found
+
+-- what it does to its word, among these words
+abbrev pub effect_on : ℕ → List ℕ → Operation → Effect
+effect_on bits ws op = record {
+  word = word_of op;
+  found = slice_index ws (word_of op);
+  left = left_by bits (slice_index ws (word_of op)) op;
+  answer = answer_of (slice_index ws (word_of op)) op;
+}
+
+-- the words after an operation, and its answer
+pub record Performed : Type 0 where
+  pub words : List ℕ
+  pub answer : Answer
+
+abbrev pub answers : List ℕ → Answer → Performed
+answers words answer = record { words = words; answer = answer }
+
+abbrev pub performed : ℕ → List ℕ → Operation → Performed
+performed bits ws (Read i) = answers ws (Found (slice_index ws i))
+performed bits ws (Write i v) = answers (slice_set ws i v) Nothing
+performed bits ws (Swap i v) = answers (slice_set ws i v) (Found (slice_index ws i))
+performed bits ws (CompareAndSwap i old new) =
+    if slice_index ws i == old
+    then answers (slice_set ws i new) (Swapped true)
+    else answers ws (Swapped false)
+performed bits ws (FetchAndAdd i d) =
+    answers (slice_set ws i ((slice_index ws i + d) % 2 ^ bits)) (Found (slice_index ws i))
+
+-- its word is one of so many, and its operands fit words of so many bits
+abbrev pub Fits : ℕ → ℕ → Operation → Type 0
+Fits bits size (Read i) = i < size
+Fits bits size (Write i v) = (i < size) × (v < 2 ^ bits)
+Fits bits size (Swap i v) = (i < size) × (v < 2 ^ bits)
+Fits bits size (CompareAndSwap i old new) = (i < size) × (old < 2 ^ bits) × (new < 2 ^ bits)
+Fits bits size (FetchAndAdd i d) = (i < size) × (d < 2 ^ bits)

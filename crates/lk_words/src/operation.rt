@@ -1,0 +1,117 @@
+//! An operation on a word as a value: which one it is, on which word, and with which operands.
+//!
+//! The five are those in which Mellor-Crummey and Scott state their locks (ACM TOCS 9(1), 1991).
+//! Different here: an operation is data, so a lock can say what a thread does next before it is
+//! done, and whoever watches a step reads what it does to its word in place of deriving it.
+
+ghost use Rattle.std.specs.Prelude.{◌≡◌, ◌≤◌, ◌<◌, ◌^◌, length};
+ghost use Rattle.std.specs.Prelude.{slice_set};
+ghost use Rattle.lk_words.specs.Operations.{answer_of, effect_on, left_by, performed, word_of, Fits};
+
+use crate::Words;
+use crate::array::greatest_of;
+
+/// One operation on one word, which is named by its place.
+#[derive(Clone, Copy, PartialEq, Eq, Debug)]
+pub enum Operation {
+    Read { word: usize },
+    Write { word: usize, value: u64 },
+    Swap { word: usize, value: u64 },
+    CompareAndSwap { word: usize, old: u64, new: u64 },
+    FetchAndAdd { word: usize, addend: u64 },
+}
+
+/// What an operation answers to the thread that makes it.
+#[derive(Clone, Copy, PartialEq, Eq, Debug)]
+pub enum Answer {
+    /// A write answers nothing.
+    Nothing,
+    /// What a read, a swap or a fetch-and-add found in the word.
+    Found(u64),
+    /// Whether a compare-and-swap replaced the word.
+    Swapped(bool),
+}
+
+/// What an operation does to its word.
+#[derive(Clone, Copy, PartialEq, Eq, Debug)]
+pub struct Effect {
+    /// The place of the word.
+    pub word: usize,
+    /// What stands in the word before.
+    pub found: u64,
+    /// What stands in it afterwards.
+    pub left: u64,
+    pub answer: Answer,
+}
+
+#[tactic(auto, using(crate::proofs::Prefix::left_of_sum))]
+impl Operation {
+    /// The place of its word.
+    pub fn word(self) -> usize
+        ensures { result ≡ word_of self }
+    {
+        match self {
+            Operation::Read { word }
+            | Operation::Write { word, .. }
+            | Operation::Swap { word, .. }
+            | Operation::CompareAndSwap { word, .. }
+            | Operation::FetchAndAdd { word, .. } => word,
+        }
+    }
+
+    /// What it does to a word of so many bits in which `found` stands.
+    pub fn effect(self, found: u64, bits: u8) -> Effect
+        requires least { 2 ≤ bits }
+        requires most { bits ≤ 64 }
+        ensures word { result.word ≡ word_of self }
+        ensures found { result.found ≡ found }
+        ensures left { result.left ≡ left_by bits found self }
+        ensures answer { result.answer ≡ answer_of found self }
+    {
+        let (word, left, answer) = match self {
+            Operation::Read { word } => (word, found, Answer::Found(found)),
+            Operation::Write { word, value } => (word, value, Answer::Nothing),
+            Operation::Swap { word, value } => (word, value, Answer::Found(found)),
+            Operation::CompareAndSwap { word, old, new } if found == old => {
+                (word, new, Answer::Swapped(true))
+            }
+            Operation::CompareAndSwap { word, .. } => (word, found, Answer::Swapped(false)),
+            Operation::FetchAndAdd { word, addend } => {
+                let sum = found.wrapping_add(addend) & greatest_of(bits);
+                (word, sum, Answer::Found(found))
+            }
+        };
+        Effect {
+            word,
+            found,
+            left,
+            answer,
+        }
+    }
+}
+
+/// Makes the operation: this one on its word, and no other. Its operands have to fit the words.
+#[inline(always)]
+pub fn perform<W: Words>(words: &mut W, operation: Operation) -> Answer
+    requires { Fits (W.width words.old) (length (W.list words.old)) operation }
+    ensures words { W.list words.new
+        ≡ (performed (W.width words.old) (W.list words.old) operation).words }
+    ensures answer { result ≡ (performed (W.width words.old) (W.list words.old) operation).answer }
+    ensures effect { let effect = effect_on (W.width words.old) (W.list words.old) operation in
+        (W.list words.new ≡ slice_set (W.list words.old) effect.word effect.left)
+        × (result ≡ effect.answer) }
+    ensures width { W.width words.new ≡ W.width words.old }
+{
+    match operation {
+        Operation::Read { word } => Answer::Found(words.read(word)),
+        Operation::Write { word, value } => {
+            words.write(word, value);
+            Answer::Nothing
+        }
+        Operation::Swap { word, value } => Answer::Found(words.swap(word, value)),
+        Operation::CompareAndSwap { word, old, new } => {
+            Answer::Swapped(words.compare_and_swap(word, old, new))
+        }
+        Operation::FetchAndAdd { word, addend } => Answer::Found(words.fetch_and_add(word, addend)),
+    }
+}
