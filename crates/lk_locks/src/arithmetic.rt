@@ -1,10 +1,10 @@
 //! Sums of words of B bits, which wrap at 2^B.
 
 ghost use Rattle.std.specs.Prelude.{◌≡◌, ◌-◌, ◌^◌, ◌<◌, ◌≤◌};
-ghost use Rattle.lk_locks.specs.Change.{plus_one};
+ghost use Rattle.lk_locks.specs.Change.{less_one, plus_one};
 
-/// The greatest word, which added to a word takes one away.
-pub fn greatest_of(bits: u8) -> u64
+// The greatest word.
+fn greatest_of(bits: u8) -> u64
     requires least { 2 ≤ bits }
     requires most { bits ≤ 64 }
     ensures value { result ≡ 2 ^ bits - 1 }
@@ -22,4 +22,14 @@ pub fn plus_one(bits: u8, word: u64) -> u64
     ensures fits { result < 2 ^ bits }
 {
     word.wrapping_add(1) & greatest_of(bits)
+}
+
+/// The word before.
+pub fn less_one(bits: u8, word: u64) -> u64
+    requires least { 2 ≤ bits }
+    requires most { bits ≤ 64 }
+    ensures value { result ≡ less_one bits word }
+    ensures fits { result < 2 ^ bits }
+{
+    word.wrapping_add(greatest_of(bits)) & greatest_of(bits)
 }

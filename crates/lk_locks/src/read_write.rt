@@ -12,6 +12,14 @@ ghost use Rattle.lk_locks.specs.declared.kinds.Outcome.TheVariants.{Entered};
 use crate::entries::Added;
 use crate::{Entry, Family, Op, Outcome, Phase, StepKind};
 
+/// What a section leaves: the monitor's words, at most three, the thread's phase, and the outcome.
+#[derive(Clone, Copy, PartialEq, Eq, Debug)]
+pub struct Section {
+    pub left: [u64; 3],
+    pub phase: Phase,
+    pub outcome: Outcome,
+}
+
 /// The phase that a call leads to, where a thread in this phase may make it.
 pub fn after_call(phase: Phase, op: Op) -> Option<Phase>
     ensures { result ≡ after_call phase op }

@@ -8,8 +8,10 @@
 
 ghost use Rattle.std.specs.Prelude.{◌≡◌, ◌^◌, ◌<◌, ◌≤◌, length};
 ghost use Rattle.lk_locks.specs.rw_fifo.{step};
-ghost use Rattle.lk_locks.specs.declared.kinds.Phase.TheVariants.{TryWrite, AwaitReaders};
+ghost use Rattle.lk_locks.specs.read_write.{AreWords};
 
+use crate::arithmetic::plus_one;
+use crate::read_write::Section;
 use crate::{Outcome, Phase};
 use lk_words::Words;
 
@@ -22,41 +24,63 @@ const READ_RELEASES: usize = 1;
 
 const FLAG: usize = 2;
 
-// The section in which a writer announces itself, and comes in where no reader is inside.
-fn try_write<W: Words>(words: &mut W) -> (Phase, Outcome)
-    requires words { 3 ≤ length (W.list words.old) }
-    requires one { 1 < 2 ^ W.width words.old }
-    ensures words { W.list words.new
-        ≡ (step (W.width words.old) (W.list words.old) TryWrite).words }
-    ensures phase { result.0 ≡ (step (W.width words.old) (W.list words.old) TryWrite).phase }
-    ensures outcome { result.1 ≡ (step (W.width words.old) (W.list words.old) TryWrite).outcome }
-    ensures width { W.width words.new ≡ W.width words.old }
+/// What a section of a thread in this phase leaves in the monitor's words, of so many bits, in
+/// which these stand.
+#[inline(always)]
+pub fn section(bits: u8, found: [u64; 3], phase: Phase) -> Section
+    requires least { 2 ≤ bits }
+    requires most { bits ≤ 64 }
+    requires one { 1 < 2 ^ bits }
+    requires fits { AreWords bits found }
+    ensures words { result.left ≡ (step bits found phase).words }
+    ensures phase { result.phase ≡ (step bits found phase).phase }
+    ensures outcome { result.outcome ≡ (step bits found phase).outcome }
+    ensures fits { AreWords bits result.left }
 {
-    if words.read(FLAG) != 0 {
-        return (Phase::TryWrite, Outcome::Waits);
-    }
-    words.write(FLAG, 1);
-    if words.read(READ_ACQUIRES) == words.read(READ_RELEASES) {
-        (Phase::Writing, Outcome::Entered)
-    } else {
-        (Phase::AwaitReaders, Outcome::Moved)
-    }
-}
-
-// The section in which an announced writer comes in, where as many readers left as came.
-fn await_readers<W: Words>(words: &mut W) -> (Phase, Outcome)
-    requires { 3 ≤ length (W.list words.old) }
-    ensures words { W.list words.new
-        ≡ (step (W.width words.old) (W.list words.old) AwaitReaders).words }
-    ensures phase { result.0 ≡ (step (W.width words.old) (W.list words.old) AwaitReaders).phase }
-    ensures outcome { result.1
-        ≡ (step (W.width words.old) (W.list words.old) AwaitReaders).outcome }
-    ensures width { W.width words.new ≡ W.width words.old }
-{
-    if words.read(READ_ACQUIRES) == words.read(READ_RELEASES) {
-        (Phase::Writing, Outcome::Entered)
-    } else {
-        (Phase::AwaitReaders, Outcome::Waits)
+    let [acquires, releases, flag] = found;
+    // as many readers left as came
+    let are_gone = acquires == releases;
+    match phase {
+        Phase::TryRead if flag == 0 => Section {
+            left: [plus_one(bits, acquires), releases, flag],
+            phase: Phase::Reading,
+            outcome: Outcome::Entered,
+        },
+        Phase::LeaveRead => Section {
+            left: [acquires, plus_one(bits, releases), flag],
+            phase: Phase::Idle,
+            outcome: Outcome::Left,
+        },
+        Phase::TryWrite if flag == 0 && are_gone => Section {
+            left: [acquires, releases, 1],
+            phase: Phase::Writing,
+            outcome: Outcome::Entered,
+        },
+        Phase::TryWrite if flag == 0 => Section {
+            left: [acquires, releases, 1],
+            phase: Phase::AwaitReaders,
+            outcome: Outcome::Moved,
+        },
+        Phase::AwaitReaders if are_gone => Section {
+            left: found,
+            phase: Phase::Writing,
+            outcome: Outcome::Entered,
+        },
+        Phase::LeaveWrite => Section {
+            left: [acquires, releases, 0],
+            phase: Phase::Idle,
+            outcome: Outcome::Left,
+        },
+        Phase::TryDowngrade => Section {
+            left: [plus_one(bits, acquires), releases, 0],
+            phase: Phase::Reading,
+            outcome: Outcome::Entered,
+        },
+        _ => Section {
+            left: found,
+            phase,
+            outcome: Outcome::Waits,
+        },
     }
 }
 
@@ -69,30 +93,18 @@ pub fn step<W: Words>(words: &mut W, phase: Phase) -> (Phase, Outcome)
     ensures outcome { result.1 ≡ (step (W.width words.old) (W.list words.old) phase).outcome }
     ensures width { W.width words.new ≡ W.width words.old }
 {
-    match phase {
-        Phase::TryRead => {
-            if words.read(FLAG) == 0 {
-                words.fetch_and_add(READ_ACQUIRES, 1);
-                (Phase::Reading, Outcome::Entered)
-            } else {
-                (phase, Outcome::Waits)
-            }
-        }
-        Phase::LeaveRead => {
-            words.fetch_and_add(READ_RELEASES, 1);
-            (Phase::Idle, Outcome::Left)
-        }
-        Phase::TryWrite => try_write(words),
-        Phase::AwaitReaders => await_readers(words),
-        Phase::LeaveWrite => {
-            words.write(FLAG, 0);
-            (Phase::Idle, Outcome::Left)
-        }
-        Phase::TryDowngrade => {
-            words.fetch_and_add(READ_ACQUIRES, 1);
-            words.write(FLAG, 0);
-            (Phase::Reading, Outcome::Entered)
-        }
-        _ => (phase, Outcome::Waits),
-    }
+    let found = [
+        words.read(READ_ACQUIRES),
+        words.read(READ_RELEASES),
+        words.read(FLAG),
+    ];
+    let Section {
+        left,
+        phase,
+        outcome,
+    } = section(words.bits(), found, phase);
+    words.write(READ_ACQUIRES, left[READ_ACQUIRES]);
+    words.write(READ_RELEASES, left[READ_RELEASES]);
+    words.write(FLAG, left[FLAG]);
+    (phase, outcome)
 }

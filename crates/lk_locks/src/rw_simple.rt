@@ -8,9 +8,10 @@
 
 ghost use Rattle.std.specs.Prelude.{◌≡◌, ◌^◌, ◌<◌, ◌≤◌, length};
 ghost use Rattle.lk_locks.specs.rw_simple.{step};
-ghost use Rattle.lk_locks.specs.declared.kinds.Phase.TheVariants.{TryWrite};
+ghost use Rattle.lk_locks.specs.read_write.{AreWords};
 
-use crate::arithmetic::greatest_of;
+use crate::arithmetic::{less_one, plus_one};
+use crate::read_write::Section;
 use crate::{Outcome, Phase};
 use lk_words::Words;
 
@@ -21,21 +22,51 @@ const READERS: usize = 0;
 
 const FLAG: usize = 1;
 
-// The section in which a writer comes in, where nobody is inside.
-fn try_write<W: Words>(words: &mut W) -> (Phase, Outcome)
-    requires words { 2 ≤ length (W.list words.old) }
-    requires one { 1 < 2 ^ W.width words.old }
-    ensures words { W.list words.new
-        ≡ (step (W.width words.old) (W.list words.old) TryWrite).words }
-    ensures phase { result.0 ≡ (step (W.width words.old) (W.list words.old) TryWrite).phase }
-    ensures outcome { result.1 ≡ (step (W.width words.old) (W.list words.old) TryWrite).outcome }
-    ensures width { W.width words.new ≡ W.width words.old }
+/// What a section of a thread in this phase leaves in the monitor's words, of so many bits, in
+/// which these stand. The third word is none of this lock's.
+#[inline(always)]
+pub fn section(bits: u8, found: [u64; 3], phase: Phase) -> Section
+    requires least { 2 ≤ bits }
+    requires most { bits ≤ 64 }
+    requires one { 1 < 2 ^ bits }
+    requires fits { AreWords bits found }
+    ensures words { result.left ≡ (step bits found phase).words }
+    ensures phase { result.phase ≡ (step bits found phase).phase }
+    ensures outcome { result.outcome ≡ (step bits found phase).outcome }
+    ensures fits { AreWords bits result.left }
 {
-    if words.read(READERS) == 0 && words.read(FLAG) == 0 {
-        words.write(FLAG, 1);
-        (Phase::Writing, Outcome::Entered)
-    } else {
-        (Phase::TryWrite, Outcome::Waits)
+    let [readers, flag, other] = found;
+    match phase {
+        Phase::TryRead if flag == 0 => Section {
+            left: [plus_one(bits, readers), flag, other],
+            phase: Phase::Reading,
+            outcome: Outcome::Entered,
+        },
+        Phase::LeaveRead => Section {
+            left: [less_one(bits, readers), flag, other],
+            phase: Phase::Idle,
+            outcome: Outcome::Left,
+        },
+        Phase::TryWrite if readers == 0 && flag == 0 => Section {
+            left: [readers, 1, other],
+            phase: Phase::Writing,
+            outcome: Outcome::Entered,
+        },
+        Phase::LeaveWrite => Section {
+            left: [readers, 0, other],
+            phase: Phase::Idle,
+            outcome: Outcome::Left,
+        },
+        Phase::TryDowngrade => Section {
+            left: [plus_one(bits, readers), 0, other],
+            phase: Phase::Reading,
+            outcome: Outcome::Entered,
+        },
+        _ => Section {
+            left: found,
+            phase,
+            outcome: Outcome::Waits,
+        },
     }
 }
 
@@ -48,30 +79,13 @@ pub fn step<W: Words>(words: &mut W, phase: Phase) -> (Phase, Outcome)
     ensures outcome { result.1 ≡ (step (W.width words.old) (W.list words.old) phase).outcome }
     ensures width { W.width words.new ≡ W.width words.old }
 {
-    match phase {
-        Phase::TryRead => {
-            if words.read(FLAG) == 0 {
-                words.fetch_and_add(READERS, 1);
-                (Phase::Reading, Outcome::Entered)
-            } else {
-                (phase, Outcome::Waits)
-            }
-        }
-        Phase::LeaveRead => {
-            let bits = words.bits();
-            words.fetch_and_add(READERS, greatest_of(bits));
-            (Phase::Idle, Outcome::Left)
-        }
-        Phase::TryWrite => try_write(words),
-        Phase::LeaveWrite => {
-            words.write(FLAG, 0);
-            (Phase::Idle, Outcome::Left)
-        }
-        Phase::TryDowngrade => {
-            words.fetch_and_add(READERS, 1);
-            words.write(FLAG, 0);
-            (Phase::Reading, Outcome::Entered)
-        }
-        _ => (phase, Outcome::Waits),
-    }
+    let found = [words.read(READERS), words.read(FLAG), 0];
+    let Section {
+        left,
+        phase,
+        outcome,
+    } = section(words.bits(), found, phase);
+    words.write(READERS, left[READERS]);
+    words.write(FLAG, left[FLAG]);
+    (phase, outcome)
 }
