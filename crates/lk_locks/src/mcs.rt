@@ -14,7 +14,7 @@ ghost use Rattle.lk_locks.specs.declared.kinds.LockKind.TheVariants.{Mcs};
 
 use crate::entries::Added;
 use crate::{Entry, Op, Outcome, Phase};
-use lk_words::{Answer, Operation, Words, perform};
+use lk_words::{Answer, Operation, WordArray, Words, perform};
 
 const TAIL: usize = 0;
 
@@ -151,6 +151,17 @@ pub fn step<W: Words>(words: &mut W, thread: u8, phase: Phase) -> (Phase, Outcom
     match operation(thread, phase) {
         Some(operation) => after(phase, perform(words, operation)),
         None => (phase, Outcome::Waits),
+    }
+}
+
+/// What would come of such a step, with nothing changed.
+pub fn outcome(words: &WordArray, thread: u8, phase: Phase) -> Outcome
+    requires { IsReady Mcs words.now.1 words.now.0 thread phase }
+    ensures { result ≡ (step words.now.1 thread words.now.0 phase).outcome }
+{
+    match operation(thread, phase) {
+        Some(operation) => after(phase, words.effect(operation).answer).1,
+        None => Outcome::Waits,
     }
 }
 

@@ -13,7 +13,7 @@ use crate::entries::Added;
 use crate::{
     Family, LockKind, Op, Outcome, Phase, StepKind, mcs, read_write, rw_fifo, rw_simple, ticket,
 };
-use lk_words::{Operation, Words};
+use lk_words::{Operation, WordArray, Words};
 
 /// The family of a lock.
 #[inline]
@@ -122,6 +122,19 @@ pub(crate) fn take_step<W: Words>(
         LockKind::Mcs => mcs::step(words, thread, phase),
         LockKind::RwSimple => rw_simple::step(words, phase),
         LockKind::RwFifo => rw_fifo::step(words, phase),
+    }
+}
+
+/// What would come of a step of a thread in this phase, with nothing changed.
+pub(crate) fn outcome_of(words: &WordArray, kind: LockKind, thread: u8, phase: Phase) -> Outcome
+    requires { IsReady kind words.now.1 words.now.0 thread phase }
+    ensures { result ≡ (step_of kind words.now.1 words.now.0 thread phase).outcome }
+{
+    match kind {
+        LockKind::Ticket => ticket::outcome(words, phase),
+        LockKind::Mcs => mcs::outcome(words, thread, phase),
+        LockKind::RwSimple => rw_simple::outcome(words, phase),
+        LockKind::RwFifo => rw_fifo::outcome(words, phase),
     }
 }
 

@@ -13,7 +13,7 @@ ghost use Rattle.lk_locks.specs.read_write.{AreWords};
 use crate::arithmetic::plus_one;
 use crate::read_write::Section;
 use crate::{Outcome, Phase};
-use lk_words::Words;
+use lk_words::{WordArray, Words};
 
 /// How many words the lock has.
 pub const WORDS: usize = 3;
@@ -107,4 +107,18 @@ pub fn step<W: Words>(words: &mut W, phase: Phase) -> (Phase, Outcome)
     words.write(READ_RELEASES, left[READ_RELEASES]);
     words.write(FLAG, left[FLAG]);
     (phase, outcome)
+}
+
+/// What would come of such a section, with nothing changed.
+pub fn outcome(words: &WordArray, phase: Phase) -> Outcome
+    requires words { 3 ≤ length words.now.0 }
+    requires one { 1 < 2 ^ words.now.1 }
+    ensures { result ≡ (step words.now.1 words.now.0 phase).outcome }
+{
+    let found = [
+        words.get(READ_ACQUIRES),
+        words.get(READ_RELEASES),
+        words.get(FLAG),
+    ];
+    section(words.bits(), found, phase).outcome
 }

@@ -13,7 +13,7 @@ ghost use Rattle.lk_locks.specs.read_write.{AreWords};
 use crate::arithmetic::{less_one, plus_one};
 use crate::read_write::Section;
 use crate::{Outcome, Phase};
-use lk_words::Words;
+use lk_words::{WordArray, Words};
 
 /// How many words the lock has.
 pub const WORDS: usize = 2;
@@ -88,4 +88,14 @@ pub fn step<W: Words>(words: &mut W, phase: Phase) -> (Phase, Outcome)
     words.write(READERS, left[READERS]);
     words.write(FLAG, left[FLAG]);
     (phase, outcome)
+}
+
+/// What would come of such a section, with nothing changed.
+pub fn outcome(words: &WordArray, phase: Phase) -> Outcome
+    requires words { 2 ≤ length words.now.0 }
+    requires one { 1 < 2 ^ words.now.1 }
+    ensures { result ≡ (step words.now.1 words.now.0 phase).outcome }
+{
+    let found = [words.get(READERS), words.get(FLAG), 0];
+    section(words.bits(), found, phase).outcome
 }

@@ -11,7 +11,7 @@ ghost use Rattle.lk_locks.specs.ticket.{after_call, operation, after, step, entr
 use crate::arithmetic::plus_one;
 use crate::entries::Added;
 use crate::{Entry, Op, Outcome, Phase};
-use lk_words::{Answer, Operation, Words, perform};
+use lk_words::{Answer, Operation, WordArray, Words, perform};
 
 /// How many words the lock has.
 pub const WORDS: usize = 2;
@@ -84,6 +84,17 @@ pub fn step<W: Words>(words: &mut W, phase: Phase) -> (Phase, Outcome)
     match operation(words.bits(), phase) {
         Some(operation) => after(phase, perform(words, operation)),
         None => (phase, Outcome::Waits),
+    }
+}
+
+/// What would come of such a step, with nothing changed.
+pub fn outcome(words: &WordArray, phase: Phase) -> Outcome
+    requires { 2 ≤ length words.now.0 }
+    ensures { result ≡ (step words.now.1 words.now.0 phase).outcome }
+{
+    match operation(words.bits(), phase) {
+        Some(operation) => after(phase, words.effect(operation).answer).1,
+        None => Outcome::Waits,
     }
 }
 
