@@ -1,5 +1,6 @@
 -- Each step of a queue lock that is accepted is one operation, of the kind that the move names.
-use Rattle.std.proofs.Common.{List, None, Option, Some, refl, sym, ℕ, ◌≡◌, ◌==◌, if◌then◌else◌}
+use Rattle.std.proofs.Common.{List, None, Option, Some, ap, refl, sym, ℕ, ◌∙◌, ◌≡◌, ◌==◌}
+use Rattle.std.proofs.Common.{if◌then◌else◌}
 use Rattle.lk_words.specs.Operations.{performed}
 use Rattle.lk_words.specs.declared.operation.Answer.{Answer}
 use Rattle.lk_words.specs.declared.operation.Answer.TheVariants.{Found, Swapped}
@@ -7,7 +8,7 @@ use Rattle.std.proofs.Common.{false, option_map, true}
 use Rattle.lk_words.specs.declared.operation.Operation.{Operation}
 use Rattle.lk_locks.specs.Change.{Change, kind_of, step_by}
 use Rattle.lk_locks.specs.OneOperation.{IsMade, IsOneOperation, IsStepOf}
-use Rattle.lk_locks.specs.Rooms.{family_of, step_of}
+use Rattle.lk_locks.specs.Rooms.{family_of, operation_of, step_of}
 use Rattle.lk_locks.specs.State.{State, phase_at}
 use Rattle.lk_locks.specs.Steps.{next_state, refusal_at, refusal_in, refusal_of, same_step}
 use Rattle.lk_locks.specs.mcs
@@ -85,6 +86,25 @@ made Mcs bits ws t p k r =
     by_one mcs.after mcs_keeps Mcs bits ws p k (mcs.operation t p) (rw (mcs_kind t p) at r)
 made RwSimple bits ws t p k r = tt
 made RwFifo bits ws t p k r = tt
+
+-- what a step leaves is what its operation leaves
+stepped : (after : Phase → List ℕ → Answer → Change)
+    → ((p : Phase) (ws : List ℕ) (a : Answer) → Keeps ws (after p ws a)) → (bits : ℕ)
+    (ws : List ℕ) (p : Phase) (o : Option Operation) (operation : Operation) → o ≡ Some operation
+    → (step_by after bits ws p o).words ≡ (performed bits ws operation).words
+stepped after keeps bits ws p o operation e =
+    ap (λ x. (step_by after bits ws p x).words) e
+    ∙ keeps p (performed bits ws operation).words (performed bits ws operation).answer
+
+pub step_words : (kind : LockKind) (bits : ℕ) (ws : List ℕ) (t : ℕ) (p : Phase)
+    (operation : Operation) → operation_of kind bits t p ≡ Some operation
+    → (step_of kind bits ws t p).words ≡ (performed bits ws operation).words
+step_words Ticket bits ws t p operation e =
+    stepped ticket.after ticket_keeps bits ws p (ticket.operation bits p) operation e
+step_words Mcs bits ws t p operation e =
+    stepped mcs.after mcs_keeps bits ws p (mcs.operation t p) operation e
+step_words RwSimple bits ws t p operation e = cc
+step_words RwFifo bits ws t p operation e = cc
 
 pub one_operation : (s : State) (t : ℕ) (m : Move) → refusal_of s t m ≡ None
     → IsOneOperation s t m (next_state s t m).words

@@ -1,25 +1,21 @@
 -- A line has no difference exactly where it agrees part by part.
 use Rattle.std.proofs.Common.{◌≡◌, ℕ, ◌<◌, ◌==◌, Option, Some, None, Bool, true, false, IfSome}
-use Rattle.std.proofs.Common.{if◌then◌else◌, nat_lt, refl, sym, ap, ◌∙◌}
-use Rattle.std.proofs.lemmas.Bool.{eqb-true, eq-eqb, ltb-true, lt-ltb, cond-true}
-use Rattle.lk_locks.specs.Steps.{refusal_of}
+use Rattle.std.proofs.Common.{if◌then◌else◌, refl, sym, ap, subst, length, not, ◌∙◌, ◌↔◌}
+use Rattle.std.proofs.lemmas.Bool.{eqb-true, eq-eqb, cond-true}
 use Rattle.lk_locks.specs.declared.kinds.Move.{Move}
-use Rattle.lk_locks.specs.declared.kinds.Outcome.{Outcome}
-use Rattle.lk_locks.specs.declared.kinds.Outcome.TheVariants.{Called, Moved, Waits, Entered, Left}
-use Rattle.lk_locks.specs.declared.kinds.Refusal.{Refusal}
-use Rattle.lk_trace.specs.Names.{same_word}
-use Rattle.lk_trace.specs.Checks.{Checked, or_then, refused, is_word, other_word, found_other}
-use Rattle.lk_trace.specs.Checks.{left_other, same_answer, wrote_other, count_other, same_outcome}
-use Rattle.lk_trace.specs.Checks.{outcome_other, values_other, seen_other, difference_of}
-use Rattle.lk_trace.specs.Checks.{stands, will_stand, word_of}
-use Rattle.lk_trace.specs.Agreement.{AgreesOn, Agrees}
+use Rattle.lk_trace.specs.Names.{name_at, same_word}
+use Rattle.lk_trace.specs.Checks.{Checked, or_then, is_word, other_word, found_other}
+use Rattle.lk_trace.specs.Checks.{left_other, same_answer, wrote_other}
+use Rattle.lk_trace.specs.Checks.{values_other, seen_other}
+use Rattle.lk_trace.specs.Checks.{effect_of, effect_other, name_of, will_stand}
+use Rattle.lk_trace.specs.Agreement.{AgreesOn, AgreesOnWord}
+use Rattle.lk_trace.proofs.Naming.{stands_as}
+use Rattle.lk_words.specs.declared.operation.Effect.{Effect}
 use Rattle.lk_trace.specs.declared.names.WordName.{WordName}
 use Rattle.lk_trace.specs.declared.names.WordName.TheVariants.{NextTicket, NowServing, Tail, Next}
 use Rattle.lk_trace.specs.declared.names.WordName.TheVariants.{Locked, Readers, Flag, ReadAcquires}
 use Rattle.lk_trace.specs.declared.names.WordName.TheVariants.{ReadReleases}
-use Rattle.lk_trace.specs.declared.line.Seen.{Seen}
-use Rattle.lk_trace.specs.declared.line.Seen.TheVariants.{Nothing, OnWord, InSection}
-use Rattle.lk_trace.specs.declared.line.TraceLine.{TraceLine}
+use Rattle.lk_trace.specs.declared.line.Seen.TheVariants.{OnWord}
 use Rattle.lk_trace.specs.declared.difference.Difference.{Difference}
 
 -- of two checks, one after the other, neither finds a difference
@@ -29,10 +25,6 @@ both_none (Some d) b none = absurd (cc)
 
 none_of_both : (a b : Option Difference) → a ≡ None → b ≡ None → or_then a b ≡ None
 none_of_both a b first second = ap (λ x. or_then x b) first ∙ second
-
-pub not_refused : (refusal : Option Refusal) → refused refusal ≡ None → refusal ≡ None
-not_refused None none = refl
-not_refused (Some refusal) none = cc
 
 holds : (test : Bool) (d : Difference) → (if test then None else Some d) ≡ None → test ≡ true
 holds true d none = refl
@@ -118,84 +110,63 @@ agreed_wrote wrote None is = refl
 agreed_wrote wrote (Some given) is =
     cond-true (same_answer wrote given) _ _ (ap (same_answer wrote) (sym is) ∙ its_answer wrote)
 
--- sections
-count_agrees : (last : ℕ) (given : Option ℕ) → count_other last given ≡ None
-    → IfSome given (λ n. last < n)
-count_agrees last None none = tt
-count_agrees last (Some given) none = ltb-true last given (holds (nat_lt last given) _ none)
+-- what the line saw of a word
+abbrev AgreesHere : Checked → ℕ → Move → WordName → Option ℕ → Option ℕ → Option Bool → Type 0
+AgreesHere c t m word found left wrote = AgreesOnWord c.lock.state t m word found left wrote
 
-agreed_count : (last : ℕ) (given : Option ℕ) → IfSome given (λ n. last < n)
-    → count_other last given ≡ None
-agreed_count last None is = refl
-agreed_count last (Some given) is = cond-true (nat_lt last given) _ _ (lt-ltb last given is)
-
-same_end : (a b : Outcome) → same_outcome a b ≡ true → a ≡ b
-same_end Called Called same = refl
-same_end Moved Moved same = refl
-same_end Waits Waits same = refl
-same_end Entered Entered same = refl
-same_end Left Left same = refl
-same_end a b same = cc
-
-its_end : (a : Outcome) → same_outcome a a ≡ true
-its_end Called = refl
-its_end Moved = refl
-its_end Waits = refl
-its_end Entered = refl
-its_end Left = refl
-
-outcome_agrees : (outcome : Outcome) (given : Option Outcome) → outcome_other outcome given ≡ None
-    → IfSome given (λ o. outcome ≡ o)
-outcome_agrees outcome None none = tt
-outcome_agrees outcome (Some given) none =
-    same_end outcome given (holds (same_outcome outcome given) _ none)
-
-agreed_outcome : (outcome : Outcome) (given : Option Outcome) → IfSome given (λ o. outcome ≡ o)
-    → outcome_other outcome given ≡ None
-agreed_outcome outcome None is = refl
-agreed_outcome outcome (Some given) is =
-    cond-true (same_outcome outcome given) _ _
-    (ap (same_outcome outcome) (sym is) ∙ its_end outcome)
-
--- what the line saw
-seen_agrees : (c : Checked) (t : ℕ) (m : Move) (seen : Seen) → seen_other c t m seen ≡ None
-    → AgreesOn c t m seen
-seen_agrees c t m Nothing none = tt
-seen_agrees c t m (OnWord word found left wrote) none =
-    let first = both_none (other_word (word_of c.lock.state t m) word) (values_other word
-    (stands c.lock.state word) (will_stand c.lock.state t m word) found left wrote) none in
-    let second = both_none (found_other word (stands c.lock.state word) found) _ first.1 in
-    let third = both_none (left_other word (will_stand c.lock.state t m word) left) _ second.1 in
+word_seen : (c : Checked) (t : ℕ) (m : Move) (word : WordName) (found left : Option ℕ)
+    (wrote : Option Bool) (effect : Option Effect) → effect_of c.lock.state t m ≡ effect
+    → IfSome effect (λ e. e.word < length c.lock.state.words)
+    → effect_other c.lock.state.kind effect word found left wrote ≡ None
+    → AgreesHere c t m word found left wrote
+word_seen c t m word found left wrote None is within none = cc
+word_seen c t m word found left wrote (Some e) is within none =
+    let kind = c.lock.state.kind in
+    let first = both_none (other_word (name_at kind e.word) word)
+    (values_other word e.found e.left found left wrote) none in
+    let second = both_none (found_other word e.found found) _ first.1 in
+    let third = both_none (left_other word e.left left) _ second.1 in
+    let named : name_at kind e.word ≡ Some word = word_agrees _ word first.0 in
+    let stood = stands_as c.lock.state t m word e is within named in
     record {
-      on_word = word_agrees _ _ first.0;
-      found_is = found_agrees word _ found second.0;
-      left_is = left_agrees word _ left third.0;
-      wrote_is = wrote_agrees _ wrote third.1;
+      on_word = ap (name_of kind) is ∙ named;
+      found_is = subst (λ x. IfSome found (λ v. x ≡ v)) (sym stood.found)
+          (found_agrees word e.found found second.0);
+      left_is = subst (λ x. IfSome left (λ v. x ≡ v)) (sym stood.left)
+          (left_agrees word e.left left third.0);
+      wrote_is = subst (λ x. IfSome wrote (λ w. not (x == will_stand c.lock.state t m word) ≡ w))
+          (sym stood.found)
+          (subst (λ x. IfSome wrote (λ w. not (e.found == x) ≡ w)) (sym stood.left)
+          (wrote_agrees _ wrote third.1));
     }
-seen_agrees c t m (InSection count outcome) none =
-    let both = both_none (count_other c.sections count) _ none in
-    record { count_is = count_agrees _ count both.0; outcome_is = outcome_agrees _ outcome both.1 }
 
-agreed_seen : (c : Checked) (t : ℕ) (m : Move) (seen : Seen) → AgreesOn c t m seen
-    → seen_other c t m seen ≡ None
-agreed_seen c t m Nothing agrees = refl
-agreed_seen c t m (OnWord word found left wrote) agrees =
-    none_of_both _ _ (agreed_word _ word agrees.on_word)
-    (none_of_both _ _ (agreed_found word _ found agrees.found_is) (none_of_both _ _
-    (agreed_left word _ left agrees.left_is) (agreed_wrote _ wrote agrees.wrote_is)))
-agreed_seen c t m (InSection count outcome) agrees =
-    none_of_both _ _ (agreed_count _ count agrees.count_is)
-    (agreed_outcome _ outcome agrees.outcome_is)
+word_agreed : (c : Checked) (t : ℕ) (m : Move) (word : WordName) (found left : Option ℕ)
+    (wrote : Option Bool) (effect : Option Effect) → effect_of c.lock.state t m ≡ effect
+    → IfSome effect (λ e. e.word < length c.lock.state.words)
+    → AgreesHere c t m word found left wrote
+    → effect_other c.lock.state.kind effect word found left wrote ≡ None
+word_agreed c t m word found left wrote None is within agrees =
+    let named : name_of c.lock.state.kind None ≡ Some word =
+    ap (name_of c.lock.state.kind) (sym is) ∙ agrees.on_word in cc
+word_agreed c t m word found left wrote (Some e) is within agrees =
+    let kind = c.lock.state.kind in
+    let named : name_at kind e.word ≡ Some word = ap (name_of kind) (sym is) ∙ agrees.on_word in
+    let stood = stands_as c.lock.state t m word e is within named in
+    none_of_both _ _ (agreed_word _ word named) (none_of_both _ _
+    (agreed_found word _ found (subst (λ x. IfSome found (λ v. x ≡ v)) stood.found agrees.found_is))
+    (none_of_both _ _
+    (agreed_left word _ left (subst (λ x. IfSome left (λ v. x ≡ v)) stood.left agrees.left_is))
+    (agreed_wrote _ wrote
+    (subst (λ x. IfSome wrote (λ w. not (e.found == x) ≡ w)) stood.left
+    (subst (λ x. IfSome wrote (λ w. not (x == will_stand c.lock.state t m word) ≡ w)) stood.found
+    agrees.wrote_is)))))
 
--- a line
-pub agrees : (c : Checked) (l : TraceLine) → difference_of c l ≡ None → Agrees c l
-agrees c l none =
-    let both =
-    both_none (refused (refusal_of c.lock.state l.thread l.action))
-    (seen_other c l.thread l.action l.seen) none in
-    record { accepted = not_refused _ both.0; seen = seen_agrees c l.thread l.action l.seen both.1 }
-
-pub agreed : (c : Checked) (l : TraceLine) → Agrees c l → difference_of c l ≡ None
-agreed c l agrees =
-    none_of_both _ _ (ap refused agrees.accepted)
-    (agreed_seen c l.thread l.action l.seen agrees.seen)
+pub word_both : (c : Checked) (t : ℕ) (m : Move) (word : WordName) (found left : Option ℕ)
+    (wrote : Option Bool)
+    → IfSome (effect_of c.lock.state t m) (λ e. e.word < length c.lock.state.words)
+    → (seen_other c t m (OnWord word found left wrote) ≡ None
+    ↔ AgreesOn c t m (OnWord word found left wrote))
+word_both c t m word found left wrote within = (
+  λ none. word_seen c t m word found left wrote (effect_of c.lock.state t m) refl within none,
+  λ agrees. word_agreed c t m word found left wrote (effect_of c.lock.state t m) refl within agrees,
+)

@@ -1,4 +1,4 @@
 mod Large
 mod HeaderFaults
+mod Naming
 pub mod Agreeing
-mod Made

@@ -1,9 +1,11 @@
 -- Definitions. The check of a move with what its thread saw: where they differ first. This
 -- project's own; what a move does is said by the definitions of the locks alone.
-use Rattle.std.specs.Prelude.{ℕ, ◌==◌, [], replicate, slice_index, Option, Some, None, Result, Ok}
-use Rattle.std.specs.Prelude.{Err, Bool, true, false, not, nat_lt, if◌then◌else◌}
+use Rattle.std.specs.Prelude.{ℕ, ◌==◌, [], replicate, slice_index, Option, Some, None, option_map}
+use Rattle.std.specs.Prelude.{Result, Ok, Err, Bool, true, false, not, nat_lt, if◌then◌else◌}
 use Rattle.lk_locks.specs.State.{State, start, phase_at}
-use Rattle.lk_locks.specs.Rooms.{word_count}
+use Rattle.lk_words.specs.Operations.{effect_on}
+use Rattle.lk_words.specs.declared.operation.Effect.{Effect}
+use Rattle.lk_locks.specs.Rooms.{operation_of, word_count}
 use Rattle.lk_locks.specs.Steps.{refusal_of, change_of, next_state}
 use Rattle.lk_locks.specs.Entries.{entries_of}
 use Rattle.lk_locks.specs.Tracked.{Tracked, tracked, followed}
@@ -13,7 +15,8 @@ use Rattle.lk_locks.specs.declared.kinds.Move.TheVariants.{Call, Step}
 use Rattle.lk_locks.specs.declared.kinds.Outcome.{Outcome}
 use Rattle.lk_locks.specs.declared.kinds.Outcome.TheVariants as outcome
 use Rattle.lk_locks.specs.declared.kinds.Refusal.{Refusal}
-use Rattle.lk_trace.specs.Names.{touched, place_of, same_word}
+use Rattle.lk_trace.specs.Names.{name_at, place_of, same_word}
+use Rattle.lk_trace.specs.declared.checker.Made.{Made}
 use Rattle.lk_trace.specs.declared.names.WordName.{WordName}
 use Rattle.lk_trace.specs.declared.line.Seen.{Seen}
 use Rattle.lk_trace.specs.declared.line.Seen.TheVariants.{Nothing, OnWord, InSection}
@@ -93,10 +96,19 @@ stands s word = slice_index s.words (place_of s.kind word)
 abbrev pub will_stand : State → ℕ → Move → WordName → ℕ
 will_stand s t m word = slice_index (change_of s t m).words (place_of s.kind word)
 
--- the word that a move of thread t is on: a call is on none
+-- what a move of thread t does to its word, if it is one operation on one word
+abbrev pub effect_of : State → ℕ → Move → Option Effect
+effect_of s t (Call op) = None
+effect_of s t (Step kind) =
+    option_map (effect_on s.bits s.words) (operation_of s.kind s.bits t (phase_at s.phases t))
+
+-- the name of the word that an effect is on
+abbrev pub name_of : LockKind → Option Effect → Option WordName
+name_of kind None = None
+name_of kind (Some effect) = name_at kind effect.word
+
 abbrev pub word_of : State → ℕ → Move → Option WordName
-word_of s t (Call op) = None
-word_of s t (Step kind) = touched s.kind t (phase_at s.phases t)
+word_of s t m = name_of s.kind (effect_of s t m)
 
 -- the values of a word before and after
 abbrev pub values_other : WordName → ℕ → ℕ → Option ℕ → Option ℕ → Option Bool → Option Difference
@@ -104,13 +116,18 @@ values_other word found left given_found given_left given_wrote =
     or_then (found_other word found given_found)
     (or_then (left_other word left given_left) (wrote_other (not (found == left)) given_wrote))
 
+abbrev pub effect_other : LockKind → Option Effect → WordName → Option ℕ → Option ℕ → Option Bool
+    → Option Difference
+effect_other kind None word found left wrote = Some (OtherWord None word)
+effect_other kind (Some effect) word found left wrote =
+    or_then (other_word (name_at kind effect.word) word)
+    (values_other word effect.found effect.left found left wrote)
+
 -- what an accepted move differs in
 abbrev pub seen_other : Checked → ℕ → Move → Seen → Option Difference
 seen_other c t m Nothing = None
 seen_other c t m (OnWord word found left wrote) =
-    or_then (other_word (word_of c.lock.state t m) word)
-    (values_other word (stands c.lock.state word)
-    (will_stand c.lock.state t m word) found left wrote)
+    effect_other c.lock.state.kind (effect_of c.lock.state t m) word found left wrote
 seen_other c t m (InSection count outcome) =
     or_then (count_other c.sections count)
     (outcome_other (change_of c.lock.state t m).outcome outcome)
@@ -143,11 +160,19 @@ unless_other (Some difference) next c = c
 abbrev pub after_line : Checked → TraceLine → Checked
 after_line c l = unless_other (difference_of c l) (checked c l) c
 
-abbrev pub answer_unless : Option Difference → Outcome → Result Outcome Difference
-answer_unless None outcome = Ok outcome
-answer_unless (Some difference) outcome = Err difference
+-- what is answered of a move that is made
+abbrev pub made_of : State → ℕ → Move → Made
+made_of s t m = record {
+  from = phase_at s.phases t;
+  outcome = (change_of s t m).outcome;
+  effect = effect_of s t m;
+}
 
--- a line is accepted exactly where the machine accepts its move and each part that it gives is the
+abbrev pub answer_unless : Option Difference → Made → Result Made Difference
+answer_unless None made = Ok made
+answer_unless (Some difference) made = Err difference
+
+-- a line is accepted exactly if the machine accepts its move and each part that it gives is the
 -- machine's
-abbrev pub answer_to : Checked → TraceLine → Result Outcome Difference
-answer_to c l = answer_unless (difference_of c l) (change_of c.lock.state l.thread l.action).outcome
+abbrev pub answer_to : Checked → TraceLine → Result Made Difference
+answer_to c l = answer_unless (difference_of c l) (made_of c.lock.state l.thread l.action)

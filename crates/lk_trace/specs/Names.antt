@@ -1,9 +1,7 @@
--- Definitions. The words of the locks by name, and which of them each step is on. The rooms say
--- what is each lock's own.
-use Rattle.std.specs.Prelude.{ℕ, Option, None, Bool, true, false, eqb}
+-- Definitions. The words of the locks by name. The rooms say what is each lock's own.
+use Rattle.std.specs.Prelude.{ℕ, Option, Bool, true, false, eqb}
 use Rattle.lk_locks.specs.declared.kinds.LockKind.{LockKind}
 use Rattle.lk_locks.specs.declared.kinds.LockKind.TheVariants.{Ticket, Mcs, RwSimple, RwFifo}
-use Rattle.lk_locks.specs.declared.kinds.Phase.{Phase}
 use Rattle.lk_trace.specs.declared.names.WordName.{WordName}
 use Rattle.lk_trace.specs.declared.names.WordName.TheVariants.{NextTicket, NowServing, Tail, Next}
 use Rattle.lk_trace.specs.declared.names.WordName.TheVariants.{Locked, Readers, Flag, ReadAcquires}
@@ -12,13 +10,6 @@ use Rattle.lk_trace.specs.ticket
 use Rattle.lk_trace.specs.mcs
 use Rattle.lk_trace.specs.rw_simple
 use Rattle.lk_trace.specs.rw_fifo
-
--- the word that the step of a thread in this phase is on. A monitor's section is on all words of
--- its lock
-abbrev pub touched : LockKind → ℕ → Phase → Option WordName
-touched Ticket thread phase = ticket.touched phase
-touched Mcs thread phase = mcs.touched thread phase
-touched kind thread phase = None
 
 -- which of the lock's words it is. A word of another lock is counted as 0
 abbrev pub place_of : LockKind → WordName → ℕ

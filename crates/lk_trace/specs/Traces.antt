@@ -2,7 +2,6 @@
 -- lock. This project's own.
 use Rattle.std.specs.Prelude.{ℕ, List, Option, Some, None, Result, Ok, Err, length, nat_lt}
 use Rattle.std.specs.Prelude.{if◌then◌else◌}
-use Rattle.lk_locks.specs.declared.kinds.Outcome.{Outcome}
 use Rattle.lk_replay.specs.Lines.{is_skipped}
 use Rattle.lk_replay.specs.Header as text
 use Rattle.lk_replay.specs.Faults.{Fault}
@@ -12,6 +11,7 @@ use Rattle.lk_replay.specs.declared.schedule.ReadFault.TheVariants as reading
 use Rattle.lk_replay.specs.declared.header.Header.{Header}
 use Rattle.lk_trace.specs.Lines.{trace_line_of}
 use Rattle.lk_trace.specs.Checks.{Checked, new_lock, answer_to, after_line}
+use Rattle.lk_trace.specs.declared.checker.Made.{Made as MadeMove}
 use Rattle.lk_trace.specs.declared.line.TraceLine.{TraceLine}
 use Rattle.lk_trace.specs.declared.difference.Difference.{Difference}
 use Rattle.lk_trace.specs.declared.trace.Event.{Event}
@@ -55,8 +55,8 @@ abbrev pub header_event : Result Header TextFault → Event
 header_event (Ok header) = Began header
 header_event (Err fault) = FaultOf fault
 
-abbrev pub answer_event : TraceLine → Result Outcome Difference → Event
-answer_event line (Ok outcome) = Made line outcome
+abbrev pub answer_event : TraceLine → Result MadeMove Difference → Event
+answer_event line (Ok made) = Made line made
 answer_event line (Err difference) = Differs line difference
 
 abbrev pub move_event : Checked → Option TraceLine → Event

@@ -1,24 +1,8 @@
--- Definitions. The words of the MCS lock by name, and which of them each step is on.
+-- Definitions. The words of the MCS lock by name.
 use Rattle.std.specs.Prelude.{ℕ, ◌-◌, ◌/◌, ◌%◌, ◌==◌, nat_lt, Option, None, Some, if◌then◌else◌}
 use Rattle.lk_locks.specs.mcs.{tail, next, locked}
-use Rattle.lk_locks.specs.declared.kinds.Phase.{Phase}
-use Rattle.lk_locks.specs.declared.kinds.Phase.TheVariants.{ClearNext, SwapTail, SetLocked, LinkTo}
-use Rattle.lk_locks.specs.declared.kinds.Phase.TheVariants.{AwaitGrant, ReadNext, CasTail}
-use Rattle.lk_locks.specs.declared.kinds.Phase.TheVariants.{AwaitLink, Grant}
 use Rattle.lk_trace.specs.declared.names.WordName.{WordName}
 use Rattle.lk_trace.specs.declared.names.WordName.TheVariants.{Tail, Next, Locked}
-
-abbrev pub touched : ℕ → Phase → Option WordName
-touched thread ClearNext = Some (Next thread)
-touched thread SwapTail = Some Tail
-touched thread (SetLocked before) = Some (Locked thread)
-touched thread (LinkTo before) = Some (Next before)
-touched thread AwaitGrant = Some (Locked thread)
-touched thread ReadNext = Some (Next thread)
-touched thread CasTail = Some Tail
-touched thread AwaitLink = Some (Next thread)
-touched thread (Grant after) = Some (Locked after)
-touched thread phase = None
 
 abbrev pub place_of : WordName → ℕ
 place_of Tail = tail

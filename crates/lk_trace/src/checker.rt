@@ -1,21 +1,31 @@
 //! The check of a run, move by move: each is made on the lock's machine, and what its thread saw is
 //! compared with the machine's words.
 
-ghost use Rattle.std.specs.Prelude.{◌≡◌, ◌<◌, ◌≤◌, ◌^◌, ◌↔◌, Bool, None, Some, slice_index, length};
-ghost use Rattle.std.specs.Prelude.{IsOk, OnOk, SomeIff};
+ghost use Rattle.std.specs.Prelude.{◌≡◌, ◌<◌, ◌≤◌, ◌^◌, ◌↔◌, None, length, IsOk, OnOk};
+ghost use Rattle.std.specs.Prelude.{IfSome, SomeIff};
 ghost use Rattle.lk_locks.specs.State.{phase_at};
 ghost use Rattle.lk_locks.specs.Steps.{refusal_of};
-ghost use Rattle.lk_trace.specs.Agreement.{Agrees, IsCounted, count_in};
+ghost use Rattle.lk_trace.specs.Agreement.{Agrees, AgreesOn, IsCounted, count_in};
 ghost use Rattle.lk_trace.specs.Checks.{after_line, answer_to, count_given, count_other};
-ghost use Rattle.lk_trace.specs.Checks.{difference_of, found_other, left_other, other_word};
-ghost use Rattle.lk_trace.specs.Checks.{outcome_other, same_outcome, seen_other, stands};
-ghost use Rattle.lk_trace.specs.Checks.{new_lock, values_other, word_of, wrote_other};
+ghost use Rattle.lk_trace.specs.Checks.{difference_of, effect_of, effect_other, found_other};
+ghost use Rattle.lk_trace.specs.Checks.{left_other, new_lock, other_word, outcome_other};
+ghost use Rattle.lk_trace.specs.Checks.{seen_other, wrote_other};
 
-use crate::names::{place_of, same_word, touched};
+use crate::names::{name_at, same_word};
 use crate::{Difference, Seen, TraceLine, WordName};
-use lk_locks::{LockKind, Machine, Move, Outcome, Phase, Tracker, words_needed};
-use lk_words::{WordArray, Words};
+use lk_locks::{Added, LockKind, Move, Outcome, Phase, Tracker, words_needed};
+use lk_words::{Effect, WordArray};
 use std::marker::Model;
+
+/// What came of a move that was made.
+#[derive(Clone, Copy, PartialEq, Eq, Debug)]
+pub struct Made {
+    /// The phase of its thread before it.
+    pub from: Phase,
+    pub outcome: Outcome,
+    /// What it did to its word, if it was one operation on one word.
+    pub effect: Option<Effect>,
+}
 
 /// A lock on which a run is made again. A contract sees the lock, and the greatest count of a
 /// section that was given so far.
@@ -31,25 +41,6 @@ impl Model for Checker {
     ghost Value = { Checked };
 
     ghost view = { λ a. record { lock = a.lock; sections = a.sections } };
-}
-
-// What stands at a place of the words.
-fn word_at(words: &WordArray, place: usize) -> u64
-    ensures { result ≡ slice_index words.now.0 place }
-{
-    if place < words.size() {
-        words.get(place)
-    } else {
-        0
-    }
-}
-
-// What stands in a word of the machine.
-fn standing(machine: &Machine<WordArray>, kind: LockKind, word: WordName) -> u64
-    requires { kind ≡ machine.now.kind }
-    ensures { result ≡ stands machine.now word }
-{
-    word_at(machine.words(), place_of(kind, word))
 }
 
 fn other_word(word: Option<WordName>, given: WordName) -> Option<Difference>
@@ -86,6 +77,29 @@ fn wrote_other(wrote: bool, given: Option<bool>) -> Option<Difference>
         Some(given) if wrote != given => Some(Difference::WroteOther { wrote }),
         _ => None,
     }
+}
+
+// What a move that does this differs in from what is given of its word.
+fn effect_other(
+    kind: LockKind,
+    effect: Option<Effect>,
+    word: WordName,
+    found: Option<u64>,
+    left: Option<u64>,
+    wrote: Option<bool>,
+) -> Option<Difference>
+    ensures { result ≡ effect_other kind effect word found left wrote }
+{
+    let Some(effect) = effect else {
+        return Some(Difference::OtherWord {
+            word: None,
+            given: word,
+        });
+    };
+    other_word(name_at(kind, effect.word), word)
+        .or_else(|| found_other(word, effect.found, found))
+        .or_else(|| left_other(word, effect.left, left))
+        .or_else(|| wrote_other(effect.found != effect.left, wrote))
 }
 
 fn count_other(last: u64, given: Option<u64>) -> Option<Difference>
@@ -157,82 +171,26 @@ impl Checker {
         }
     }
 
-    // The word that a move which the machine accepts is on.
-    fn word_of(&self, t: u8, m: Move) -> Option<WordName>
+    // What a move that the machine accepts does to its word, if it is one operation on one word.
+    fn effect(&self, t: u8, m: Move) -> Option<Effect>
         requires { refusal_of self.now.lock.state t m ≡ None }
-        ensures { result ≡ word_of self.now.lock.state t m }
+        ensures value { result ≡ effect_of self.now.lock.state t m }
+        ensures within { IfSome result
+            (λ effect. effect.word < length self.now.lock.state.words) }
     {
+        let machine = self.lock.machine();
         match m {
             Move::Call(_) => None,
-            Move::Step(_) => touched(self.lock.kind(), t, self.lock.machine().phase(t)),
+            Move::Step(_) => Some(machine.words().effect(machine.operation(t)?)),
         }
     }
 
-    // What a move which the machine accepts saw of its word, and the machine's word is another or
-    // has other values.
-    fn values_other(
-        &self,
-        t: u8,
-        m: Move,
-        word: WordName,
-        found: Option<u64>,
-        left: Option<u64>,
-        wrote: Option<bool>,
-    ) -> Option<Difference>
+    // In what a move that the machine accepts differs from what its thread saw.
+    fn seen_other(&self, t: u8, m: Move, seen: Seen) -> Option<Difference>
         requires { refusal_of self.now.lock.state t m ≡ None }
-        ensures { result ≡ seen_other self.now t m (Seen.OnWord word found left wrote) }
+        ensures value { result ≡ seen_other self.now t m seen }
+        ensures agrees { result ≡ None ↔ AgreesOn self.now t m seen }
     {
-        let kind = self.lock.kind();
-        let machine = self.lock.machine();
-        if let Some(other) = other_word(self.word_of(t, m), word) {
-            return Some(other);
-        }
-        let stood = standing(machine, kind, word);
-        if let Some(other) = found_other(word, stood, found) {
-            return Some(other);
-        }
-        let mut words = machine.words().copy();
-        machine.rehearse(&mut words, t, m);
-        let stands = word_at(&words, place_of(kind, word));
-        match left_other(word, stands, left) {
-            Some(other) => Some(other),
-            None => wrote_other(stood != stands, wrote),
-        }
-    }
-
-    // What came of a section which the machine accepts, and the machine's count or outcome is
-    // another.
-    fn section_other(
-        &self,
-        t: u8,
-        m: Move,
-        count: Option<u64>,
-        outcome: Option<Outcome>,
-    ) -> Option<Difference>
-        requires { refusal_of self.now.lock.state t m ≡ None }
-        ensures { result ≡ seen_other self.now t m (Seen.InSection count outcome) }
-    {
-        if let Some(other) = count_other(self.sections, count) {
-            return Some(other);
-        }
-        let machine = self.lock.machine();
-        let mut words = machine.words().copy();
-        let came = machine.rehearse(&mut words, t, m);
-        outcome_other(came, outcome)
-    }
-
-    /// Where the line differs from the machine first, with nothing changed.
-    pub fn difference(&self, line: TraceLine) -> Option<Difference>
-        ensures { result ≡ difference_of self.now line }
-    {
-        let TraceLine {
-            thread,
-            action,
-            seen,
-        } = line;
-        if let Err(refusal) = self.lock.machine().check(thread, action) {
-            return Some(Difference::Refused(refusal));
-        }
         match seen {
             Seen::Nothing => None,
             Seen::OnWord {
@@ -240,10 +198,34 @@ impl Checker {
                 found,
                 left,
                 wrote,
-            } => { self.values_other(thread, action, word, found, left, wrote) }
-            Seen::InSection { count, outcome } => {
-                self.section_other(thread, action, count, outcome)
-            }
+            } => effect_other(
+                self.lock.kind(),
+                self.effect(t, m),
+                word,
+                found,
+                left,
+                wrote,
+            ),
+            Seen::InSection { count, outcome } => match count_other(self.sections, count) {
+                Some(other) => Some(other),
+                None => outcome_other(self.lock.machine().outcome(t, m), outcome),
+            },
+        }
+    }
+
+    /// Where the line differs from the machine first, with nothing changed.
+    pub fn difference(&self, line: TraceLine) -> Option<Difference>
+        ensures value { result ≡ difference_of self.now line }
+        ensures agrees { result ≡ None ↔ Agrees self.now line }
+    {
+        let TraceLine {
+            thread,
+            action,
+            seen,
+        } = line;
+        match self.lock.machine().check(thread, action) {
+            Err(refusal) => Some(Difference::Refused(refusal)),
+            Ok(()) => self.seen_other(thread, action, seen),
         }
     }
 
@@ -253,7 +235,7 @@ impl Checker {
     /// # Errors
     ///
     /// The first difference. Then nothing has changed.
-    pub fn step(&mut self, line: TraceLine) -> Result<Outcome, Difference>
+    pub fn step(&mut self, line: TraceLine) -> Result<Made, Difference>
         ensures accepted { IsOk result ↔ Agrees self.old line }
         ensures counted { OnOk result
             (IsCounted self.old.sections (count_in line.seen) self.new.sections) }
@@ -263,10 +245,19 @@ impl Checker {
         if let Some(difference) = self.difference(line) {
             return Err(difference);
         }
-        self.sections = count_given(self.sections, line.seen);
-        let Ok(outcome) = self.lock.apply(line.thread, line.action) else {
-            unreachable!()
-        };
-        Ok(outcome)
+        let TraceLine {
+            thread,
+            action,
+            seen,
+        } = line;
+        let from = self.lock.machine().phase(thread);
+        let effect = self.effect(thread, action);
+        self.sections = count_given(self.sections, seen);
+        let outcome = self.lock.make(thread, action, &mut Added::none());
+        Ok(Made {
+            from,
+            outcome,
+            effect,
+        })
     }
 }

@@ -18,10 +18,10 @@ mod ticket;
 mod trace;
 mod vocabulary;
 
-pub use checker::Checker;
+pub use checker::{Checker, Made};
 pub use difference::Difference;
 pub use line::{Seen, TraceLine, read_line, read_log_line};
-pub use names::{WordName, name_at, place_of, touched};
+pub use names::{WordName, name_at, place_of};
 pub use numbers::whole_number;
 pub use trace::{Event, MOST_OF_A_LINE, TextFault, TraceReader, read_header};
 pub use vocabulary::{lock_text, move_text, outcome_text, refusal_text, step_text};

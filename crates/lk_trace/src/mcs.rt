@@ -1,24 +1,9 @@
 //! The words of the MCS lock by name: the tail, and two words in the record of each thread.
 
 ghost use Rattle.std.specs.Prelude.{◌≡◌};
-ghost use Rattle.lk_trace.specs.mcs.{name_at, place_of, touched};
+ghost use Rattle.lk_trace.specs.mcs.{name_at, place_of};
 
 use crate::WordName;
-use lk_locks::Phase;
-
-/// The word that the step of this thread in this phase is on.
-pub fn touched(thread: u8, phase: Phase) -> Option<WordName>
-    ensures { result ≡ touched thread phase }
-{
-    match phase {
-        Phase::ClearNext | Phase::ReadNext | Phase::AwaitLink => Some(WordName::Next(thread)),
-        Phase::SwapTail | Phase::CasTail => Some(WordName::Tail),
-        Phase::SetLocked(_) | Phase::AwaitGrant => Some(WordName::Locked(thread)),
-        Phase::LinkTo(before) => Some(WordName::Next(before)),
-        Phase::Grant(after) => Some(WordName::Locked(after)),
-        _ => None,
-    }
-}
 
 /// Which word it is, counted from 0.
 pub fn place_of(word: WordName) -> usize

@@ -1,11 +1,10 @@
-//! The words of the locks by name, and which word each step is on. What is a lock's own stands in
-//! its room.
+//! The words of the locks by name. What is a lock's own stands in its room.
 
 ghost use Rattle.std.specs.Prelude.{◌≡◌};
-ghost use Rattle.lk_trace.specs.Names.{name_at, place_of, same_word, touched};
+ghost use Rattle.lk_trace.specs.Names.{name_at, place_of, same_word};
 
 use crate::{mcs, rw_fifo, rw_simple, ticket};
-use lk_locks::{LockKind, Phase};
+use lk_locks::LockKind;
 
 /// A word of a lock. `Next` and `Locked` are in the record of the thread that they name.
 #[derive(Clone, Copy, PartialEq, Eq, Debug)]
@@ -19,18 +18,6 @@ pub enum WordName {
     Flag,
     ReadAcquires,
     ReadReleases,
-}
-
-/// The word that the step of a thread in this phase is on. There is none where no step is due, and
-/// of a monitor's section, which is on all words of its lock.
-pub fn touched(kind: LockKind, thread: u8, phase: Phase) -> Option<WordName>
-    ensures { result ≡ touched kind thread phase }
-{
-    match kind {
-        LockKind::Ticket => ticket::touched(phase),
-        LockKind::Mcs => mcs::touched(thread, phase),
-        LockKind::RwSimple | LockKind::RwFifo => None,
-    }
 }
 
 /// Which of the lock's words it is, counted from 0. A word of another lock is counted as 0.

@@ -1,23 +1,9 @@
 //! The words of the ticket lock by name.
 
 ghost use Rattle.std.specs.Prelude.{◌≡◌};
-ghost use Rattle.lk_trace.specs.ticket.{name_at, place_of, touched};
+ghost use Rattle.lk_trace.specs.ticket.{name_at, place_of};
 
 use crate::WordName;
-use lk_locks::Phase;
-
-/// The word that the step of a thread in this phase is on.
-pub fn touched(phase: Phase) -> Option<WordName>
-    ensures { result ≡ touched phase }
-{
-    match phase {
-        Phase::TakeTicket => Some(WordName::NextTicket),
-        Phase::AwaitTurn(_) | Phase::ReadServing(_) | Phase::PassOn(_) => {
-            Some(WordName::NowServing)
-        }
-        _ => None,
-    }
-}
 
 /// Which word it is, counted from 0.
 pub fn place_of(word: WordName) -> usize

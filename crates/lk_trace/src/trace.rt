@@ -4,8 +4,7 @@ ghost use Rattle.std.specs.Prelude.{◌≡◌, ◌<◌, ◌≤◌, ◌^◌, IfOk
 ghost use Rattle.lk_trace.specs.Traces.{after_text_line, event_of, fault_named, read_header_of};
 ghost use Rattle.lk_trace.specs.Traces.{short_line_of};
 
-use crate::{Checker, Difference, TraceLine, read_line};
-use lk_locks::Outcome;
+use crate::{Checker, Difference, Made, TraceLine, read_line};
 use lk_replay::ReadFault;
 use lk_replay::parts::{Header, header_of, is_skipped};
 use std::marker::Model;
@@ -36,7 +35,7 @@ pub enum Event {
     /// It is the header.
     Began(Header),
     /// The move was made, and each part that is given is the machine's.
-    Made(TraceLine, Outcome),
+    Made(TraceLine, Made),
     /// The move differs from the machine's, and was not made.
     Differs(TraceLine, Difference),
     /// It is no line of a trace.
@@ -137,7 +136,7 @@ impl TraceReader {
             return Event::Fault(TextFault::BadLine);
         };
         match checker.step(line) {
-            Ok(outcome) => Event::Made(line, outcome),
+            Ok(made) => Event::Made(line, made),
             Err(difference) => Event::Differs(line, difference),
         }
     }

@@ -1,0 +1,16 @@
+use Rattle.std.proofs.Common.{ap, ◌∙◌}
+use Rattle.lk_trace.specs.Checks.{Checked}
+use Rattle.lk_trace.proofs.Agreeing.{word_both}
+use Rattle.lk_trace.proofs.checker.Checker.seen_other.Goals as goal
+
+pub returns-in-OnWord-clause-agrees : goal.returns-in-OnWord-clause-agrees
+returns-in-OnWord-clause-agrees c =
+    rw (
+      c.effect_other.ensures,
+      c.kind.ensures ∙ ap (λ (x : Checked). x.lock.state.kind)
+          c.self.view_is,
+      c.effect.ensures.value,
+      c.in-OnWord.is,
+    )
+    (word_both c.args.self.now c.args.t c.args.m c.in-OnWord.word c.in-OnWord.found
+    c.in-OnWord.left c.in-OnWord.wrote (rw c.effect.ensures.value at c.effect.ensures.within))
