@@ -8,7 +8,7 @@ use Rattle.std.proofs.Math.Seq.{take-set-lt}
 use Rattle.lk_locks.specs.State.{State, phase_at, start}
 use Rattle.lk_locks.specs.Rooms.{word_count}
 use Rattle.lk_locks.specs.Steps.{move_change, change_of, next_state, refusal_of, after_move}
-use Rattle.lk_locks.specs.invariants.WellFormed.{IsMachine}
+use Rattle.lk_locks.specs.invariants.WellFormed.{IsMachine, WellFormed}
 use Rattle.lk_locks.proofs.EachRoom.{room_of}
 use Rattle.lk_locks.proofs.Moves.{Accepted, well_kept, accepted_of}
 use Rattle.lk_locks.specs.declared.kinds.LockKind.{LockKind}
@@ -37,6 +37,19 @@ machine_kept n s t m k a = record {
 }
 
 -- a new machine
+pub well_new : (kind : LockKind) (bits n : ℕ) (ws : List ℕ) → word_count kind n ≤ length ws
+    → ((i : ℕ) → i < length ws → slice_index ws i ≡ 0) → WellFormed (start kind bits ws n)
+well_new kind bits n ws w z = record {
+  enough = rw (length-replicate n Idle) w;
+  phases_fit =
+      λ t k. rw (get_or-replicate n t Idle Idle
+      (let e : length (replicate n Idle) ≡ n = length-replicate n Idle in omega arith))
+      ((room_of kind).idle_fits (length (replicate n Idle)));
+  links_fit =
+      (room_of kind).clear_links _ ws
+      (λ i. elim (cases_lt i (length ws)) [ inl k ↦ z i k | inr k ↦ get_or_past ws i 0 k ]);
+}
+
 pub machine_new : (kind : LockKind) (bits n : ℕ) (ws : List ℕ) → n ≤ 64 → n < 2 ^ bits
     → word_count kind n ≤ length ws → ((i : ℕ) → i < length ws → slice_index ws i ≡ 0)
     → IsMachine n (start kind bits ws n)
@@ -44,16 +57,7 @@ machine_new kind bits n ws h b w z = record {
   few = h;
   narrow = b;
   count = length-replicate n Idle;
-  well = record {
-    enough = rw (length-replicate n Idle) w;
-    phases_fit =
-        λ t k. rw (get_or-replicate n t Idle Idle
-        (let e : length (replicate n Idle) ≡ n = length-replicate n Idle in omega arith))
-        ((room_of kind).idle_fits (length (replicate n Idle)));
-    links_fit =
-        (room_of kind).clear_links _ ws
-        (λ i. elim (cases_lt i (length ws)) [ inl k ↦ z i k | inr k ↦ get_or_past ws i 0 k ]);
-  };
+  well = well_new kind bits n ws w z;
 }
 
 abbrev Applied : LockKind → ℕ → ℕ → List ℕ → List Phase → ℕ → Phase → State → Move → Type 0

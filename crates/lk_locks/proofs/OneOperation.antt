@@ -1,14 +1,17 @@
 -- Each step of a queue lock that is accepted is one operation, of the kind that the move names.
+use Rattle.std.proofs.Common.{arith, length, ◌<◌, ◌≤◌}
 use Rattle.std.proofs.Common.{List, None, Option, Some, ap, refl, sym, ℕ, ◌∙◌, ◌≡◌, ◌==◌}
 use Rattle.std.proofs.Common.{if◌then◌else◌}
-use Rattle.lk_words.specs.Operations.{performed}
+use Rattle.lk_words.specs.Operations.{performed, word_of}
 use Rattle.lk_words.specs.declared.operation.Answer.{Answer}
 use Rattle.lk_words.specs.declared.operation.Answer.TheVariants.{Found, Swapped}
 use Rattle.std.proofs.Common.{false, option_map, true}
 use Rattle.lk_words.specs.declared.operation.Operation.{Operation}
 use Rattle.lk_locks.specs.Change.{Change, kind_of, step_by}
 use Rattle.lk_locks.specs.OneOperation.{IsMade, IsOneOperation, IsStepOf}
-use Rattle.lk_locks.specs.Rooms.{family_of, operation_of, step_of}
+use Rattle.lk_locks.specs.Rooms.{family_of, operation_of, step_of, word_count}
+use Rattle.lk_locks.specs.invariants.Rooms.{IsPhaseOf}
+use Rattle.lk_locks.specs.invariants.WellFormed.{WellFormed}
 use Rattle.lk_locks.specs.State.{State, phase_at}
 use Rattle.lk_locks.specs.Steps.{next_state, refusal_at, refusal_in, refusal_of, same_step}
 use Rattle.lk_locks.specs.mcs
@@ -19,8 +22,9 @@ use Rattle.lk_locks.specs.declared.kinds.Move.{Move}
 use Rattle.lk_locks.specs.declared.kinds.Move.TheVariants.{Call, Step}
 use Rattle.lk_locks.specs.declared.kinds.Phase.{Phase}
 use Rattle.lk_locks.specs.declared.kinds.Phase.TheVariants.{AwaitGrant, AwaitLink, AwaitTurn}
-use Rattle.lk_locks.specs.declared.kinds.Phase.TheVariants.{CasTail, ClearNext, ReadNext}
-use Rattle.lk_locks.specs.declared.kinds.Phase.TheVariants.{ReadServing, SwapTail, TakeTicket}
+use Rattle.lk_locks.specs.declared.kinds.Phase.TheVariants.{CasTail, ClearNext, Grant, LinkTo}
+use Rattle.lk_locks.specs.declared.kinds.Phase.TheVariants.{PassOn, ReadNext, ReadServing}
+use Rattle.lk_locks.specs.declared.kinds.Phase.TheVariants.{SetLocked, SwapTail, TakeTicket}
 use Rattle.lk_locks.specs.declared.kinds.Refusal.{Refusal}
 use Rattle.lk_locks.specs.declared.kinds.Refusal.TheVariants.{WrongStep}
 use Rattle.lk_locks.specs.declared.kinds.StepKind.{StepKind}
@@ -111,3 +115,34 @@ pub one_operation : (s : State) (t : ℕ) (m : Move) → refusal_of s t m ≡ No
 one_operation s t (Call op) r = refl
 one_operation s t (Step k) r =
     made s.kind s.bits s.words t (phase_at s.phases t) k (accepted_of s t (Step k) r).fits
+
+abbrev word_or : Option Operation → ℕ
+word_or None = 0
+word_or (Some o) = word_of o
+
+-- the word of an operation is one of the lock's
+within : (kind : LockKind) (n bits t : ℕ) (p : Phase) (o : Operation)
+    → operation_of kind bits t p ≡ Some o → t < n → IsPhaseOf kind n p
+    → word_of o < word_count kind n
+within Ticket n bits t TakeTicket o e h f = rw (ap word_or (sym e)) (omega arith)
+within Ticket n bits t (AwaitTurn x) o e h f = rw (ap word_or (sym e)) (omega arith)
+within Ticket n bits t (ReadServing x) o e h f = rw (ap word_or (sym e)) (omega arith)
+within Ticket n bits t (PassOn x) o e h f = rw (ap word_or (sym e)) (omega arith)
+within Mcs n bits t ClearNext o e h f = rw (ap word_or (sym e)) (omega arith)
+within Mcs n bits t SwapTail o e h f = rw (ap word_or (sym e)) (omega arith)
+within Mcs n bits t (SetLocked j) o e h f = rw (ap word_or (sym e)) (omega arith)
+within Mcs n bits t (LinkTo j) o e h f = rw (ap word_or (sym e)) (omega arith)
+within Mcs n bits t AwaitGrant o e h f = rw (ap word_or (sym e)) (omega arith)
+within Mcs n bits t ReadNext o e h f = rw (ap word_or (sym e)) (omega arith)
+within Mcs n bits t CasTail o e h f = rw (ap word_or (sym e)) (omega arith)
+within Mcs n bits t AwaitLink o e h f = rw (ap word_or (sym e)) (omega arith)
+within Mcs n bits t (Grant j) o e h f = rw (ap word_or (sym e)) (omega arith)
+within kind n bits t p o e h f = cc
+
+pub operation_within : (s : State) (t : ℕ) (o : Operation) → WellFormed s → t < length s.phases
+    → operation_of s.kind s.bits t (phase_at s.phases t) ≡ Some o → word_of o < length s.words
+operation_within s t o w h e =
+    let below : word_of o < word_count s.kind (length s.phases) =
+    within s.kind (length s.phases) s.bits t (phase_at s.phases t) o e h (w.phases_fit t h) in
+    let enough : word_count s.kind (length s.phases) ≤ length s.words = w.enough in
+    omega arith

@@ -1,4 +1,26 @@
 -- A line has no difference exactly where it agrees part by part.
+use Rattle.std.proofs.Common.{List, option_map, replicate, arith, ltb-true, lt-ltb, nat_lt, ◌<◌}
+use Rattle.std.proofs.lemmas.List.{get_or-replicate, length-replicate}
+use Rattle.lk_words.specs.Operations.{effect_on}
+use Rattle.lk_words.specs.declared.operation.Operation.{Operation}
+use Rattle.lk_locks.proofs.Machines.{well_new}
+use Rattle.lk_locks.proofs.Moves.{accepted_of, well_kept}
+use Rattle.lk_locks.proofs.OneOperation.{operation_within}
+use Rattle.lk_locks.specs.Rooms.{operation_of, word_count}
+use Rattle.lk_locks.specs.State.{State, phase_at}
+use Rattle.lk_locks.specs.Steps.{refusal_of}
+use Rattle.lk_locks.specs.invariants.WellFormed.{WellFormed}
+use Rattle.lk_locks.specs.declared.kinds.LockKind.{LockKind}
+use Rattle.lk_locks.specs.declared.kinds.Move.TheVariants.{Call, Step}
+use Rattle.lk_locks.specs.declared.kinds.Outcome.{Outcome}
+use Rattle.lk_locks.specs.declared.kinds.Outcome.TheVariants.{Called, Moved, Waits, Entered, Left}
+use Rattle.lk_locks.specs.declared.kinds.Refusal.{Refusal}
+use Rattle.lk_trace.specs.Agreement.{Agrees}
+use Rattle.lk_trace.specs.Checks.{checked, count_other, difference_of, new_lock, outcome_other}
+use Rattle.lk_trace.specs.Checks.{refused, same_outcome}
+use Rattle.lk_trace.specs.declared.line.Seen.{Seen}
+use Rattle.lk_trace.specs.declared.line.Seen.TheVariants.{InSection, Nothing}
+use Rattle.lk_trace.specs.declared.line.TraceLine.{TraceLine}
 use Rattle.std.proofs.Common.{◌≡◌, ℕ, ◌<◌, ◌==◌, Option, Some, None, Bool, true, false, IfSome}
 use Rattle.std.proofs.Common.{if◌then◌else◌, refl, sym, ap, subst, length, not, ◌∙◌, ◌↔◌}
 use Rattle.std.proofs.lemmas.Bool.{eqb-true, eq-eqb, cond-true}
@@ -25,6 +47,10 @@ both_none (Some d) b none = absurd (cc)
 
 none_of_both : (a b : Option Difference) → a ≡ None → b ≡ None → or_then a b ≡ None
 none_of_both a b first second = ap (λ x. or_then x b) first ∙ second
+
+not_refused : (refusal : Option Refusal) → refused refusal ≡ None → refusal ≡ None
+not_refused None none = refl
+not_refused (Some refusal) none = cc
 
 holds : (test : Bool) (d : Difference) → (if test then None else Some d) ≡ None → test ≡ true
 holds true d none = refl
@@ -110,6 +136,45 @@ agreed_wrote wrote None is = refl
 agreed_wrote wrote (Some given) is =
     cond-true (same_answer wrote given) _ _ (ap (same_answer wrote) (sym is) ∙ its_answer wrote)
 
+-- sections
+count_agrees : (last : ℕ) (given : Option ℕ) → count_other last given ≡ None
+    → IfSome given (λ n. last < n)
+count_agrees last None none = tt
+count_agrees last (Some given) none = ltb-true last given (holds (nat_lt last given) _ none)
+
+agreed_count : (last : ℕ) (given : Option ℕ) → IfSome given (λ n. last < n)
+    → count_other last given ≡ None
+agreed_count last None is = refl
+agreed_count last (Some given) is = cond-true (nat_lt last given) _ _ (lt-ltb last given is)
+
+same_end : (a b : Outcome) → same_outcome a b ≡ true → a ≡ b
+same_end Called Called same = refl
+same_end Moved Moved same = refl
+same_end Waits Waits same = refl
+same_end Entered Entered same = refl
+same_end Left Left same = refl
+same_end a b same = cc
+
+its_end : (a : Outcome) → same_outcome a a ≡ true
+its_end Called = refl
+its_end Moved = refl
+its_end Waits = refl
+its_end Entered = refl
+its_end Left = refl
+
+outcome_agrees : (outcome : Outcome) (given : Option Outcome) → outcome_other outcome given ≡ None
+    → IfSome given (λ o. outcome ≡ o)
+outcome_agrees outcome None none = tt
+outcome_agrees outcome (Some given) none =
+    same_end outcome given (holds (same_outcome outcome given) _ none)
+
+agreed_outcome : (outcome : Outcome) (given : Option Outcome) → IfSome given (λ o. outcome ≡ o)
+    → outcome_other outcome given ≡ None
+agreed_outcome outcome None is = refl
+agreed_outcome outcome (Some given) is =
+    cond-true (same_outcome outcome given) _ _
+    (ap (same_outcome outcome) (sym is) ∙ its_end outcome)
+
 -- what the line saw of a word
 abbrev AgreesHere : Checked → ℕ → Move → WordName → Option ℕ → Option ℕ → Option Bool → Type 0
 AgreesHere c t m word found left wrote = AgreesOnWord c.lock.state t m word found left wrote
@@ -170,3 +235,66 @@ word_both c t m word found left wrote within = (
   λ none. word_seen c t m word found left wrote (effect_of c.lock.state t m) refl within none,
   λ agrees. word_agreed c t m word found left wrote (effect_of c.lock.state t m) refl within agrees,
 )
+
+of_operation : (s : State) (t : ℕ) (o : Option Operation) → WellFormed s → t < length s.phases
+    → operation_of s.kind s.bits t (phase_at s.phases t) ≡ o
+    → IfSome (option_map (effect_on s.bits s.words) o) (λ e. e.word < length s.words)
+of_operation s t None w h e = tt
+of_operation s t (Some o) w h e = operation_within s t o w h e
+
+effect_within : (s : State) (t : ℕ) (m : Move) → WellFormed s → t < length s.phases
+    → IfSome (effect_of s t m) (λ e. e.word < length s.words)
+effect_within s t (Call op) w h = tt
+effect_within s t (Step k) w h = of_operation s t _ w h refl
+
+seen_both : (c : Checked) (t : ℕ) (m : Move) (seen : Seen) → WellFormed c.lock.state
+    → t < length c.lock.state.phases → (seen_other c t m seen ≡ None ↔ AgreesOn c t m seen)
+seen_both c t m Nothing w h = (λ none. tt, λ agrees. refl)
+seen_both c t m (OnWord word found left wrote) w h =
+    word_both c t m word found left wrote (effect_within c.lock.state t m w h)
+seen_both c t m (InSection count outcome) w h = (
+  λ none. let both = both_none (count_other c.sections count) _ none in record {
+    count_is = count_agrees _ count both.0;
+    outcome_is = outcome_agrees _ outcome both.1;
+  },
+  λ agrees. none_of_both _ _ (agreed_count _ count agrees.count_is)
+      (agreed_outcome _ outcome agrees.outcome_is),
+)
+
+-- a line, on a lock that is well formed
+thread_in : (s : State) (t : ℕ) (m : Move) → refusal_of s t m ≡ None → t < length s.phases
+thread_in s t m accepted = (accepted_of s t m accepted).thread
+
+pub agrees : (c : Checked) (l : TraceLine) → WellFormed c.lock.state → difference_of c l ≡ None
+    → Agrees c l
+agrees c l w none =
+    let both = both_none (refused (refusal_of c.lock.state l.thread l.action))
+    (seen_other c l.thread l.action l.seen) none in
+    let accepted = not_refused _ both.0 in
+    record {
+      accepted = accepted;
+      seen = (seen_both c l.thread l.action l.seen w
+          (thread_in c.lock.state l.thread l.action accepted)).0 both.1;
+    }
+
+pub agreed : (c : Checked) (l : TraceLine) → WellFormed c.lock.state → Agrees c l
+    → difference_of c l ≡ None
+agreed c l w agrees =
+    none_of_both _ _ (ap refused agrees.accepted)
+    ((seen_both c l.thread l.action l.seen w
+    (thread_in c.lock.state l.thread l.action agrees.accepted)).1 agrees.seen)
+
+-- a new lock is well formed, and stays so
+pub new_is_well : (kind : LockKind) (threads bits : ℕ)
+    → WellFormed (new_lock kind threads bits).lock.state
+new_is_well kind threads bits =
+    let count = word_count kind threads in
+    let ws : List ℕ = replicate count 0 in
+    let long : length ws ≡ count = length-replicate {A = ℕ} count 0 in
+    well_new kind bits threads ws (omega (arith, long))
+    (λ i h. get_or-replicate count i 0 0 (omega (arith, long, h)))
+
+pub stays_well : (c : Checked) (l : TraceLine) → WellFormed c.lock.state
+    → refusal_of c.lock.state l.thread l.action ≡ None → WellFormed (checked c l).lock.state
+stays_well c l w accepted =
+    well_kept c.lock.state l.thread l.action w (accepted_of c.lock.state l.thread l.action accepted)
