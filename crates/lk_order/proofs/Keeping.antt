@@ -8,11 +8,11 @@ use Rattle.std.proofs.lemmas.Bool.{cases_order}
 use Rattle.std.proofs.lemmas.List.{get_or_past, map-append, length-map}
 use Rattle.std.proofs.lemmas.List.Elements.{All-append, All-cons, All-nil}
 use Rattle.std.proofs.lemmas.Option.{slice_get_within, get_or_from_slice_get}
-use Rattle.lk_locks.specs.declared.kinds.Outcome.{Outcome}
 use Rattle.lk_trace.specs.Agreement.{Agrees}
 use Rattle.lk_trace.specs.Checks.{Checked, checked, difference_of, after_line, answer_to}
 use Rattle.lk_trace.specs.Checks.{unless_other}
 use Rattle.lk_trace.specs.Checks.{answer_unless}
+use Rattle.lk_trace.specs.declared.checker.Made.{Made}
 use Rattle.lk_trace.specs.declared.difference.Difference.{Difference}
 use Rattle.lk_trace.specs.declared.line.TraceLine.{TraceLine}
 use Rattle.lk_order.specs.Logs.{ThreadLog}
@@ -25,10 +25,10 @@ use Rattle.lk_order.proofs.Placing.{order_more, counted_more}
 use Rattle.lk_order.proofs.Quiet.{quiet_more}
 
 -- a line that differs changes nothing
-is_difference : (other : Option Difference) (outcome : Outcome) (difference : Difference)
-    → Err difference ≡ answer_unless other outcome → other ≡ Some difference
-is_difference None outcome difference is = cc
-is_difference (Some d) outcome difference is = cc
+is_difference : (other : Option Difference) (made : Made) (difference : Difference)
+    → Err difference ≡ answer_unless other made → other ≡ Some difference
+is_difference None made difference is = cc
+is_difference (Some d) made difference is = cc
 
 pub differs : (c : Checked) (line : TraceLine) (difference : Difference)
     → Err difference ≡ answer_to c line → difference_of c line ≡ Some difference
@@ -39,18 +39,18 @@ pub unmoved : (c : Checked) (line : TraceLine) (difference : Difference)
 unmoved c line difference is =
     ap (λ d. unless_other d (checked c line) c) (differs c line difference is)
 
-no_difference : (other : Option Difference) (outcome answer : Outcome)
-    → Ok answer ≡ answer_unless other outcome → other ≡ None
-no_difference None outcome answer is = refl
-no_difference (Some d) outcome answer is = cc
+no_difference : (other : Option Difference) (made answer : Made)
+    → Ok answer ≡ answer_unless other made → other ≡ None
+no_difference None made answer is = refl
+no_difference (Some d) made answer is = cc
 
-pub agrees : (c : Checked) (line : TraceLine) (outcome : Outcome) → Ok outcome ≡ answer_to c line
+pub agrees : (c : Checked) (line : TraceLine) (made : Made) → Ok made ≡ answer_to c line
     → difference_of c line ≡ None
-agrees c line outcome is = no_difference (difference_of c line) _ outcome is
+agrees c line made is = no_difference (difference_of c line) _ made is
 
-pub moved : (c : Checked) (line : TraceLine) (outcome : Outcome) → Ok outcome ≡ answer_to c line
+pub moved : (c : Checked) (line : TraceLine) (made : Made) → Ok made ≡ answer_to c line
     → after_line c line ≡ checked c line
-moved c line outcome is = ap (λ d. unless_other d (checked c line) c) (agrees c line outcome is)
+moved c line made is = ap (λ d. unless_other d (checked c line) c) (agrees c line made is)
 
 -- a thread with a next line is one of the lock's
 none_past : (logs : List (List TraceLine)) (t n : ℕ) (line : TraceLine)
@@ -132,12 +132,12 @@ kept_more o places places' at t line place kept more next own small long agrees 
     }
 
 -- what is answered of the next line
-pub after_placed : (o : Ordered) (t : ℕ) (line : TraceLine) (outcome : Outcome)
-    → next_line o t ≡ Some line → Ok outcome ≡ answer_to o.lock line
+pub after_placed : (o : Ordered) (t : ℕ) (line : TraceLine) (made : Made)
+    → next_line o t ≡ Some line → Ok made ≡ answer_to o.lock line
     → with_line o line ≡ after_next o (next_line o t)
-after_placed o t line outcome next is =
+after_placed o t line made next is =
     sym (ap (after_next o) next
-    ∙ ap (λ d. unless_differs d (with_line o line) o) (agrees o.lock line outcome is))
+    ∙ ap (λ d. unless_differs d (with_line o line) o) (agrees o.lock line made is))
 
 pub after_different : (o : Ordered) (t : ℕ) (line : TraceLine) (difference : Difference)
     → next_line o t ≡ Some line → Err difference ≡ answer_to o.lock line

@@ -4,10 +4,10 @@ use Rattle.std.specs.Prelude.{◌≡◌, ℕ, ◌<◌, ◌==◌, ◌++◌, ◌�
 use Rattle.std.specs.Prelude.{Option, Some, None, Result, Ok, Err, filter}
 use Rattle.std.specs.List.{All, slice_get}
 use Rattle.lk_locks.specs.declared.kinds.LockKind.{LockKind}
-use Rattle.lk_locks.specs.declared.kinds.Outcome.{Outcome}
 use Rattle.lk_locks.specs.declared.kinds.Phase.TheVariants.{Idle}
 use Rattle.lk_trace.specs.Agreement.{Agrees}
 use Rattle.lk_trace.specs.Checks.{Checked, new_lock, checked, difference_of, answer_to}
+use Rattle.lk_trace.specs.declared.checker.Made.{Made as MadeMove}
 use Rattle.lk_trace.specs.declared.difference.Difference.{Difference}
 use Rattle.lk_trace.specs.declared.line.TraceLine.{TraceLine}
 use Rattle.lk_order.specs.Logs.{ThreadLog}
@@ -89,8 +89,8 @@ abbrev pub after_next : Ordered → Option TraceLine → Ordered
 after_next o None = o
 after_next o (Some line) = unless_differs (difference_of o.lock line) (with_line o line) o
 
-abbrev pub placed_as : Result Outcome Difference → Placed
-placed_as (Ok outcome) = Made outcome
+abbrev pub placed_as : Result MadeMove Difference → Placed
+placed_as (Ok made) = Made made.outcome
 placed_as (Err difference) = Differs difference
 
 abbrev pub answer_next : Ordered → Option TraceLine → Placed

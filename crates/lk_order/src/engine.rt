@@ -17,8 +17,8 @@ mod read_write;
 mod ticket;
 
 use crate::Order;
-use lk_locks::{LockKind, Move, Phase, StepKind};
-use lk_trace::{Seen, TraceLine, place_of, touched};
+use lk_locks::{LockKind, Move, Phase, StepKind, operation_of};
+use lk_trace::{Seen, TraceLine};
 use lk_words::Words;
 use mcs::Acquires;
 pub use read_write::count_of;
@@ -99,7 +99,8 @@ fn next_of(order: &Order, kind: LockKind, t: u8) -> Next {
         Move::Step(step) => Some(step),
     };
     let word = match step {
-        Some(_) => touched(kind, t, phase).map(|word| place_of(kind, word)),
+        // which word it is does not depend on the bits
+        Some(_) => operation_of(kind, 64, t, phase).map(|operation| operation.word()),
         None => None,
     };
     Next {
