@@ -11,9 +11,13 @@ ghost use Rattle.lk_locks.specs.Rooms.{word_count};
 ghost use Rattle.lk_locks.specs.invariants.mcs.{IsLink};
 ghost use Rattle.lk_locks.specs.invariants.WellFormed.{IsReady};
 ghost use Rattle.lk_locks.specs.declared.kinds.LockKind.TheVariants.{Mcs};
+ghost use Rattle.std.specs.List.{list_any};
+ghost use Rattle.lk_locks.specs.Rooms.{step_due, steps_of};
+ghost use Rattle.lk_locks.specs.Steps.{same_step};
 
 use crate::entries::Added;
-use crate::{Entry, Op, Outcome, Phase};
+use crate::rooms::kind_of;
+use crate::{Entry, Op, Outcome, Phase, StepKind};
 use lk_words::{Answer, Operation, WordArray, Words, perform};
 
 const TAIL: usize = 0;
@@ -51,10 +55,20 @@ fn locked(thread: u8) -> usize
 }
 
 /// How many words the lock has, with so many threads.
-pub fn word_count(threads: u8) -> usize
+pub fn words_needed(threads: u8) -> usize
     ensures { result ≡ word_count Mcs threads }
 {
     1 + 2 * threads as usize
+}
+
+/// Whether the lock has steps of this kind.
+pub fn has_step(step: StepKind) -> bool
+    ensures { result ≡ list_any (same_step step) (steps_of Mcs) }
+{
+    matches!(
+        step,
+        StepKind::Read | StepKind::Write | StepKind::Swap | StepKind::Cas
+    )
 }
 
 /// The phase that a call leads to, where a thread in this phase may make it.
@@ -70,7 +84,7 @@ pub fn after_call(phase: Phase, op: Op) -> Option<Phase>
 
 /// What a thread in this phase does next: one operation on one word.
 #[inline(always)]
-pub fn operation(thread: u8, phase: Phase) -> Option<Operation>
+pub fn operation(_bits: u8, thread: u8, phase: Phase) -> Option<Operation>
     ensures { result ≡ operation thread phase }
 {
     match phase {
@@ -105,6 +119,13 @@ pub fn operation(thread: u8, phase: Phase) -> Option<Operation>
         }),
         _ => None,
     }
+}
+
+/// The kind of that operation, which depends neither on the bits nor on the thread.
+pub fn step_due(phase: Phase) -> Option<StepKind>
+    ensures { result ≡ step_due Mcs phase }
+{
+    Some(kind_of(operation(64, 0, phase)?))
 }
 
 /// What the answer of that operation leads to.
@@ -148,7 +169,7 @@ pub fn step<W: Words>(words: &mut W, thread: u8, phase: Phase) -> (Phase, Outcom
         ≡ (step (W.width words.old) thread (W.list words.old) phase).outcome }
     ensures width { W.width words.new ≡ W.width words.old }
 {
-    match operation(thread, phase) {
+    match operation(words.bits(), thread, phase) {
         Some(operation) => after(phase, perform(words, operation)),
         None => (phase, Outcome::Waits),
     }
@@ -159,7 +180,7 @@ pub fn outcome(words: &WordArray, thread: u8, phase: Phase) -> Outcome
     requires { IsReady Mcs words.now.1 words.now.0 thread phase }
     ensures { result ≡ (step words.now.1 thread words.now.0 phase).outcome }
 {
-    match operation(thread, phase) {
+    match operation(words.bits(), thread, phase) {
         Some(operation) => after(phase, words.effect(operation).answer).1,
         None => Outcome::Waits,
     }

@@ -6,23 +6,30 @@
 //! is set, and adds one to `readAcquires` only afterwards; a writer waits while the flag is set
 //! before it sets it; signals are not modelled; a writer may downgrade.
 
-ghost use Rattle.std.specs.Prelude.{◌≡◌, ◌^◌, ◌<◌, ◌≤◌, length};
+ghost use Rattle.std.specs.Prelude.{◌≡◌, ◌^◌, ◌<◌, ◌≤◌, length, []};
 ghost use Rattle.lk_locks.specs.rw_fifo.{step};
-ghost use Rattle.lk_locks.specs.read_write.{AreWords};
+ghost use Rattle.lk_locks.specs.read_write.{AreWords, entries};
+ghost use Rattle.lk_locks.specs.declared.kinds.Family.TheVariants.{FifoReadWrite};
 
 use crate::arithmetic::plus_one;
+use crate::entries::Added;
 use crate::read_write::Section;
-use crate::{Outcome, Phase};
+pub use crate::read_write::{after_call, has_step, operation, step_due};
+use crate::{Family, Outcome, Phase, read_write};
 use lk_words::{WordArray, Words};
-
-/// How many words the lock has.
-pub const WORDS: usize = 3;
 
 const READ_ACQUIRES: usize = 0;
 
 const READ_RELEASES: usize = 1;
 
 const FLAG: usize = 2;
+
+/// How many words the lock has, with any number of threads.
+pub fn words_needed(_threads: u8) -> usize
+    ensures { result ≡ 3 }
+{
+    3
+}
 
 /// What a section of a thread in this phase leaves in the monitor's words, of so many bits, in
 /// which these stand.
@@ -85,7 +92,7 @@ pub fn section(bits: u8, found: [u64; 3], phase: Phase) -> Section
 }
 
 /// One section of a thread in this phase, with its new phase.
-pub fn step<W: Words>(words: &mut W, phase: Phase) -> (Phase, Outcome)
+pub fn step<W: Words>(words: &mut W, _thread: u8, phase: Phase) -> (Phase, Outcome)
     requires words { 3 ≤ length (W.list words.old) }
     requires one { 1 < 2 ^ W.width words.old }
     ensures words { W.list words.new ≡ (step (W.width words.old) (W.list words.old) phase).words }
@@ -110,7 +117,7 @@ pub fn step<W: Words>(words: &mut W, phase: Phase) -> (Phase, Outcome)
 }
 
 /// What would come of such a section, with nothing changed.
-pub fn outcome(words: &WordArray, phase: Phase) -> Outcome
+pub fn outcome(words: &WordArray, _thread: u8, phase: Phase) -> Outcome
     requires words { 3 ≤ length words.now.0 }
     requires one { 1 < 2 ^ words.now.1 }
     ensures { result ≡ (step words.now.1 words.now.0 phase).outcome }
@@ -121,4 +128,12 @@ pub fn outcome(words: &WordArray, phase: Phase) -> Outcome
         words.get(FLAG),
     ];
     section(words.bits(), found, phase).outcome
+}
+
+/// Adds the entries of such a section.
+pub fn add_entries(added: &mut Added, thread: u8, phase: Phase, outcome: Outcome)
+    requires { added.old ≡ [] }
+    ensures { added.new ≡ entries FifoReadWrite thread phase outcome }
+{
+    read_write::add_entries(added, Family::FifoReadWrite, thread, phase, outcome)
 }

@@ -6,21 +6,28 @@
 //! writer waits while the reader count is not 0 or the flag is set, and then sets the flag; signals
 //! are not modelled; a writer may downgrade.
 
-ghost use Rattle.std.specs.Prelude.{◌≡◌, ◌^◌, ◌<◌, ◌≤◌, length};
+ghost use Rattle.std.specs.Prelude.{◌≡◌, ◌^◌, ◌<◌, ◌≤◌, length, []};
 ghost use Rattle.lk_locks.specs.rw_simple.{step};
-ghost use Rattle.lk_locks.specs.read_write.{AreWords};
+ghost use Rattle.lk_locks.specs.read_write.{AreWords, entries};
+ghost use Rattle.lk_locks.specs.declared.kinds.Family.TheVariants.{ReadWrite};
 
 use crate::arithmetic::{less_one, plus_one};
+use crate::entries::Added;
 use crate::read_write::Section;
-use crate::{Outcome, Phase};
+pub use crate::read_write::{after_call, has_step, operation, step_due};
+use crate::{Family, Outcome, Phase, read_write};
 use lk_words::{WordArray, Words};
-
-/// How many words the lock has.
-pub const WORDS: usize = 2;
 
 const READERS: usize = 0;
 
 const FLAG: usize = 1;
+
+/// How many words the lock has, with any number of threads.
+pub fn words_needed(_threads: u8) -> usize
+    ensures { result ≡ 2 }
+{
+    2
+}
 
 /// What a section of a thread in this phase leaves in the monitor's words, of so many bits, in
 /// which these stand. The third word is none of this lock's.
@@ -71,7 +78,7 @@ pub fn section(bits: u8, found: [u64; 3], phase: Phase) -> Section
 }
 
 /// One section of a thread in this phase, with its new phase.
-pub fn step<W: Words>(words: &mut W, phase: Phase) -> (Phase, Outcome)
+pub fn step<W: Words>(words: &mut W, _thread: u8, phase: Phase) -> (Phase, Outcome)
     requires words { 2 ≤ length (W.list words.old) }
     requires one { 1 < 2 ^ W.width words.old }
     ensures words { W.list words.new ≡ (step (W.width words.old) (W.list words.old) phase).words }
@@ -91,11 +98,19 @@ pub fn step<W: Words>(words: &mut W, phase: Phase) -> (Phase, Outcome)
 }
 
 /// What would come of such a section, with nothing changed.
-pub fn outcome(words: &WordArray, phase: Phase) -> Outcome
+pub fn outcome(words: &WordArray, _thread: u8, phase: Phase) -> Outcome
     requires words { 2 ≤ length words.now.0 }
     requires one { 1 < 2 ^ words.now.1 }
     ensures { result ≡ (step words.now.1 words.now.0 phase).outcome }
 {
     let found = [words.get(READERS), words.get(FLAG), 0];
     section(words.bits(), found, phase).outcome
+}
+
+/// Adds the entries of such a section.
+pub fn add_entries(added: &mut Added, thread: u8, phase: Phase, outcome: Outcome)
+    requires { added.old ≡ [] }
+    ensures { added.new ≡ entries ReadWrite thread phase outcome }
+{
+    read_write::add_entries(added, Family::ReadWrite, thread, phase, outcome)
 }

@@ -7,18 +7,34 @@
 
 ghost use Rattle.std.specs.Prelude.{◌≡◌, ◌^◌, ◌<◌, ◌≤◌, ℕ, List, [], length};
 ghost use Rattle.lk_locks.specs.ticket.{after_call, operation, after, step, entries};
+ghost use Rattle.std.specs.List.{list_any};
+ghost use Rattle.lk_locks.specs.Rooms.{step_due, steps_of};
+ghost use Rattle.lk_locks.specs.Steps.{same_step};
+ghost use Rattle.lk_locks.specs.declared.kinds.LockKind.TheVariants.{Ticket};
 
 use crate::arithmetic::plus_one;
 use crate::entries::Added;
-use crate::{Entry, Op, Outcome, Phase};
+use crate::rooms::kind_of;
+use crate::{Entry, Op, Outcome, Phase, StepKind};
 use lk_words::{Answer, Operation, WordArray, Words, perform};
-
-/// How many words the lock has.
-pub const WORDS: usize = 2;
 
 const NEXT_TICKET: usize = 0;
 
 const NOW_SERVING: usize = 1;
+
+/// How many words the lock has, with any number of threads.
+pub fn words_needed(_threads: u8) -> usize
+    ensures { result ≡ 2 }
+{
+    2
+}
+
+/// Whether the lock has steps of this kind.
+pub fn has_step(step: StepKind) -> bool
+    ensures { result ≡ list_any (same_step step) (steps_of Ticket) }
+{
+    matches!(step, StepKind::Add | StepKind::Read | StepKind::Write)
+}
 
 /// The phase that a call leads to, where a thread in this phase may make it.
 pub fn after_call(phase: Phase, op: Op) -> Option<Phase>
@@ -33,7 +49,7 @@ pub fn after_call(phase: Phase, op: Op) -> Option<Phase>
 
 /// What a thread in this phase does next: one operation on one word of so many bits.
 #[inline(always)]
-pub fn operation(bits: u8, phase: Phase) -> Option<Operation>
+pub fn operation(bits: u8, _thread: u8, phase: Phase) -> Option<Operation>
     requires least { 2 ≤ bits }
     requires most { bits ≤ 64 }
     ensures { result ≡ operation bits phase }
@@ -52,6 +68,13 @@ pub fn operation(bits: u8, phase: Phase) -> Option<Operation>
         }),
         _ => None,
     }
+}
+
+/// The kind of that operation, which depends neither on the bits nor on the thread.
+pub fn step_due(phase: Phase) -> Option<StepKind>
+    ensures { result ≡ step_due Ticket phase }
+{
+    Some(kind_of(operation(64, 0, phase)?))
 }
 
 /// What the answer of that operation leads to.
@@ -73,7 +96,7 @@ pub fn after(phase: Phase, answer: Answer) -> (Phase, Outcome)
 }
 
 /// One step of a thread in this phase, with its new phase.
-pub fn step<W: Words>(words: &mut W, phase: Phase) -> (Phase, Outcome)
+pub fn step<W: Words>(words: &mut W, thread: u8, phase: Phase) -> (Phase, Outcome)
     requires words { 2 ≤ length (W.list words.old) }
     requires one { 1 < 2 ^ W.width words.old }
     ensures words { W.list words.new ≡ (step (W.width words.old) (W.list words.old) phase).words }
@@ -81,18 +104,18 @@ pub fn step<W: Words>(words: &mut W, phase: Phase) -> (Phase, Outcome)
     ensures outcome { result.1 ≡ (step (W.width words.old) (W.list words.old) phase).outcome }
     ensures width { W.width words.new ≡ W.width words.old }
 {
-    match operation(words.bits(), phase) {
+    match operation(words.bits(), thread, phase) {
         Some(operation) => after(phase, perform(words, operation)),
         None => (phase, Outcome::Waits),
     }
 }
 
 /// What would come of such a step, with nothing changed.
-pub fn outcome(words: &WordArray, phase: Phase) -> Outcome
+pub fn outcome(words: &WordArray, thread: u8, phase: Phase) -> Outcome
     requires { 2 ≤ length words.now.0 }
     ensures { result ≡ (step words.now.1 words.now.0 phase).outcome }
 {
-    match operation(words.bits(), phase) {
+    match operation(words.bits(), thread, phase) {
         Some(operation) => after(phase, words.effect(operation).answer).1,
         None => Outcome::Waits,
     }

@@ -1,6 +1,10 @@
 //! Each operation once, at each kind of words. What they expect was made by hand.
 
-use lk_words::{Access, CountingWords, Operation, RecordingWords, WordArray, Words};
+ghost use Rattle.std.specs.Prelude.{◌≡◌, length};
+ghost use Rattle.lk_words.specs.Operations.{Fits};
+
+use lk_words::{Answer, CountingWords, Effect, Operation, WordArray, Words, perform};
+use std::process::Abort;
 
 // The five operations on two words, which are 0.
 #[test]
@@ -33,52 +37,45 @@ fn each_operation_is_passed_on_once(rt: HostRuntime) {
     assert_eq!(rt; (words.count(), words.inner().count()), (5, 5));
     let _ = words.fetch_and_add(0, 1);
     assert_eq!(rt; (words.count(), words.inner().count()), (6, 6));
-
-    let mut recorded = RecordingWords::new(CountingWords::new(WordArray::new(1)));
-    let _ = recorded.read(0);
-    assert_eq!(rt; recorded.inner().count(), 1);
-    recorded.write(0, 5);
-    assert_eq!(rt; recorded.inner().count(), 2);
-    let _ = recorded.swap(0, 6);
-    assert_eq!(rt; recorded.inner().count(), 3);
-    let _ = recorded.compare_and_swap(0, 6, 7);
-    assert_eq!(rt; recorded.inner().count(), 4);
-    let _ = recorded.compare_and_swap(0, 6, 8);
-    assert_eq!(rt; recorded.inner().count(), 5);
-    let _ = recorded.fetch_and_add(0, 1);
-    assert_eq!(rt; recorded.inner().count(), 6);
 }
 
-fn seen(
+// Makes the operation, which is one, and does what its effect said before.
+fn does(
+    rt: &impl Abort,
+    words: &mut CountingWords<WordArray>,
     operation: Operation,
-    word: usize,
-    found: Option<u64>,
-    left: Option<u64>,
-) -> Option<Access> {
-    Some(Access {
-        operation,
+    (found, left): (u64, u64),
+    answer: Answer,
+)
+    requires { words.old.inner.1 ≡ 2 × Fits 2 (length words.old.inner.0) operation }
+    ensures size { length words.new.inner.0 ≡ length words.old.inner.0 }
+    ensures bits { words.new.inner.1 ≡ words.old.inner.1 }
+{
+    let word = operation.word();
+    let count = words.count();
+    let effect = Effect {
         word,
         found,
         left,
-    })
+        answer,
+    };
+    assert_eq!(rt; words.inner().effect(operation), effect);
+    assert_eq!(rt; perform(words, operation), answer);
+    assert_eq!(rt; words.inner().get(word), left);
+    assert_eq!(rt; words.count(), count.saturating_add(1));
 }
 
+// On two words of two bits, in which 3 is the greatest value.
 #[test]
-fn the_last_operation_is_remembered(rt: HostRuntime) {
-    let mut words = RecordingWords::new(WordArray::with_bits(2, 2));
-    assert!(rt; words.last().is_none());
-    words.write(1, 3);
-    assert!(rt; words.last() == seen(Operation::Write, 1, None, Some(3)));
-    let _ = words.read(1);
-    assert!(rt; words.last() == seen(Operation::Read, 1, Some(3), Some(3)));
-    let _ = words.fetch_and_add(1, 2);
-    assert!(rt; words.last() == seen(Operation::FetchAndAdd, 1, Some(3), Some(1)));
-    let _ = words.swap(0, 2);
-    assert!(rt; words.last() == seen(Operation::Swap, 0, Some(0), Some(2)));
-    let _ = words.compare_and_swap(0, 1, 3);
-    assert!(rt; words.last() == seen(Operation::CompareAndSwap, 0, None, None));
-    let _ = words.compare_and_swap(0, 2, 3);
-    assert!(rt; words.last() == seen(Operation::CompareAndSwap, 0, Some(2), Some(3)));
-    words.forget();
-    assert!(rt; words.last().is_none());
+fn each_operation_does_what_its_effect_says(rt: HostRuntime) {
+    use Answer::{Found, Nothing, Swapped};
+    use Operation::{CompareAndSwap, FetchAndAdd, Read, Swap, Write};
+    let rt = &rt;
+    let words = &mut CountingWords::new(WordArray::with_bits(2, 2));
+    does(rt, words, Write { word: 1, value: 3 }, (0, 3), Nothing);
+    does(rt, words, Read { word: 1 }, (3, 3), Found(3));
+    does(rt, words, FetchAndAdd { word: 1, addend: 2 }, (3, 1), Found(3));
+    does(rt, words, Swap { word: 0, value: 2 }, (0, 2), Found(0));
+    does(rt, words, CompareAndSwap { word: 0, old: 1, new: 3 }, (2, 2), Swapped(false));
+    does(rt, words, CompareAndSwap { word: 0, old: 2, new: 3 }, (2, 3), Swapped(true));
 }

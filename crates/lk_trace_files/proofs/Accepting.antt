@@ -3,11 +3,12 @@ use Rattle.std.proofs.Common.{◌≡◌, ℕ, ◌+◌, List, [], ◌∷◌, true
 use Rattle.std.proofs.Common.{sym, ap, ap₂, ◌∙◌, inl, inr}
 use Rattle.std.specs.Prelude.{Option, Result, ◌≢◌}
 use Rattle.std.proofs.lemmas.Bool.{cond-true, cond-false, cases_Bool}
-use Rattle.lk_locks.specs.Steps.{change_of}
+use Rattle.lk_locks.specs.invariants.WellFormed.{WellFormed}
 use Rattle.lk_replay.specs.Lines.{is_skipped, lines_of}
 use Rattle.lk_replay.specs.declared.header.Header.{Header}
-use Rattle.lk_trace.proofs.Agreeing.{agrees, agreed}
-use Rattle.lk_trace.specs.Checks.{Checked, checked, difference_of, answer_unless, unless_other}
+use Rattle.lk_trace.proofs.Agreeing.{agreed, agrees, new_is_well, stays_well}
+use Rattle.lk_trace.specs.Checks.{Checked, answer_unless, checked, difference_of, made_of}
+use Rattle.lk_trace.specs.Checks.{unless_other}
 use Rattle.lk_trace.specs.Traces.{event_of, after_text_line, read_header_of, short_line_of}
 use Rattle.lk_trace.specs.Traces.{header_event, move_event, answer_event, after_header}
 use Rattle.lk_trace.specs.Traces.{after_move_line, new_checked}
@@ -58,7 +59,7 @@ made_line : (n : ℕ) (c : Checked) (line : List ℕ) (lines : List (List ℕ)) 
     → is_skipped line ≡ false → short_line_of line ≡ Some l → difference_of c l ≡ None
     → verdict_from n (Some c) (line ∷ lines) ≡ verdict_from (n + 1) (Some (checked c l)) lines
 made_line n c line lines l stays read none =
-    let came = (change_of c.lock.state l.thread l.action).outcome in
+    let came = made_of c.lock.state l.thread l.action in
     line_read n (Some c) (Some (checked c l)) (Made l came) line lines
     (cond-false (is_skipped line) _ _ stays ∙ ap (move_event c) read
     ∙ ap (λ (d : Option Difference). answer_event l (answer_unless d came)) none)
@@ -72,7 +73,7 @@ other_line : (n : ℕ) (c : Checked) (line : List ℕ) (lines : List (List ℕ))
     → difference_of c l ≡ Some difference
     → verdict_from n (Some c) (line ∷ lines) ≡ verdict Refused n
 other_line n c line lines l difference stays read some =
-    let came = (change_of c.lock.state l.thread l.action).outcome in
+    let came = made_of c.lock.state l.thread l.action in
     line_read n (Some c) (Some c) (Differs l difference) line lines
     (cond-false (is_skipped line) _ _ stays ∙ ap (move_event c) read
     ∙ ap (λ (d : Option Difference). answer_event l (answer_unless d came)) some)
@@ -104,63 +105,67 @@ never_refused a n is accepted =
     cc
 
 agreed_move : (n : ℕ) (c : Checked) (line : List ℕ) (lines : List (List ℕ)) (l : TraceLine)
-    (d : Option Difference)
+    (d : Option Difference) → WellFormed c.lock.state
     → is_skipped line ≡ false → short_line_of line ≡ Some l
     → difference_of c l ≡ d → (verdict_from n (Some c) (line ∷ lines)).ending ≡ Accepted
-    → ((next : Checked) → (verdict_from (n + 1) (Some next) lines).ending ≡ Accepted
-    → AreMoves next lines)
+    → ((next : Checked) → WellFormed next.lock.state
+    → (verdict_from (n + 1) (Some next) lines).ending ≡ Accepted → AreMoves next lines)
     → IsMove c line (λ next. AreMoves next lines)
-agreed_move n c line lines l None stays read none accepted rest = record {
-  kept = stays;
-  move = l;
-  read = read;
-  agrees = agrees c l none;
-  behind =
-      rest (checked c l)
-      (sym (ending_of _ _ (made_line n c line lines l stays read none)) ∙ accepted);
-}
-agreed_move n c line lines l (Some difference) stays read some accepted rest =
+agreed_move n c line lines l None well stays read none accepted rest =
+    let agree = agrees c l well none in
+    record {
+      kept = stays;
+      move = l;
+      read = read;
+      agrees = agree;
+      behind =
+          rest (checked c l) (stays_well c l well agree.accepted)
+          (sym (ending_of _ _ (made_line n c line lines l stays read none)) ∙ accepted);
+    }
+agreed_move n c line lines l (Some difference) well stays read some accepted rest =
     absurd (never_refused _ n (other_line n c line lines l difference stays read some) accepted)
 
 a_move : (n : ℕ) (c : Checked) (line : List ℕ) (lines : List (List ℕ)) (m : Option TraceLine)
-    → is_skipped line ≡ false → short_line_of line ≡ m
+    → WellFormed c.lock.state → is_skipped line ≡ false → short_line_of line ≡ m
     → (verdict_from n (Some c) (line ∷ lines)).ending ≡ Accepted
-    → ((next : Checked) → (verdict_from (n + 1) (Some next) lines).ending ≡ Accepted
-    → AreMoves next lines)
+    → ((next : Checked) → WellFormed next.lock.state
+    → (verdict_from (n + 1) (Some next) lines).ending ≡ Accepted → AreMoves next lines)
     → IsMove c line (λ next. AreMoves next lines)
-a_move n c line lines None stays read accepted rest =
+a_move n c line lines None well stays read accepted rest =
     absurd (never_faulty _ n (bad_move n c line lines stays read) accepted)
-a_move n c line lines (Some l) stays read accepted rest =
-    agreed_move n c line lines l (difference_of c l) stays read refl accepted rest
+a_move n c line lines (Some l) well stays read accepted rest =
+    agreed_move n c line lines l (difference_of c l) well stays read refl accepted rest
 
 -- lines that end accepted are accepted moves
-moves_are : (n : ℕ) (c : Checked) (lines : List (List ℕ))
+moves_are : (n : ℕ) (c : Checked) (lines : List (List ℕ)) → WellFormed c.lock.state
     → (verdict_from n (Some c) lines).ending ≡ Accepted → AreMoves c lines
-moves_are n c [] accepted = tt
-moves_are n c (line ∷ lines) accepted = elim (cases_Bool (is_skipped line)) [
+moves_are n c [] well accepted = tt
+moves_are n c (line ∷ lines) well accepted = elim (cases_Bool (is_skipped line)) [
   | inl skip ↦ inl (
     skip,
-    moves_are (n + 1) c lines
+    moves_are (n + 1) c lines well
         (sym (ending_of _ _ (skipped_line n (Some c) line lines skip)) ∙ accepted),
   )
-  | inr stays ↦ inr (a_move n c line lines (short_line_of line) stays refl accepted
-      (λ next. moves_are (n + 1) next lines))
+  | inr stays ↦ inr (a_move n c line lines (short_line_of line) well stays refl accepted
+      (λ next well. moves_are (n + 1) next lines well))
 ]
 
 no_more : (n : ℕ) (c : Checked) → (verdict_from n (Some c) []).ending ≡ Accepted
 unfolding verdict_from
 no_more n c = refl
 
-moves_end : (n : ℕ) (c : Checked) (lines : List (List ℕ)) → AreMoves c lines
+moves_end : (n : ℕ) (c : Checked) (lines : List (List ℕ)) → WellFormed c.lock.state
+    → AreMoves c lines
     → (verdict_from n (Some c) lines).ending ≡ Accepted
-moves_end n c [] moves = no_more n c
-moves_end n c (line ∷ lines) (inl moves) =
-    ending_of _ _ (skipped_line n (Some c) line lines moves.0) ∙ moves_end (n + 1) c lines moves.1
-moves_end n c (line ∷ lines) (inr moves) =
+moves_end n c [] well moves = no_more n c
+moves_end n c (line ∷ lines) well (inl moves) =
+    ending_of _ _ (skipped_line n (Some c) line lines moves.0) ∙ moves_end (n + 1) c lines well moves.1
+moves_end n c (line ∷ lines) well (inr moves) =
     ending_of _ _
     (made_line n c line lines moves.move moves.kept moves.read
-    (agreed c moves.move moves.agrees))
-    ∙ moves_end (n + 1) (checked c moves.move) lines moves.behind
+    (agreed c moves.move well moves.agrees))
+    ∙ moves_end (n + 1) (checked c moves.move) lines
+    (stays_well c moves.move well moves.agrees.accepted) moves.behind
 
 a_header : (n : ℕ) (line : List ℕ) (lines : List (List ℕ)) (h : Result Header TextFault)
     → is_skipped line ≡ false → read_header_of line ≡ h
@@ -171,6 +176,7 @@ a_header n line lines (Ok header) stays read accepted = record {
   read = read;
   behind =
       moves_are (n + 1) (new_checked header) lines
+      (new_is_well header.kind header.threads header.bits)
       (sym (ending_of _ _ (header_line n line lines header stays read)) ∙ accepted);
 }
 a_header n line lines (Err fault) stays read accepted =
@@ -198,7 +204,8 @@ trace_ends n (line ∷ lines) (inl trace) =
     ending_of _ _ (skipped_line n None line lines trace.0) ∙ trace_ends (n + 1) lines trace.1
 trace_ends n (line ∷ lines) (inr trace) =
     ending_of _ _ (header_line n line lines trace.header trace.kept trace.read)
-    ∙ moves_end (n + 1) (new_checked trace.header) lines trace.behind
+    ∙ moves_end (n + 1) (new_checked trace.header) lines
+    (new_is_well trace.header.kind trace.header.threads trace.header.bits) trace.behind
 
 -- a report with the text's verdict is the text's
 pub of_text : (report : Report) (text : List ℕ)

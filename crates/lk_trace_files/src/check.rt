@@ -8,10 +8,9 @@ ghost use Rattle.lk_trace_files.specs.Verdicts.{IsOfText, at_end, verdict, verdi
 ghost use Rattle.lk_trace_files.specs.invariants.Following.{Follows};
 
 use crate::lines::{Line, Lines};
-use crate::summary::{Summary, awaits_link};
+use crate::summary::Summary;
 use crate::texts::{fault_text, put_difference, put_standing};
-use lk_locks::Outcome;
-use lk_trace::{Checker, Difference, Event, TextFault, TraceLine, TraceReader};
+use lk_trace::{Checker, Difference, Event, Made, TextFault, TraceLine, TraceReader};
 use std::alloc::{AllocError, Global};
 use std::fmt::Write;
 use std::io::{Error, ErrorKind, Read};
@@ -110,10 +109,9 @@ impl Report {
     }
 
     // Counts a move that was made.
-    fn count(&mut self, trace: &TraceReader, line: TraceLine, outcome: Outcome) {
+    fn count(&mut self, trace: &TraceReader, line: TraceLine, made: Made) {
         if let Some(checker) = trace.checker() {
-            let awaited = awaits_link(checker.phase(line.thread));
-            self.summary.note(checker.lock(), line, outcome, awaited);
+            self.summary.note(checker.lock(), line, made);
         }
     }
 
@@ -157,8 +155,8 @@ fn take_line(
 {
     match trace.line(line) {
         Event::Skipped | Event::Began(_) => Ok(true),
-        Event::Made(line, outcome) => {
-            report.count(trace, line, outcome);
+        Event::Made(line, made) => {
+            report.count(trace, line, made);
             Ok(true)
         }
         Event::Differs(line, difference) => {

@@ -10,12 +10,12 @@ use crate::lines::{Line, Lines};
 use crate::sentences::sentence;
 use crate::texts::{fault_text, put_difference, put_standing, put_thread, put_word};
 use faulty::put_fault;
-use lk_locks::{LockKind, Machine, Move, Op, Outcome, Phase};
+use lk_locks::{LockKind, Machine, Move, Op};
 use lk_trace::{
-    Checker, Difference, Event, TextFault, TraceLine, TraceReader, WordName, move_text, name_at,
-    outcome_text, read_line, step_text, touched,
+    Checker, Difference, Event, Made, TextFault, TraceLine, TraceReader, move_text, name_at,
+    outcome_text, step_text,
 };
-use lk_words::{WordArray, Words};
+use lk_words::{Effect, WordArray, Words};
 use std::alloc::{AllocError, Global};
 use std::fmt::Write as _;
 use std::io::{Read, Write};
@@ -26,13 +26,6 @@ pub struct Asked<'a> {
     /// The first and the last move, from 1.
     pub moves: (u64, u64),
     pub names: &'a [String],
-}
-
-// The words of a lock before a move, and the phase of its thread.
-#[derive(Drop)]
-struct Before {
-    words: WordArray,
-    phase: Phase,
 }
 
 fn value_at(words: &WordArray, place: usize) -> u64 {
@@ -67,21 +60,20 @@ fn put_changes(
 fn put_values(
     text: &mut String,
     checker: &Checker,
-    before: &Before,
-    line: TraceLine,
+    before: &WordArray,
+    effect: Option<Effect>,
 ) -> Result<(), AllocError> {
     let kind = checker.lock().kind();
-    let after = checker.lock().machine().words();
-    let Move::Step(_) = line.action else {
-        return Ok(());
+    let Some(Effect {
+        word, found, left, ..
+    }) = effect
+    else {
+        return put_changes(text, kind, before, checker.lock().machine().words());
     };
-    let Some(word) = touched(kind, line.thread, before.phase) else {
-        return put_changes(text, kind, &before.words, after);
-    };
-    let place = lk_trace::place_of(kind, word);
-    let (found, left) = (value_at(&before.words, place), value_at(after, place));
     text.push_str(", ")?;
-    put_word(text, word)?;
+    if let Some(word) = name_at(kind, word) {
+        put_word(text, word)?;
+    }
     if found == left {
         write!(text, " {found}")
     } else {
@@ -94,20 +86,20 @@ fn put_move(
     text: &mut String,
     asked: Asked<'_>,
     checker: &Checker,
-    before: &Before,
+    before: &WordArray,
     line: TraceLine,
-    outcome: Outcome,
+    made: Made,
 ) -> Result<(), AllocError> {
     let word = move_text(line.action);
-    let came = outcome_text(outcome);
+    let came = outcome_text(made.outcome);
     let thread = line.thread;
     write!(text, "{thread} {word}: {came}")?;
-    put_values(text, checker, before, line)?;
+    put_values(text, checker, before, made.effect)?;
     text.push_str("; ")?;
     put_thread(text, asked.names, thread)?;
     text.push_str(" ")?;
     let kind = checker.lock().kind();
-    text.push_str(sentence(kind, before.phase, line.action, outcome))?;
+    text.push_str(sentence(kind, made.from, line.action, made.outcome))?;
     text.push_str("; ")?;
     put_standing(text, checker.lock())?;
     text.push_str("\n")
@@ -160,16 +152,6 @@ fn put_refused(
     put_due(text, checker.lock().machine(), line.thread)
 }
 
-// The words, and the phase of the thread, before a line.
-fn before_line(trace: &TraceReader, line: &[u8]) -> Option<Before> {
-    let checker = trace.checker()?;
-    let thread = read_line(line)?.thread;
-    Some(Before {
-        words: checker.lock().machine().words().copy(),
-        phase: checker.phase(thread).unwrap_or(Phase::Idle),
-    })
-}
-
 // What has been told so far.
 #[derive(Drop)]
 struct Telling<'a> {
@@ -183,7 +165,10 @@ struct Telling<'a> {
 impl Telling<'_> {
     // Tells of a line. The ending, where it is the last.
     fn line(&mut self, number: u64, bytes: &[u8]) -> Result<Option<Ending>, AllocError> {
-        let before = before_line(&self.trace, bytes);
+        let before = match self.trace.checker() {
+            Some(checker) => Some(checker.lock().machine().words().copy()),
+            None => None,
+        };
         let event = self.trace.line(bytes);
         let Some(checker) = self.trace.checker() else {
             return match event {
@@ -195,11 +180,11 @@ impl Telling<'_> {
             };
         };
         match (event, before) {
-            (Event::Made(line, outcome), Some(before)) => {
+            (Event::Made(line, made), Some(before)) => {
                 self.moves = self.moves.saturating_add(1);
                 if self.asked.moves.0 <= self.moves && self.moves <= self.asked.moves.1 {
                     write!(self.text, "{number}: ")?;
-                    put_move(&mut self.text, self.asked, checker, &before, line, outcome)?;
+                    put_move(&mut self.text, self.asked, checker, &before, line, made)?;
                 }
                 Ok(None)
             }

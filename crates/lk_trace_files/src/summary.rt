@@ -1,9 +1,10 @@
-//! What a run had of contention: waits, failed compare-and-swaps, late links, the longest queue,
+//! What a run had of contention: waits, failed compare-and-swaps, polls of a
+//! late link, the longest queue,
 //! rounds of a counter.
 
 use crate::texts::Lock;
 use lk_locks::{LockKind, Move, Outcome, Phase, StepKind};
-use lk_trace::{TraceLine, WordName, place_of};
+use lk_trace::{Made, TraceLine, WordName, place_of};
 use lk_words::WordArray;
 use std::alloc::AllocError;
 use std::fmt::Write;
@@ -78,15 +79,14 @@ impl Summary {
         }
     }
 
-    /// Counts a move that was made on this lock. `awaited` where the thread awaited a link before
-    /// it.
-    pub fn note(&mut self, lock: &Lock, line: TraceLine, outcome: Outcome, awaited: bool) {
+    /// Counts a move that was made on this lock.
+    pub fn note(&mut self, lock: &Lock, line: TraceLine, made: Made) {
         self.moves = self.moves.saturating_add(1);
         if line.thread < 64 {
             self.seen |= 1u64 << line.thread;
         }
-        match (line.action, outcome) {
-            (Move::Step(_), Outcome::Waits) if awaited => {
+        match (line.action, made.outcome) {
+            (Move::Step(_), Outcome::Waits) if made.from == Phase::AwaitLink => {
                 self.late = self.late.saturating_add(1);
             }
             (Move::Step(_), Outcome::Waits) => self.waits = self.waits.saturating_add(1),
@@ -116,7 +116,7 @@ impl Summary {
             "failed compare-and-swap, ",
             "failed compare-and-swaps, ",
         )?;
-        put_count(text, self.late, "late link, ", "late links, ")?;
+        put_count(text, self.late, "poll of a late link, ", "polls of a late link, ")?;
         let longest = self.longest;
         write!(text, "longest queue {longest}, ")?;
         put_count(
@@ -143,12 +143,7 @@ impl Summary {
             text,
             "\"threads\":{threads},\"moves\":{moves},\"waits\":{waits},"
         )?;
-        write!(text, "\"failed_cas\":{failed},\"late_links\":{late},")?;
+        write!(text, "\"failed_cas\":{failed},\"late_link_polls\":{late},")?;
         write!(text, "\"longest_queue\":{longest},\"rounds\":{rounds}")
     }
-}
-
-/// Whether a thread in this phase awaits the link of its successor.
-pub fn awaits_link(phase: Option<Phase>) -> bool {
-    matches!(phase, Some(Phase::AwaitLink))
 }

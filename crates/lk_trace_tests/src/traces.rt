@@ -1,11 +1,13 @@
 //! Worked lines and moves. What they expect was made by hand.
 
-use lk_locks::{LockKind, Machine, Move, Op, Outcome, Phase, Refusal, StepKind};
-use lk_trace::{
-    Checker, Difference, Event, Seen, TextFault, TraceLine, TraceReader, WordName, name_at,
-    place_of, read_line, read_log_line, touched, whole_number,
+use lk_locks::{
+    LockKind, Machine, Move, Op, Outcome, Phase, Refusal, StepKind, operation_of,
 };
-use lk_words::{Access, Operation, RecordingWords, WordArray};
+use lk_trace::{
+    Checker, Difference, Event, Made, Seen, TextFault, TraceLine, TraceReader, WordName, name_at,
+    place_of, read_line, read_log_line, whole_number,
+};
+use lk_words::{Operation, WordArray};
 use std::process::Abort;
 
 const SWAP: Move = Move::Step(StepKind::Swap);
@@ -129,11 +131,12 @@ fn words_have_names(rt: HostRuntime) {
     assert_eq!(rt; name_at(LockKind::Ticket, 1), Some(WordName::NowServing));
     assert_eq!(rt; name_at(LockKind::RwSimple, 1), Some(WordName::Flag));
     assert_eq!(rt; name_at(LockKind::RwFifo, 2), Some(WordName::Flag));
+    let granting = Operation::Write { word: 4, value: 0 };
     assert_eq!(rt;
-        touched(LockKind::Mcs, 4, Phase::Grant(1)),
-        Some(WordName::Locked(1))
+        operation_of(LockKind::Mcs, 64, 4, Phase::Grant(1)),
+        Some(granting)
     );
-    assert_eq!(rt; touched(LockKind::RwFifo, 4, Phase::TryRead), None);
+    assert_eq!(rt; operation_of(LockKind::RwFifo, 64, 4, Phase::TryRead), None);
 }
 
 // Makes the move that the line is, and gives what came of it.
@@ -142,7 +145,7 @@ fn made(rt: &impl Abort, checker: &mut Checker, line: &[u8]) -> Result<Outcome, 
         assert!(rt; false);
         return Err(Difference::WroteOther { wrote: true });
     };
-    checker.step(line)
+    Ok(checker.step(line)?.outcome)
 }
 
 // The example of the trace's page: thread 1 swaps itself in before thread 0 leaves.
@@ -266,30 +269,24 @@ const ACQUIRE: Move = Move::Call(Op::Acquire);
 
 const RELEASE: Move = Move::Call(Op::Release);
 
-// Each step of the run is on the word at its place: so says what the checker takes for its word,
-// and so does the operation that the machine itself made. A call is on none.
+// Each step of the run is on the word at its place, and a call is on none.
 fn is_on_its_words(
     rt: &impl Abort,
-    kind: LockKind,
-    machine: &mut Machine<RecordingWords<WordArray>>,
+    machine: &mut Machine<WordArray>,
     run: &[(u8, Move, Option<usize>)],
 ) {
     for &(thread, action, place) in run {
         assert!(rt; thread < machine.threads());
-        let word = touched(kind, thread, machine.phase(thread));
-        assert_eq!(rt; word.map(|word| place_of(kind, word)), place);
+        let word = machine.operation(thread).map(|operation| operation.word());
+        assert_eq!(rt; word, place);
         assert!(rt; machine.apply(thread, action).is_ok());
-        if place.is_some() {
-            let last = machine.words().last();
-            assert_eq!(rt; last.map(|access| access.word), place);
-        }
     }
 }
 
 // Each of the four steps: a ticket is taken, looked for in vain and found, read and passed on.
 #[test]
 fn ticket_steps_are_on_their_words(rt: HostRuntime) {
-    let mut machine = Machine::new(LockKind::Ticket, 2, RecordingWords::new(WordArray::new(2)));
+    let mut machine = Machine::new(LockKind::Ticket, 2, WordArray::new(2));
     let run = [
         (0, ACQUIRE, None),
         (0, ADD, Some(0)),
@@ -302,7 +299,7 @@ fn ticket_steps_are_on_their_words(rt: HostRuntime) {
         (0, WRITE, Some(1)),
         (1, READ, Some(1)),
     ];
-    is_on_its_words(&rt, LockKind::Ticket, &mut machine, &run);
+    is_on_its_words(&rt, &mut machine, &run);
 }
 
 // Each of the nine steps: thread 1 sets itself behind thread 0, which finds no link, fails to clear
@@ -310,7 +307,7 @@ fn ticket_steps_are_on_their_words(rt: HostRuntime) {
 // are the tail, and next and locked of each thread.
 #[test]
 fn mcs_steps_are_on_their_words(rt: HostRuntime) {
-    let mut machine = Machine::new(LockKind::Mcs, 2, RecordingWords::new(WordArray::new(5)));
+    let mut machine = Machine::new(LockKind::Mcs, 2, WordArray::new(5));
     let run = [
         (0, ACQUIRE, None),
         (0, WRITE, Some(1)),
@@ -332,14 +329,7 @@ fn mcs_steps_are_on_their_words(rt: HostRuntime) {
         (1, READ, Some(3)),
         (1, CAS, Some(0)),
     ];
-    is_on_its_words(&rt, LockKind::Mcs, &mut machine, &run);
-    let cleared = Access {
-        operation: Operation::CompareAndSwap,
-        word: 0,
-        found: Some(2),
-        left: Some(0),
-    };
-    assert_eq!(rt; machine.words().last(), Some(cleared));
+    is_on_its_words(&rt, &mut machine, &run);
 }
 
 // The fault of a new trace's first line, where it has one.
@@ -374,7 +364,7 @@ fn headers_are_read(rt: HostRuntime) {
             Event::Differs(_, Difference::Refused(_))
         )
     );
-    assert!(rt; matches!(reader.line(b"0 acquire"), Event::Made(_, Outcome::Called)));
+    assert!(rt; matches!(reader.line(b"0 acquire"), Event::Made(_, Made { outcome: Outcome::Called, .. })));
     assert!(rt; matches!(reader.line(b""), Event::Skipped));
     assert!(rt; matches!(reader.line(b"0 acquire "), Event::Fault(TextFault::BadLine)));
     assert!(rt; reader.checker().is_some());

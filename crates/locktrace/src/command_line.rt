@@ -62,7 +62,7 @@ fn check_command<'a>(alloc: Global) -> Result<Command<'a>, AllocError> {
     let summary = Arg::new(alloc, "summary")
         .long("summary")
         .help(
-            "Counts threads, moves, waits, failed compare-and-swaps, late links, the longest queue \
+            "Counts threads, moves, waits, failed compare-and-swaps, polls of a late link, the longest queue \
              and rounds",
         )
         .action(ArgAction::SetTrue);

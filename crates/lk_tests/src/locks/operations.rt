@@ -2,67 +2,87 @@
 //! seen after each single move.
 
 use super::rows::*;
-use Operation::{CompareAndSwap, FetchAndAdd, Read, Swap, Write};
 use lk_locks::{LockKind, Machine, Move, Outcome};
-use lk_words::{Access, CountingWords, Operation, RecordingWords, WordArray};
+use lk_words::{CountingWords, Operation, WordArray};
 use std::process::Abort;
 
-type Seen = RecordingWords<CountingWords<WordArray>>;
-
-// An operation, its word, and what stood there before and since, where the operation tells.
-type Done = (Operation, usize, Option<u64>, Option<u64>);
+// An operation, and what stands in its word before and after.
+type Done = (Operation, u64, u64);
 
 fn is_step(action: Move) -> bool {
     matches!(action, Move::Step(_))
 }
 
-// Plays a row, whose steps do this, in their order.
-fn does(rt: &impl Abort, machine: &mut Machine<Seen>, row: &[(u8, Move, Outcome)], done: &[Done]) {
+// Plays a row, whose steps do this, in their order. What a step does is said before it is made.
+fn does(
+    rt: &impl Abort,
+    machine: &mut Machine<CountingWords<WordArray>>,
+    row: &[(u8, Move, Outcome)],
+    done: &[Done],
+) {
     let mut steps = done.iter();
     for (i, &(thread, action, outcome)) in row.iter().enumerate() {
-        let count = machine.words().inner().count();
-        let before = machine.words().last();
+        assert!(rt; thread < machine.threads());
+        let count = machine.words().count();
+        let due = machine.operation(thread);
+        let said = match due {
+            Some(operation) => {
+                let effect = machine.words().inner().effect(operation);
+                Some((operation, effect.found, effect.left))
+            }
+            None => None,
+        };
         assert_eq!(rt; machine.apply(thread, action), Ok(outcome), "move {i}");
-        let since = machine.words().inner().count();
+        let since = machine.words().count();
         if is_step(action) {
             assert_eq!(rt; since, count.saturating_add(1), "move {i}");
-            assert_eq!(rt;
-                machine.words().last(),
-                steps.next().map(access_of),
-                "move {i}"
-            );
+            assert_eq!(rt; said, steps.next().copied(), "move {i}");
         } else {
-            assert_eq!(rt;
-                (since, machine.words().last()),
-                (count, before),
-                "move {i}"
-            );
+            assert_eq!(rt; (since, said), (count, None), "move {i}");
         }
     }
     assert_eq!(rt; steps.next(), None);
 }
 
-fn access_of(done: &Done) -> Access {
-    Access {
-        operation: done.0,
-        word: done.1,
-        found: done.2,
-        left: done.3,
-    }
+fn read(word: usize, found: u64) -> Done {
+    (Operation::Read { word }, found, found)
+}
+
+fn write(word: usize, found: u64, value: u64) -> Done {
+    (Operation::Write { word, value }, found, value)
+}
+
+fn swap(word: usize, found: u64, value: u64) -> Done {
+    (Operation::Swap { word, value }, found, value)
+}
+
+fn take(found: u64, left: u64) -> Done {
+    let operation = Operation::FetchAndAdd { word: 0, addend: 1 };
+    (operation, found, left)
+}
+
+// The compare-and-swap of the tail from a thread's record to nil.
+fn clear(record: u64, found: u64, left: u64) -> Done {
+    let operation = Operation::CompareAndSwap {
+        word: 0,
+        old: record,
+        new: 0,
+    };
+    (operation, found, left)
 }
 
 #[test]
 fn ticket_lock_by_single_operations(rt: HostRuntime) {
-    let words = RecordingWords::new(CountingWords::new(WordArray::new(2)));
+    let words = CountingWords::new(WordArray::new(2));
     let mut machine = Machine::new(LockKind::Ticket, 2, words);
     let done = [
-        (FetchAndAdd, 0, Some(0), Some(1)),
-        (Read, 1, Some(0), Some(0)),
-        (FetchAndAdd, 0, Some(1), Some(2)),
-        (Read, 1, Some(0), Some(0)),
-        (Read, 1, Some(0), Some(0)),
-        (Write, 1, None, Some(1)),
-        (Read, 1, Some(1), Some(1)),
+        take(0, 1),
+        read(1, 0),
+        take(1, 2),
+        read(1, 0),
+        read(1, 0),
+        write(1, 0, 1),
+        read(1, 1),
     ];
     does(&rt, &mut machine, &HANDED_ON, &done);
 }
@@ -70,50 +90,50 @@ fn ticket_lock_by_single_operations(rt: HostRuntime) {
 // Thread i's successor is word 1 + 2i, and whether it waits is word 2 + 2i.
 #[test]
 fn mcs_lock_with_a_late_link_by_single_operations(rt: HostRuntime) {
-    let words = RecordingWords::new(CountingWords::new(WordArray::new(5)));
+    let words = CountingWords::new(WordArray::new(5));
     let mut machine = Machine::new(LockKind::Mcs, 2, words);
     let done = [
-        (Write, 1, None, Some(0)),
-        (Swap, 0, Some(0), Some(1)),
-        (Write, 3, None, Some(0)),
-        (Read, 1, Some(0), Some(0)),
-        (Swap, 0, Some(1), Some(2)),
-        (CompareAndSwap, 0, None, None),
-        (Read, 1, Some(0), Some(0)),
-        (Read, 1, Some(0), Some(0)),
-        (Write, 4, None, Some(1)),
-        (Write, 1, None, Some(2)),
-        (Read, 1, Some(2), Some(2)),
-        (Write, 4, None, Some(0)),
-        (Read, 4, Some(0), Some(0)),
+        write(1, 0, 0),
+        swap(0, 0, 1),
+        write(3, 0, 0),
+        read(1, 0),
+        swap(0, 1, 2),
+        clear(1, 2, 2),
+        read(1, 0),
+        read(1, 0),
+        write(4, 0, 1),
+        write(1, 0, 2),
+        read(1, 2),
+        write(4, 1, 0),
+        read(4, 0),
     ];
     does(&rt, &mut machine, &LATE_LINK, &done);
 }
 
 #[test]
 fn mcs_lock_with_three_threads_by_single_operations(rt: HostRuntime) {
-    let words = RecordingWords::new(CountingWords::new(WordArray::new(7)));
+    let words = CountingWords::new(WordArray::new(7));
     let mut machine = Machine::new(LockKind::Mcs, 3, words);
     let done = [
-        (Write, 1, None, Some(0)),
-        (Swap, 0, Some(0), Some(1)),
-        (Write, 3, None, Some(0)),
-        (Swap, 0, Some(1), Some(2)),
-        (Write, 5, None, Some(0)),
-        (Swap, 0, Some(2), Some(3)),
-        (Write, 6, None, Some(1)),
-        (Write, 3, None, Some(3)),
-        (Read, 6, Some(1), Some(1)),
-        (Write, 4, None, Some(1)),
-        (Write, 1, None, Some(2)),
-        (Read, 1, Some(2), Some(2)),
-        (Write, 4, None, Some(0)),
-        (Read, 4, Some(0), Some(0)),
-        (Read, 3, Some(3), Some(3)),
-        (Write, 6, None, Some(0)),
-        (Read, 6, Some(0), Some(0)),
-        (Read, 5, Some(0), Some(0)),
-        (CompareAndSwap, 0, Some(3), Some(0)),
+        write(1, 0, 0),
+        swap(0, 0, 1),
+        write(3, 0, 0),
+        swap(0, 1, 2),
+        write(5, 0, 0),
+        swap(0, 2, 3),
+        write(6, 0, 1),
+        write(3, 0, 3),
+        read(6, 1),
+        write(4, 0, 1),
+        write(1, 0, 2),
+        read(1, 2),
+        write(4, 1, 0),
+        read(4, 0),
+        read(3, 3),
+        write(6, 1, 0),
+        read(6, 0),
+        read(5, 0),
+        clear(3, 3, 0),
     ];
     does(&rt, &mut machine, &THIRD_LINKED_FIRST, &done);
 }
