@@ -1,11 +1,11 @@
 #!/usr/bin/env python3
 """Compares the code of docs/LOCKS.md with the definitions of the locks.
 
-Each line names a phase and the kind of step that is due in it. The definitions `step_due` and
-`after_call` of crates/lk_locks/specs say the same of every phase. Those of the read-write locks are
-in a file that they share; which phases each of these has, its own `step` tells. Both must name the
-same phases with the same kinds, and the same calls. Prints `N passed, M failed`, and ends with 1
-where one failed.
+Each line names a phase and the kind of step that is due in it. The definitions `operation` and
+`after_call` of crates/lk_locks/specs say the same of every phase of a queue lock. The calls of the
+read-write locks are in a file that they share; which phases each of these has, its own `step`
+tells, and each of them takes a section. Both must name the same phases with the same kinds, and the
+same calls. Prints `N passed, M failed`, and ends with 1 where one failed.
 """
 import pathlib
 import re
@@ -21,6 +21,8 @@ from locks import LOCKS
 SHARED = "read_write.antt"
 CALLS = {"Acquire": "acquire", "Release": "release", "ReadLock": "rlock", "ReadUnlock": "runlock",
          "WriteLock": "wlock", "WriteUnlock": "wunlock", "Downgrade": "downgrade"}
+KINDS = {"Read": "read", "Write": "write", "Swap": "swap", "CompareAndSwap": "cas",
+         "FetchAndAdd": "add"}
 LINE = re.compile(r"-- (\w+) (\w+)(?: looks at .*)?$", re.MULTILINE)
 STEP = re.compile(r"^step .*?\(?\b([A-Z]\w+)[^=]*=", re.MULTILINE)
 
@@ -37,12 +39,11 @@ def in_definitions(lock):
     phases = STEP.findall(text)
     if "after_call" not in text:
         text = (SPECS / SHARED).read_text()
-    due = re.findall(r"^step_due \(?([A-Z]\w+).* = Some (\w+)$", text, re.MULTILINE)
+    due = {(KINDS[operation], phase) for phase, operation in
+           re.findall(r"^operation \w+ \(?([A-Z]\w+).* = Some \((\w+)", text, re.MULTILINE)}
     calls = re.findall(r"^after_call .* (\w+) = Some", text, re.MULTILINE)
     inside = re.findall(r"^after_call \(?([A-Z]\w+).* = Some", text, re.MULTILINE)
-    if not due:  # where there is but one kind of step
-        due = [(phase, "Section") for phase in phases]
-    return ({(kind.lower(), phase) for phase, kind in due}
+    return ((due or {("section", phase) for phase in phases})
             | {("call", CALLS[call]) for call in calls}
             | {("inside", phase) for phase in inside if phase != "Idle"})
 

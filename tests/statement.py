@@ -4,18 +4,18 @@
     tests/statement.py [NAME]
 
 From `MainTheorem.EveryRunIsAsPromised`, or from another definition given as FILE.NAME, it follows
-each name to its definition in crates/lk_locks/specs, and prints for each file the definitions that
-are reached, with their lines. Blank lines, comments and `use` lines do not count.
+each name to its definition in the specs of lk_locks or lk_words, and prints for each file the
+definitions that are reached, with their lines. Blank lines, comments and `use` lines do not count.
 """
 
 import re
 import sys
 from pathlib import Path
 
-SPECS = Path(__file__).resolve().parent.parent / "crates" / "lk_locks" / "specs"
+CRATES = Path(__file__).resolve().parent.parent / "crates"
 THEOREM = "MainTheorem.EveryRunIsAsPromised"
 
-IMPORT = re.compile(r"use Rattle\.lk_locks\.specs\.([\w.]+?)(?:\.\{(.*)\})?$")
+IMPORT = re.compile(r"use Rattle\.(?:lk_locks|lk_words)\.specs\.([\w.]+?)(?:\.\{(.*)\})?$")
 DEFINITION = re.compile(r"(?:abbrev pub|pub record|pub data)\s+(\S+)")
 NAME = re.compile(r"(?<![\w.])([A-Za-z_]\w*)(?:\.([A-Za-z_]\w*))?")
 
@@ -61,9 +61,10 @@ class Definitions:
 
 def read_all():
     files = {}
-    for path in SPECS.rglob("*.antt"):
-        module = ".".join(path.relative_to(SPECS).with_suffix("").parts)
-        files[module] = Definitions(module, path.read_text().splitlines())
+    for specs in (CRATES / "lk_words" / "specs", CRATES / "lk_locks" / "specs"):
+        for path in specs.rglob("*.antt"):
+            module = ".".join(path.relative_to(specs).with_suffix("").parts)
+            files[module] = Definitions(module, path.read_text().splitlines())
     return files
 
 
