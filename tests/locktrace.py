@@ -121,8 +121,8 @@ def words_and_texts(program):
 
 def summaries(program):
     program.case("summary", ["check", "--summary", "good"], 0,
-                 "good: 2 threads, 7 moves, 0 waits, 0 failed compare-and-swaps, 0 polls of a late link, "
-                 "longest queue 2, 0 rounds of the counter\n"
+                 "good: 2 threads, 7 moves, 0 waits, 0 failed compare-and-swaps, "
+                 "0 polls of a late link, longest queue 2, 0 rounds of the counter\n"
                  "good: warning: no thread ever waited, so the run shows nothing of contention\n")
     rounds = "lock ticket threads 1 bits 2\n" + "".join(
         f"0 acquire\n0 add next_ticket found {k % 4}\n0 read\n0 release\n0 read\n0 write\n"

@@ -37,6 +37,12 @@ impl From<Other> for Pair {
     }
 }
 
+impl Cell<Pair> {
+    fn both(&self) -> u8 {
+        2
+    }
+}
+
 trait Named {
     fn name(&self) -> u8;
 }
@@ -48,7 +54,7 @@ fn least() -> u8 {
 FILES = {Path("lib.rt"): "mod pairs;\nuse pairs::Pair;\nimpl Pair {\n    fn zero() -> u8 {\n"
                          "        0\n    }\n}\n", Path("pairs.rt"): SOURCE}
 NAMES = {"c::pairs::Pair::left", "c::pairs::PairClone::clone", "c::pairs::least",
-         "c::pairs::Pair::zero", "c::pairs::PairFromOther::from"}
+         "c::pairs::Pair::zero", "c::pairs::PairFromOther::from", "c::pairs::Cell+Pair::both"}
 OWN = "fn c::f: no proof: expected answers in ./proofs/f/Answers.antt; `search` did not prove `r`"
 CALLS = "fn c::f: no proof: it calls `c::g`, which is not proved"
 BOTH = f"{OWN}; it calls `c::g`, which is not proved"

@@ -42,10 +42,12 @@ def without_parameters(head):
 
 def owner_of(head):
     """Type and trait of an impl by its head. The type has no parameters and no path; the trait has
-    its parameters after it, as `FromRunFault` of `From<RunFault>`. No trait is ''."""
+    its parameters after it, as `FromRunFault` of `From<RunFault>`. No trait is '', and the type of
+    an impl for one parameter has it after it, as `Machine+WordArray` of `Machine<WordArray>`."""
     words = [word.rpartition("::")[2] for word in without_parameters(head).split()]
     if words[1:2] != ["for"]:
-        return words[0], ""
+        given = re.match(r" \w+<(\w+)>", head)
+        return words[0], f"+{given[1]}" if given else ""
     given = re.search(rf"\b{words[0]}<(\w+)> for\b", head)
     return words[2], words[0] + (given[1] if given else "")
 

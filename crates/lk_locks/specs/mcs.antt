@@ -5,8 +5,8 @@
 -- Multiprocessors", ACM TOCS 9(1), 1991, section 2.4, with the release that has compare-and-swap.
 -- Different here: each thread has one record, and thread i's is record i + 1, so that 0 is nil; the
 -- last write of a release uses the successor that was read last, without reading it again.
-use Rattle.std.specs.Prelude.{ℕ, ◌+◌, ◌-◌, ◌*◌, ◌==◌, List, [], ◌∷◌, Option, None, Some, true, false}
-use Rattle.std.specs.Prelude.{if◌then◌else◌}
+use Rattle.std.specs.Prelude.{ℕ, ◌+◌, ◌-◌, ◌*◌, ◌==◌, List, [], ◌∷◌, Option, None, Some, true}
+use Rattle.std.specs.Prelude.{false, if◌then◌else◌}
 use Rattle.lk_words.specs.declared.operation.Operation.{Operation}
 use Rattle.lk_words.specs.declared.operation.Operation.TheVariants.{Read, Write, Swap}
 use Rattle.lk_words.specs.declared.operation.Operation.TheVariants.{CompareAndSwap}

@@ -15,14 +15,6 @@ use crate::entries::Added;
 use crate::{Entry, Family, Op, Outcome, Phase, StepKind};
 use lk_words::Operation;
 
-/// What a section leaves: the monitor's words, at most three, the thread's phase, and the outcome.
-#[derive(Clone, Copy, PartialEq, Eq, Debug)]
-pub struct Section {
-    pub left: [u64; 3],
-    pub phase: Phase,
-    pub outcome: Outcome,
-}
-
 /// The phase that a call leads to, where a thread in this phase may make it.
 pub fn after_call(phase: Phase, op: Op) -> Option<Phase>
     ensures { result ≡ after_call phase op }

@@ -13,7 +13,6 @@ ghost use Rattle.lk_locks.specs.declared.kinds.Family.TheVariants.{FifoReadWrite
 
 use crate::arithmetic::plus_one;
 use crate::entries::Added;
-use crate::read_write::Section;
 pub use crate::read_write::{after_call, has_step, operation, step_due};
 use crate::{Family, Outcome, Phase, read_write};
 use lk_words::{WordArray, Words};
@@ -32,62 +31,33 @@ pub fn words_needed(_threads: u8) -> usize
 }
 
 /// What a section of a thread in this phase leaves in the monitor's words, of so many bits, in
-/// which these stand.
+/// which these stand; its new phase, and the outcome.
 #[inline(always)]
-pub fn section(bits: u8, found: [u64; 3], phase: Phase) -> Section
+pub fn section(bits: u8, found: [u64; 3], phase: Phase) -> ([u64; 3], Phase, Outcome)
     requires least { 2 ≤ bits }
     requires most { bits ≤ 64 }
     requires one { 1 < 2 ^ bits }
     requires fits { AreWords bits found }
-    ensures words { result.left ≡ (step bits found phase).words }
-    ensures phase { result.phase ≡ (step bits found phase).phase }
-    ensures outcome { result.outcome ≡ (step bits found phase).outcome }
-    ensures fits { AreWords bits result.left }
+    ensures words { result.0 ≡ (step bits found phase).words }
+    ensures phase { result.1 ≡ (step bits found phase).phase }
+    ensures outcome { result.2 ≡ (step bits found phase).outcome }
+    ensures fits { AreWords bits result.0 }
 {
+    use Outcome::{Entered, Left, Moved, Waits};
+    use Phase::{AwaitReaders, Idle, LeaveRead, LeaveWrite, Reading, Writing};
+    use Phase::{TryDowngrade, TryRead, TryWrite};
     let [acquires, releases, flag] = found;
     // as many readers left as came
     let are_gone = acquires == releases;
     match phase {
-        Phase::TryRead if flag == 0 => Section {
-            left: [plus_one(bits, acquires), releases, flag],
-            phase: Phase::Reading,
-            outcome: Outcome::Entered,
-        },
-        Phase::LeaveRead => Section {
-            left: [acquires, plus_one(bits, releases), flag],
-            phase: Phase::Idle,
-            outcome: Outcome::Left,
-        },
-        Phase::TryWrite if flag == 0 && are_gone => Section {
-            left: [acquires, releases, 1],
-            phase: Phase::Writing,
-            outcome: Outcome::Entered,
-        },
-        Phase::TryWrite if flag == 0 => Section {
-            left: [acquires, releases, 1],
-            phase: Phase::AwaitReaders,
-            outcome: Outcome::Moved,
-        },
-        Phase::AwaitReaders if are_gone => Section {
-            left: found,
-            phase: Phase::Writing,
-            outcome: Outcome::Entered,
-        },
-        Phase::LeaveWrite => Section {
-            left: [acquires, releases, 0],
-            phase: Phase::Idle,
-            outcome: Outcome::Left,
-        },
-        Phase::TryDowngrade => Section {
-            left: [plus_one(bits, acquires), releases, 0],
-            phase: Phase::Reading,
-            outcome: Outcome::Entered,
-        },
-        _ => Section {
-            left: found,
-            phase,
-            outcome: Outcome::Waits,
-        },
+        TryRead if flag == 0 => ([plus_one(bits, acquires), releases, flag], Reading, Entered),
+        LeaveRead => ([acquires, plus_one(bits, releases), flag], Idle, Left),
+        TryWrite if flag == 0 && are_gone => ([acquires, releases, 1], Writing, Entered),
+        TryWrite if flag == 0 => ([acquires, releases, 1], AwaitReaders, Moved),
+        AwaitReaders if are_gone => (found, Writing, Entered),
+        LeaveWrite => ([acquires, releases, 0], Idle, Left),
+        TryDowngrade => ([plus_one(bits, acquires), releases, 0], Reading, Entered),
+        _ => (found, phase, Waits),
     }
 }
 
@@ -105,11 +75,7 @@ pub fn step<W: Words>(words: &mut W, _thread: u8, phase: Phase) -> (Phase, Outco
         words.read(READ_RELEASES),
         words.read(FLAG),
     ];
-    let Section {
-        left,
-        phase,
-        outcome,
-    } = section(words.bits(), found, phase);
+    let (left, phase, outcome) = section(words.bits(), found, phase);
     words.write(READ_ACQUIRES, left[READ_ACQUIRES]);
     words.write(READ_RELEASES, left[READ_RELEASES]);
     words.write(FLAG, left[FLAG]);
@@ -127,7 +93,7 @@ pub fn outcome(words: &WordArray, _thread: u8, phase: Phase) -> Outcome
         words.get(READ_RELEASES),
         words.get(FLAG),
     ];
-    section(words.bits(), found, phase).outcome
+    section(words.bits(), found, phase).2
 }
 
 /// Adds the entries of such a section.

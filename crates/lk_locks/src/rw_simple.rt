@@ -13,7 +13,6 @@ ghost use Rattle.lk_locks.specs.declared.kinds.Family.TheVariants.{ReadWrite};
 
 use crate::arithmetic::{less_one, plus_one};
 use crate::entries::Added;
-use crate::read_write::Section;
 pub use crate::read_write::{after_call, has_step, operation, step_due};
 use crate::{Family, Outcome, Phase, read_write};
 use lk_words::{WordArray, Words};
@@ -30,50 +29,28 @@ pub fn words_needed(_threads: u8) -> usize
 }
 
 /// What a section of a thread in this phase leaves in the monitor's words, of so many bits, in
-/// which these stand. The third word is none of this lock's.
+/// which these stand; its new phase, and the outcome. The third word is none of this lock's.
 #[inline(always)]
-pub fn section(bits: u8, found: [u64; 3], phase: Phase) -> Section
+pub fn section(bits: u8, found: [u64; 3], phase: Phase) -> ([u64; 3], Phase, Outcome)
     requires least { 2 ≤ bits }
     requires most { bits ≤ 64 }
     requires one { 1 < 2 ^ bits }
     requires fits { AreWords bits found }
-    ensures words { result.left ≡ (step bits found phase).words }
-    ensures phase { result.phase ≡ (step bits found phase).phase }
-    ensures outcome { result.outcome ≡ (step bits found phase).outcome }
-    ensures fits { AreWords bits result.left }
+    ensures words { result.0 ≡ (step bits found phase).words }
+    ensures phase { result.1 ≡ (step bits found phase).phase }
+    ensures outcome { result.2 ≡ (step bits found phase).outcome }
+    ensures fits { AreWords bits result.0 }
 {
+    use Outcome::{Entered, Left, Waits};
+    use Phase::{Idle, LeaveRead, LeaveWrite, Reading, TryDowngrade, TryRead, TryWrite, Writing};
     let [readers, flag, other] = found;
     match phase {
-        Phase::TryRead if flag == 0 => Section {
-            left: [plus_one(bits, readers), flag, other],
-            phase: Phase::Reading,
-            outcome: Outcome::Entered,
-        },
-        Phase::LeaveRead => Section {
-            left: [less_one(bits, readers), flag, other],
-            phase: Phase::Idle,
-            outcome: Outcome::Left,
-        },
-        Phase::TryWrite if readers == 0 && flag == 0 => Section {
-            left: [readers, 1, other],
-            phase: Phase::Writing,
-            outcome: Outcome::Entered,
-        },
-        Phase::LeaveWrite => Section {
-            left: [readers, 0, other],
-            phase: Phase::Idle,
-            outcome: Outcome::Left,
-        },
-        Phase::TryDowngrade => Section {
-            left: [plus_one(bits, readers), 0, other],
-            phase: Phase::Reading,
-            outcome: Outcome::Entered,
-        },
-        _ => Section {
-            left: found,
-            phase,
-            outcome: Outcome::Waits,
-        },
+        TryRead if flag == 0 => ([plus_one(bits, readers), flag, other], Reading, Entered),
+        LeaveRead => ([less_one(bits, readers), flag, other], Idle, Left),
+        TryWrite if readers == 0 && flag == 0 => ([readers, 1, other], Writing, Entered),
+        LeaveWrite => ([readers, 0, other], Idle, Left),
+        TryDowngrade => ([plus_one(bits, readers), 0, other], Reading, Entered),
+        _ => (found, phase, Waits),
     }
 }
 
@@ -87,11 +64,7 @@ pub fn step<W: Words>(words: &mut W, _thread: u8, phase: Phase) -> (Phase, Outco
     ensures width { W.width words.new ≡ W.width words.old }
 {
     let found = [words.read(READERS), words.read(FLAG), 0];
-    let Section {
-        left,
-        phase,
-        outcome,
-    } = section(words.bits(), found, phase);
+    let (left, phase, outcome) = section(words.bits(), found, phase);
     words.write(READERS, left[READERS]);
     words.write(FLAG, left[FLAG]);
     (phase, outcome)
@@ -104,7 +77,7 @@ pub fn outcome(words: &WordArray, _thread: u8, phase: Phase) -> Outcome
     ensures { result ≡ (step words.now.1 words.now.0 phase).outcome }
 {
     let found = [words.get(READERS), words.get(FLAG), 0];
-    section(words.bits(), found, phase).outcome
+    section(words.bits(), found, phase).2
 }
 
 /// Adds the entries of such a section.

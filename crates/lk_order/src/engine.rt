@@ -88,6 +88,15 @@ fn round_of(kind: LockKind, line: TraceLine, phase: Phase) -> Round {
     }
 }
 
+// In the order in which they are asked.
+const ROUNDS: [Round; 5] = [
+    Round::Look,
+    Round::Change,
+    Round::Last,
+    Round::CutOff,
+    Round::Endless,
+];
+
 // What is known of the next step of a thread of this lock.
 fn next_of(order: &Order, kind: LockKind, t: u8) -> Next {
     let Some(line) = order.next(t) else {
@@ -206,19 +215,12 @@ impl Engine {
 
     /// The thread whose step is proposed.
     pub fn choose(&mut self, order: &Order) -> Option<u8> {
-        if let Some(t) = self.choose_in(order, Round::Look) {
-            return Some(t);
+        for round in ROUNDS {
+            if let Some(t) = self.choose_in(order, round) {
+                return Some(t);
+            }
         }
-        if let Some(t) = self.choose_in(order, Round::Change) {
-            return Some(t);
-        }
-        if let Some(t) = self.choose_in(order, Round::Last) {
-            return Some(t);
-        }
-        if let Some(t) = self.choose_in(order, Round::CutOff) {
-            return Some(t);
-        }
-        self.choose_in(order, Round::Endless)
+        None
     }
 
     /// The step that was proposed differs from the lock, as it is.

@@ -159,7 +159,8 @@ moves_end : (n : ℕ) (c : Checked) (lines : List (List ℕ)) → WellFormed c.l
     → (verdict_from n (Some c) lines).ending ≡ Accepted
 moves_end n c [] well moves = no_more n c
 moves_end n c (line ∷ lines) well (inl moves) =
-    ending_of _ _ (skipped_line n (Some c) line lines moves.0) ∙ moves_end (n + 1) c lines well moves.1
+    ending_of _ _ (skipped_line n (Some c) line lines moves.0)
+    ∙ moves_end (n + 1) c lines well moves.1
 moves_end n c (line ∷ lines) well (inr moves) =
     ending_of _ _
     (made_line n c line lines moves.move moves.kept moves.read

@@ -70,6 +70,7 @@ pub fn order_logs<R: Files>(
         Taken::Unfit(status) => return Ok(status),
     };
     let Some(found) = find_order(alloc, logs)? else {
+        errors.push_str("locktrace: the logs are not of one run\n")?;
         return Ok(FAULTY_STATUS);
     };
     write_found(rt, alloc, &found, &job.folder, errors)?;

@@ -364,7 +364,18 @@ fn headers_are_read(rt: HostRuntime) {
             Event::Differs(_, Difference::Refused(_))
         )
     );
-    assert!(rt; matches!(reader.line(b"0 acquire"), Event::Made(_, Made { outcome: Outcome::Called, .. })));
+    assert!(rt;
+        matches!(
+            reader.line(b"0 acquire"),
+            Event::Made(
+                _,
+                Made {
+                    outcome: Outcome::Called,
+                    ..
+                }
+            )
+        )
+    );
     assert!(rt; matches!(reader.line(b""), Event::Skipped));
     assert!(rt; matches!(reader.line(b"0 acquire "), Event::Fault(TextFault::BadLine)));
     assert!(rt; reader.checker().is_some());

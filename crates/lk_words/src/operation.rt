@@ -6,7 +6,8 @@
 
 ghost use Rattle.std.specs.Prelude.{◌≡◌, ◌≤◌, ◌<◌, ◌^◌, length};
 ghost use Rattle.std.specs.Prelude.{slice_set};
-ghost use Rattle.lk_words.specs.Operations.{answer_of, effect_on, left_by, performed, word_of, Fits};
+ghost use Rattle.lk_words.specs.Operations.{answer_of, effect_on, left_by, performed};
+ghost use Rattle.lk_words.specs.Operations.{word_of, Fits};
 
 use crate::Words;
 use crate::array::greatest_of;

@@ -7,7 +7,8 @@ use lib.ListN.{get_elem?}
 use Rattle.atomic_table.proofs.Lists.{set_here, set_else}
 use Rattle.lk_locks.specs.declared.kinds.Phase.TheVariants.{AwaitTurn, TicketInside, PassOn}
 use Rattle.lk_locks.specs.declared.kinds.Outcome.TheVariants.{Waits, Entered, Left}
-use Rattle.lk_locks.specs.laws.{Event, event, take_event, look_event, read_event, pass_event}
+use Rattle.lk_workers.specs.TicketEvents.{Event, event, take_event, look_event, read_event}
+use Rattle.lk_workers.specs.TicketEvents.{pass_event}
 use Rattle.lk_locks.specs.Change.{to}
 use Rattle.lk_locks.specs.ticket.{step}
 use Rattle.lk_workers.specs.declared.live.LivePhase.{LivePhase}
@@ -41,8 +42,8 @@ happens : (live : LiveStep) (id : ℕ) (s : Table) (r : SeatState) (p : LivePhas
     → live.word < length s.words → get_elem? s.views id ≡ some (r ∷ []) → r.phase ≡ p
     → live.leaves r (get_or s.words live.word 0) ≡ e.word
     → thread_of (live.next r (get_or s.words live.word 0)) ≡ e.phase
-    → ((i : ℕ) → step 64 i s.words (due_in p r.ticket)
-    ≡ to (set s.words live.word (live.leaves r (get_or s.words live.word 0))) e.phase e.outcome)
+    → step 64 s.words (due_in p r.ticket)
+    ≡ to (set s.words live.word (live.leaves r (get_or s.words live.word 0))) e.phase e.outcome
     → Happens s (after live id s r) id live.word (due_in r.phase r.ticket) e
 happens live id s r p e low at is word phase machine =
     let found : ℕ = get_or s.words live.word 0 in
@@ -52,13 +53,13 @@ happens live id s r p e low at is word phase machine =
       other_word = λ i n. get_or-set_other s.words live.word i (live.leaves r found) 0 n;
       seat = (q, set_here s.views id (q ∷ []) (there s.views id (r ∷ []) at), phase);
       other_seats = λ j n. set_else s.views id j (q ∷ []) n;
-      machine = λ i. ap (λ d. step 64 i s.words (due_in d r.ticket)) is ∙ machine i;
+      machine = ap (λ d. step 64 s.words (due_in d r.ticket)) is ∙ machine;
     }
 
 pub takes : IsEvent take_step Idle (λ r found. take_event 64 found)
 takes all id s r h at is =
     happens take_step id s r Idle (take_event 64 (get_or s.words 0 0))
-    (let two = h.two_words in omega arith) at is refl refl (λ i. refl)
+    (let two = h.two_words in omega arith) at is refl refl refl
 
 -- a load stores nothing
 loads : (ws : List ℕ) (e : Event)
@@ -73,11 +74,18 @@ seen_phase found t b e = ap (λ (v : Event). v.phase) (sym (looks found t b e))
 seen_word : (found t : ℕ) (b : Bool) → (found == t) ≡ b → found ≡ (look_event t found).word
 seen_word found t b e = ap (λ (v : Event). v.word) (sym (looks found t b e))
 
+looked : (ws : List ℕ) (found t : ℕ) (b : Bool)
+    → (if b then to ws (TicketInside t) Entered else to ws (AwaitTurn t) Waits)
+    ≡ (let e : Event = if b then event found (TicketInside t) Entered
+    else event found (AwaitTurn t) Waits in to ws e.phase e.outcome)
+looked ws found t true = refl
+looked ws found t false = refl
+
 pub looks_at : IsEvent look_step Waiting (λ r found. look_event r.ticket found)
 looks_at all id s r h at is = let m : ℕ = get_or s.words 1 0 in let t : ℕ = r.ticket in
     happens look_step id s r Waiting (look_event t m) (let two = h.two_words in omega arith) at is
     (seen_word m t (m == t) refl) (seen_phase m t (m == t) refl)
-    (λ i. loads s.words (look_event t m))
+    (looked s.words m t (m == t) ∙ loads s.words (look_event t m))
 
 pub reads : IsEvent read_step Inside (λ r found. read_event found)
 reads all id s r h at is =
@@ -85,7 +93,7 @@ reads all id s r h at is =
     subst (λ p. FitsPhase (serving_of s) p r.ticket r.taken) is (h.seats id (r ∷ []) at).0.0.0 in
     happens read_step id s r Inside (read_event (get_or s.words 1 0))
     (let two = h.two_words in omega arith) at is refl (ap PassOn f.0)
-    (λ i. loads s.words (read_event (get_or s.words 1 0)))
+    (loads s.words (read_event (get_or s.words 1 0)))
 
 pub passes : IsEvent pass_step Leaving (λ r found. pass_event 64 r.ticket)
 passes all id s r h at is =
@@ -94,5 +102,5 @@ passes all id s r h at is =
     let two = h.two_words in
     let small : r.ticket + 1 ≡ (r.ticket + 1) % 2 ^ 64 = omega arith in
     happens pass_step id s r Leaving (pass_event 64 r.ticket)
-    (omega arith) at is small refl (λ i. ap (λ n. to (set s.words 1 n)
+    (omega arith) at is small refl (ap (λ n. to (set s.words 1 n)
     Rattle.lk_locks.specs.declared.kinds.Phase.TheVariants.Idle Left) (sym small))

@@ -11,7 +11,8 @@
 ghost use Rattle.std.specs.Prelude.{◌≡◌, ℕ, ◌+◌, ◌-◌, ◌%◌, ◌^◌, ◌<◌, ◌≤◌, ◌==◌, max, if◌then◌else◌};
 ghost use Rattle.std.specs.Prelude.{[], ◌∷◌, ◌++◌, Option, IfOk};
 ghost use Rattle.lk_locks.specs.declared.kinds.Outcome.TheVariants.{Moved, Waits, Entered, Left};
-ghost use Rattle.lk_locks.specs.laws.{event, take_event, look_event, read_event, pass_event};
+ghost use Rattle.lk_workers.specs.TicketEvents.{event, take_event, look_event};
+ghost use Rattle.lk_workers.specs.TicketEvents.{read_event, pass_event};
 ghost use Rattle.lk_workers.specs.declared.live.LivePhase.TheVariants.{Idle, Waiting, Inside};
 ghost use Rattle.lk_workers.specs.declared.live.LivePhase.TheVariants.{Leaving};
 ghost use Rattle.lk_workers.specs.Seats.{Live, seat_state, operation, ticket_in, thread_of};

@@ -62,8 +62,8 @@ fn check_command<'a>(alloc: Global) -> Result<Command<'a>, AllocError> {
     let summary = Arg::new(alloc, "summary")
         .long("summary")
         .help(
-            "Counts threads, moves, waits, failed compare-and-swaps, polls of a late link, the longest queue \
-             and rounds",
+            "Counts threads, moves, waits, failed compare-and-swaps, polls of a late link, the \
+             longest queue and rounds",
         )
         .action(ArgAction::SetTrue);
     let workers = Arg::new(alloc, "jobs")

@@ -1,6 +1,6 @@
 //! Laws of the running ticket lock. Each is proved, and does nothing when it is called.
 
-ghost use Rattle.lk_locks.specs.laws.{take_event, look_event, read_event, pass_event};
+ghost use Rattle.lk_workers.specs.TicketEvents.{take_event, look_event, read_event, pass_event};
 ghost use Rattle.lk_workers.specs.declared.live.LivePhase.TheVariants.{Idle, Waiting, Inside};
 ghost use Rattle.lk_workers.specs.declared.live.LivePhase.TheVariants.{Leaving};
 ghost use Rattle.lk_workers.specs.SeatSteps.{take_step, look_step, read_step, pass_step};

@@ -1,7 +1,7 @@
 use Rattle.std.proofs.Common.{rules, ap}
 use Rattle.lk_locks.specs.declared.kinds.Outcome.TheVariants.{Moved}
 use Rattle.lk_locks.specs.declared.kinds.Phase.TheVariants.{PassOn}
-use Rattle.lk_locks.specs.laws.{event}
+use Rattle.lk_workers.specs.TicketEvents.{event}
 use Rattle.lk_workers.proofs.SeatMoves.{read, stands}
 use Rattle.lk_workers.proofs.live.LiveTicket.read_serving.Goals as goal
 

@@ -6,8 +6,7 @@
 -- reads of `now_serving` is no step, and a release is two steps: a read of `now_serving` and a
 -- write of the value read plus one.
 --
--- Both the machine that replays schedules and the lock that runs on shared words are stated by
--- these events.
+-- Each is also a step of the ticket machine of 64 bits: see `Happens` in `LockState`.
 use Rattle.std.specs.Prelude.{ℕ, ◌+◌, ◌%◌, ◌^◌, ◌==◌, if◌then◌else◌}
 use Rattle.lk_locks.specs.declared.kinds.Phase.{Phase}
 use Rattle.lk_locks.specs.declared.kinds.Phase.TheVariants.{Idle, AwaitTurn, TicketInside, PassOn}
