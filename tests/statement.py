@@ -4,8 +4,9 @@
     tests/statement.py [NAME]
 
 From `MainTheorem.EveryRunIsAsPromised`, or from another definition given as FILE.NAME, it follows
-each name to its definition in the specs of lk_locks or lk_words, and prints for each file the
-definitions that are reached, with their lines. Blank lines, comments and `use` lines do not count.
+each name to its definition in the specs of lk_locks or lk_words, or to the enum or struct of their
+code that it is, and prints for each file the definitions that are reached, with their lines. Blank
+lines, comments, attributes and `use` lines do not count.
 """
 
 import re
@@ -16,6 +17,10 @@ CRATES = Path(__file__).resolve().parent.parent / "crates"
 THEOREM = "MainTheorem.EveryRunIsAsPromised"
 
 IMPORT = re.compile(r"use Rattle\.(?:lk_locks|lk_words)\.specs\.([\w.]+?)(?:\.\{(.*)\})?$")
+# a type of the code, or its variants
+DECLARED = re.compile(r"use Rattle\.\w+\.specs\.declared\.([\w.]+)\.(?!TheVariants)(\w+)"
+                      r"(?:\.TheVariants)?(?:\.\{(.*)\}| as (\w+))$")
+TYPE = re.compile(r"pub (?:enum|struct) (\w+)")
 DEFINITION = re.compile(r"(?:abbrev pub|pub record|pub data)\s+(\S+)")
 NAME = re.compile(r"(?<![\w.])([A-Za-z_]\w*)(?:\.([A-Za-z_]\w*))?")
 
@@ -28,6 +33,7 @@ class Definitions:
         self.lines = {}
         self.names = {}
         self.modules = {}
+        self.types = {}
         name = None
         for line in lines:
             if line.startswith("use "):
@@ -39,8 +45,13 @@ class Definitions:
                 self.lines.setdefault(name, []).append(line)
 
     def add_import(self, line):
+        if declared := DECLARED.match(line):
+            module, kind, names, alias = declared.groups()
+            self.types.update((name.strip(), (f"{module}.rt", kind))
+                              for name in (names or alias).split(","))
+            return
         found = IMPORT.match(line)
-        if not found or found.group(1).startswith("declared"):
+        if not found:
             return
         module, names = found.groups()
         if names is None:
@@ -53,18 +64,43 @@ class Definitions:
         for first, second in NAME.findall("\n".join(self.lines[definition])):
             if second and first in self.modules:
                 yield self.modules[first], second
+            elif first in self.types:
+                yield self.types[first]
             elif first in self.lines:
                 yield self.module, first
             elif first in self.names:
                 yield self.names[first], first
 
 
+class Types:
+    """The enums and structs of one file of code, which may hold one another."""
+
+    def __init__(self, module, lines):
+        self.module = module
+        self.lines = {}
+        name = None
+        for line in lines:
+            if opens := TYPE.match(line):
+                name = opens.group(1)
+            if name and line.strip() and not re.match(r"\s*(//|#\[)", line):
+                self.lines.setdefault(name, []).append(line)
+            if line == "}":
+                name = None
+
+    def named_in(self, definition):
+        for first, _ in NAME.findall("\n".join(self.lines[definition])):
+            if first in self.lines:
+                yield self.module, first
+
+
 def read_all():
     files = {}
-    for specs in (CRATES / "lk_words" / "specs", CRATES / "lk_locks" / "specs"):
-        for path in specs.rglob("*.antt"):
-            module = ".".join(path.relative_to(specs).with_suffix("").parts)
-            files[module] = Definitions(module, path.read_text().splitlines())
+    for crate in (CRATES / "lk_words", CRATES / "lk_locks"):
+        for kind, folder, ending in ((Definitions, "specs", ".antt"), (Types, "src", ".rt")):
+            for path in (crate / folder).rglob(f"*{ending}"):
+                module = ".".join(path.relative_to(crate / folder).with_suffix("").parts)
+                module += ending if kind is Types else ""
+                files[module] = kind(module, path.read_text().splitlines())
     return files
 
 
