@@ -1,23 +1,20 @@
 //! From a real run to the model: two threads add to one count under the running ticket lock, each
-//! writes down what its steps found, and the two lists, put in an order that the lock itself tells,
-//! are a schedule that the replayer accepts.
+//! writes down what its steps found, and `lk_order` puts the two logs into one order in which the
+//! lock's machine makes each step and finds the same.
 //!
 //! What a thread writes down is the ticket that its take answered, and the `now_serving` that its
-//! looks found. Nothing else passes between the threads and the schedule, and no clock is read.
+//! looks found. Nothing else passes between the threads and the order, and no clock is read.
 //!
-//! The program prints the same however the threads meet. The schedule itself differs from run to
-//! run.
+//! The program prints the same however the threads meet. The order itself differs from run to run.
 #![tactic(auto)]
 
 ghost use Rattle.lk_workers.specs.invariants.Rounds.{IsIdleOf};
 
-mod order;
 mod rounds;
 
-use lk_replay::{Ending, ending_of, report_of};
+use lk_order::{Ending, Log, find_order};
 use lk_workers::{LiveSeat, LiveTicket};
-use order::schedule_of;
-use rounds::{Recorded, recorded_rounds};
+use rounds::recorded_rounds;
 use std::alloc::{AllocError, Global};
 use std::io;
 use std::sync::atomic::{AtomicU64, Ordering};
@@ -26,7 +23,7 @@ use std::thread::{Threads, join};
 /// How often each thread takes the lock.
 const ROUNDS: u64 = 100;
 
-// Both threads, each with a seat of its own. `None` where a turn never came.
+// The logs of both threads, each with a seat of its own. `None` if a turn never came.
 fn both<R: Threads + Sync>(
     rt: &R,
     alloc: Global,
@@ -34,17 +31,17 @@ fn both<R: Threads + Sync>(
     count: &AtomicU64,
     first: LiveSeat,
     second: LiveSeat,
-) -> Result<Option<(Recorded, Recorded)>, AllocError>
+) -> Result<Option<(Log, Log)>, AllocError>
     requires { IsIdleOf lock.now ROUNDS first × IsIdleOf lock.now ROUNDS second }
 {
     let (first, second) = join(
         rt,
-        move || -> Result<Option<Recorded>, AllocError>
+        move || -> Result<Option<Log>, AllocError>
             requires { IsIdleOf lock.now ROUNDS first }
-        { recorded_rounds(alloc, lock, first, count, ROUNDS) },
-        move || -> Result<Option<Recorded>, AllocError>
+        { recorded_rounds(alloc, lock, first, count, 0, ROUNDS) },
+        move || -> Result<Option<Log>, AllocError>
             requires { IsIdleOf lock.now ROUNDS second }
-        { recorded_rounds(alloc, lock, second, count, ROUNDS) },
+        { recorded_rounds(alloc, lock, second, count, 1, ROUNDS) },
     );
     let (Some(first), Some(second)) = (first?, second?) else {
         return Ok(None);
@@ -52,16 +49,18 @@ fn both<R: Threads + Sync>(
     Ok(Some((first, second)))
 }
 
-// What the replay says of the two recordings.
-fn verdict(alloc: Global, first: &Recorded, second: &Recorded) -> Result<&'static str, AllocError> {
-    let Some(schedule) = schedule_of(alloc, first, second)? else {
-        return Ok("the recordings fit no order of the lock");
+// What the lock's machine says of the two logs.
+fn verdict(alloc: Global, first: Log, second: Log) -> Result<&'static str, AllocError> {
+    let mut logs = Vec::with_capacity(alloc, 2)?;
+    logs.push(first)?;
+    logs.push(second)?;
+    let Some(found) = find_order(alloc, logs)? else {
+        return Ok("the logs are not of one run");
     };
-    let report = report_of(alloc, &schedule)?;
-    Ok(match ending_of(&report) {
-        Ending::Accepted => "the replay accepts every step",
-        Ending::Refused => "the replay refuses a step",
-        Ending::Faulty => "the recording is no schedule",
+    Ok(match found.ending {
+        Ending::Whole => "the replay accepts every step",
+        Ending::Cut => "a log was cut short",
+        Ending::Stuck(_) => "the logs fit no order of the lock",
     })
 }
 
@@ -74,5 +73,5 @@ fn main(rt: HostRuntime) -> io::Result<()> {
         return println!(rt; "a turn never came");
     };
     println!(rt; "the count is {}", count.load(Ordering::SeqCst))?;
-    println!(rt; "{}", verdict(alloc, &first, &second)?)
+    println!(rt; "{}", verdict(alloc, first, second)?)
 }
