@@ -1,5 +1,5 @@
--- Definitions. What makes the machine of a queue lock realistic: each of its steps is one operation
--- on one word, of the kind that the move names. This project's own.
+-- Definitions. What makes the machine of a queue lock realistic: each of its steps leaves in the
+-- words what one operation on one word leaves, of the kind that the move names. This project's own.
 use Rattle.std.specs.Prelude.{◌≡◌, ℕ, List, Option, None, Some}
 use Rattle.lk_words.specs.Operations.{performed}
 use Rattle.lk_words.specs.declared.operation.Operation.{Operation}
@@ -28,7 +28,7 @@ abbrev pub IsStepOf : LockKind → ℕ → List ℕ → ℕ → Phase → StepKi
 IsStepOf kind bits ws t p step after =
     IfQueue (family_of kind) (IsMade bits ws step (operation_of kind bits t p) after)
 
--- A call leaves the words as they are. A step of a queue lock is one operation of its kind. A
+-- A call leaves the words as they are. A step of a queue lock leaves what its operation leaves. A
 -- section of a read-write lock is on all words of its monitor, and is no such operation.
 abbrev pub IsOneOperation : State → ℕ → Move → List ℕ → Type 0
 IsOneOperation s t (Call op) after = after ≡ s.words

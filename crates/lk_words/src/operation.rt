@@ -91,7 +91,9 @@ impl Operation {
     }
 }
 
-/// Makes the operation: this one on its word, and no other. Its operands have to fit the words.
+/// Makes the operation, by one call of the words' own. Its operands have to fit the words.
+///
+/// The contract says what the words and the answer are afterwards. It does not count the calls.
 #[inline(always)]
 pub fn perform<W: Words>(words: &mut W, operation: Operation) -> Answer
     requires { Fits (W.width words.old) (length (W.list words.old)) operation }
