@@ -9,7 +9,7 @@ ghost use Rattle.std.specs.Io.KnownBytes.{Appends};
 ghost use Rattle.lk_replay.specs.Devices.{AppendsPrefix, Passes};
 
 use crate::devices::{RunFault, send, write_whole};
-use crate::report::{LINE_ROOM, Printer};
+use crate::report::{LINE_ROOM, Replay};
 use std::alloc::{AllocError, Global};
 use std::io::Write;
 use std::marker::Model;
@@ -105,15 +105,15 @@ impl OutputBuffer {
     }
 
     // Prints lines behind what waits, as many as have room, and answers whether there are any.
-    pub(crate) fn print(&mut self, printer: &mut Printer<'_>) -> bool
+    pub(crate) fn print(&mut self, replay: &mut Replay<'_>) -> bool
         requires { length self.old + 448 ≤ 65536 }
         ensures lines { (lines : List ℕ) × (self.new ≡ self.old ++ lines)
-            × (printer.old.lines ≡ lines ++ printer.new.lines) }
-        ensures left { MatchBool result (printer.new.left < printer.old.left)
-            ((printer.new.lines ≡ []) × (printer.new.left ≡ 0)) }
-        ensures last { printer.new.last ≡ printer.old.last }
+            × (replay.old.lines ≡ lines ++ replay.new.lines) }
+        ensures left { MatchBool result (replay.new.left < replay.old.left)
+            ((replay.new.lines ≡ []) × (replay.new.left ≡ 0)) }
+        ensures last { replay.new.last ≡ replay.old.last }
     {
-        let len = printer.fill(&mut self.bytes[self.len..]);
+        let len = replay.fill(&mut self.bytes[self.len..]);
         self.len += len;
         len > 0
     }
