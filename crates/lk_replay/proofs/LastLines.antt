@@ -84,7 +84,8 @@ digits_are n fits =
 pub accepted_ending : (text digits : List ℕ) (count : ℕ) → count < 2 ^ 32 → digits ≡ decimal count
     → text ≡ (codes "end " ++ digits) ++ 10 ∷ [] → Accepted ≡ ending_of text
 accepted_ending text digits count fits is whole =
-    sym (ap ending_of whole ∙ ends_by (codes "end " ++ digits) (both_lines (codes "end ") digits refl
+    sym (ap ending_of whole
+    ∙ ends_by (codes "end " ++ digits) (both_lines (codes "end ") digits refl
     (ap is_line is ∙ digits_are count (omega (arith, fits)))))
 
 pub at_line_is : (what : List ℕ) (number : ℕ) → number < 2 ^ 32 → is_line what ≡ true

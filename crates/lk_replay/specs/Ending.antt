@@ -1,5 +1,6 @@
 -- Definitions: how a report ends, by its last line. This project's own.
-use Rattle.std.specs.Prelude.{ℕ, List, [], ◌∷◌, Bool, not, if◌then◌else◌, codes, nat_eq, Result, Ok, Err}
+use Rattle.std.specs.Prelude.{ℕ, List, [], ◌∷◌, Bool, not, if◌then◌else◌, codes, nat_eq}
+use Rattle.std.specs.Prelude.{Result, Ok, Err}
 use Rattle.std.specs.List.{list_all, starts_with}
 use Rattle.lk_replay.specs.Lines.{is_line_feed, lines_of}
 use Rattle.lk_replay.specs.declared.devices.RunFault.{RunFault}

@@ -1,5 +1,5 @@
-//! How a report ends. Who prints a report has its ending as a value; who has only its bytes reads it
-//! off the last line.
+//! How a report ends. Who prints a report has its ending as a value. Who has only its bytes reads
+//! it off the last line.
 
 ghost use Rattle.std.specs.Prelude.{◌≡◌};
 ghost use Rattle.lk_replay.specs.Lines.{lines_of};

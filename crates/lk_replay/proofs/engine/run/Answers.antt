@@ -13,8 +13,8 @@ use Rattle.lk_replay.proofs.engine.run.Goals as goal
 pub returns-clause-written : goal.returns-clause-written
 returns-clause-written g c =
     let P : List ℕ → Type 0 =
-    λ r. Appends (g.W.Write.contents c.args.output.now) (g.W.Write.contents c.write_report.new.output)
-    r in
+    λ r. Appends (g.W.Write.contents c.args.output.now)
+    (g.W.Write.contents c.write_report.new.output) r in
     let text = c.in_ok-text.ensures in
     on_ok_weaker c.write_report.result
     (λ written. reported _ _ c.in_ok-text.text.items P text.taken text.bounded text.whole
@@ -27,7 +27,8 @@ returns-clause-promised g c =
 pub returns-clause-ending : goal.returns-clause-ending
 returns-clause-ending g c =
     let text = c.in_ok-text.ensures in
-    IfOk-weaker c.write_report.result (λ (e : Ending). e ≡ ending_of (report_text c.deref.result.now))
+    IfOk-weaker c.write_report.result
+    (λ (e : Ending). e ≡ ending_of (report_text c.deref.result.now))
     (λ (e : Ending). IfSome (g.R.Read.remaining c.args.input.now)
     (λ (t : List ℕ). e ≡ ending_of (report_text t)))
     (λ e is. reported _ _ c.in_ok-text.text.items (λ (r : List ℕ). e
