@@ -16,3 +16,4 @@ pub mod Printed
 pub mod Promised
 pub mod Reading
 pub mod Skipped
+pub mod Expectations

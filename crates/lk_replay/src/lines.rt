@@ -1,18 +1,19 @@
 //! Where a text is cut: at each line feed into lines, at each space into words. Nothing is copied.
 
-ghost use Rattle.std.specs.Prelude.{◌≡◌, [], ◌==◌, ◌∷◌, ◌<◌, MatchOption, IfSome, length};
+ghost use Rattle.std.specs.Prelude.{◌≡◌, [], ◌==◌, ◌∷◌, ◌+◌, ◌<◌, MatchOption, IfSome, length};
 ghost use Rattle.std.specs.List.{slice_split};
 ghost use Rattle.lk_replay.specs.Lines.{lines_of, words_of, is_skipped};
 
 use std::marker::Model;
 
-// The text before the first such byte, and the text after it. Lines and words are short, so one
-// byte after another is looked at.
-fn cut_at(text: &[u8], byte: u8) -> Option<(&[u8], &[u8])>
+/// The text before the first such byte, and the text after it. Lines and words are short, so one
+/// byte after another is looked at.
+pub(crate) fn cut_at(text: &[u8], byte: u8) -> Option<(&[u8], &[u8])>
     ensures pieces { MatchOption result (slice_split (λ b. b == byte) text.now ≡ text.now ∷ [])
         (λ cut. slice_split (λ b. b == byte) text.now
         ≡ cut.0.now ∷ slice_split (λ b. b == byte) cut.1.now) }
-    ensures shorter { IfSome result (λ cut. length cut.1.now < length text.now) }
+    ensures whole { IfSome result
+        (λ cut. length cut.0.now + 1 + length cut.1.now ≡ length text.now) }
 {
     for (at, found) in text.iter().enumerate() {
         if *found == byte {

@@ -39,7 +39,8 @@ pub enum ReadFault {
     /// More than 1,048,576 bytes.
     #[error("the text is too long")]
     TooLong,
-    /// No line but comments and empty ones. The line is the one behind the last.
+    /// No line but comments and empty ones. The line is the one after the last, where a header
+    /// could still have come.
     #[error("line {0}: there is no header")]
     NoHeader(u32),
     /// The first line that is not skipped is no header.
