@@ -7,13 +7,13 @@ ghost use Rattle.lk_replay.specs.Report.{at_line, fault_line, last_line, plan_te
 ghost use Rattle.lk_replay.specs.Faults.{Fault};
 ghost use Rattle.lk_replay.specs.Schedule.{Plan};
 ghost use Rattle.std.specs.Prelude.{Result, true};
-ghost use Rattle.lk_replay.specs.Vocabulary.{step_word};
 
 use crate::ReadFault;
 use crate::ending::Ending;
 use crate::report::numerals::Numeral;
 use crate::report::text::Text;
-use lk_locks::{Refusal, StepKind};
+use crate::report::words::step_word;
+use lk_locks::Refusal;
 
 /// The last line of a report, and how the report ends by it.
 #[derive(Drop)]
@@ -21,20 +21,6 @@ pub struct Closing {
     pub line: Text,
     pub ending: Ending,
     ghost told: { ending ≡ ending_of line },
-}
-
-fn step_word(kind: StepKind) -> &'static [u8]
-    ensures word { result.now ≡ step_word kind }
-    ensures short { length result.now ≤ 7 }
-{
-    match kind {
-        StepKind::Read => b"read",
-        StepKind::Write => b"write",
-        StepKind::Swap => b"swap",
-        StepKind::Cas => b"cas",
-        StepKind::Add => b"add",
-        StepKind::Section => b"section",
-    }
 }
 
 // `WHAT line L `
