@@ -16,7 +16,7 @@ mod words;
 
 use crate::{ReadFault, read_schedule};
 pub use closings::fault_text;
-pub use replay::{LINE_ROOM, Replay};
+pub use replay::Replay;
 use std::alloc::{AllocError, Global};
 
 // The most bytes of a move's line without its longer list, of holders or of the queue, of a thread

@@ -8,6 +8,7 @@ ghost use Rattle.lk_replay.specs.Printing.{next_refused};
 ghost use Rattle.lk_replay.specs.Replay.{start_of};
 ghost use Rattle.lk_replay.specs.Report.{move_text};
 
+use crate::output_buffer::{LEAST_PLACE, Source};
 use crate::played::Accepted;
 use crate::report::closings::{Closing, last_line};
 use crate::report::numerals::{Numeral, thread_block};
@@ -18,10 +19,6 @@ use crate::{Line, Schedule};
 use lk_locks::{Added, Machine, Refusal, words_needed};
 use lk_words::WordArray;
 use std::marker::Model;
-
-/// The bytes of a place that has room for any line: 64 for what tells of the move, and 384 for who
-/// holds and who waits.
-pub const LINE_ROOM: usize = 448;
 
 /// The moves of a schedule that are left, how many were printed, and the lock on which they were
 /// played: its words and phases, and who holds and who waits.
@@ -140,7 +137,8 @@ impl<'a> Replay<'a> {
     }
 
     /// Prints the next lines into a place, as many as have room whatever their length, and answers
-    /// where they end: at 0 only where no move is left, or the next is refused.
+    /// where they end: at 0 only if no move is left, or the next is refused. A line has at most 64
+    /// bytes that tell of the move, and 384 that show who holds and who waits.
     pub fn fill(&mut self, place: &mut [u8]) -> usize
         requires { 448 ≤ length place.old }
         ensures lines { self.old.lines ≡ take result place.new ++ self.new.lines }
@@ -150,7 +148,7 @@ impl<'a> Replay<'a> {
         ensures last { self.new.last ≡ self.old.last }
     {
         let mut len = 0;
-        while place.len() - len >= LINE_ROOM {
+        while place.len() - len >= LEAST_PLACE {
             let Some(more) = self.next(&mut place[len..]) else {
                 return len;
             };
@@ -166,5 +164,17 @@ impl<'a> Replay<'a> {
     {
         let refused = next_refused(&self.machine, self.moves);
         last_line(self.count.number(), refused)
+    }
+}
+
+impl<'a> Source for Replay<'a> {
+    ghost lines = { λ r. r.lines };
+
+    ghost left = { λ r. r.left };
+
+    ghost last = { λ r. r.last };
+
+    fn fill(&mut self, place: &mut [u8]) -> usize {
+        Replay::fill(self, place)
     }
 }

@@ -57,7 +57,7 @@ returns-in_err-send_whole-clause-prefix g c =
     (passes_line done _ line _ _ _ passed waits) c.in_ok-push.ensures.passed in
     let text : (done ++ line) ++ last ≡ c.args.replay.now.lines ++ c.args.replay.now.last =
     ap (λ (xs : List ℕ). (done ++ line) ++ xs) ((c.as_slice.ensures ∙ c.closing-closing.ensures)
-    ∙ sym (append-nil c.print.new.replay.last)) ∙ whole in
+    ∙ sym (append-nil c.print.new.source.last)) ∙ whole in
     told _ _ (prefix_of_rest _ _ _ _ _
     (subst (λ (xs : List ℕ). Passes [] (g.W.Write.contents c.args.output.now) xs c.push.new.self
     (g.W.Write.contents c.push.new.output)) text gone) c.in_err-send_whole.ensures.prefix)
