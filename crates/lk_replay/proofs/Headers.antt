@@ -1,8 +1,9 @@
 -- What the first line says.
 use Rattle.std.proofs.Common.{◌≡◌, ℕ, ◌+◌, ◌<◌, ◌≤◌, List, [], ◌∷◌, length, None, Result, Ok, Err}
-use Rattle.std.proofs.Common.{◌==◌, true, false, sym, ap, ◌∙◌, arith, refl}
-use Rattle.std.proofs.lemmas.Bool.{eqb-true, cond-false, le-ltb}
-use Rattle.lk_replay.specs.Lines.{lines_of, is_skipped}
+use Rattle.std.proofs.Common.{false, ap, ◌∙◌, arith, refl}
+use Rattle.std.proofs.lemmas.Bool.{cond-false, le-ltb}
+use Rattle.lk_replay.specs.Lines.{SkipsTo, lines_of, is_skipped}
+use Rattle.lk_replay.proofs.Skipped.{plan_skip}
 use Rattle.lk_replay.specs.Faults.{Fault, NoHeader}
 use Rattle.lk_replay.specs.Header.{Header, size_of_words, header_of}
 use Rattle.lk_replay.specs.Reads.{WantsMemory, Fails}
@@ -17,19 +18,14 @@ pub more_words : (count bits number : List ℕ) (words : List (List ℕ)) → 0 
 more_words count bits number [] some = absurd (omega arith)
 more_words count bits number (word ∷ words) some = refl
 
-empty_plan : (number : ℕ) (rest : List ℕ) → (length rest == 0) ≡ true
-    → plan_from number (lines_of rest) ≡ Err (NoHeader number)
-unfolding lines_of
-empty_plan number [] empty = refl
-empty_plan number (b ∷ bs) empty = absurd (omega (arith, eqb-true _ _ empty))
-
 -- no line but such as are skipped
-pub no_header : (text rest : List ℕ) (number : ℕ) → length text ≤ 1048576
-    → (length rest == 0) ≡ true → plan_from number (lines_of rest) ≡ plan_from 1 (lines_of text)
+pub no_header : (text : List ℕ) (number : ℕ) (others : List (List ℕ)) → length text ≤ 1048576
+    → SkipsTo 1 (lines_of text) number others → others ≡ []
     → plan_of text ≡ Err (NoHeader number)
 unfolding plan_of
-no_header text rest number small empty same =
-    cond-false _ _ _ (le-ltb _ _ small) ∙ sym same ∙ empty_plan number rest empty
+no_header text number others small skips none =
+    cond-false _ _ _ (le-ltb _ _ small) ∙ plan_skip 1 number (lines_of text) others skips
+    ∙ ap (plan_from number) none
 
 header_first : (header : Result Header Fault) (moves : Result (List Line) Fault) (fault : Fault)
     → header ≡ Err fault → with_header header moves ≡ Err fault
@@ -55,11 +51,11 @@ fails_first (read.WordsTooNarrow n) header moves m e = header_first header moves
 fails_first read.OutOfMemory header moves m e = wants_both header moves e m
 
 -- the first line that is not skipped is the header
-pub header_here : (text rest line : List ℕ) (others : List (List ℕ)) (number : ℕ)
-    → length text ≤ 1048576 → lines_of rest ≡ line ∷ others → is_skipped line ≡ false
-    → plan_from number (lines_of rest) ≡ plan_from 1 (lines_of text)
+pub header_here : (text line : List ℕ) (others : List (List ℕ)) (number : ℕ)
+    → length text ≤ 1048576 → SkipsTo 1 (lines_of text) number (line ∷ others)
+    → is_skipped line ≡ false
     → plan_of text ≡ with_header (header_of number line) (moves_from (number + 1) 0 others)
 unfolding plan_of
-header_here text rest line others number small first read same =
-    cond-false _ _ _ (le-ltb _ _ small) ∙ sym same ∙ ap (plan_from number) first
-    ∙ cond-false _ _ _ read
+header_here text line others number small skips read =
+    cond-false _ _ _ (le-ltb _ _ small)
+    ∙ plan_skip 1 number (lines_of text) (line ∷ others) skips ∙ cond-false _ _ _ read

@@ -15,3 +15,5 @@ pub mod Passed
 pub mod Printed
 pub mod Promised
 pub mod Reading
+pub mod Skipped
+pub mod Expectations

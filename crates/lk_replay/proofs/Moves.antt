@@ -1,14 +1,15 @@
 -- What one line does to what is read.
 use Rattle.std.proofs.Common.{◌≡◌, ℕ, ◌+◌, List, [], ◌∷◌, ◌++◌, length, Option, Some, None, Result}
 use Rattle.std.proofs.Common.{Ok, Err, Bool, true, false, ◌==◌, cond, refl, ap, ◌∙◌}
-use Rattle.std.proofs.Common.{append-nil, arith}
-use Rattle.std.proofs.lemmas.Bool.{cond-false, eqb-true}
+use Rattle.std.proofs.Common.{append-nil, append_assoc, length-append, sym}
+use Rattle.std.proofs.lemmas.Bool.{cond-false, cond-true}
 use Rattle.lk_replay.specs.declared.schedule.Line.{Line}
 use Rattle.lk_locks.specs.declared.kinds.Move.{Move}
-use Rattle.lk_replay.specs.Faults.{Fault, BadLine}
+use Rattle.lk_replay.specs.Faults.{Fault, BadLine, TooManyMoves}
 use Rattle.lk_replay.specs.Reads.{WantsMemory}
 use Rattle.lk_replay.specs.Schedule.{moves_from, moves_after, with_line, move_of}
-use Rattle.lk_replay.specs.Lines.{is_skipped, lines_of}
+use Rattle.lk_replay.proofs.Skipped.{moves_skip}
+use Rattle.lk_replay.specs.Lines.{SkipsTo, is_skipped}
 
 -- what is read from the rest, behind these lines
 abbrev pub with_lines : List Line → Result (List Line) Fault → Result (List Line) Fault
@@ -19,28 +20,83 @@ pub with_lines-nil : (read : Result (List Line) Fault) → with_lines [] read �
 with_lines-nil (Ok lines) = refl
 with_lines-nil (Err fault) = refl
 
-line_read : (number taken : ℕ) (lines : List (List ℕ)) (line : List ℕ) (others : List (List ℕ))
-    → lines ≡ line ∷ others → is_skipped line ≡ false
-    → moves_from number taken lines
+-- the next line that is not skipped is read
+pub line_read : (from taken number : ℕ) (lines : List (List ℕ)) (line : List ℕ)
+    (others : List (List ℕ)) → SkipsTo from lines number (line ∷ others) → is_skipped line ≡ false
+    → moves_from from taken lines
     ≡ moves_after (move_of line) number (taken == 65536)
     (moves_from (number + 1) (taken + 1) others)
-line_read number taken lines line others first read =
-    ap (moves_from number taken) first ∙ cond-false _ _ _ read
+line_read from taken number lines line others skips read =
+    moves_skip from taken number lines (line ∷ others) skips ∙ cond-false _ _ _ read
 
-pub line_bad : (number taken : ℕ) (lines : List (List ℕ)) (line : List ℕ) (others : List (List ℕ))
-    → lines ≡ line ∷ others → is_skipped line ≡ false → move_of line ≡ None
-    → moves_from number taken lines ≡ Err (BadLine number)
-line_bad number taken lines line others first read none =
-    line_read number taken lines line others first read
+pub line_bad : (from taken number : ℕ) (lines : List (List ℕ)) (line : List ℕ)
+    (others : List (List ℕ)) → SkipsTo from lines number (line ∷ others) → is_skipped line ≡ false
+    → move_of line ≡ None → moves_from from taken lines ≡ Err (BadLine number)
+line_bad from taken number lines line others skips read none =
+    line_read from taken number lines line others skips read
     ∙ ap (λ m. moves_after m number (taken == 65536) (moves_from (number + 1) (taken + 1) others))
     none
 
--- no text is left
-pub text_done : (prefix : List Line) (number taken : ℕ) (rest : List ℕ) → (length rest == 0) ≡ true
-    → with_lines prefix (moves_from number taken (lines_of rest)) ≡ Ok prefix
-unfolding lines_of
-text_done prefix number taken [] empty = ap Ok (append-nil prefix)
-text_done prefix number taken (b ∷ bs) empty = absurd (omega (arith, eqb-true _ _ empty))
+-- no line is left
+pub lines_done : (from taken next : ℕ) (lines others : List (List ℕ))
+    → SkipsTo from lines next others → others ≡ [] → moves_from from taken lines ≡ Ok []
+lines_done from taken next lines others skips none =
+    moves_skip from taken next lines others skips ∙ ap (moves_from next taken) none
+
+pub all_read : (prefix : List Line) (from taken next : ℕ) (lines others : List (List ℕ))
+    → SkipsTo from lines next others → others ≡ []
+    → with_lines prefix (moves_from from taken lines) ≡ Ok prefix
+all_read prefix from taken next lines others skips none =
+    ap (with_lines prefix) (lines_done from taken next lines others skips none)
+    ∙ ap Ok (append-nil prefix)
+
+with_one : (prefix : List Line) (line : Line) (read : Result (List Line) Fault)
+    → with_lines prefix (with_line line read) ≡ with_lines (prefix ++ line ∷ []) read
+with_one prefix line (Ok lines) = ap Ok (sym (append_assoc prefix (line ∷ []) lines))
+with_one prefix line (Err fault) = refl
+
+-- a line that is a move, where there is room for one more
+pub line_good : (from taken number next : ℕ) (lines : List (List ℕ)) (line : List ℕ)
+    (others : List (List ℕ)) (move : ℕ × Move)
+    → next ≡ number + 1 → SkipsTo from lines number (line ∷ others) → is_skipped line ≡ false
+    → move_of line ≡ Some move → (taken == 65536) ≡ false
+    → moves_from from taken lines
+    ≡ with_line (record { number = number; thread = move.0; action = move.1 })
+    (moves_from next (taken + 1) others)
+line_good from taken number next lines line others move after skips read some few =
+    line_read from taken number lines line others skips read
+    ∙ ap (λ m. moves_after m number (taken == 65536) (moves_from (number + 1) (taken + 1) others))
+    some
+    ∙ cond-false _ _ _ few
+    ∙ ap (λ n. with_line (record { number = number; thread = move.0; action = move.1 })
+    (moves_from n (taken + 1) others)) (sym after)
+
+pub line_full : (from taken number : ℕ) (lines : List (List ℕ)) (line : List ℕ)
+    (others : List (List ℕ)) (move : ℕ × Move)
+    → SkipsTo from lines number (line ∷ others) → is_skipped line ≡ false
+    → move_of line ≡ Some move → (taken == 65536) ≡ true
+    → moves_from from taken lines ≡ Err (TooManyMoves number)
+line_full from taken number lines line others move skips read some full =
+    line_read from taken number lines line others skips read
+    ∙ ap (λ m. moves_after m number (taken == 65536) (moves_from (number + 1) (taken + 1) others))
+    some
+    ∙ cond-true _ _ _ full
+
+pub one_more : (prefix more : List Line) (from number next : ℕ) (lines : List (List ℕ))
+    (line : List ℕ) (others : List (List ℕ)) (move : ℕ × Move)
+    → more ≡ prefix ++ record { number = number; thread = move.0; action = move.1 } ∷ []
+    → next ≡ number + 1 → SkipsTo from lines number (line ∷ others) → is_skipped line ≡ false
+    → move_of line ≡ Some move → (length prefix == 65536) ≡ false
+    → with_lines more (moves_from next (length more) others)
+    ≡ with_lines prefix (moves_from from (length prefix) lines)
+one_more prefix more from number next lines line others move items after skips read some few =
+    let one : Line = record { number = number; thread = move.0; action = move.1 } in
+    ap (λ k. with_lines more (moves_from next k others))
+    (ap length items ∙ length-append prefix (one ∷ []))
+    ∙ ap (λ ls. with_lines ls (moves_from next (length prefix + 1) others)) items
+    ∙ sym (ap (with_lines prefix)
+    (line_good from (length prefix) number next lines line others move after skips read some few)
+    ∙ with_one prefix one (moves_from next (length prefix + 1) others))
 
 pick : (b : Bool) (x y : Result (List Line) Fault) → WantsMemory x → WantsMemory y
     → WantsMemory (cond b x y)

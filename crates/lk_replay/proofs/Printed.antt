@@ -54,7 +54,7 @@ lines_are kind count es (m ∷ ms) refused =
     ∙ ap (λ (k : ℕ). line ++ (rest ++ last_line k refused)) (omega arith)
     ∙ ap (λ (ys : List ℕ). line ++ ys) (lines_are kind (count + 1) new ms refused)
 
--- what a new printer prints is the report of the schedule
+-- what a new replay prints is the report of the schedule
 pub replay_printed : (p : Plan) (f : Following) (count : ℕ) (s : State) (moves : List Line)
     → f ≡ following p.kind [] → count ≡ 0 → s ≡ start_of p → moves ≡ p.moves
     → let rest : Replay = replay_from s moves in
@@ -165,7 +165,7 @@ pub no_made : (f : Following) (count : ℕ) (ms : List Made) → length ms ≡ 0
 no_made f count [] none = refl
 no_made f count (m ∷ ms) none = absurd (omega arith)
 
--- ---- one step of the printer
+-- ---- one step of the replay
 
 -- the line that was printed, and the lines that are left
 pub line_printed : (prefix : List ℕ) (f g : Following) (s next : State) (moves rest : List Line)

@@ -2,14 +2,14 @@
 use Rattle.std.proofs.Common.{◌≡◌, ℕ, ◌+◌, List, [], ◌∷◌, length, drop, Some, None}
 use Rattle.std.proofs.Common.{Result, Ok, Err, Bool, true, false, ◌==◌, refl, sym, ap, subst, ◌∙◌}
 use Rattle.std.proofs.Common.{arith}
-use Rattle.std.proofs.lemmas.Bool.{cond-false}
 use Rattle.lk_locks.specs.declared.kinds.Move.{Move}
+use Rattle.lk_locks.specs.declared.kinds.LockKind.{LockKind}
 use Rattle.lk_replay.specs.declared.schedule.Line.{Line}
 use Rattle.lk_replay.specs.Faults.{Fault}
-use Rattle.lk_replay.specs.Lines.{is_skipped, lines_of}
+use Rattle.lk_replay.specs.Lines.{SkipsTo, is_skipped}
 use Rattle.lk_replay.specs.Reading.{counted, moves_in}
-use Rattle.lk_replay.specs.Schedule.{Plan, moves_from, moves_after, move_of}
-use Rattle.lk_replay.proofs.Moves.{line_bad, text_done, with_lines-nil}
+use Rattle.lk_replay.specs.Schedule.{Plan, moves_from, moves_after, move_of, with_line}
+use Rattle.lk_replay.proofs.Moves.{line_bad, line_good, line_read, lines_done}
 
 -- what is counted, and so many before it
 abbrev pub more : ℕ → Result ℕ Fault → Result ℕ Fault
@@ -20,29 +20,33 @@ pub no_more : (read : Result ℕ Fault) → more 0 read ≡ read
 no_more (Ok n) = ap Ok (omega arith)
 no_more (Err fault) = refl
 
--- no text is left to count
-pub count_done : (number taken : ℕ) (rest : List ℕ) → (length rest == 0) ≡ true
-    → more taken (counted (moves_from number taken (lines_of rest))) ≡ Ok taken
-count_done number taken rest empty =
-    ap (λ r. more taken (counted r)) (sym (with_lines-nil _) ∙ text_done [] number taken rest empty)
+-- no line is left to count
+pub all_counted : (from taken next : ℕ) (lines others : List (List ℕ))
+    → SkipsTo from lines next others → others ≡ []
+    → more taken (counted (moves_from from taken lines)) ≡ Ok taken
+all_counted from taken next lines others skips none =
+    ap (λ r. more taken (counted r)) (lines_done from taken next lines others skips none)
     ∙ ap Ok (omega arith)
 
--- no text is left to read
-pub nothing_left : (number taken : ℕ) (rest : List ℕ) → (length rest == 0) ≡ true
-    → moves_from number taken (lines_of rest) ≡ Ok []
-nothing_left number taken rest empty = sym (with_lines-nil _) ∙ text_done [] number taken rest empty
+with_one : (taken : ℕ) (line : Line) (read : Result (List Line) Fault)
+    → more taken (counted (with_line line read)) ≡ more (taken + 1) (counted read)
+with_one taken line (Ok lines) = ap Ok (omega arith)
+with_one taken line (Err fault) = refl
+
+pub one_counted : (from taken number next : ℕ) (lines : List (List ℕ)) (line : List ℕ)
+    (others : List (List ℕ)) (move : ℕ × Move)
+    → next ≡ number + 1 → SkipsTo from lines number (line ∷ others) → is_skipped line ≡ false
+    → move_of line ≡ Some move → (taken == 65536) ≡ false
+    → more taken (counted (moves_from from taken lines))
+    ≡ more (taken + 1) (counted (moves_from next (taken + 1) others))
+one_counted from taken number next lines line others move after skips read some few =
+    ap (λ r. more taken (counted r))
+    (line_good from taken number next lines line others move after skips read some few)
+    ∙ with_one taken _ (moves_from next (taken + 1) others)
 
 abbrev WasRead : {Y : Type 0} → Result Y Fault → Type 0
 WasRead (Ok y) = Unit {0}
 WasRead (Err fault) = ⊥
-
-line_read : (number taken : ℕ) (lines : List (List ℕ)) (line : List ℕ) (others : List (List ℕ))
-    → lines ≡ line ∷ others → is_skipped line ≡ false
-    → moves_from number taken lines
-    ≡ moves_after (move_of line) number (taken == 65536)
-    (moves_from (number + 1) (taken + 1) others)
-line_read number taken lines line others first read =
-    ap (moves_from number taken) first ∙ cond-false _ _ _ read
 
 after_ok : (number : ℕ) (move : ℕ × Move) (full : Bool) (rest : Result (List Line) Fault)
     (moves : List Line)
@@ -53,34 +57,29 @@ after_ok number move true rest moves e = absurd (subst WasRead (sym e) tt)
 after_ok number move false (Ok lines) moves e = (refl, refl, sym (ap moves_in e))
 after_ok number move false (Err fault) moves e = absurd (subst WasRead (sym e) tt)
 
--- a line of a text without faults that is a move, and what stands behind it
-pub move_read : (number taken : ℕ) (lines : List (List ℕ)) (line : List ℕ) (others : List (List ℕ))
-    (move : ℕ × Move) (moves : List Line)
-    → lines ≡ line ∷ others → is_skipped line ≡ false → move_of line ≡ Some move
-    → moves_from number taken lines ≡ Ok moves
+-- a line of a text without faults that is a move, and what comes after it
+pub move_read : (from taken number next : ℕ) (lines : List (List ℕ)) (line : List ℕ)
+    (others : List (List ℕ)) (move : ℕ × Move) (moves : List Line) → next ≡ number + 1
+    → SkipsTo from lines number (line ∷ others) → is_skipped line ≡ false
+    → move_of line ≡ Some move → moves_from from taken lines ≡ Ok moves
     → ((taken == 65536) ≡ false)
-    × (moves_from (number + 1) (taken + 1) others
-    ≡ Ok (moves_in (moves_from (number + 1) (taken + 1) others)))
+    × (moves_from next (taken + 1) others ≡ Ok (moves_in (moves_from next (taken + 1) others)))
     × (moves ≡ record { number = number; thread = move.0; action = move.1 }
-    ∷ moves_in (moves_from (number + 1) (taken + 1) others))
-move_read number taken lines line others move moves first read some e =
-    after_ok number move (taken == 65536) (moves_from (number + 1) (taken + 1) others) moves
-    (sym (line_read number taken lines line others first read ∙ ap (λ m. moves_after m number
+    ∷ moves_in (moves_from next (taken + 1) others))
+move_read from taken number next lines line others move moves after skips read some e =
+    after_ok number move (taken == 65536) (moves_from next (taken + 1) others) moves
+    (ap (λ n. moves_after (Some move) number (taken == 65536) (moves_from n (taken + 1) others))
+    after
+    ∙ sym (line_read from taken number lines line others skips read ∙ ap (λ m. moves_after m number
     (taken == 65536) (moves_from (number + 1) (taken + 1) others)) some) ∙ e)
 
 -- no line of a text without faults is anything else
-pub move_missing : (number taken : ℕ) (lines : List (List ℕ)) (line : List ℕ)
+pub move_missing : (from taken number : ℕ) (lines : List (List ℕ)) (line : List ℕ)
     (others : List (List ℕ)) (moves : List Line)
-    → lines ≡ line ∷ others → is_skipped line ≡ false → move_of line ≡ None
-    → moves_from number taken lines ≡ Ok moves → ⊥
-move_missing number taken lines line others moves first read none e =
-    subst WasRead (sym e ∙ line_bad number taken lines line others first read none) tt
-
--- the moves, where no text is left
-pub no_moves : (number taken : ℕ) (rest : List ℕ) (moves : List Line) → (length rest == 0) ≡ true
-    → moves_from number taken (lines_of rest) ≡ Ok moves → [] ≡ moves
-no_moves number taken rest moves empty e =
-    ap moves_in (sym (nothing_left number taken rest empty) ∙ e)
+    → SkipsTo from lines number (line ∷ others) → is_skipped line ≡ false → move_of line ≡ None
+    → moves_from from taken lines ≡ Ok moves → ⊥
+move_missing from taken number lines line others moves skips read none e =
+    subst WasRead (sym e ∙ line_bad from taken number lines line others skips read none) tt
 
 abbrev plan_with : Plan → List Line → Plan
 plan_with p moves = record { kind = p.kind; threads = p.threads; bits = p.bits; moves = moves }
@@ -90,9 +89,17 @@ pub next_plan : (now view : Plan) (first : Line) (rest : List Line) → view ≡
     → now.moves ≡ first ∷ rest → plan_with view rest ≡ plan_with now (drop 1 now.moves)
 next_plan now view first rest v m = rw (v, m) refl
 
-pub same_plan : (now view : Plan) → view ≡ now → [] ≡ now.moves
-    → view ≡ plan_with now (drop 1 now.moves)
-same_plan now view v none = v ∙ ap (plan_with now) (sym none ∙ ap (drop 1) none)
+pub emptied : (now : Plan) (kind : LockKind) (threads bits : ℕ)
+    (old new : Result (List Line) Fault)
+    → record { kind = kind; threads = threads; bits = bits; moves = moves_in old } ≡ now
+    → old ≡ new → moves_in old ≡ []
+    → record { kind = kind; threads = threads; bits = bits; moves = moves_in new }
+    ≡ plan_with now (drop 1 now.moves)
+emptied now kind threads bits old new is same none =
+    let none_now : now.moves ≡ [] = sym (ap (λ (p : Plan). p.moves) is) ∙ none in
+    ap (plan_with (record { kind = kind; threads = threads; bits = bits; moves = [] }))
+    (ap moves_in (sym same))
+    ∙ is ∙ ap (plan_with now) (none_now ∙ sym (ap (drop 1) none_now))
 
 pub one_left : (now view : Plan) (left : ℕ) (first : Line) (rest : List Line) → view ≡ now
     → now.moves ≡ first ∷ rest → left ≡ length view.moves → left ≡ 1 + length rest

@@ -1,7 +1,9 @@
 -- A text at the front of an array, edited where it stands.
-use Rattle.std.proofs.Common.{◌≡◌, ℕ, ◌+◌, ◌-◌, ◌≤◌, List, ◌++◌, length, take, drop, sym, ap, ◌∙◌}
+use Rattle.std.proofs.Common.{◌≡◌, ℕ, ◌+◌, ◌-◌, ◌≤◌, List, [], ◌∷◌, ◌++◌, length, take, drop, sym}
+use Rattle.std.proofs.Common.{ap, ◌∙◌}
 use Rattle.std.proofs.Common.{arith, length-append, length-drop, length-take-le, append_assoc}
-use Rattle.std.proofs.Math.Seq.{take-append-add}
+use Rattle.std.proofs.Common.{take-append-drop}
+use Rattle.std.proofs.Math.Seq.{take-append-add, take-append_seam}
 use Rattle.std.proofs.lemmas.List.{drop-take, drop_at, take-append-le, take-take}
 use lib.Seq.{paste, take-paste, length-paste}
 use borrow.Rule.Slice.PartMut.{put_mid, post_of, Post-is}
@@ -98,3 +100,24 @@ inserted xs moved now text at wide len within most size is after =
     ∙ take-append-add (take at xs ++ text) (drop k moved) n
     ∙ ap (λ (ys : List ℕ). (take at xs ++ text) ++ ys) (behind ∙ same)
     ∙ ap (λ (ys : List ℕ). (ys ++ text) ++ drop at (take len xs)) (sym kept)
+
+-- a word between two spaces at the front of a block: how long that is, and the word
+pub between_size : (block word : List ℕ) (len : ℕ) → len ≤ length block
+    → take len block ≡ 32 ∷ (word ++ 32 ∷ []) → len ≡ length word + 2
+between_size block word len within is =
+    omega (
+      arith,
+      length-take-le len block within,
+      ap length is,
+      length-append word (32 ∷ []),
+    )
+
+pub between : (block word : List ℕ) (len : ℕ) → len ≤ length block
+    → take len block ≡ 32 ∷ (word ++ 32 ∷ []) → take (len - 1 - 1) (drop 1 block) ≡ word
+between block word len within is =
+    let size : len - 1 - 1 ≡ length word = omega (arith, between_size block word len within is) in
+    rw size
+    (ap (λ (xs : List ℕ). take (length word) (drop 1 xs)) (sym (take-append-drop len block)
+    ∙ ap (λ (xs : List ℕ). xs ++ drop len block) is)
+    ∙ ap (take (length word)) (append_assoc word (32 ∷ []) (drop len block))
+    ∙ take-append_seam word (32 ∷ drop len block))

@@ -1,7 +1,8 @@
 -- Definitions: how a report ends, by its last line. This project's own.
-use Rattle.std.specs.Prelude.{ℕ, List, [], ◌∷◌, if◌then◌else◌, codes, nat_eq, Result, Ok, Err}
-use Rattle.std.specs.List.{starts_with}
-use Rattle.lk_replay.specs.Lines.{lines_of}
+use Rattle.std.specs.Prelude.{ℕ, List, [], ◌∷◌, Bool, not, if◌then◌else◌, codes, nat_eq}
+use Rattle.std.specs.Prelude.{Result, Ok, Err}
+use Rattle.std.specs.List.{list_all, starts_with}
+use Rattle.lk_replay.specs.Lines.{is_line_feed, lines_of}
 use Rattle.lk_replay.specs.declared.devices.RunFault.{RunFault}
 use Rattle.lk_replay.specs.declared.ending.Ending.{Ending}
 use Rattle.lk_replay.specs.declared.ending.Ending.TheVariants.{Accepted, Refused, Faulty}
@@ -16,6 +17,10 @@ abbrev pub ending_of_line : List ℕ → Ending
 ending_of_line line =
     if starts_with nat_eq line (codes "end ") then Accepted else
     if starts_with nat_eq line (codes "refused ") then Refused else Faulty
+
+-- no byte of a text is a line feed
+abbrev pub is_line : List ℕ → Bool
+is_line text = list_all (λ b. not (is_line_feed b)) text
 
 -- how the text of a report ends
 unfoldable pub ending_of : List ℕ → Ending

@@ -12,3 +12,4 @@ pub mod Whole
 pub mod Ending
 pub mod Devices
 pub mod Reading
+pub mod Unreadable

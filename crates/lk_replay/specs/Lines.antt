@@ -1,7 +1,8 @@
 -- Definitions: the lines of a text and the words of a line. This project's own; the cut at each
 -- line feed is POSIX's.
-use Rattle.std.specs.Prelude.{ℕ, List, [], ◌∷◌, Bool, ◌==◌, ◌||◌, length, slice_index}
-use Rattle.std.specs.List.{slice_split}
+use Rattle.std.specs.Prelude.{◌≡◌, ℕ, ◌+◌, List, [], ◌∷◌, ◌++◌, Bool, true, ◌==◌, ◌||◌, length}
+use Rattle.std.specs.Prelude.{slice_index}
+use Rattle.std.specs.List.{list_all, slice_split}
 
 abbrev pub is_line_feed : ℕ → Bool
 is_line_feed b = b == 10
@@ -30,3 +31,17 @@ is_skipped line = length line == 0 || slice_index line 0 == 35
 -- the line, cut at each space: two spaces in a row, or one at an end, make an empty word
 abbrev pub words_of : List ℕ → List (List ℕ)
 words_of line = slice_split is_space line
+
+-- lines, and the number of the first of them
+pub record Numbered : Type 0 where
+  pub number : ℕ
+  pub lines : List (List ℕ)
+
+-- Of these lines, the first of which has that number, some are skipped at the front: then come the
+-- others, from number `next` on.
+pub record SkipsTo (number : ℕ) (lines : List (List ℕ)) (next : ℕ) (others : List (List ℕ))
+    : Type 0 where
+  pub skipped : List (List ℕ)
+  pub parts : lines ≡ skipped ++ others
+  pub all : list_all is_skipped skipped ≡ true
+  pub counted : next ≡ number + length skipped

@@ -68,9 +68,9 @@ move_word (Step kind) = step_word kind
 
 abbrev pub every_move : List Move
 every_move =
-    Call Acquire ∷ Call Release ∷ Call ReadLock ∷ Call ReadUnlock ∷ Call WriteLock
-    ∷ Call WriteUnlock ∷ Call Downgrade
-    ∷ Step Read ∷ Step Write ∷ Step Swap ∷ Step Cas ∷ Step Add ∷ Step Section ∷ []
+    Step Read ∷ Step Section ∷ Step Write ∷ Step Swap ∷ Step Cas ∷ Step Add
+    ∷ Call Acquire ∷ Call Release ∷ Call ReadLock ∷ Call ReadUnlock ∷ Call WriteLock
+    ∷ Call WriteUnlock ∷ Call Downgrade ∷ []
 
 -- the move of that word
 unfoldable pub move_named : List ℕ → Option Move

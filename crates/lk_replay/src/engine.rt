@@ -9,9 +9,9 @@ ghost use Rattle.lk_replay.specs.Report.{report_text};
 ghost use Rattle.lk_replay.specs.Whole.{AppendsAsTold};
 
 use crate::devices::{RunFault, read_text, send};
-use crate::ending::{Ending, ending_of};
+use crate::ending::Ending;
 use crate::output_buffer::OutputBuffer;
-use crate::report::{Printer, fault_text};
+use crate::report::{Replay, fault_text};
 use crate::{ReadFault, read_schedule};
 use std::alloc::Global;
 use std::io::{Read, Write};
@@ -20,30 +20,30 @@ use std::io::{Read, Write};
 fn print<W: Write>(
     output: &mut W,
     buffer: &mut OutputBuffer,
-    printer: &mut Printer<'_>,
+    replay: &mut Replay<'_>,
 ) -> Result<Ending, RunFault>
     requires { buffer.old ≡ [] }
     ensures written { OnOk result
         (Appends (W.contents output.old) (W.contents output.new)
-        (printer.old.lines ++ printer.old.last)) }
+        (replay.old.lines ++ replay.old.last)) }
     ensures prefix { OnErr result
         (AppendsPrefix (W.contents output.old) (W.contents output.new)
-        (printer.old.lines ++ printer.old.last)) }
-    ensures ending { IfOk result (λ ending. ending ≡ ending_of printer.old.last) }
+        (replay.old.lines ++ replay.old.last)) }
+    ensures ending { IfOk result (λ ending. ending ≡ ending_of replay.old.last) }
     ensures fault { IfErr result (λ e. e ≡ RunFault.Write) }
 {
-    while buffer.print(printer) {
+    while buffer.print(replay) {
         buffer.make_room(output)?;
     }
-    let last = printer.last();
-    buffer.push(output, last.as_slice())?;
+    let closing = replay.closing();
+    buffer.push(output, closing.line.as_slice())?;
     buffer.send_whole(output)?;
-    Ok(ending_of(last.as_slice()))
+    Ok(closing.ending)
 }
 
 // Writes the report of a text, and answers how it ends.
 #[tactic(auto, unfolding(crate::specs::Report::report_text))]
-fn report<W: Write>(alloc: Global, output: &mut W, text: &[u8]) -> Result<Ending, RunFault>
+fn write_report<W: Write>(alloc: Global, output: &mut W, text: &[u8]) -> Result<Ending, RunFault>
     ensures written { OnOk result
         (Appends (W.contents output.old) (W.contents output.new) (report_text text.now)) }
     ensures ending { IfOk result (λ ending. ending ≡ ending_of (report_text text.now)) }
@@ -58,13 +58,13 @@ fn report<W: Write>(alloc: Global, output: &mut W, text: &[u8]) -> Result<Ending
             let Ok(mut buffer) = OutputBuffer::new(alloc) else {
                 return Err(RunFault::OutOfMemory);
             };
-            print(output, &mut buffer, &mut Printer::new(&schedule))
+            print(output, &mut buffer, &mut Replay::new(&schedule))
         }
         Err(ReadFault::OutOfMemory) => Err(RunFault::OutOfMemory),
         Err(fault) => {
-            let last = fault_text(fault);
-            send(output, last.as_slice())?;
-            Ok(ending_of(last.as_slice()))
+            let closing = fault_text(fault);
+            send(output, closing.line.as_slice())?;
+            Ok(closing.ending)
         }
     }
 }
@@ -102,7 +102,7 @@ pub fn run<R: Read, W: Write>(
         (Keeps (W.contents output.old) (W.contents output.new)) }
 {
     let text = read_text(alloc, input)?;
-    report(alloc, output, &text)
+    write_report(alloc, output, &text)
 }
 
 /// The exit status of a run: 0 where every move was accepted, 1 where one was refused or the text

@@ -12,6 +12,7 @@ mod played;
 mod report;
 mod schedule;
 mod theorems;
+mod unreadable;
 mod vocabulary;
 
 pub use devices::{RunFault, read_text, send};

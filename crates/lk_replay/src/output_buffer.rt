@@ -4,18 +4,40 @@
 //! It is std's `BufWriter` with a contract that says what was written where a write fails.
 
 ghost use Rattle.std.specs.Prelude.{◌≡◌, ℕ, List, ◌+◌, ◌++◌, ◌<◌, ◌≤◌, [], length, IfErr, IfOk};
-ghost use Rattle.std.specs.Prelude.{MatchBool, OnErr, OnOk};
+ghost use Rattle.std.specs.Prelude.{MatchBool, OnErr, OnOk, take};
 ghost use Rattle.std.specs.Io.KnownBytes.{Appends};
 ghost use Rattle.lk_replay.specs.Devices.{AppendsPrefix, Passes};
 
 use crate::devices::{RunFault, send, write_whole};
-use crate::report::{LINE_ROOM, Printer};
 use std::alloc::{AllocError, Global};
 use std::io::Write;
 use std::marker::Model;
 
 // The most bytes that wait: as many as a pipe of Linux holds.
 const MOST_WAITING: usize = 65_536;
+
+/// The bytes of the smallest place that a source fills.
+pub(crate) const LEAST_PLACE: usize = 448;
+
+/// What gives lines, and then a last one, a place full at a time.
+pub(crate) trait Source {
+    /// The lines that are left, and how many they are.
+    ghost lines: { Self → List ℕ };
+
+    ghost left: { Self → ℕ };
+
+    /// The last line.
+    ghost last: { Self → List ℕ };
+
+    /// Puts the next lines into a place, and answers where they end: at 0 only if none is left.
+    fn fill(&mut self, place: &mut [u8]) -> usize
+        requires { 448 ≤ length place.old }
+        ensures lines { lines self.old ≡ take result place.new ++ lines self.new }
+        ensures fits { result ≤ length place.new }
+        ensures fewer { 0 < result → left self.new < left self.old }
+        ensures none { result ≡ 0 → (lines self.new ≡ []) × (left self.new ≡ 0) }
+        ensures last { last self.new ≡ last self.old };
+}
 
 /// Bytes on their way to an output. They wait until there are 65,536, since many small writes cost
 /// more than the bytes.
@@ -96,7 +118,7 @@ impl OutputBuffer {
             (AppendsPrefix (W.contents output.old) (W.contents output.new) self.old) }
         ensures fault { IfErr result (λ e. e ≡ RunFault.Write) }
     {
-        if MOST_WAITING - self.len >= LINE_ROOM {
+        if MOST_WAITING - self.len >= LEAST_PLACE {
             return Ok(());
         }
         write_whole(output, &self.bytes[..self.len])?;
@@ -105,15 +127,15 @@ impl OutputBuffer {
     }
 
     // Prints lines behind what waits, as many as have room, and answers whether there are any.
-    pub(crate) fn print(&mut self, printer: &mut Printer<'_>) -> bool
+    pub(crate) fn print<S: Source>(&mut self, source: &mut S) -> bool
         requires { length self.old + 448 ≤ 65536 }
         ensures lines { (lines : List ℕ) × (self.new ≡ self.old ++ lines)
-            × (printer.old.lines ≡ lines ++ printer.new.lines) }
-        ensures left { MatchBool result (printer.new.left < printer.old.left)
-            ((printer.new.lines ≡ []) × (printer.new.left ≡ 0)) }
-        ensures last { printer.new.last ≡ printer.old.last }
+            × (S.lines source.old ≡ lines ++ S.lines source.new) }
+        ensures left { MatchBool result (S.left source.new < S.left source.old)
+            ((S.lines source.new ≡ []) × (S.left source.new ≡ 0)) }
+        ensures last { S.last source.new ≡ S.last source.old }
     {
-        let len = printer.fill(&mut self.bytes[self.len..]);
+        let len = source.fill(&mut self.bytes[self.len..]);
         self.len += len;
         len > 0
     }

@@ -1,6 +1,7 @@
 //! The parts of a schedule text, for texts that are read line by line: its lines, its words, its
-//! header and its names.
+//! header and its names, and where a line stops to be a header or a move.
 
 pub use crate::header::{Header, header_of};
-pub use crate::lines::{cut_line, cut_word, is_skipped};
+pub use crate::lines::{Lines, cut_line, cut_word, is_skipped};
+pub use crate::unreadable::{Expected, Unreadable, unreadable_header, unreadable_move};
 pub use crate::vocabulary::{lock_named, move_named, number_of};

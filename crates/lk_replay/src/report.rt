@@ -1,22 +1,22 @@
 //! The report of a schedule text.
 //!
 //! The whole text is read first. Then its moves are played, and each is printed as it is played, by
-//! one printer: into a `Vec` here, and into a buffer that goes out in `run`.
+//! one `Replay`: into a `Vec` here, and into a buffer that goes out in `run`.
 
 ghost use Rattle.std.specs.Prelude.{◌≡◌, ◌++◌, IfOk, OnOk};
 ghost use Rattle.lk_replay.specs.Report.{report_text};
 ghost use Rattle.lk_replay.specs.Whole.{IsAsTold};
 
 mod closings;
-mod followed;
 mod numerals;
-mod printer;
+mod replay;
+mod status;
 mod text;
 mod words;
 
 use crate::{ReadFault, read_schedule};
 pub use closings::fault_text;
-pub use printer::{LINE_ROOM, Printer};
+pub use replay::Replay;
 use std::alloc::{AllocError, Global};
 
 // The most bytes of a move's line without its longer list, of holders or of the queue, of a thread
@@ -35,15 +35,15 @@ const PLACE: usize = 4_096;
 const FIRST_LINES: usize = 1_024;
 
 // Appends what is printed.
-fn print_into(out: &mut Vec<u8>, printer: &mut Printer<'_>) -> Result<(), AllocError>
+fn print_into(out: &mut Vec<u8>, replay: &mut Replay<'_>) -> Result<(), AllocError>
     ensures { OnOk result
-        (out.new.items ≡ out.old.items ++ (printer.old.lines ++ printer.old.last)) }
+        (out.new.items ≡ out.old.items ++ (replay.old.lines ++ replay.old.last)) }
 {
     let mut lines = [0; PLACE];
     loop {
-        let len = printer.fill(&mut lines);
+        let len = replay.fill(&mut lines);
         if len == 0 {
-            return out.extend_from_slice(printer.last().as_slice());
+            return out.extend_from_slice(replay.closing().line.as_slice());
         }
         out.extend_from_slice(&lines[..len])?;
     }
@@ -59,14 +59,14 @@ fn printed(alloc: Global, bytes: &[u8]) -> Result<Vec<u8>, AllocError>
             let longest = LONGEST_LINE + LONGEST_LISTED * usize::from(schedule.threads());
             let lines = schedule.moves().len().min(FIRST_LINES);
             let mut out = Vec::with_capacity(alloc, longest * lines + LONGEST_LAST)?;
-            print_into(&mut out, &mut Printer::new(&schedule))?;
+            print_into(&mut out, &mut Replay::new(&schedule))?;
             out.shrink_to_fit();
             Ok(out)
         }
         Err(ReadFault::OutOfMemory) => Err(AllocError),
         Err(fault) => {
             let mut out = Vec::new(alloc);
-            out.extend_from_slice(fault_text(fault).as_slice())?;
+            out.extend_from_slice(fault_text(fault).line.as_slice())?;
             Ok(out)
         }
     }

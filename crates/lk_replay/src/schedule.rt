@@ -1,14 +1,14 @@
 //! The schedule that a text has: its lock and its moves, each with its line.
 
-ghost use Rattle.std.specs.Prelude.{◌≡◌, ◌+◌, ◌<◌, ◌≤◌, ◌^◌, length, IfOk};
-ghost use Rattle.lk_replay.specs.Lines.{lines_of};
-ghost use Rattle.lk_replay.specs.Reads.{Gives};
-ghost use Rattle.lk_replay.specs.Schedule.{move_of, moves_from, plan_of};
+ghost use Rattle.std.specs.Prelude.{◌≡◌, ◌<◌, ◌≤◌, ◌^◌, length, IfErr, IfOk, Ok};
+ghost use Rattle.lk_replay.specs.Reads.{Fails, Gives};
+ghost use Rattle.lk_replay.specs.Reading.{IsOfText};
+ghost use Rattle.lk_replay.specs.Schedule.{move_of, moves_from, plan_of, with_header};
 
 mod reader;
 
-use crate::header::header_of;
-use crate::lines::{cut_line, cut_word, is_skipped};
+use crate::header::{Header, header_of};
+use crate::lines::{Lines, cut_word};
 use crate::vocabulary::{move_named, number_of};
 use lk_locks::{LockKind, Move};
 pub use reader::ScheduleReader;
@@ -39,7 +39,8 @@ pub enum ReadFault {
     /// More than 1,048,576 bytes.
     #[error("the text is too long")]
     TooLong,
-    /// No line but comments and empty ones. The line is the one behind the last.
+    /// No line but comments and empty ones. The line is the one after the last, where a header
+    /// could still have come.
     #[error("line {0}: there is no header")]
     NoHeader(u32),
     /// The first line that is not skipped is no header.
@@ -133,38 +134,57 @@ fn move_of(line: &[u8]) -> Option<(u8, Move)>
     Some((thread, action))
 }
 
-// The moves of the text, whose first line has the number `first`.
-fn read_moves(alloc: Global, text: &[u8], first: u32) -> Result<Vec<Line>, ReadFault>
-    requires { first + length text.now < 2 ^ 32 }
-    ensures few { IfOk result (λ moves. length moves.items ≤ 65536) }
-    ensures read { Gives (λ moves. moves.items) result (moves_from first 0 (lines_of text.now)) }
+// The header of a text, and the lines after it.
+#[tactic(auto, unfolding(crate::specs::Schedule::plan_of))]
+fn read_header(text: &[u8]) -> Result<(Header, Lines<'_>), ReadFault>
+    ensures some { IfOk result (λ read. 0 < read.0.threads) }
+    ensures few { IfOk result (λ read. read.0.threads ≤ 64) }
+    ensures narrow { IfOk result (λ read. read.0.threads < 2 ^ read.0.bits) }
+    ensures least { IfOk result (λ read. 2 ≤ read.0.bits) }
+    ensures most { IfOk result (λ read. read.0.bits ≤ 64) }
+    ensures read { IfOk result (λ read. plan_of text.now ≡ with_header
+        (Ok (record { kind = read.0.kind; threads = read.0.threads; bits = read.0.bits }))
+        (moves_from read.1.number 0 read.1.lines)) }
+    ensures fault { IfErr result (λ fault. Fails fault (plan_of text.now)) }
+    ensures no_memory { IfErr result IsOfText }
 {
-    let most = ((text.len() + 1) / SHORTEST_MOVE).min(MOST_MOVES);
+    if text.len() > MOST_BYTES {
+        return Err(ReadFault::TooLong);
+    }
+    let mut lines = Lines::new(text);
+    let Some((number, line)) = lines.next_line() else {
+        return Err(ReadFault::NoHeader(lines.number()));
+    };
+    let header = header_of(line, number)?;
+    Ok((header, lines))
+}
+
+// The moves of these lines, for which there is room for `most` at first.
+fn read_moves(alloc: Global, lines: Lines<'_>, most: usize) -> Result<Vec<Line>, ReadFault>
+    requires { most ≤ 65536 }
+    ensures few { IfOk result (λ moves. length moves.items ≤ 65536) }
+    ensures read { Gives (λ moves. moves.items) result
+        (moves_from lines.entry.number 0 lines.entry.lines) }
+{
     let Ok(mut moves) = Vec::with_capacity(alloc, most) else {
         return Err(ReadFault::OutOfMemory);
     };
-    let mut rest = text;
-    let mut number = first;
-    while !rest.is_empty() {
-        let (line, after) = cut_line(rest);
-        if !is_skipped(line) {
-            let Some((thread, action)) = move_of(line) else {
-                return Err(ReadFault::BadLine(number));
-            };
-            if moves.len() == MOST_MOVES {
-                return Err(ReadFault::TooManyMoves(number));
-            }
-            let line = Line {
-                number,
-                thread,
-                action,
-            };
-            if moves.push(line).is_err() {
-                return Err(ReadFault::OutOfMemory);
-            }
+    let mut lines = lines;
+    while let Some((number, line)) = lines.next_line() {
+        let Some((thread, action)) = move_of(line) else {
+            return Err(ReadFault::BadLine(number));
+        };
+        if moves.len() == MOST_MOVES {
+            return Err(ReadFault::TooManyMoves(number));
         }
-        number += 1;
-        rest = after;
+        let line = Line {
+            number,
+            thread,
+            action,
+        };
+        if moves.push(line).is_err() {
+            return Err(ReadFault::OutOfMemory);
+        }
     }
     Ok(moves)
 }
@@ -175,29 +195,16 @@ fn read_moves(alloc: Global, text: &[u8], first: u32) -> Result<Vec<Line>, ReadF
 ///
 /// Those of the length and of the header are answered without taking memory. Where a request for
 /// memory was refused, `OutOfMemory` may stand in place of a later one.
-#[tactic(auto, unfolding(crate::specs::Schedule::plan_of))]
 pub fn read_schedule(alloc: Global, bytes: &[u8]) -> Result<Schedule, ReadFault>
     ensures { Gives (λ schedule. schedule) result (plan_of bytes.now) }
 {
-    if bytes.len() > MOST_BYTES {
-        return Err(ReadFault::TooLong);
-    }
-    let mut rest = bytes;
-    let mut number: u32 = 1;
-    while !rest.is_empty() {
-        let (line, after) = cut_line(rest);
-        if !is_skipped(line) {
-            let header = header_of(line, number)?;
-            let moves = read_moves(alloc, after, number + 1)?;
-            return Ok(Schedule {
-                kind: header.kind,
-                threads: header.threads,
-                bits: header.bits,
-                moves,
-            });
-        }
-        number += 1;
-        rest = after;
-    }
-    Err(ReadFault::NoHeader(number))
+    let (header, lines) = read_header(bytes)?;
+    let most = (bytes.len() / SHORTEST_MOVE).min(MOST_MOVES);
+    let moves = read_moves(alloc, lines, most)?;
+    Ok(Schedule {
+        kind: header.kind,
+        threads: header.threads,
+        bits: header.bits,
+        moves,
+    })
 }

@@ -49,12 +49,24 @@ pub fn lock_named(name: &[u8]) -> Option<LockKind>
     }
 }
 
-/// The move of that word.
+/// The move of that word. The steps are tried first, and of these the most common.
 #[tactic(auto, unfolding(crate::specs::Vocabulary::move_named))]
 pub fn move_named(word: &[u8]) -> Option<Move>
     ensures { result ≡ move_named word.now }
 {
-    if word == b"acquire".as_slice() {
+    if word == b"read".as_slice() {
+        Some(Move::Step(StepKind::Read))
+    } else if word == b"section".as_slice() {
+        Some(Move::Step(StepKind::Section))
+    } else if word == b"write".as_slice() {
+        Some(Move::Step(StepKind::Write))
+    } else if word == b"swap".as_slice() {
+        Some(Move::Step(StepKind::Swap))
+    } else if word == b"cas".as_slice() {
+        Some(Move::Step(StepKind::Cas))
+    } else if word == b"add".as_slice() {
+        Some(Move::Step(StepKind::Add))
+    } else if word == b"acquire".as_slice() {
         Some(Move::Call(Op::Acquire))
     } else if word == b"release".as_slice() {
         Some(Move::Call(Op::Release))
@@ -68,18 +80,6 @@ pub fn move_named(word: &[u8]) -> Option<Move>
         Some(Move::Call(Op::WriteUnlock))
     } else if word == b"downgrade".as_slice() {
         Some(Move::Call(Op::Downgrade))
-    } else if word == b"read".as_slice() {
-        Some(Move::Step(StepKind::Read))
-    } else if word == b"write".as_slice() {
-        Some(Move::Step(StepKind::Write))
-    } else if word == b"swap".as_slice() {
-        Some(Move::Step(StepKind::Swap))
-    } else if word == b"cas".as_slice() {
-        Some(Move::Step(StepKind::Cas))
-    } else if word == b"add".as_slice() {
-        Some(Move::Step(StepKind::Add))
-    } else if word == b"section".as_slice() {
-        Some(Move::Step(StepKind::Section))
     } else {
         None
     }

@@ -1,6 +1,6 @@
 -- Definitions: the line and the status of each fault, and what a fault of a run is to the program.
 -- This project's own.
-use Rattle.std.specs.Prelude.{ℕ, List, ◌++◌, codes, decimal}
+use Rattle.std.specs.Prelude.{ℕ, List, [], ◌++◌, codes, decimal}
 use Rattle.lk_replay.specs.declared.devices.RunFault.{RunFault}
 use Rattle.lk_replay.specs.declared.devices.RunFault.TheVariants as run
 use Rattle.lockreplay.specs.declared.faults.ProgramFault.{ProgramFault}
@@ -21,13 +21,17 @@ fault_from run.Read = Input
 fault_from run.Write = Output
 fault_from run.OutOfMemory = Memory
 
--- the line for standard error, without its end
-abbrev pub fault_text : ProgramFault → List ℕ
-fault_text Input = codes "lockreplay: cannot read standard input"
-fault_text Output = codes "lockreplay: cannot write"
-fault_text Memory = codes "lockreplay: out of memory"
-fault_text TooManyFiles = codes "lockreplay: too many files"
-fault_text (File k) = codes "lockreplay: cannot read file " ++ decimal k
+-- the line for standard error, before a file's number
+abbrev pub fault_words : ProgramFault → List ℕ
+fault_words Input = codes "lockreplay: cannot read standard input"
+fault_words Output = codes "lockreplay: cannot write"
+fault_words Memory = codes "lockreplay: out of memory"
+fault_words TooManyFiles = codes "lockreplay: too many files"
+fault_words (File k) = codes "lockreplay: cannot read file "
+
+abbrev pub fault_number : ProgramFault → List ℕ
+fault_number (File k) = decimal k
+fault_number _ = []
 
 abbrev pub fault_line : ProgramFault → List ℕ
-fault_line fault = fault_text fault ++ codes "\n"
+fault_line fault = fault_words fault ++ fault_number fault ++ codes "\n"

@@ -43,16 +43,20 @@ fn help<W: Write>(output: &mut W, text: &str) -> Result<u8, ProgramFault>
     Ok(0)
 }
 
-/// Says in one line what ends the program.
+/// Says in one line what ends the program. The line is put together here, and not by `Display`,
+/// which is derived and has no contract.
 fn tell_fault<E: Write>(errors: &mut E, fault: ProgramFault) -> Ended
     ensures status { result.status ≡ fault_status fault }
     ensures line { result.told ≡ true
         → Appends (E.contents errors.old) (E.contents errors.new) (fault_line fault) }
 {
-    let told = writeln!(errors, "{fault}").is_ok();
+    let told = match fault {
+        ProgramFault::File(number) => writeln!(errors, "{}{number}", fault.text()),
+        _ => writeln!(errors, "{}", fault.text()),
+    };
     Ended {
         status: fault.status(),
-        told,
+        told: told.is_ok(),
     }
 }
 

@@ -1,13 +1,15 @@
 //! What ends the program early, with its line and its status.
 
 ghost use Rattle.std.specs.Prelude.{◌≡◌};
-ghost use Rattle.lockreplay.specs.Faults.{fault_from, fault_status};
+ghost use Rattle.lockreplay.specs.Faults.{fault_from, fault_status, fault_words};
 
 use lk_replay::RunFault;
-use std::fmt;
+use thiserror::Error;
 
-/// Why the program gives no report. Shown, it is the line for standard error, without its end.
-#[derive(Clone, Copy, PartialEq, Eq, Debug, Drop)]
+/// Why the program gives no report. Shown, it is the line for standard error, without its end: the
+/// text that `text` gives, and a file's number.
+#[derive(Clone, Copy, PartialEq, Eq, Debug, Drop, Error)]
+#[error("{}", self.text())]
 pub enum ProgramFault {
     /// Standard input failed.
     Input,
@@ -18,10 +20,24 @@ pub enum ProgramFault {
     /// A batch of more than 65,536 files.
     TooManyFiles,
     /// The file of this number, from 1, cannot be opened or read.
+    #[error("{}{}", self.text(), .0)]
     File(u32),
 }
 
 impl ProgramFault {
+    /// The text of its line, before a file's number.
+    pub fn text(&self) -> &'static str
+        ensures { result.now ≡ fault_words self.now }
+    {
+        match self {
+            ProgramFault::Input => "lockreplay: cannot read standard input",
+            ProgramFault::Output => "lockreplay: cannot write",
+            ProgramFault::Memory => "lockreplay: out of memory",
+            ProgramFault::TooManyFiles => "lockreplay: too many files",
+            ProgramFault::File(_) => "lockreplay: cannot read file ",
+        }
+    }
+
     /// The status that the program ends with: 2 where the words ask for too much, else 3.
     pub fn status(&self) -> u8
         ensures { result ≡ fault_status self.now }
@@ -35,27 +51,6 @@ impl ProgramFault {
         }
     }
 }
-
-/// The line for standard error, without its end. Written by hand, since what a derive writes has no
-/// contract.
-impl fmt::Display for ProgramFault {
-    ghost use Rattle.std.specs.Prelude.{Some};
-    ghost use Rattle.lockreplay.specs.Faults.{fault_text};
-
-    ghost output = { λ fault. Some (fault_text fault) };
-
-    fn fmt<W: fmt::Write>(&self, f: &mut fmt::Formatter<W>) -> fmt::Result {
-        match self {
-            ProgramFault::Input => f.write_str("lockreplay: cannot read standard input"),
-            ProgramFault::Output => f.write_str("lockreplay: cannot write"),
-            ProgramFault::Memory => f.write_str("lockreplay: out of memory"),
-            ProgramFault::TooManyFiles => f.write_str("lockreplay: too many files"),
-            ProgramFault::File(number) => write!(f, "lockreplay: cannot read file {number}"),
-        }
-    }
-}
-
-impl std::error::Error for ProgramFault {}
 
 /// A fault of a run on standard input and output.
 impl From<RunFault> for ProgramFault {

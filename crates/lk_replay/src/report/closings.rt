@@ -1,37 +1,35 @@
 //! The last line of a report: its end, a refused move, or the fault of its text.
 
 ghost use Rattle.std.specs.Prelude.{◌≡◌, ◌≢◌, ◌+◌, ◌≤◌, ◌++◌, ◌∷◌, [], length, decimal};
+ghost use Rattle.lk_replay.specs.Ending.{ending_of, is_line};
 ghost use Rattle.lk_replay.specs.Reads.{Fails};
 ghost use Rattle.lk_replay.specs.Report.{at_line, fault_line, last_line, plan_text, refusal_text};
 ghost use Rattle.lk_replay.specs.Faults.{Fault};
 ghost use Rattle.lk_replay.specs.Schedule.{Plan};
-ghost use Rattle.std.specs.Prelude.{Result};
-ghost use Rattle.lk_replay.specs.Vocabulary.{step_word};
+ghost use Rattle.std.specs.Prelude.{Result, true};
 
 use crate::ReadFault;
+use crate::ending::Ending;
 use crate::report::numerals::Numeral;
 use crate::report::text::Text;
-use lk_locks::{Refusal, StepKind};
+use crate::report::words::step_word;
+use lk_locks::Refusal;
 
-fn step_word(kind: StepKind) -> &'static [u8]
-    ensures word { result.now ≡ step_word kind }
-    ensures short { length result.now ≤ 7 }
-{
-    match kind {
-        StepKind::Read => b"read",
-        StepKind::Write => b"write",
-        StepKind::Swap => b"swap",
-        StepKind::Cas => b"cas",
-        StepKind::Add => b"add",
-        StepKind::Section => b"section",
-    }
+/// The last line of a report, and how the report ends by it.
+#[derive(Drop)]
+pub struct Closing {
+    pub line: Text,
+    pub ending: Ending,
+    ghost told: { ending ≡ ending_of line },
 }
 
 // `WHAT line L `
 fn at_line(what: &[u8], line: u32) -> Text
-    requires { length what.now ≤ 16 }
+    requires short { length what.now ≤ 16 }
+    requires whole { is_line what.now ≡ true }
     ensures text { result ≡ at_line what.now line }
     ensures short { length result ≤ 64 }
+    ensures whole { is_line result ≡ true }
 {
     let number = Numeral::of(line);
     let mut text = Text::new();
@@ -64,38 +62,48 @@ fn push_reason(text: &mut Text, refusal: Refusal)
 }
 
 /// The last line of a replay with so many accepted moves.
-pub fn last_line(count: u32, refused: Option<(u32, Refusal)>) -> Text
-    ensures { result ≡ last_line count refused }
+pub fn last_line(count: u32, refused: Option<(u32, Refusal)>) -> Closing
+    ensures { result.line ≡ last_line count refused }
 {
-    if let Some((line, refusal)) = refused {
-        let mut text = at_line(b"refused", line);
-        push_reason(&mut text, refusal);
-        text.push(b"\n");
-        return text;
+    if let Some((number, refusal)) = refused {
+        let mut line = at_line(b"refused", number);
+        push_reason(&mut line, refusal);
+        line.push(b"\n");
+        return Closing {
+            line,
+            ending: Ending::Refused,
+        };
     }
     let number = Numeral::of(count);
-    let mut text = Text::new();
-    text.push(b"end ");
-    text.push(number.digits());
-    text.push(b"\n");
-    text
+    let mut line = Text::new();
+    line.push(b"end ");
+    line.push(number.digits());
+    line.push(b"\n");
+    Closing {
+        line,
+        ending: Ending::Accepted,
+    }
 }
 
 // The line of a fault that has a line.
-fn fault_line(line: u32, name: &[u8]) -> Text
-    requires { length name.now ≤ 16 }
-    ensures { result ≡ fault_line line name.now }
+fn fault_line(number: u32, name: &[u8]) -> Closing
+    requires short { length name.now ≤ 16 }
+    requires whole { is_line name.now ≡ true }
+    ensures { result.line ≡ fault_line number name.now }
 {
-    let mut text = at_line(b"fault", line);
-    text.push(name);
-    text.push(b"\n");
-    text
+    let mut line = at_line(b"fault", number);
+    line.push(name);
+    line.push(b"\n");
+    Closing {
+        line,
+        ending: Ending::Faulty,
+    }
 }
 
 /// The line of a text's fault. There is none for want of memory, which is no fault of a text.
-pub fn fault_text(fault: ReadFault) -> Text
+pub fn fault_text(fault: ReadFault) -> Closing
     requires { fault ≢ ReadFault.OutOfMemory }
-    ensures { (read : Result Plan Fault) → Fails fault read → result ≡ plan_text read }
+    ensures { (read : Result Plan Fault) → Fails fault read → result.line ≡ plan_text read }
 {
     match fault {
         ReadFault::NoHeader(line) => fault_line(line, b"NoHeader"),
@@ -105,9 +113,12 @@ pub fn fault_text(fault: ReadFault) -> Text
         ReadFault::TooManyMoves(line) => fault_line(line, b"TooManyMoves"),
         ReadFault::WordsTooNarrow(line) => fault_line(line, b"WordsTooNarrow"),
         ReadFault::TooLong | ReadFault::OutOfMemory => {
-            let mut text = Text::new();
-            text.push(b"fault TooLong\n");
-            text
+            let mut line = Text::new();
+            line.push(b"fault TooLong\n");
+            Closing {
+                line,
+                ending: Ending::Faulty,
+            }
         }
     }
 }

@@ -1,4 +1,6 @@
-//! Numbers as text.
+//! Numbers as text. The digits are `itoa`'s, but for a thread's number and for the last digit of a
+//! count that grows by one: a line has two or three numbers of threads, each of at most three
+//! digits, and takes them as blocks of a fixed size, as a whole and with no call.
 
 ghost use Rattle.std.specs.Prelude.{◌≡◌, ◌+◌, ◌≤◌, ◌++◌, ◌∷◌, [], decimal, length, take};
 

@@ -1,4 +1,8 @@
 //! A short text in a fixed array, which takes no memory as it grows.
+//!
+//! It is an `ArrayVec<u8, 320>` but for two things: a block of a fixed size is copied whole, beyond
+//! the text's end, and the bytes after a short text are read with it. So neither copy depends on a
+//! length, while an `ArrayVec` gives and takes its bytes up to its length alone.
 
 ghost use Rattle.std.specs.Prelude.{◌≡◌, ◌+◌, ◌≤◌, ◌++◌, length, take};
 

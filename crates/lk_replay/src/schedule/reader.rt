@@ -2,15 +2,13 @@
 //! project's own: the text is gone through once before its first move, so that each fault is known
 //! by then, and its moves are read again as they are asked for.
 
-ghost use Rattle.std.specs.Prelude.{◌≡◌, ◌+◌, ◌<◌, ◌≤◌, ◌^◌, length, IfOk, IfErr};
-ghost use Rattle.lk_replay.specs.Lines.{lines_of};
+ghost use Rattle.std.specs.Prelude.{◌≡◌, ◌<◌, ◌≤◌, ◌^◌, length, IfOk, IfErr};
 ghost use Rattle.lk_replay.specs.Reads.{Gives};
 ghost use Rattle.lk_replay.specs.Reading.{IsOfText, counted};
 ghost use Rattle.lk_replay.specs.Schedule.{moves_from};
 
-use super::{Line, MOST_BYTES, MOST_MOVES, ReadFault, move_of};
-use crate::header::header_of;
-use crate::lines::{cut_line, is_skipped};
+use super::{Line, MOST_MOVES, ReadFault, move_of, read_header};
+use crate::lines::Lines;
 use lk_locks::LockKind;
 use std::marker::Model;
 
@@ -23,14 +21,12 @@ pub struct ScheduleReader<'a> {
     // how many moves were read, and how many are left
     taken: usize,
     left: usize,
-    // the text from the next line on, and that line's number
-    rest: &'a [u8],
-    number: u32,
+    // the lines after them
+    lines: Lines<'a>,
 }
 
 impl<'a> Model for ScheduleReader<'a> {
     ghost use Rattle.std.specs.Prelude.{◌≡◌, ◌+◌, ◌<◌, ◌≤◌, ◌^◌, length, Ok};
-    ghost use Rattle.lk_replay.specs.Lines.{lines_of};
     ghost use Rattle.lk_replay.specs.Reading.{moves_in};
     ghost use Rattle.lk_replay.specs.Schedule.{Plan, moves_from};
 
@@ -40,15 +36,15 @@ impl<'a> Model for ScheduleReader<'a> {
       kind = a.kind;
       threads = a.threads;
       bits = a.bits;
-      moves = moves_in (moves_from a.number a.taken (lines_of a.rest.now));
+      moves = moves_in (moves_from a.lines.number a.taken a.lines.lines);
     } };
 
     ghost invariant = { λ a.
         (0 < a.threads) × (a.threads ≤ 64) × (a.threads < 2 ^ a.bits) × (2 ≤ a.bits) × (a.bits ≤ 64)
-        × (a.number + length a.rest.now < 2 ^ 32) × (a.taken + a.left ≤ 65536)
-        × (moves_from a.number a.taken (lines_of a.rest.now)
-        ≡ Ok (moves_in (moves_from a.number a.taken (lines_of a.rest.now))))
-        × (a.left ≡ length (moves_in (moves_from a.number a.taken (lines_of a.rest.now)))) };
+        × (a.taken + a.left ≤ 65536)
+        × (moves_from a.lines.number a.taken a.lines.lines
+        ≡ Ok (moves_in (moves_from a.lines.number a.taken a.lines.lines)))
+        × (a.left ≡ length (moves_in (moves_from a.lines.number a.taken a.lines.lines))) };
 }
 
 impl<'a> ScheduleReader<'a> {
@@ -62,35 +58,20 @@ impl<'a> ScheduleReader<'a> {
     /// # Errors
     ///
     /// Each but `OutOfMemory`.
-    #[tactic(auto, unfolding(crate::specs::Schedule::plan_of))]
     pub fn open(text: &'a [u8]) -> Result<ScheduleReader<'a>, ReadFault>
         ensures read { Gives (λ reader. reader) result (plan_of text.now) }
         ensures no_memory { IfErr result IsOfText }
     {
-        if text.len() > MOST_BYTES {
-            return Err(ReadFault::TooLong);
-        }
-        let mut rest = text;
-        let mut number: u32 = 1;
-        while !rest.is_empty() {
-            let (line, after) = cut_line(rest);
-            if !is_skipped(line) {
-                let header = header_of(line, number)?;
-                let left = count_moves(after, number + 1)?;
-                return Ok(ScheduleReader {
-                    kind: header.kind,
-                    threads: header.threads,
-                    bits: header.bits,
-                    taken: 0,
-                    left,
-                    rest: after,
-                    number: number + 1,
-                });
-            }
-            number += 1;
-            rest = after;
-        }
-        Err(ReadFault::NoHeader(number))
+        let (header, lines) = read_header(text)?;
+        let left = count_moves(lines.copy())?;
+        Ok(ScheduleReader {
+            kind: header.kind,
+            threads: header.threads,
+            bits: header.bits,
+            taken: 0,
+            left,
+            lines,
+        })
     }
 
     /// The lock.
@@ -132,54 +113,35 @@ impl<'a> ScheduleReader<'a> {
         ensures first { result ≡ first_of self.old.moves }
         ensures rest { self.new ≡ record self.old { moves = drop 1 self.old.moves } }
     {
-        let taken = self.taken;
-        let mut rest = self.rest;
-        let mut number = self.number;
-        while !rest.is_empty() {
-            let (line, after) = cut_line(rest);
-            if !is_skipped(line) {
-                let (thread, action) = move_of(line)?;
-                self.taken = taken + 1;
-                self.left -= 1;
-                self.rest = after;
-                self.number = number + 1;
-                return Some(Line {
-                    number,
-                    thread,
-                    action,
-                });
-            }
-            number += 1;
-            rest = after;
-        }
-        None
+        let (number, line) = self.lines.next_line()?;
+        let (thread, action) = move_of(line)?;
+        self.taken += 1;
+        self.left -= 1;
+        Some(Line {
+            number,
+            thread,
+            action,
+        })
     }
 }
 
-// How many moves the text has, whose first line has the number `first`.
-fn count_moves(text: &[u8], first: u32) -> Result<usize, ReadFault>
-    requires { first + length text.now < 2 ^ 32 }
+// How many moves these lines have.
+fn count_moves(lines: Lines<'_>) -> Result<usize, ReadFault>
     ensures few { IfOk result (λ count. count ≤ 65536) }
     ensures read { Gives (λ count. count) result
-        (counted (moves_from first 0 (lines_of text.now))) }
+        (counted (moves_from lines.entry.number 0 lines.entry.lines)) }
     ensures no_memory { IfErr result IsOfText }
 {
+    let mut lines = lines;
     let mut taken: usize = 0;
-    let mut rest = text;
-    let mut number = first;
-    while !rest.is_empty() {
-        let (line, after) = cut_line(rest);
-        if !is_skipped(line) {
-            if move_of(line).is_none() {
-                return Err(ReadFault::BadLine(number));
-            }
-            if taken == MOST_MOVES {
-                return Err(ReadFault::TooManyMoves(number));
-            }
-            taken += 1;
+    while let Some((number, line)) = lines.next_line() {
+        let Some(_) = move_of(line) else {
+            return Err(ReadFault::BadLine(number));
+        };
+        if taken == MOST_MOVES {
+            return Err(ReadFault::TooManyMoves(number));
         }
-        number += 1;
-        rest = after;
+        taken += 1;
     }
     Ok(taken)
 }

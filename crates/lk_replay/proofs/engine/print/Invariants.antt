@@ -7,10 +7,10 @@ abbrev pub invariant-loop-buffer : goal.invariant-loop-buffer
 invariant-loop-buffer g l =
     (done : List ℕ)
     × Passes [] (g.W.Write.contents l.initial.output) done l.buffer (g.W.Write.contents l.output)
-    × (done ++ (l.printer.lines ++ l.printer.last)
-    ≡ l.initial.printer.lines ++ l.initial.printer.last)
-    × (l.printer.last ≡ l.initial.printer.last)
+    × (done ++ (l.replay.lines ++ l.replay.last)
+    ≡ l.initial.replay.lines ++ l.initial.replay.last)
+    × (l.replay.last ≡ l.initial.replay.last)
     × (length l.buffer + 448 ≤ 65536)
 
 abbrev pub decreases-loop-buffer : goal.decreases-loop-buffer
-decreases-loop-buffer g l = l.printer.left
+decreases-loop-buffer g l = l.replay.left

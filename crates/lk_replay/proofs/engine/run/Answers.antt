@@ -13,33 +13,34 @@ use Rattle.lk_replay.proofs.engine.run.Goals as goal
 pub returns-clause-written : goal.returns-clause-written
 returns-clause-written g c =
     let P : List ℕ → Type 0 =
-    λ r. Appends (g.W.Write.contents c.args.output.now) (g.W.Write.contents c.report.new.output)
-    r in
+    λ r. Appends (g.W.Write.contents c.args.output.now)
+    (g.W.Write.contents c.write_report.new.output) r in
     let text = c.in_ok-text.ensures in
-    on_ok_weaker c.report.result
+    on_ok_weaker c.write_report.result
     (λ written. reported _ _ c.in_ok-text.text.items P text.taken text.bounded text.whole
-    (subst P (ap report_text c.deref.ensures.value) written)) c.report.ensures.written
+    (subst P (ap report_text c.deref.ensures.value) written)) c.write_report.ensures.written
 
 pub returns-clause-promised : goal.returns-clause-promised
 returns-clause-promised g c =
-    on_ok_weaker c.report.result (appended_as_told _ _ _) (returns-clause-written g c)
+    on_ok_weaker c.write_report.result (appended_as_told _ _ _) (returns-clause-written g c)
 
 pub returns-clause-ending : goal.returns-clause-ending
 returns-clause-ending g c =
     let text = c.in_ok-text.ensures in
-    IfOk-weaker c.report.result (λ (e : Ending). e ≡ ending_of (report_text c.deref.result.now))
+    IfOk-weaker c.write_report.result
+    (λ (e : Ending). e ≡ ending_of (report_text c.deref.result.now))
     (λ (e : Ending). IfSome (g.R.Read.remaining c.args.input.now)
     (λ (t : List ℕ). e ≡ ending_of (report_text t)))
     (λ e is. reported _ _ c.in_ok-text.text.items (λ (r : List ℕ). e
     ≡ ending_of r) text.taken text.bounded text.whole
     (is ∙ ap (λ (t : List ℕ). ending_of (report_text t)) c.deref.ensures.value))
-    c.report.ensures.ending
+    c.write_report.ensures.ending
 
 pub returns-clause-prefix : goal.returns-clause-prefix
 returns-clause-prefix g c = λ is.
     let P : List ℕ → Type 0 =
     λ r. AppendsPrefix (g.W.Write.contents c.args.output.now)
-    (g.W.Write.contents c.report.new.output) r in
+    (g.W.Write.contents c.write_report.new.output) r in
     let text = c.in_ok-text.ensures in
     reported _ _ c.in_ok-text.text.items P text.taken text.bounded text.whole
-    (subst P (ap report_text c.deref.ensures.value) (c.report.ensures.prefix is))
+    (subst P (ap report_text c.deref.ensures.value) (c.write_report.ensures.prefix is))

@@ -4,10 +4,10 @@ use Rattle.lk_replay.proofs.report.print_into.Given as goal
 
 abbrev pub invariant-loop-lines : goal.invariant-loop-lines
 invariant-loop-lines l = record {
-  parts : l.out.items ++ (l.printer.lines ++ l.printer.last)
-      ≡ l.initial.out.items ++ (l.initial.printer.lines ++ l.initial.printer.last);
+  parts : l.out.items ++ (l.replay.lines ++ l.replay.last)
+      ≡ l.initial.out.items ++ (l.initial.replay.lines ++ l.initial.replay.last);
   room : 448 ≤ length l.lines;
 }
 
 abbrev pub decreases-loop-lines : goal.decreases-loop-lines
-decreases-loop-lines l = l.printer.left
+decreases-loop-lines l = l.replay.left

@@ -4,8 +4,9 @@ use Rattle.std.specs.Io.KnownBytes.{Appends}
 use Rattle.lk_replay.proofs.Passed.{passes_none, passes_sent}
 use Rattle.lk_replay.proofs.output_buffer.OutputBuffer.make_room.Goals as goal
 
-pub returns-then-self-ge-LINE_ROOM-clause-passed : goal.returns-then-self-ge-LINE_ROOM-clause-passed
-returns-then-self-ge-LINE_ROOM-clause-passed g c = passes_none _ _
+pub returns-then-self-ge-LEAST_PLACE-clause-passed :
+    goal.returns-then-self-ge-LEAST_PLACE-clause-passed
+returns-then-self-ge-LEAST_PLACE-clause-passed g c = passes_none _ _
 
 pub returns-clause-passed : goal.returns-clause-passed
 returns-clause-passed g c =

@@ -5,7 +5,7 @@ use Rattle.lk_replay.proofs.Texts.{written_in}
 use Rattle.lk_replay.proofs.output_buffer.OutputBuffer.print.Goals as goal
 
 pub returns-clause-lines : goal.returns-clause-lines
-returns-clause-lines c =
+returns-clause-lines g c =
     let len : ℕ = c.self.inside.len in
     let bytes : List ℕ = c.deref_mut.result.now in
     let lines : List ℕ = take c.fill-len.result c.fill-len.new.place in

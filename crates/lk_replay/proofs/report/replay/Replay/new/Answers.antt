@@ -1,0 +1,30 @@
+-- All moves are left, on a new lock.
+use Rattle.std.proofs.Common.{◌∙◌, ◌+◌, [], ap, arith, length, sym}
+use Rattle.lk_replay.proofs.Printed.{behind_lines, last_some, replay_printed, tracked_new}
+use Rattle.lk_replay.specs.Ending.{ending_of}
+use Rattle.lk_replay.specs.Following.{following}
+use Rattle.lk_replay.specs.Replay.{Replay, replay_from}
+use Rattle.lk_replay.specs.Report.{last_line}
+use Rattle.lk_replay.proofs.report.replay.Replay.new.Goals as goal
+
+pub returns-clause-text : goal.returns-clause-text
+returns-clause-text c =
+    replay_printed c.args.schedule.now _ _ _ _ (c.new.ensures
+    ∙ ap (λ k. following k []) c.kind.ensures) c.of.ensures c.new_machine.ensures.state
+    c.moves.ensures.moves
+
+pub returns-clause-ending : goal.returns-clause-ending
+returns-clause-ending c =
+    let rest : Replay = replay_from c.new_machine.result c.moves.result.now in
+    sym (behind_lines c.new.result c.of.result rest.made
+    (last_line (c.of.result + length rest.made) rest.refused)
+    (last_some (c.of.result + length rest.made) rest.refused))
+    ∙ ap ending_of (returns-clause-text c)
+
+pub invariant_of-result : goal.invariant_of-result
+invariant_of-result c = record {
+  few = omega (arith, c.of.ensures, c.moves.ensures.few);
+  tracked = tracked_new c.args.schedule.now _ _ (c.new.ensures
+      ∙ ap (λ k. following k []) c.kind.ensures)
+      c.new_machine.ensures.state c.new_machine.ensures.tracked;
+}

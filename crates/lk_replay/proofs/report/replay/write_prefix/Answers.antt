@@ -1,0 +1,18 @@
+-- The words stand one after another.
+use Rattle.lk_replay.proofs.Printed.{words_joined}
+use Rattle.lk_replay.specs.Report.{move_text}
+use Rattle.lk_replay.proofs.report.replay.write_prefix.Goals as goal
+
+pub returns-clause-text : goal.returns-clause-text
+unfolding move_text
+returns-clause-text c =
+    rw (
+      c.put_block.ensures.text,
+      c.put_block-move_end.ensures.text,
+      c.put_block-thread_end.ensures.text,
+      c.put_block-count_end.ensures.text,
+      c.block-len.ensures.text,
+      c.thread_block-len.ensures.text,
+      c.move_block-len.ensures.text,
+      c.outcome_block-len.ensures.text,
+    ) (words_joined _ _ _ _)

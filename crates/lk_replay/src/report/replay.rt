@@ -1,0 +1,180 @@
+//! The lines of a report, one after another: a move is played where its line is printed. No line
+//! asks for memory.
+
+ghost use Rattle.std.specs.Prelude.{◌≡◌, ◌≤◌, length, take};
+ghost use Rattle.lk_locks.specs.Sequential.{nobody};
+ghost use Rattle.lk_locks.specs.invariants.Tracking.{IsTracked};
+ghost use Rattle.lk_replay.specs.Printing.{next_refused};
+ghost use Rattle.lk_replay.specs.Replay.{start_of};
+ghost use Rattle.lk_replay.specs.Report.{move_text};
+
+use crate::output_buffer::{LEAST_PLACE, Source};
+use crate::played::Accepted;
+use crate::report::closings::{Closing, last_line};
+use crate::report::numerals::{Numeral, thread_block};
+use crate::report::status::StatusText;
+use crate::report::text::put_block;
+use crate::report::words::{move_block, outcome_block};
+use crate::{Line, Schedule};
+use lk_locks::{Added, Machine, Refusal, words_needed};
+use lk_words::WordArray;
+use std::marker::Model;
+
+/// The moves of a schedule that are left, how many were printed, and the lock on which they were
+/// played: its words and phases, and who holds and who waits.
+#[derive(Drop)]
+pub struct Replay<'a> {
+    moves: &'a [Line],
+    count: Numeral,
+    machine: Machine<WordArray>,
+    status: StatusText,
+}
+
+impl<'a> Model for Replay<'a> {
+    ghost use Rattle.lk_replay.specs.Printing.{IsPrinting, Printing, printing};
+    ghost use Rattle.lk_replay.specs.Replay.{replay_from};
+
+    ghost Value = { Printing };
+
+    ghost view = { λ a. printing a.status a.count (replay_from a.machine a.moves.now) };
+
+    ghost invariant = { λ a. IsPrinting a.status a.machine a.count a.moves.now };
+}
+
+// Writes `K T WORD OUTCOME hold ` of an accepted move, and answers where it ends.
+#[tactic(auto, unfolding(crate::specs::Report::move_text))]
+fn write_prefix(line: &mut [u8], count: &Numeral, accepted: &Accepted) -> usize
+    requires { 80 ≤ length line.old }
+    ensures text { take result line.new ≡ move_text count.now accepted.now }
+    ensures short { result ≤ 64 }
+{
+    let (block, len) = count.block();
+    let count_end = put_block(line, 0, block, len);
+    let (block, len) = thread_block(b' ', accepted.thread);
+    let thread_end = put_block(line, count_end, &block, len);
+    let (block, len) = move_block(accepted.action);
+    let move_end = put_block(line, thread_end, block, len);
+    let (block, len) = outcome_block(accepted.outcome);
+    put_block(line, move_end, block, len)
+}
+
+// A lock of the schedule's kind, on which nothing was played. It agrees with a sequential object in
+// which nobody is.
+fn new_machine(schedule: &Schedule) -> Machine<WordArray>
+    ensures state { result ≡ start_of schedule.now }
+    ensures tracked { IsTracked (start_of schedule.now) (nobody schedule.now.kind) }
+{
+    let kind = schedule.kind();
+    let threads = schedule.threads();
+    let words = WordArray::with_bits(words_needed(kind, threads), schedule.bits());
+    Machine::new(kind, threads, words)
+}
+
+// The line of the next move, and why it is refused, where there is a move and it is.
+fn next_refused(machine: &Machine<WordArray>, moves: &[Line]) -> Option<(u32, Refusal)>
+    ensures { result ≡ next_refused machine.now moves.now }
+{
+    let line = moves.first()?;
+    let refusal = machine.check(line.thread, line.action).err()?;
+    Some((line.number, refusal))
+}
+
+impl<'a> Replay<'a> {
+    ghost use Rattle.std.specs.Prelude.{◌≡◌, ◌+◌, ◌≤◌, ◌++◌, [], length, take, IfSome, MatchOption};
+    ghost use Rattle.std.specs.Prelude.{None, ◌<◌};
+    ghost use Rattle.lk_replay.specs.Ending.{ending_of};
+    ghost use Rattle.lk_replay.specs.Replay.{replay_of};
+    ghost use Rattle.lk_replay.specs.Report.{replay_text};
+
+    /// The replay of a schedule, at its start.
+    pub fn new(schedule: &'a Schedule) -> Replay<'a>
+        ensures text { result.lines ++ result.last ≡ replay_text schedule.now.kind
+            (replay_of schedule.now) }
+        ensures ending { ending_of result.last
+            ≡ ending_of (replay_text schedule.now.kind (replay_of schedule.now)) }
+    {
+        Replay {
+            moves: schedule.moves(),
+            count: Numeral::of(0),
+            machine: new_machine(schedule),
+            status: StatusText::new(schedule.kind()),
+        }
+    }
+
+    // Plays the next move, prints its line at the front of a place, and answers how long it is.
+    // There is none where no move is left, or the next is refused.
+    fn next(&mut self, place: &mut [u8]) -> Option<usize>
+        requires { 448 ≤ length place.old }
+        ensures lines { MatchOption result (self.new.lines ≡ [])
+            (λ len. self.old.lines ≡ take len place.new ++ self.new.lines) }
+        ensures left { MatchOption result (self.new.left ≡ 0)
+            (λ len. self.new.left + 1 ≡ self.old.left) }
+        ensures some { IfSome result (λ len. 0 < len) }
+        ensures fits { IfSome result (λ len. len ≤ length place.new) }
+        ensures kept { result ≡ None → self.new ≡ self.old }
+        ensures last { self.new.last ≡ self.old.last }
+    {
+        let (line, rest) = self.moves.split_first()?;
+        let line = *line;
+        let mut added = Added::none();
+        let played = self
+            .machine
+            .apply_adding(line.thread, line.action, &mut added);
+        let Ok(outcome) = played else {
+            return None;
+        };
+        self.status.follow(added.as_slice());
+        self.moves = rest;
+        self.count.count_on();
+        let accepted = Accepted {
+            line: line.number,
+            thread: line.thread,
+            action: line.action,
+            outcome,
+        };
+        let at = write_prefix(place, &self.count, &accepted);
+        Some(self.status.write(place, at))
+    }
+
+    /// Prints the next lines into a place, as many as have room whatever their length, and answers
+    /// where they end: at 0 only if no move is left, or the next is refused. A line has at most 64
+    /// bytes that tell of the move, and 384 that show who holds and who waits.
+    pub fn fill(&mut self, place: &mut [u8]) -> usize
+        requires { 448 ≤ length place.old }
+        ensures lines { self.old.lines ≡ take result place.new ++ self.new.lines }
+        ensures fits { result ≤ length place.new }
+        ensures fewer { 0 < result → self.new.left < self.old.left }
+        ensures none { result ≡ 0 → (self.new.lines ≡ []) × (self.new.left ≡ 0) }
+        ensures last { self.new.last ≡ self.old.last }
+    {
+        let mut len = 0;
+        while place.len() - len >= LEAST_PLACE {
+            let Some(more) = self.next(&mut place[len..]) else {
+                return len;
+            };
+            len += more;
+        }
+        len
+    }
+
+    /// The last line: the refusal of the next move, or the end where there is none.
+    pub fn closing(&self) -> Closing
+        requires { self.now.left ≡ 0 }
+        ensures { result.line ≡ self.now.last }
+    {
+        let refused = next_refused(&self.machine, self.moves);
+        last_line(self.count.number(), refused)
+    }
+}
+
+impl<'a> Source for Replay<'a> {
+    ghost lines = { λ r. r.lines };
+
+    ghost left = { λ r. r.left };
+
+    ghost last = { λ r. r.last };
+
+    fn fill(&mut self, place: &mut [u8]) -> usize {
+        Replay::fill(self, place)
+    }
+}
