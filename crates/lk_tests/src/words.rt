@@ -39,18 +39,20 @@ fn each_operation_is_passed_on_once(rt: HostRuntime) {
     assert_eq!(rt; (words.count(), words.inner().count()), (6, 6));
 }
 
-// Makes the operation, which is one, and does what its effect said before.
+// Makes the operation, which is one, and does what its effect said before: what stands in the word
+// before and after it.
 fn does(
     rt: &impl Abort,
     words: &mut CountingWords<WordArray>,
     operation: Operation,
-    (found, left): (u64, u64),
+    values: (u64, u64),
     answer: Answer,
 )
     requires { words.old.inner.1 ≡ 2 × Fits 2 (length words.old.inner.0) operation }
     ensures size { length words.new.inner.0 ≡ length words.old.inner.0 }
     ensures bits { words.new.inner.1 ≡ words.old.inner.1 }
 {
+    let (found, left) = values;
     let word = operation.word();
     let count = words.count();
     let effect = Effect {
@@ -74,8 +76,34 @@ fn each_operation_does_what_its_effect_says(rt: HostRuntime) {
     let words = &mut CountingWords::new(WordArray::with_bits(2, 2));
     does(rt, words, Write { word: 1, value: 3 }, (0, 3), Nothing);
     does(rt, words, Read { word: 1 }, (3, 3), Found(3));
-    does(rt, words, FetchAndAdd { word: 1, addend: 2 }, (3, 1), Found(3));
+    does(
+        rt,
+        words,
+        FetchAndAdd { word: 1, addend: 2 },
+        (3, 1),
+        Found(3),
+    );
     does(rt, words, Swap { word: 0, value: 2 }, (0, 2), Found(0));
-    does(rt, words, CompareAndSwap { word: 0, old: 1, new: 3 }, (2, 2), Swapped(false));
-    does(rt, words, CompareAndSwap { word: 0, old: 2, new: 3 }, (2, 3), Swapped(true));
+    does(
+        rt,
+        words,
+        CompareAndSwap {
+            word: 0,
+            old: 1,
+            new: 3,
+        },
+        (2, 2),
+        Swapped(false),
+    );
+    does(
+        rt,
+        words,
+        CompareAndSwap {
+            word: 0,
+            old: 2,
+            new: 3,
+        },
+        (2, 3),
+        Swapped(true),
+    );
 }
