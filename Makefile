@@ -8,7 +8,7 @@ PROGRAM := crates/lockreplay/out/lockreplay
 TRACER  := crates/locktrace/out/locktrace
 LESSON  := examples/ticket-hand-over.schedule
 MODULE  := crates/lk_page/out/lockreplay.wasm
-MODULE_SOURCES := $(call sources_of,lk_words lk_locks lk_replay lk_trace lk_page)
+MODULE_SOURCES := $(call sources_of,lk_words lk_locks lk_replay lk_page)
 # the check of a trace, for C
 LIBRARY := crates/lk_trace_c/out/liblk_trace_c.a
 # the crate with the tests, in some of which each request for memory is refused in turn

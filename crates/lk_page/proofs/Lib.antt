@@ -1,5 +1,5 @@
 pub mod AtMostTwo
-pub mod OwnWord
+pub mod Touched
 pub mod Tracks
 pub mod PlayedOn
 pub mod Asked

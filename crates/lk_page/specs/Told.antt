@@ -3,19 +3,20 @@
 -- and of the replay alone.
 use Rattle.std.specs.Prelude.{◌≡◌, ◌≢◌, ℕ, ◌<◌, List, [], ◌∷◌, ◌++◌, length, slice_index, Option}
 use Rattle.std.specs.Prelude.{None, Some, option_map, Bool, false, eqb}
-use Rattle.lk_locks.specs.State.{State}
+use Rattle.lk_words.specs.Operations.{word_of}
+use Rattle.lk_locks.specs.State.{State, phase_at}
+use Rattle.lk_locks.specs.Rooms.{operation_of}
 use Rattle.lk_locks.specs.Steps.{refusal_of, change_of, next_state}
 use Rattle.lk_locks.specs.Entries.{entries_of}
 use Rattle.lk_locks.specs.Sequential.{has}
 use Rattle.lk_locks.specs.Holding.{Holding, Free, HeldBy, ReadBy, WrittenBy, holding_of, waiting_of}
 use Rattle.lk_locks.specs.declared.kinds.Move.{Move}
+use Rattle.lk_locks.specs.declared.kinds.Move.TheVariants.{Call, Step}
 use Rattle.lk_locks.specs.declared.kinds.Entry.{Entry}
 use Rattle.lk_locks.specs.declared.kinds.Refusal.{Refusal}
 use Rattle.lk_replay.specs.Schedule.{Plan}
 use Rattle.lk_replay.specs.Replay.{start_of, made_by}
 use Rattle.lk_replay.specs.declared.schedule.Line.{Line}
-use Rattle.lk_trace.specs.Checks.{word_of}
-use Rattle.lk_trace.specs.Names.{place_of}
 use Rattle.lk_page.specs.declared.told.Touch.{Touch}
 use Rattle.lk_page.specs.declared.told.Standing.{Standing}
 use Rattle.lk_page.specs.declared.told.Record.{Record}
@@ -74,9 +75,11 @@ pub record AreTouched (before after : List ℕ) (first second : Option Touch) : 
       → slice_index after i ≡ slice_index before i
   pub second_changed : second ≢ None → IsChange second
 
--- the place of the word that a move of thread t is on, if it is on one word alone
+-- the word that a move of thread t is on, if it is one operation on one word
 abbrev pub own_word : State → ℕ → Move → Option ℕ
-own_word s t m = option_map (place_of s.kind) (word_of s t m)
+own_word s t (Call op) = None
+own_word s t (Step step) =
+    option_map word_of (operation_of s.kind s.bits t (phase_at s.phases t))
 
 -- A step on one of the words touches that word alone. A call, and a section, touches only what it
 -- changed.

@@ -5,18 +5,17 @@ ghost use Rattle.lk_locks.specs.Sequential.{has};
 ghost use Rattle.lk_locks.specs.Steps.{refusal_of, refused_with};
 ghost use Rattle.lk_locks.specs.Tracked.{tracked, after_tracked, holding_in, waiting_in};
 ghost use Rattle.lk_locks.specs.declared.kinds.Entry.{Entry};
-ghost use Rattle.lk_page.specs.Told.{IsRecord, own_word, standing};
+ghost use Rattle.lk_page.specs.Told.{IsRecord, standing};
 ghost use Rattle.lk_page.specs.Layout.{record_bytes, touched_word, found_of, left_of};
 ghost use Rattle.lk_page.specs.Layout.{standing_code};
 
-use crate::changes::touches;
+use crate::changes::make;
 use crate::codes::{action_codes, outcome_code, phase_code, phase_number};
 use crate::layout::{put_bytes, put_u16, put_u32, put_u64};
 use crate::told::{Record, Standing, Touch};
 use arrayvec::ArrayVec;
-use lk_locks::{Holders, Move, Refusal, Tracker};
+use lk_locks::{Holders, Refusal, Tracker};
 use lk_replay::Line;
-use lk_trace::{place_of, touched};
 use lk_words::WordArray;
 
 /// How many bytes a record has.
@@ -44,29 +43,6 @@ fn standing_of(lock: &Tracker<WordArray>, thread: u8) -> Standing
     }
 }
 
-/// A copy of the words as they stand.
-pub fn words_of(lock: &Tracker<WordArray>) -> ArrayVec<u64, 129>
-    ensures { result.items ≡ lock.now.state.words }
-{
-    let mut copy = ArrayVec::new();
-    let _fits = copy.try_extend_from_slice(lock.machine().words().as_slice());
-    copy
-}
-
-// The word that a move is on. A section is on several, and a call on none.
-fn own_word(lock: &Tracker<WordArray>, thread: u8, action: Move) -> Option<usize>
-    ensures { result ≡ own_word lock.now.state thread action }
-{
-    let machine = lock.machine();
-    match action {
-        Move::Step(_) if thread < machine.threads() => {
-            let name = touched(lock.kind(), thread, machine.phase(thread))?;
-            Some(place_of(lock.kind(), name))
-        }
-        _ => None,
-    }
-}
-
 /// Makes a move, and tells what it did.
 pub fn play_line(lock: &mut Tracker<WordArray>, line: &Line) -> Result<Record, Refusal>
     ensures refused { refused_with result
@@ -75,13 +51,8 @@ pub fn play_line(lock: &mut Tracker<WordArray>, line: &Line) -> Result<Record, R
     ensures record { IfOk result (λ told. (es : List Entry) → lock.old ≡ tracked lock.old.state es
         → IsRecord (record { state = lock.old.state; entries = es }) line.now told) }
 {
-    let before = words_of(lock);
-    let own = own_word(lock, line.thread, line.action);
-    let outcome = lock.apply(line.thread, line.action)?;
-    let after = words_of(lock);
-    let old_words = before.as_slice();
-    let new_words = after.as_slice();
-    let (first, second) = touches(old_words, new_words, own);
+    lock.machine().check(line.thread, line.action)?;
+    let (outcome, first, second) = make(lock, line.thread, line.action);
     let phase = lock.machine().phase(line.thread);
     let standing = standing_of(lock, line.thread);
     Ok(Record {

@@ -7,9 +7,9 @@ ghost use Rattle.lk_page.specs.Layout.{padded, holding_code, holder_list, call_b
 ghost use Rattle.lk_page.specs.Layout.{own_bytes, thread_bytes, threads_bytes, stop_numbers};
 ghost use Rattle.lk_page.specs.Layout.{bytes_of_state, bytes_of_fault};
 
+use crate::changes::words_of;
 use crate::codes::{due_code, lock_code, phase_code, phase_number, refusal_code, refusal_step};
-use crate::layout::{put_bytes, put_u32s, put_u64, put_u64s, put_zeros};
-use crate::record::words_of;
+use crate::layout::{copy_of, put_bytes, put_u32s, put_u64, put_u64s, put_zeros};
 use crate::told::Stopped;
 use arrayvec::ArrayVec;
 use lk_locks::{Holders, Machine, Move, Op, Refusal, Tracker};
@@ -111,15 +111,6 @@ fn put_list(out: &mut ArrayVec<u8, 2304>, threads: &[u8])
     put_zeros(out, MOST_THREADS - threads.len());
 }
 
-fn list_of(threads: &[u8]) -> ArrayVec<u8, 64>
-    requires { length threads.now ≤ 64 }
-    ensures { result.items ≡ threads.now }
-{
-    let mut list = ArrayVec::new();
-    let _fits = list.try_extend_from_slice(threads);
-    list
-}
-
 // The number of those who hold a lock so, and their list.
 fn holder_list(holders: &Holders) -> (u8, ArrayVec<u8, 64>)
     ensures code { result.0 ≡ holding_code (holding holders.now) }
@@ -127,9 +118,9 @@ fn holder_list(holders: &Holders) -> (u8, ArrayVec<u8, 64>)
 {
     match holders {
         Holders::Nobody => (0, ArrayVec::new()),
-        Holders::Holder(t) => (1, list_of(&[*t])),
-        Holders::Readers(readers) => (2, list_of(readers.as_slice())),
-        Holders::Writer(t) => (3, list_of(&[*t])),
+        Holders::Holder(t) => (1, copy_of(&[*t])),
+        Holders::Readers(readers) => (2, copy_of(readers.as_slice())),
+        Holders::Writer(t) => (3, copy_of(&[*t])),
     }
 }
 
@@ -165,10 +156,9 @@ pub fn state_bytes(
     let mut out = ArrayVec::new();
     let (code, holders) = holder_list(&lock.holders());
     let queue = lock.queue();
-    let words = words_of(lock);
     let holder_slice = holders.as_slice();
     let queue_slice = queue.as_slice();
-    let word_slice = words.as_slice();
+    let words = words_of(lock);
     let bits = lock.machine().words().bits();
     let kind = lock_code(lock.kind());
     put_u32s(&mut out, &stop_numbers(stopped.refused));
@@ -180,7 +170,7 @@ pub fn state_bytes(
             bits as u32,
             stopped.count,
             moves,
-            word_slice.len() as u32,
+            words.len() as u32,
             code as u32,
             holder_slice.len() as u32,
             queue_slice.len() as u32,
@@ -192,7 +182,7 @@ pub fn state_bytes(
     put_list(&mut out, holder_slice);
     put_list(&mut out, queue_slice);
     put_threads(&mut out, lock.machine(), threads);
-    put_u64s(&mut out, word_slice);
-    put_zeros(&mut out, WORDS_BYTES - 8 * word_slice.len());
+    put_u64s(&mut out, words);
+    put_zeros(&mut out, WORDS_BYTES - 8 * words.len());
     out
 }

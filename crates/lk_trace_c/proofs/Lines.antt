@@ -6,9 +6,8 @@ use Rattle.lk_replay.specs.Lines.{lines_of}
 use Rattle.lk_trace.specs.Checks.{Checked}
 use Rattle.lk_trace.specs.Traces.{event_of, after_text_line}
 use Rattle.lk_trace_c.specs.Ends.{event_number, end_number, fault_of_lines}
-use Rattle.lk_trace.specs.Lines.{trace_line_of}
 use Rattle.lk_trace_c.specs.Records.{Told, told_line, told_lines, told_end, one_more, answer_by}
-use Rattle.lk_trace_c.specs.Records.{place_of_line, steps_by}
+use Rattle.lk_trace_c.specs.Records.{steps_by}
 use Rattle.lk_trace_c.specs.declared.LtAnswer.{LtAnswer}
 use Rattle.lk_trace_c.specs.declared.LtStep.{LtStep}
 
@@ -71,8 +70,7 @@ pub told_as : (t : Told) (line : List ℕ) (number : ℕ) (reading : Option Chec
     (steps : List LtStep)
     → number ≡ one_more t.answer.line → reading ≡ after_text_line t.reading line
     → answer ≡ answer_by (event_of t.reading line) (record t.answer { line = number })
-    → steps ≡ steps_by (event_of t.reading line) (record t.answer { line = number })
-    (place_of_line t.reading (trace_line_of line)) t.reading reading t.steps
+    → steps ≡ steps_by (event_of t.reading line) (record t.answer { line = number }) t.steps
     → record { reading = reading; answer = answer; steps = steps } ≡ told_line t line
 told_as t line number reading answer steps n r a s = rw (s, a, r, n) refl
 

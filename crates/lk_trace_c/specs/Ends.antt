@@ -13,7 +13,7 @@ use Rattle.lk_trace_c.specs.Numbers.{difference_number, fault_number}
 abbrev pub event_number : Event → ℕ
 event_number Skipped = 0
 event_number (Began header) = 0
-event_number (Made line outcome) = 0
+event_number (Made line made) = 0
 event_number (Differs line difference) = difference_number difference
 event_number (FaultOf fault) = fault_number fault
 

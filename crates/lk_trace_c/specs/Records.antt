@@ -1,14 +1,12 @@
 -- Definitions. What a text's lines come to, up to the first with a fault: the numbers of the
 -- answer, and a record for each move that is made. This project's own.
 use Rattle.std.specs.Prelude.{ℕ, ◌+◌, ◌-◌, ◌^◌, ◌==◌, min, nat_lt, List, [], ◌∷◌, Option, Some}
-use Rattle.std.specs.Prelude.{None}
-use Rattle.std.specs.Prelude.{option_map, slice_index, slice_set, if◌then◌else◌}
-use Rattle.lk_locks.specs.declared.kinds.Outcome.{Outcome}
+use Rattle.std.specs.Prelude.{None, slice_set, if◌then◌else◌}
+use Rattle.lk_words.specs.declared.operation.Effect.{Effect}
 use Rattle.lk_replay.specs.Lines.{lines_of}
-use Rattle.lk_trace.specs.Checks.{Checked, word_of}
-use Rattle.lk_trace.specs.Lines.{trace_line_of}
-use Rattle.lk_trace.specs.Names.{place_of}
+use Rattle.lk_trace.specs.Checks.{Checked}
 use Rattle.lk_trace.specs.Traces.{event_of, after_text_line}
+use Rattle.lk_trace.specs.declared.checker.Made.{Made as MadeMove}
 use Rattle.lk_trace.specs.declared.line.TraceLine.{TraceLine}
 use Rattle.lk_trace.specs.declared.trace.Event.{Event}
 use Rattle.lk_trace.specs.declared.trace.Event.TheVariants.{Began, Made}
@@ -17,32 +15,30 @@ use Rattle.lk_trace_c.specs.Numbers.{action_number, outcome_number}
 use Rattle.lk_trace_c.specs.declared.LtAnswer.{LtAnswer}
 use Rattle.lk_trace_c.specs.declared.LtStep.{LtStep}
 
--- which of the lock's words the move of a line is on, where it is on one
-abbrev pub place_of_line : Option Checked → Option TraceLine → Option ℕ
-place_of_line (Some c) (Some l) =
-    option_map (place_of c.lock.state.kind) (word_of c.lock.state l.thread l.action)
-place_of_line reading line = None
+-- what stood in the word of a move, and what stands in it after; 0 if the move is on none
+abbrev pub found_of : Option Effect → ℕ
+found_of (Some e) = e.found
+found_of None = 0
 
--- what stands in a word of the lock
-abbrev pub standing : Option Checked → Option ℕ → ℕ
-standing (Some c) (Some place) = slice_index c.lock.state.words place
-standing reading place = 0
+abbrev pub left_of : Option Effect → ℕ
+left_of (Some e) = e.left
+left_of None = 0
 
 -- a lock has at most 129 words. No word has the greatest number
-abbrev pub word_number : Option ℕ → ℕ
-word_number (Some place) = if nat_lt place 129 then place else 2 ^ 32 - 1
+abbrev pub word_number : Option Effect → ℕ
+word_number (Some e) = if nat_lt e.word 129 then e.word else 2 ^ 32 - 1
 word_number None = 2 ^ 32 - 1
 
--- the record of a move that is made, with what stood in its word before and what stands there after
-abbrev pub record_of : ℕ → TraceLine → Outcome → Option ℕ → Option Checked → Option Checked → LtStep
-record_of number l outcome place before after = record {
+-- the record of a move that is made
+abbrev pub record_of : ℕ → TraceLine → MadeMove → LtStep
+record_of number l made = record {
   line = number;
-  found = standing before place;
-  left = standing after place;
+  found = found_of made.effect;
+  left = left_of made.effect;
   thread = l.thread;
   action = action_number l.action;
-  outcome = outcome_number outcome;
-  word = word_number place;
+  outcome = outcome_number made.outcome;
+  word = word_number made.effect;
 }
 
 -- counted up to the greatest number of 64 bits
@@ -55,15 +51,13 @@ counted a = record a { line = one_more a.line }
 -- what an event adds to the answer
 abbrev pub answer_by : Event → LtAnswer → LtAnswer
 answer_by (Began header) a = record a { threads = header.threads }
-answer_by (Made l outcome) a = record a { moves = one_more a.moves }
+answer_by (Made l made) a = record a { moves = one_more a.moves }
 answer_by event a = a
 
 -- a move that is made is recorded behind those before it, as far as there is room
-abbrev pub steps_by : Event → LtAnswer → Option ℕ → Option Checked → Option Checked → List LtStep
-    → List LtStep
-steps_by (Made l outcome) a place before after steps =
-    slice_set steps a.moves (record_of a.line l outcome place before after)
-steps_by event a place before after steps = steps
+abbrev pub steps_by : Event → LtAnswer → List LtStep → List LtStep
+steps_by (Made l made) a steps = slice_set steps a.moves (record_of a.line l made)
+steps_by event a steps = steps
 
 -- what was read so far, and what is told of it
 pub record Told : Type 0 where
@@ -75,9 +69,7 @@ abbrev pub told_line : Told → List ℕ → Told
 told_line t line = record {
   reading = after_text_line t.reading line;
   answer = answer_by (event_of t.reading line) (counted t.answer);
-  steps = steps_by (event_of t.reading line) (counted t.answer)
-      (place_of_line t.reading (trace_line_of line)) t.reading
-      (after_text_line t.reading line) t.steps;
+  steps = steps_by (event_of t.reading line) (counted t.answer) t.steps;
 }
 
 -- a text without a header has its fault in the line behind its last

@@ -4,17 +4,14 @@
 
 mod numbers;
 
-ghost use Rattle.std.specs.Prelude.{◌≡◌, ◌++◌, drop, length, slice_index, take};
-ghost use Rattle.lk_trace.specs.Lines.{trace_line_of};
+ghost use Rattle.std.specs.Prelude.{◌≡◌, ◌++◌, drop, length, take};
 ghost use Rattle.lk_trace.specs.Traces.{after_text_line, event_of};
 ghost use Rattle.lk_trace_c.specs.Ends.{end_number, event_number, fault_of_text};
-ghost use Rattle.lk_trace_c.specs.Records.{answer_by, nothing, place_of_line, standing, steps_by};
-ghost use Rattle.lk_trace_c.specs.Records.{told_text};
+ghost use Rattle.lk_trace_c.specs.Records.{answer_by, nothing, record_of, steps_by, told_text};
 ghost use Rattle.lk_trace_c.specs.Texts.{text_of_number};
 
 use lk_replay::parts::cut_line;
-use lk_trace::{Event, TextFault, TraceReader, place_of, read_line, touched};
-use lk_words::{WordArray, Words};
+use lk_trace::{Event, Made, TextFault, TraceLine, TraceReader};
 use numbers::{action_number, difference_number, fault_number, fault_text, outcome_number};
 
 /// A move that was made. `word` is the place of its word, or the greatest number where it is on
@@ -44,40 +41,25 @@ pub struct LtAnswer {
 
 const NO_WORD: u32 = u32::MAX;
 
-// What stands at a place of the words.
-fn value_at(words: &WordArray, place: usize) -> u64
-    ensures { result ≡ slice_index words.now.0 place }
+// The record of a move that was made. A lock has at most 129 words.
+fn step_of(line: u64, read: TraceLine, made: Made) -> LtStep
+    ensures { result ≡ record_of line read made }
 {
-    if place < words.size() {
-        words.get(place)
-    } else {
-        0
-    }
-}
-
-// The place of the word that the move of a line is on, where it is on one.
-fn place_in(trace: &TraceReader, line: &[u8]) -> Option<usize>
-    ensures { result ≡ place_of_line trace.now (trace_line_of line.now) }
-{
-    let checker = trace.checker()?;
-    let read = read_line(line)?;
-    let phase = checker.phase(read.thread)?;
-    let kind = checker.lock().kind();
-    match read.action {
-        lk_locks::Move::Call(_) => None,
-        lk_locks::Move::Step(_) => {
-            touched(kind, read.thread, phase).map(|word| place_of(kind, word))
-        }
-    }
-}
-
-// What stands in a word of the lock now.
-fn standing(trace: &TraceReader, place: Option<usize>) -> u64
-    ensures { result ≡ standing trace.now place }
-{
-    match (trace.checker(), place) {
-        (Some(checker), Some(place)) => value_at(checker.lock().machine().words(), place),
-        _ => 0,
+    let (found, left) = match made.effect {
+        Some(effect) => (effect.found, effect.left),
+        None => (0, 0),
+    };
+    LtStep {
+        line,
+        found,
+        left,
+        thread: u32::from(read.thread),
+        action: action_number(read.action),
+        outcome: outcome_number(made.outcome),
+        word: match made.effect {
+            Some(effect) if effect.word < 129 => effect.word as u32,
+            _ => NO_WORD,
+        },
     }
 }
 
@@ -91,32 +73,17 @@ fn take_line(
     ensures fault { result ≡ event_number (event_of trace.old line.now) }
     ensures after { trace.new ≡ after_text_line trace.old line.now }
     ensures answer { answer.new ≡ answer_by (event_of trace.old line.now) answer.old }
-    ensures steps { steps.new ≡ steps_by (event_of trace.old line.now) answer.old
-        (place_of_line trace.old (trace_line_of line.now)) trace.old trace.new steps.old }
+    ensures steps { steps.new ≡ steps_by (event_of trace.old line.now) answer.old steps.old }
 {
-    let place = place_in(trace, line);
-    let found = standing(trace, place);
     match trace.line(line) {
         Event::Skipped => 0,
         Event::Began(header) => {
             answer.threads = u32::from(header.threads);
             0
         }
-        Event::Made(read, outcome) => {
-            let word = match place {
-                Some(place) if place < 129 => place as u32,
-                _ => NO_WORD,
-            };
+        Event::Made(read, made) => {
             if answer.moves < steps.len() as u64 {
-                steps[answer.moves as usize] = LtStep {
-                    line: answer.line,
-                    found,
-                    left: standing(trace, place),
-                    thread: u32::from(read.thread),
-                    action: action_number(read.action),
-                    outcome: outcome_number(outcome),
-                    word,
-                };
+                steps[answer.moves as usize] = step_of(answer.line, read, made);
             }
             answer.moves = answer.moves.saturating_add(1);
             0

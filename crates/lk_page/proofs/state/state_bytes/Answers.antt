@@ -12,7 +12,7 @@ returns-clause-bytes c =
     state_put c.args.moves c.args.stopped.count c.args.stopped.refused c.args.lock.now.state
     (holding_in c.args.lock.now) (waiting_in c.args.lock.now)
     c.stop_numbers.result c.as_slice-holder_slice.result.now c.as_slice-queue_slice.result.now
-    c.as_slice-word_slice.result.now
+    c.words_of-words.result.now
     c.new-out.result.items c.put_u32s.new.out.items c.put_u32s-2.new.out.items
     c.put_list.new.out.items c.put_list-2.new.out.items c.put_threads.new.out.items
     c.put_u64s.new.out.items c.put_zeros.new.out.items
@@ -25,7 +25,7 @@ returns-clause-bytes c =
     (c.as_slice-holder_slice.ensures.value ∙ c.holder_list-code.ensures.list
     ∙ ap holder_list c.holders.ensures.holding)
     (c.as_slice-queue_slice.ensures.value ∙ c.queue-queue.ensures)
-    (c.as_slice-word_slice.ensures.value ∙ c.words_of-words.ensures)
+    c.words_of-words.ensures.words
     c.new-out.ensures c.put_u32s.ensures.bytes c.put_u32s-2.ensures.bytes c.put_list.ensures.bytes
     c.put_list-2.ensures.bytes
     (c.put_threads.ensures.bytes
