@@ -11,8 +11,7 @@ ghost use Rattle.lk_replay.specs.Whole.{AppendsAsTold};
 use crate::devices::{RunFault, read_text, send};
 use crate::ending::Ending;
 use crate::output_buffer::OutputBuffer;
-use crate::report::{Replay, fault_text};
-use crate::{ReadFault, read_schedule};
+use crate::report::{Replay, read_or_fault};
 use std::alloc::Global;
 use std::io::{Read, Write};
 
@@ -53,18 +52,19 @@ fn write_report<W: Write>(alloc: Global, output: &mut W, text: &[u8]) -> Result<
         (Keeps (W.contents output.old) (W.contents output.new)) }
     ensures fault { IfErr result (λ e. e ≢ RunFault.Read) }
 {
-    match read_schedule(alloc, text) {
+    let Ok(read) = read_or_fault(alloc, text) else {
+        return Err(RunFault::OutOfMemory);
+    };
+    match read {
         Ok(schedule) => {
             let Ok(mut buffer) = OutputBuffer::new(alloc) else {
                 return Err(RunFault::OutOfMemory);
             };
             print(output, &mut buffer, &mut Replay::new(&schedule))
         }
-        Err(ReadFault::OutOfMemory) => Err(RunFault::OutOfMemory),
         Err(fault) => {
-            let closing = fault_text(fault);
-            send(output, closing.line.as_slice())?;
-            Ok(closing.ending)
+            send(output, fault.line.as_slice())?;
+            Ok(fault.ending)
         }
     }
 }

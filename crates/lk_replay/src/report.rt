@@ -3,8 +3,9 @@
 //! The whole text is read first. Then its moves are played, and each is printed as it is played, by
 //! one `Replay`: into a `Vec` here, and into a buffer that goes out in `run`.
 
-ghost use Rattle.std.specs.Prelude.{◌≡◌, ◌++◌, IfOk, OnOk};
+ghost use Rattle.std.specs.Prelude.{◌≡◌, ◌++◌, IfErr, IfOk, Ok, OnOk};
 ghost use Rattle.lk_replay.specs.Report.{report_text};
+ghost use Rattle.lk_replay.specs.Schedule.{plan_of};
 ghost use Rattle.lk_replay.specs.Whole.{IsAsTold};
 
 mod closings;
@@ -14,8 +15,8 @@ mod status;
 mod text;
 mod words;
 
-use crate::{ReadFault, read_schedule};
-pub use closings::fault_text;
+use crate::{ReadFault, Schedule, read_schedule};
+use closings::{Closing, fault_text};
 pub use replay::Replay;
 use std::alloc::{AllocError, Global};
 
@@ -49,12 +50,27 @@ fn print_into(out: &mut Vec<u8>, replay: &mut Replay<'_>) -> Result<(), AllocErr
     }
 }
 
+/// The schedule of a text, or the line of its fault, which is its whole report.
+#[tactic(auto, unfolding(crate::specs::Report::report_text))]
+pub fn read_or_fault(alloc: Global, bytes: &[u8]) -> Result<Result<Schedule, Closing>, AllocError>
+    ensures schedule { IfOk result
+        (λ read. IfOk read (λ schedule. plan_of bytes.now ≡ Ok schedule)) }
+    ensures fault { IfOk result
+        (λ read. IfErr read (λ closing. closing.line ≡ report_text bytes.now)) }
+{
+    match read_schedule(alloc, bytes) {
+        Ok(schedule) => Ok(Ok(schedule)),
+        Err(ReadFault::OutOfMemory) => Err(AllocError),
+        Err(fault) => Ok(Err(fault_text(fault))),
+    }
+}
+
 // Reads a text, and prints its report.
 #[tactic(auto, unfolding(crate::specs::Report::report_text))]
 fn printed(alloc: Global, bytes: &[u8]) -> Result<Vec<u8>, AllocError>
     ensures { IfOk result (λ report. report.items ≡ report_text bytes.now) }
 {
-    match read_schedule(alloc, bytes) {
+    match read_or_fault(alloc, bytes)? {
         Ok(schedule) => {
             let longest = LONGEST_LINE + LONGEST_LISTED * usize::from(schedule.threads());
             let lines = schedule.moves().len().min(FIRST_LINES);
@@ -63,10 +79,9 @@ fn printed(alloc: Global, bytes: &[u8]) -> Result<Vec<u8>, AllocError>
             out.shrink_to_fit();
             Ok(out)
         }
-        Err(ReadFault::OutOfMemory) => Err(AllocError),
         Err(fault) => {
             let mut out = Vec::new(alloc);
-            out.extend_from_slice(fault_text(fault).line.as_slice())?;
+            out.extend_from_slice(fault.line.as_slice())?;
             Ok(out)
         }
     }
