@@ -56,17 +56,17 @@ class Program:
         return ran.stdout, ran.stderr or ran.returncode
 
 
-def due(reports):
+def expected_status(reports):
     return 0 if all(map(oracle.is_accepted, reports)) else 1
 
 
 def is_right(program, text):
     report = oracle.report_of(text)
-    return program.replay(text) == (report, due([report]))
+    return program.replay(text) == (report, expected_status([report]))
 
 
 def is_batch_right(program, texts, reports, workers):
-    return program.batch(texts, workers) == (oracle.batch_of(reports), due(reports))
+    return program.batch(texts, workers) == (oracle.batch_of(reports), expected_status(reports))
 
 
 def shrink(pieces, differs):
@@ -119,7 +119,7 @@ def show(program, seed, number, text):
     text = shrunk_text(program, text)
     store(f"{seed}-{number}.schedule", text)
     report, (printed, status) = oracle.report_of(text), program.replay(text)
-    print(f"status {status}, due {due([report])}")
+    print(f"status {status}, due {expected_status([report])}")
     pairs = zip(printed.splitlines() + [b"(no line)"], report.splitlines() + [b"(no line)"])
     for line, right in pairs:
         if line != right:
@@ -171,21 +171,21 @@ def play_round(program, chance, seed, first):
 
 
 def main():
-    words = argparse.ArgumentParser(description="The head of this file says what is compared.")
-    words.add_argument("program")
-    words.add_argument("--seconds", type=float, required=True)
-    words.add_argument("--seed", type=int, default=random.SystemRandom().randrange(10**9))
-    asked = words.parse_args()
-    print(f"seed {asked.seed}", flush=True)
-    chance = random.Random(asked.seed)
-    until = time.monotonic() + asked.seconds
+    parser = argparse.ArgumentParser(description="The head of this file says what is compared.")
+    parser.add_argument("program")
+    parser.add_argument("--seconds", type=float, required=True)
+    parser.add_argument("--seed", type=int, default=random.SystemRandom().randrange(10**9))
+    arguments = parser.parse_args()
+    print(f"seed {arguments.seed}", flush=True)
+    chance = random.Random(arguments.seed)
+    until = time.monotonic() + arguments.seconds
     with tempfile.TemporaryDirectory() as folder:
-        program = Program(str(pathlib.Path(asked.program).resolve()), folder)
+        program = Program(str(pathlib.Path(arguments.program).resolve()), folder)
         stored, failed = play_corpus(program)
         print(f"{stored} stored texts", flush=True)
         played = stored
         while failed == 0 and (played == stored or time.monotonic() < until):
-            count, wrong = play_round(program, chance, asked.seed, played - stored)
+            count, wrong = play_round(program, chance, arguments.seed, played - stored)
             played += count
             failed += wrong
     print(f"{played - failed} passed, {failed} failed")

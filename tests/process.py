@@ -21,6 +21,7 @@ import threading
 import time
 from pathlib import Path
 
+from tally import Tally
 from worked_rows import hand_over
 
 INPUT = b"lockreplay: cannot read standard input\n"
@@ -67,8 +68,7 @@ CROWDED_REPORT = (
 
 PATIENCE = 100  # seconds
 
-passed = 0
-failed = 0
+tally = Tally()
 
 
 def cannot_read(number):
@@ -85,18 +85,13 @@ def shown(data):
 
 def check(name, **pairs):
     """One case: each thing's value and the value, or the test of it, that is wanted."""
-    global passed, failed
     wrong = []
     for thing, (got, want) in pairs.items():
         if not (want(got) if callable(want) else got == want):
             wrong.append(f"    {thing}: {shown(got) if isinstance(got, bytes) else got}")
             if not callable(want):
                 wrong.append(f"    wanted: {shown(want) if isinstance(want, bytes) else want}")
-    if wrong:
-        failed += 1
-        print(f"FAILED {name}", *wrong, sep="\n", flush=True)
-    else:
-        passed += 1
+    tally.fault(name, "".join(f"\n{line}" for line in wrong))
 
 
 def closing(*descriptors):
@@ -381,8 +376,7 @@ def main():
         files()
         memory()
         os.chdir("/")
-    print(f"{passed} passed, {failed} failed")
-    return 1 if failed else 0
+    return tally.end()
 
 
 if __name__ == "__main__":

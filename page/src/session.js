@@ -1,7 +1,7 @@
 // What is shown: one schedule, the move at which it stands, and everything derived from the two.
 
 import { arrowsOf } from './arrows.js';
-import { lineOf, lettersOf, throughLine } from './bytes.js';
+import { lettersOf, throughLine } from './bytes.js';
 import { awaitedLines, codeLine } from './locks_code.js';
 import { LOCK_NAMES, lockOf } from './locks.js';
 import { Names } from './names.js';
@@ -68,4 +68,3 @@ export function headerLine(text) {
   return letters.split('\n').findIndex((line) => line !== '' && !line.startsWith('#')) + 1;
 }
 
-export const lineText = lineOf;

@@ -21,8 +21,8 @@ pub fn put_word(text: &mut String, word: WordName) -> Result<(), AllocError> {
         WordName::Locked(thread) => write!(text, "locked of {thread}"),
         WordName::Readers => text.push_str("readers"),
         WordName::Flag => text.push_str("flag"),
-        WordName::ReadAcquires => text.push_str("read_acquires"),
-        WordName::ReadReleases => text.push_str("read_releases"),
+        WordName::ReadAcquires => text.push_str("readAcquires"),
+        WordName::ReadReleases => text.push_str("readReleases"),
     }
 }
 
