@@ -62,6 +62,7 @@ pub fn words_needed(threads: u8) -> usize
 }
 
 /// Whether the lock has steps of this kind.
+#[inline(always)]
 pub fn has_step(step: StepKind) -> bool
     ensures { result ≡ list_any (same_step step) (steps_of Mcs) }
 {
@@ -72,6 +73,7 @@ pub fn has_step(step: StepKind) -> bool
 }
 
 /// The phase that a call leads to, where a thread in this phase may make it.
+#[inline(always)]
 pub fn after_call(phase: Phase, op: Op) -> Option<Phase>
     ensures { result ≡ after_call phase op }
 {
@@ -122,6 +124,7 @@ pub fn operation(_bits: u8, thread: u8, phase: Phase) -> Option<Operation>
 }
 
 /// The kind of that operation, which depends neither on the bits nor on the thread.
+#[inline(always)]
 pub fn step_due(phase: Phase) -> Option<StepKind>
     ensures { result ≡ step_due Mcs phase }
 {
@@ -160,6 +163,7 @@ pub fn after(phase: Phase, answer: Answer) -> (Phase, Outcome)
 }
 
 /// One step of a thread in this phase, with its new phase.
+#[inline(always)]
 pub fn step<W: Words>(words: &mut W, thread: u8, phase: Phase) -> (Phase, Outcome)
     requires { IsReady Mcs (W.width words.old) (W.list words.old) thread phase }
     ensures words { W.list words.new
@@ -187,6 +191,7 @@ pub fn outcome(words: &WordArray, thread: u8, phase: Phase) -> Outcome
 }
 
 /// Adds the entries of such a step.
+#[inline(always)]
 pub fn add_entries(added: &mut Added, thread: u8, phase: Phase, outcome: Outcome)
     requires { added.old ≡ [] }
     ensures { added.new ≡ entries thread phase outcome }

@@ -16,6 +16,7 @@ use crate::{Entry, Family, Op, Outcome, Phase, StepKind};
 use lk_words::Operation;
 
 /// The phase that a call leads to, where a thread in this phase may make it.
+#[inline(always)]
 pub fn after_call(phase: Phase, op: Op) -> Option<Phase>
     ensures { result ≡ after_call phase op }
 {
@@ -30,6 +31,7 @@ pub fn after_call(phase: Phase, op: Op) -> Option<Phase>
 }
 
 /// Whether the lock has steps of this kind: its sections are all of one.
+#[inline(always)]
 pub fn has_step(step: StepKind) -> bool
     ensures { result ≡ list_any (same_step step) (StepKind.Section ∷ []) }
 {
@@ -44,6 +46,7 @@ pub fn operation(_bits: u8, _thread: u8, _phase: Phase) -> Option<Operation>
 }
 
 /// The step that a thread takes next: a section, unless it is idle or inside.
+#[inline(always)]
 pub fn step_due(phase: Phase) -> Option<StepKind>
     ensures { result ≡ step_due phase }
 {
@@ -69,6 +72,7 @@ fn add_writer(added: &mut Added, family: Family, thread: u8)
 }
 
 /// Adds the entries of a section.
+#[inline(always)]
 pub fn add_entries(added: &mut Added, family: Family, thread: u8, phase: Phase, outcome: Outcome)
     requires { added.old ≡ [] }
     ensures { added.new ≡ entries family thread phase outcome }

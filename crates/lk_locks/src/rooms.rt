@@ -47,6 +47,7 @@ pub fn words_needed(kind: LockKind, threads: u8) -> usize
 }
 
 /// Whether the lock has steps of this kind.
+#[inline(always)]
 pub(crate) fn has_step(kind: LockKind, step: StepKind) -> bool
     ensures { result ≡ list_any (same_step step) (steps_of kind) }
 {
@@ -54,6 +55,7 @@ pub(crate) fn has_step(kind: LockKind, step: StepKind) -> bool
 }
 
 /// The phase that a call leads to, where a thread in this phase may make it.
+#[inline(always)]
 pub(crate) fn after_call(kind: LockKind, phase: Phase, op: Op) -> Option<Phase>
     ensures { result ≡ after_call kind phase op }
 {
@@ -61,6 +63,7 @@ pub(crate) fn after_call(kind: LockKind, phase: Phase, op: Op) -> Option<Phase>
 }
 
 /// The kind of step that an operation is.
+#[inline(always)]
 pub(crate) fn kind_of(operation: Operation) -> StepKind
     ensures { result ≡ kind_of operation }
 {
@@ -83,6 +86,7 @@ pub fn operation_of(kind: LockKind, bits: u8, thread: u8, phase: Phase) -> Optio
 }
 
 /// The step that a thread in this phase takes next, where it has a pending call.
+#[inline(always)]
 pub(crate) fn step_due(kind: LockKind, phase: Phase) -> Option<StepKind>
     ensures { result ≡ step_due kind phase }
 {
@@ -90,6 +94,7 @@ pub(crate) fn step_due(kind: LockKind, phase: Phase) -> Option<StepKind>
 }
 
 /// A step of a thread in this phase, with its new phase.
+#[inline(always)]
 pub(crate) fn take_step<W: Words>(
     words: &mut W,
     kind: LockKind,
@@ -117,6 +122,7 @@ pub(crate) fn outcome_of(words: &WordArray, kind: LockKind, thread: u8, phase: P
 }
 
 /// Adds the entries of a step, where nothing was added before.
+#[inline(always)]
 pub(crate) fn add_entries(
     added: &mut Added,
     kind: LockKind,

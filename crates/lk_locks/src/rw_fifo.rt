@@ -62,6 +62,7 @@ pub fn section(bits: u8, found: [u64; 3], phase: Phase) -> ([u64; 3], Phase, Out
 }
 
 /// One section of a thread in this phase, with its new phase.
+#[inline(always)]
 pub fn step<W: Words>(words: &mut W, _thread: u8, phase: Phase) -> (Phase, Outcome)
     requires words { 3 ≤ length (W.list words.old) }
     requires one { 1 < 2 ^ W.width words.old }

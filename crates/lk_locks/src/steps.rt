@@ -22,6 +22,7 @@ fn has_op(kind: LockKind, op: Op) -> bool
 }
 
 /// Whether the operation or the kind of step is one of the lock's.
+#[inline(always)]
 pub fn belongs(kind: LockKind, action: Move) -> bool
     ensures { result ≡ belongs kind action }
 {
@@ -65,6 +66,7 @@ pub fn refusal_in(kind: LockKind, phase: Phase, action: Move) -> Option<Refusal>
 }
 
 /// What an accepted move of a thread does to the words, with the thread's new phase.
+#[inline(always)]
 pub fn make_move<W: Words>(
     words: &mut W,
     kind: LockKind,
