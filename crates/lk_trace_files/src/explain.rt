@@ -64,9 +64,14 @@ fn put_values(
     effect: Option<Effect>,
 ) -> Result<(), AllocError> {
     let kind = checker.lock().kind();
-    let Some(Effect {
-        word, found, left, ..
-    }) = effect
+    let Some(
+        Effect {
+            word,
+            found,
+            left,
+            ..
+        },
+    ) = effect
     else {
         return put_changes(text, kind, before, checker.lock().machine().words());
     };

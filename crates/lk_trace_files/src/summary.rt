@@ -116,7 +116,12 @@ impl Summary {
             "failed compare-and-swap, ",
             "failed compare-and-swaps, ",
         )?;
-        put_count(text, self.late, "poll of a late link, ", "polls of a late link, ")?;
+        put_count(
+            text,
+            self.late,
+            "poll of a late link, ",
+            "polls of a late link, ",
+        )?;
         let longest = self.longest;
         write!(text, "longest queue {longest}, ")?;
         put_count(

@@ -1,8 +1,6 @@
 //! Worked lines and moves. What they expect was made by hand.
 
-use lk_locks::{
-    LockKind, Machine, Move, Op, Outcome, Phase, Refusal, StepKind, operation_of,
-};
+use lk_locks::{LockKind, Machine, Move, Op, Outcome, Phase, Refusal, StepKind, operation_of};
 use lk_trace::{
     Checker, Difference, Event, Made, Seen, TextFault, TraceLine, TraceReader, WordName, name_at,
     place_of, read_line, read_log_line, whole_number,

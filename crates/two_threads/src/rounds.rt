@@ -61,7 +61,10 @@ fn round(
     lock.read_serving(seat);
     let serving = seat.seen();
     lock.pass(seat);
-    write!(log, "release\nread now_serving found {serving}\nwrite now_serving\n")?;
+    write!(
+        log,
+        "release\nread now_serving found {serving}\nwrite now_serving\n"
+    )?;
     Ok(true)
 }
 
