@@ -30,8 +30,8 @@ pub fn words_needed(_threads: u8) -> usize
     3
 }
 
-/// What a section of a thread in this phase leaves in the monitor's words, of so many bits, in
-/// which these stand; its new phase, and the outcome.
+/// What a section of a thread in this phase leaves in the monitor's words, of so many bits, if it
+/// finds these; its new phase, and the outcome.
 #[inline(always)]
 pub fn section(bits: u8, found: [u64; 3], phase: Phase) -> ([u64; 3], Phase, Outcome)
     requires least { 2 ≤ bits }

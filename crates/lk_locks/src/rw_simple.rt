@@ -28,8 +28,8 @@ pub fn words_needed(_threads: u8) -> usize
     2
 }
 
-/// What a section of a thread in this phase leaves in the monitor's words, of so many bits, in
-/// which these stand; its new phase, and the outcome. The third word is none of this lock's.
+/// What a section of a thread in this phase leaves in the monitor's words, of so many bits, if it
+/// finds these; its new phase, and the outcome. The third word is none of this lock's.
 #[inline(always)]
 pub fn section(bits: u8, found: [u64; 3], phase: Phase) -> ([u64; 3], Phase, Outcome)
     requires least { 2 ≤ bits }

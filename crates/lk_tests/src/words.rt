@@ -39,7 +39,7 @@ fn each_operation_is_passed_on_once(rt: HostRuntime) {
     assert_eq!(rt; (words.count(), words.inner().count()), (6, 6));
 }
 
-// Makes the operation, which is one, and does what its effect said before: what stands in the word
+// Makes the operation, which is one, and does what its effect said before: what the word holds
 // before and after it.
 fn does(
     rt: &impl Abort,

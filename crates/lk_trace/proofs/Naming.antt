@@ -66,7 +66,7 @@ named_place : (kind : LockKind) (place : ℕ) (word : WordName) → name_at kind
     → place_of kind word ≡ place
 named_place kind place word e = sym (ap (place_or kind place) e) ∙ led_back kind place
 
--- what stands in a word before and after a move, as its effect says
+-- what a word holds before and after a move, as its effect says
 pub record StandsAs (s : State) (t : ℕ) (m : Move) (effect : Effect) (word : WordName) : Type 0
   where
     pub found : stands s word ≡ effect.found

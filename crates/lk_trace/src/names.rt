@@ -1,4 +1,4 @@
-//! The words of the locks by name. What is a lock's own stands in its room.
+//! The words of the locks by name. Each lock has a module of its own.
 
 ghost use Rattle.std.specs.Prelude.{◌≡◌};
 ghost use Rattle.lk_trace.specs.Names.{name_at, place_of, same_word};

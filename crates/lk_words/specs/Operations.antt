@@ -19,7 +19,7 @@ word_of (Swap i v) = i
 word_of (CompareAndSwap i old new) = i
 word_of (FetchAndAdd i d) = i
 
--- what it leaves in a word in which this stands
+-- what it leaves in a word that holds this
 abbrev pub left_by : ℕ → ℕ → Operation → ℕ
 left_by bits found (Read i) = found
 left_by bits found (Write i v) = v

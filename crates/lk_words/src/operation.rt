@@ -38,9 +38,9 @@ pub enum Answer {
 pub struct Effect {
     /// The place of the word.
     pub word: usize,
-    /// What stands in the word before.
+    /// What the word holds before.
     pub found: u64,
-    /// What stands in it afterwards.
+    /// What it holds afterwards.
     pub left: u64,
     pub answer: Answer,
 }
@@ -60,7 +60,7 @@ impl Operation {
         }
     }
 
-    /// What it does to a word of so many bits in which `found` stands.
+    /// What it does to a word of so many bits that holds `found`.
     pub fn effect(self, found: u64, bits: u8) -> Effect
         requires least { 2 ≤ bits }
         requires most { bits ≤ 64 }

@@ -6,7 +6,7 @@ use lk_locks::{LockKind, Machine, Move, Outcome};
 use lk_words::{CountingWords, Operation, WordArray};
 use std::process::Abort;
 
-// An operation, and what stands in its word before and after.
+// An operation, and what its word holds before and after.
 type Done = (Operation, u64, u64);
 
 fn is_step(action: Move) -> bool {
