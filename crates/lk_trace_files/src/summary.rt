@@ -1,5 +1,5 @@
-//! What a run had of contention: waits, failed compare-and-swaps, polls of a
-//! late link, the longest queue,
+//! What a run had of contention: waits, failed compare-and-swaps, polls of a late link, the longest
+//! queue,
 //! rounds of a counter.
 
 use crate::texts::Lock;
