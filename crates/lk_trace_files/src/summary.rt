@@ -1,6 +1,5 @@
 //! What a run had of contention: waits, failed compare-and-swaps, polls of a late link, the longest
-//! queue,
-//! rounds of a counter.
+//! queue, rounds of a counter.
 
 use crate::texts::Lock;
 use lk_locks::{LockKind, Move, Outcome, Phase, StepKind};
