@@ -44,7 +44,7 @@ FAULTY = {
     "no such variable": "`make demo NOSUCH=1`",
     "no such mutant": "`make mutants CRATE=lk_words MISTAKE=no_such_mutant`",
     "no such method": "`Keeper::no_such_method`",
-    "a private function": "`Machine::make`",
+    "a private function": "`Checker::seen_other`",
     "no such name": "`no_such_name`",
 }
 
