@@ -2,8 +2,7 @@
 //! and its body is empty.
 //!
 //! `Keeper::entries` ensures that what a keeper recorded is legal, so each law holds of every
-//! keeper's entries. The events of the ticket lock, by which both `Machine` and a lock on shared
-//! words are stated, are the definitions `specs/laws.antt`.
+//! keeper's entries.
 
 ghost use Rattle.lk_locks.specs.Runs.{EveryHistoryIsLegal};
 ghost use Rattle.lk_locks.specs.MainTheorem.{EveryRunIsAsPromised};

@@ -15,7 +15,7 @@ use Rattle.lk_trace_c.specs.Numbers.{action_number, outcome_number}
 use Rattle.lk_trace_c.specs.declared.LtAnswer.{LtAnswer}
 use Rattle.lk_trace_c.specs.declared.LtStep.{LtStep}
 
--- what stood in the word of a move, and what stands in it after; 0 if the move is on none
+-- what the word of a move held before, and what it holds after; 0 if the move is on none
 abbrev pub found_of : Option Effect → ℕ
 found_of (Some e) = e.found
 found_of None = 0

@@ -1,4 +1,4 @@
--- The last line begins with `refused ` or with `end `, and no line feed stands in it.
+-- The last line begins with `refused ` or with `end `, and has no line feed in it.
 use Rattle.std.proofs.Common.{rules}
 use Rattle.lk_replay.proofs.LastLines.{accepted_ending, refused_ending}
 use Rattle.lk_replay.proofs.report.closings.last_line.Goals as goal
