@@ -249,7 +249,7 @@ def devices(program):
 def memory(program):
     """Under every limit the answer is the right one, or that memory was refused."""
     seen = set()
-    for size in range(2_000, 12_000, 100):
+    for size in range(2_000, 8_000, 20):
         limit = (size << 10, size << 10)
         got = program.run("check", "wrong",
                           preexec_fn=lambda: resource.setrlimit(resource.RLIMIT_AS, limit))

@@ -34,6 +34,7 @@ pub fn belongs(kind: LockKind, action: Move) -> bool
 
 // Why a call of a thread with no pending call is refused. What an idle thread may call acquires,
 // and a thread that is not idle holds.
+#[inline(always)]
 fn refusal_of_call(kind: LockKind, phase: Phase, op: Op) -> Option<Refusal>
     ensures { result ≡ refusal_at kind phase None (Call op) }
 {

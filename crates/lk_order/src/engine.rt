@@ -103,14 +103,13 @@ fn next_of(order: &Order, kind: LockKind, t: u8) -> Next {
         return ENDED;
     };
     let phase = order.checker().phase(t).unwrap_or(Phase::Idle);
-    let step = match line.action {
-        Move::Call(_) => None,
-        Move::Step(step) => Some(step),
-    };
-    let word = match step {
+    let (step, word) = match line.action {
+        Move::Call(_) => (None, None),
         // which word it is does not depend on the bits
-        Some(_) => operation_of(kind, 64, t, phase).map(|operation| operation.word()),
-        None => None,
+        Move::Step(step) => (
+            Some(step),
+            operation_of(kind, 64, t, phase).map(|operation| operation.word()),
+        ),
     };
     Next {
         round: round_of(kind, line, phase),
@@ -180,14 +179,6 @@ impl Engine {
         }
     }
 
-    // When one of the last steps is proposed.
-    fn last_round_of(&self, t: usize, next: &Next) -> Round {
-        match next.kind {
-            Some(StepKind::Swap) => self.acquires.round_of_swap(t),
-            _ => Round::Last,
-        }
-    }
-
     // A thread that may make its step in this round. Those that may not are put to sleep.
     fn choose_in(&mut self, order: &Order, round: Round) -> Option<u8> {
         for i in 0..self.threads {
@@ -201,9 +192,12 @@ impl Engine {
                 continue;
             }
             let next = self.next[t];
-            if round == Round::Last && self.last_round_of(t, &next) != round {
-                self.next[t].round = self.last_round_of(t, &next);
-                continue;
+            if round == Round::Last && next.kind == Some(StepKind::Swap) {
+                let last = self.acquires.round_of_swap(t);
+                if last != round {
+                    self.next[t].round = last;
+                    continue;
+                }
             }
             if !has_other_value(order, &next) && !self.waits(order, t, &next) {
                 return Some(t as u8);

@@ -6,16 +6,18 @@ use crate::Log;
 use lk_locks::LockKind;
 use std::alloc::{AllocError, Global};
 use std::marker::Model;
+use thiserror::Error;
 
 // The most threads of a lock.
 const MOST_THREADS: usize = 64;
 
 /// Why a log does not belong to the run.
-#[derive(Clone, Copy, PartialEq, Eq, Debug)]
+#[derive(Clone, Copy, PartialEq, Eq, Debug, Error)]
 pub enum Unfit {
     /// It is of another lock, or another number of threads or bits, than the first one.
+    #[error("of another lock than the first log's")]
     OtherLock,
-    /// Its thread has a log already.
+    #[error("a second log of its thread")]
     SecondLog,
 }
 

@@ -1,5 +1,5 @@
 -- What is written at the end is what the text says.
-use Rattle.std.proofs.Common.{◌≡◌, ℕ, List, [], ◌++◌, length, take, drop, Option, Some, IfSome}
+use Rattle.std.proofs.Common.{◌≡◌, ℕ, List, [], ◌++◌, length, take, drop, Option, Some}
 use Rattle.std.proofs.Common.{Result, Ok, Err, refl, ap, subst, ◌∙◌}
 use Rattle.lk_locks.specs.Tracked.{Tracked, tracked, holding_in, waiting_in}
 use Rattle.lk_locks.specs.declared.kinds.Refusal.{Refusal}
@@ -10,8 +10,8 @@ use Rattle.lk_replay.specs.Replay.{start_of, replay_from}
 use Rattle.lk_replay.specs.Schedule.{Plan}
 use Rattle.lk_replay.specs.declared.schedule.ReadFault.{ReadFault}
 use Rattle.lk_replay.specs.declared.schedule.ReadFault.TheVariants as read
-use Rattle.lk_page.specs.Codes.{as_fault, fault_code, fault_line}
-use Rattle.lk_page.specs.Layout.{bytes_of_state, bytes_of_fault, state_bytes}
+use Rattle.lk_page.specs.Codes.{as_fault}
+use Rattle.lk_page.specs.Layout.{bytes_of_state, state_bytes}
 use Rattle.lk_page.specs.Told.{Moment, beginning, after_lines}
 use Rattle.lk_page.specs.Written.{IsTold, answer_of}
 use Rattle.lk_page.specs.Playing.{HavePlayed}
@@ -68,19 +68,3 @@ names_fault (read.BadLine n) told e t = (_, e, refl)
 names_fault (read.TooManyMoves n) told e t = (_, e, refl)
 names_fault (read.WordsTooNarrow n) told e t = (_, e, refl)
 names_fault read.OutOfMemory told e t = absurd t
-
-pub tells_fault : (fault : ReadFault) (told : Result Plan Fault) (most answer code line : ℕ)
-    (records_old records_new state_old state_new bytes : List ℕ)
-    → Fails fault told → IsOfText fault
-    → IfSome (as_fault fault) (λ f. (code ≡ fault_code f) × (line ≡ fault_line f)) → answer ≡ 2
-    → records_new ≡ records_old
-    → bytes ≡ bytes_of_fault code line → state_new ≡ bytes ++ drop 2304 state_old
-    → IsTold told most answer records_old records_new state_old state_new
-tells_fault fault told most answer code line records_old records_new state_old state_new bytes e t c
-    a r b w =
-    let n = names_fault fault told e t in
-    let named : (code ≡ fault_code n.0) × (line ≡ fault_line n.0) =
-    subst (λ (o : Option Fault). IfSome o (λ f. (code ≡ fault_code f) × (line ≡ fault_line f)))
-    n.2 c in
-    rw n.1
-    (a, r, w ∙ ap (λ (x : List ℕ). x ++ drop 2304 state_old) (b ∙ rw (named.0, named.1) refl))

@@ -1,6 +1,6 @@
 -- One turn of the loop that plays what is asked for.
-use Rattle.std.proofs.Common.{◌≡◌, ℕ, ◌+◌, ◌-◌, ◌*◌, ◌<◌, ◌≤◌, List, [], ◌∷◌, length, take, drop}
-use Rattle.std.proofs.Common.{None, Some, refl, ap, sym, subst, ◌∙◌, arith}
+use Rattle.std.proofs.Common.{◌≡◌, ℕ, ◌+◌, ◌-◌, ◌*◌, ◌<◌, List, ◌∷◌, length, take, drop}
+use Rattle.std.proofs.Common.{None, Some, ap, sym, subst, ◌∙◌}
 use Rattle.std.proofs.lemmas.List.{length-set}
 use Rattle.lk_locks.specs.State.{State, phase_at}
 use Rattle.lk_locks.specs.Steps.{refusal_of, change_of}
@@ -16,17 +16,9 @@ use Rattle.lk_page.specs.Layout.{record_bytes}
 use Rattle.lk_page.specs.Written.{placed}
 use Rattle.lk_page.specs.Playing.{moment, HavePlayed, ArePlaying}
 use Rattle.lk_page.specs.declared.told.Record.{Record}
-use Rattle.lk_page.proofs.Asked.{next_asked, none_left, none_asked}
-use Rattle.lk_page.proofs.PlayedOn.{playing_starts, playing_on, playing_stops, playing_ends}
+use Rattle.lk_page.proofs.Asked.{next_asked}
+use Rattle.lk_page.proofs.PlayedOn.{playing_on, playing_stops}
 use Rattle.lk_page.proofs.Records.{state_after}
-
-pub turn_first : (moves : List Line) (old : List ℕ) (k : Tracked) (most : ℕ)
-    → k ≡ tracked k.state []
-    → ArePlaying k.state (take most moves) old k (take (most - 0) moves) 0 old
-turn_first moves old k most e =
-    let same : most ≡ most - 0 = omega arith in
-    subst (λ (n : ℕ). ArePlaying k.state (take most moves) old k (take n moves) 0 old) same
-    (playing_starts k.state (take most moves) old k e)
 
 pub turn_made : (s : State) (moves left after : List Line) (old now written : List ℕ)
     (k next : Tracked) (l : Line) (most count : ℕ) (r : Record)
@@ -61,20 +53,6 @@ turn_refused s moves left old now k next l most count x p h f a e =
     playing_stops s (take most moves) old k next l
     (take (most - (count + 1)) (drop 1 left)) count now x q (sym a) e
 
-pub turn_without : (s : State) (moves left : List Line) (old now : List ℕ) (k : Tracked)
-    (most count : ℕ)
-    → ArePlaying s (take most moves) old k (take (most - count) left) count now
-    → None ≡ first_of left → HavePlayed s (take most moves) old k count None now
-turn_without s moves left old now k most count p f =
-    playing_ends s (take most moves) old k _ count now p (none_left most count left (sym f))
-
-pub turns_over : (s : State) (moves left : List Line) (old now : List ℕ) (k : Tracked)
-    (most count : ℕ)
-    → ArePlaying s (take most moves) old k (take (most - count) left) count now → most ≤ count
-    → HavePlayed s (take most moves) old k count None now
-turns_over s moves left old now k most count p h =
-    playing_ends s (take most moves) old k _ count now p (none_asked most count left h)
-
 pub same_threads : (k next : Tracked) (t : ℕ) (m : Move) → None ≡ refusal_of k.state t m
     → next ≡ after_tracked k t m → length next.state.phases ≡ length k.state.phases
 same_threads k next t m a e =
@@ -86,7 +64,3 @@ pub same_words : (k next : Tracked) (t : ℕ) (m : Move) → None ≡ refusal_of
 same_words k next t m a e =
     ap (λ (s : State). length s.words) (state_after k next t m (sym a) e)
     ∙ same_length k.state.kind k.state.bits k.state.words t (phase_at k.state.phases t) m
-
-pub stays_refused : (k next : Tracked) (t : ℕ) (m : Move) (x : Refusal)
-    → Some x ≡ refusal_of k.state t m → next ≡ after_tracked k t m → next ≡ k
-stays_refused k next t m x a e = let b : refusal_of k.state t m ≡ Some x = sym a in e ∙ rw b refl

@@ -1,4 +1,5 @@
-//! The numbers by which a page knows locks, moves, outcomes, phases, refusals and faults.
+//! The numbers by which a page knows locks, moves, outcomes, phases, refusals and faults. Enums
+//! without fields are numbered in their order: from 0, and steps from 1, since 0 is no step.
 
 ghost use Rattle.std.specs.Prelude.{◌≡◌, IfSome};
 ghost use Rattle.lk_page.specs.Codes.{lock_code, op_code, step_code, action_code, word_code};
@@ -12,39 +13,19 @@ use lk_replay::ReadFault;
 pub fn lock_code(kind: LockKind) -> u8
     ensures { result ≡ lock_code kind }
 {
-    match kind {
-        LockKind::Ticket => 0,
-        LockKind::Mcs => 1,
-        LockKind::RwSimple => 2,
-        LockKind::RwFifo => 3,
-    }
+    kind as u8
 }
 
 fn op_code(op: Op) -> u8
     ensures { result ≡ op_code op }
 {
-    match op {
-        Op::Acquire => 0,
-        Op::Release => 1,
-        Op::ReadLock => 2,
-        Op::ReadUnlock => 3,
-        Op::WriteLock => 4,
-        Op::WriteUnlock => 5,
-        Op::Downgrade => 6,
-    }
+    op as u8
 }
 
 fn step_code(step: StepKind) -> u8
     ensures { result ≡ step_code step }
 {
-    match step {
-        StepKind::Read => 1,
-        StepKind::Write => 2,
-        StepKind::Swap => 3,
-        StepKind::Cas => 4,
-        StepKind::Add => 5,
-        StepKind::Section => 6,
-    }
+    step as u8 + 1
 }
 
 /// Whether a move is a call or a step, and which.
@@ -62,13 +43,7 @@ pub fn action_codes(action: Move) -> (u8, u8)
 pub fn outcome_code(outcome: Outcome) -> u8
     ensures { result ≡ outcome_code outcome }
 {
-    match outcome {
-        Outcome::Called => 0,
-        Outcome::Moved => 1,
-        Outcome::Waits => 2,
-        Outcome::Entered => 3,
-        Outcome::Left => 4,
-    }
+    outcome as u8
 }
 
 /// The number of a phase, without what it carries.

@@ -15,21 +15,21 @@ use thiserror::Error;
 /// What may come next in a line.
 #[derive(Clone, Copy, PartialEq, Eq, Debug, Error)]
 pub enum Expected {
-    #[error("`lock`")]
+    #[error("'lock'")]
     Lock,
-    #[error("the name of a lock")]
+    #[error("ticket, mcs, rw-simple or rw-fifo")]
     Name,
-    #[error("`threads`")]
+    #[error("'threads'")]
     Threads,
-    #[error("a number of threads from 1 to 64")]
+    #[error("a number of threads, from 1 to 64")]
     Count,
-    #[error("the end, or `bits`")]
+    #[error("the end, or 'bits'")]
     Bits,
-    #[error("a number of bits from 2 to 64")]
+    #[error("a number of bits, from 2 to 64")]
     Width,
-    #[error("the number of a thread from 0 to 255")]
+    #[error("a thread's number, from 0 to 255, without leading zeros")]
     Thread,
-    #[error("a call or a step")]
+    #[error("a call (acquire, rlock ..) or a step (read, write, swap, cas, add, section)")]
     Action,
     #[error("the end")]
     End,

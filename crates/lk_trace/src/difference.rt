@@ -1,25 +1,31 @@
 //! Where a run and the machine differ.
 
-use crate::WordName;
+use crate::{WordName, outcome_text};
 use lk_locks::{Outcome, Refusal};
+use std::fmt;
+use thiserror::Error;
 
 /// The first thing in which a line of a trace differs from the machine.
-#[derive(Clone, Copy, PartialEq, Eq, Debug)]
+#[derive(Clone, Copy, PartialEq, Eq, Debug, Error)]
 pub enum Difference {
     /// The machine refuses the move.
+    #[error("{0}")]
     Refused(Refusal),
     /// The machine's step is on another word, or on none in particular.
+    #[error("on {given}, where the lock's is on {own}", own = Own(*.word))]
     OtherWord {
         word: Option<WordName>,
         given: WordName,
     },
     /// Something else stood in the word.
+    #[error("found {given} in {word}, where the lock has {found}")]
     FoundOther {
         word: WordName,
         found: u64,
         given: u64,
     },
     /// Something else stands in the word afterwards.
+    #[error("left {given} in {word}, where the lock leaves {left}")]
     LeftOther {
         word: WordName,
         left: u64,
@@ -27,17 +33,46 @@ pub enum Difference {
     },
     /// The compare-and-swap wrote where the line says that it failed, or failed where it says that
     /// it wrote.
+    #[error("the compare-and-swap {}", wrote_text(*.wrote))]
     WroteOther {
         wrote: bool,
     },
     /// The count of a monitor's section is not above those before it.
+    #[error("section {given} behind section {last}")]
     CountNotAbove {
         last: u64,
         given: u64,
     },
     /// Something else came of the section.
+    #[error("'{}' came of the section, where the lock gives '{}'", word(.given), word(.outcome))]
     OtherOutcome {
         outcome: Outcome,
         given: Outcome,
     },
+}
+
+fn word(outcome: &Outcome) -> &'static str {
+    outcome_text(*outcome)
+}
+
+// How the run's compare-and-swap ended, and how the machine's.
+fn wrote_text(wrote: bool) -> &'static str {
+    if wrote {
+        "failed, where the lock's writes"
+    } else {
+        "wrote, where the lock's fails"
+    }
+}
+
+// The word of the machine's step.
+#[derive(Clone, Copy)]
+struct Own(Option<WordName>);
+
+impl fmt::Display for Own {
+    fn fmt<W: fmt::Write>(&self, f: &mut fmt::Formatter<W>) -> fmt::Result {
+        match self.0 {
+            Some(word) => write!(f, "{word}"),
+            None => f.write_str("no single word"),
+        }
+    }
 }

@@ -5,6 +5,7 @@ ghost use Rattle.lk_trace.specs.Names.{name_at, place_of, same_word};
 
 use crate::{mcs, rw_fifo, rw_simple, ticket};
 use lk_locks::LockKind;
+use std::fmt;
 
 /// A word of a lock. `Next` and `Locked` are in the record of the thread that they name.
 #[derive(Clone, Copy, PartialEq, Eq, Debug)]
@@ -18,6 +19,22 @@ pub enum WordName {
     Flag,
     ReadAcquires,
     ReadReleases,
+}
+
+impl fmt::Display for WordName {
+    fn fmt<W: fmt::Write>(&self, f: &mut fmt::Formatter<W>) -> fmt::Result {
+        match self {
+            WordName::NextTicket => f.write_str("next_ticket"),
+            WordName::NowServing => f.write_str("now_serving"),
+            WordName::Tail => f.write_str("tail"),
+            WordName::Next(thread) => write!(f, "next of {thread}"),
+            WordName::Locked(thread) => write!(f, "locked of {thread}"),
+            WordName::Readers => f.write_str("readers"),
+            WordName::Flag => f.write_str("flag"),
+            WordName::ReadAcquires => f.write_str("readAcquires"),
+            WordName::ReadReleases => f.write_str("readReleases"),
+        }
+    }
 }
 
 /// Which of the lock's words it is, counted from 0. A word of another lock is counted as 0.

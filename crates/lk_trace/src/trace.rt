@@ -8,22 +8,28 @@ use crate::{Checker, Difference, Made, TraceLine, read_line};
 use lk_replay::ReadFault;
 use lk_replay::parts::{Header, header_of, is_skipped};
 use std::marker::Model;
+use thiserror::Error;
 
 /// The most bytes of a header and of a move.
 pub const MOST_OF_A_LINE: usize = 96;
 
 /// Why a text is no trace. They are a schedule's faults, but for its limits.
-#[derive(Clone, Copy, PartialEq, Eq, Debug)]
+#[derive(Clone, Copy, PartialEq, Eq, Debug, Error)]
 pub enum TextFault {
     /// No line but comments and empty ones.
+    #[error("no header (NoHeader)")]
     NoHeader,
     /// The first line that is not skipped is no header.
+    #[error("not a header (BadHeader)")]
     BadHeader,
     /// The header's number of threads is no number from 1 to 64.
+    #[error("not a number of threads (BadThreads)")]
     BadThreads,
     /// The header's words have no more values than it has threads.
+    #[error("words too narrow for the threads (WordsTooNarrow)")]
     WordsTooNarrow,
     /// A later line is no move.
+    #[error("not a move (BadLine)")]
     BadLine,
 }
 

@@ -6,41 +6,24 @@ ghost use Rattle.lk_trace_c.specs.Numbers.{action_number, difference_number, fau
 ghost use Rattle.lk_trace_c.specs.Numbers.{outcome_number, refusal_number};
 ghost use Rattle.lk_trace_c.specs.Texts.{text_of_number};
 
-use lk_locks::{Move, Op, Outcome, Refusal, StepKind};
+use lk_locks::{Move, Outcome, Refusal};
 use lk_trace::{Difference, TextFault};
 
-/// Calls from 0, steps from 16.
+/// Calls from 0, steps from 16, each in the order of its enum.
 pub fn action_number(action: Move) -> u32
     ensures { result ≡ action_number action }
 {
     match action {
-        Move::Call(Op::Acquire) => 0,
-        Move::Call(Op::Release) => 1,
-        Move::Call(Op::ReadLock) => 2,
-        Move::Call(Op::ReadUnlock) => 3,
-        Move::Call(Op::WriteLock) => 4,
-        Move::Call(Op::WriteUnlock) => 5,
-        Move::Call(Op::Downgrade) => 6,
-        Move::Step(StepKind::Read) => 16,
-        Move::Step(StepKind::Write) => 17,
-        Move::Step(StepKind::Swap) => 18,
-        Move::Step(StepKind::Cas) => 19,
-        Move::Step(StepKind::Add) => 20,
-        Move::Step(StepKind::Section) => 21,
+        Move::Call(op) => op as u32,
+        Move::Step(step) => 16 + step as u32,
     }
 }
 
-/// What came of a move, from 0.
+/// What came of a move, from 0 in the order of the enum.
 pub fn outcome_number(outcome: Outcome) -> u32
     ensures { result ≡ outcome_number outcome }
 {
-    match outcome {
-        Outcome::Called => 0,
-        Outcome::Moved => 1,
-        Outcome::Waits => 2,
-        Outcome::Entered => 3,
-        Outcome::Left => 4,
-    }
+    outcome as u32
 }
 
 fn refusal_number(refusal: Refusal) -> u32

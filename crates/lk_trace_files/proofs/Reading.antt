@@ -3,7 +3,7 @@ use Rattle.std.proofs.Common.{◌≡◌, ℕ, ◌+◌, ◌<◌, List, [], ◌∷
 use Rattle.std.proofs.Common.{◌==◌, ◌||◌, None, Some, Result, Ok, Err, IfOk, IfSome, refl, subst}
 use Rattle.std.proofs.Common.{sym, ap, ap₂, ◌∙◌, arith, length-take-le, get_or-take, inl, inr}
 use Rattle.std.specs.Prelude.{Option, if◌then◌else◌, nat_lt}
-use Rattle.std.specs.Io.KnownBytes.{IsAtEnd, Keeps}
+use Rattle.std.specs.Io.KnownBytes.{IsAtEnd}
 use Rattle.std.proofs.lemmas.List.{take_all}
 use Rattle.std.proofs.lemmas.Bool.{cond-true, lt-ltb, cases_lt, eqb-true, false_from_ne_true}
 use Rattle.lk_replay.specs.Lines.{lines_of, is_skipped}
@@ -18,7 +18,7 @@ use Rattle.lk_trace_files.proofs.Accepting.{of_text}
 use Rattle.lk_trace_files.specs.Lines.{TakesLine, kept}
 use Rattle.lk_trace_files.specs.declared.lines.Line.{Line}
 use Rattle.lk_trace_files.specs.Verdicts.{Verdict, IsOfText, at_end, unless_ended, verdict_from}
-use Rattle.lk_trace_files.specs.Verdicts.{verdict_in, verdict_of}
+use Rattle.lk_trace_files.specs.Verdicts.{verdict_in}
 use Rattle.lk_trace_files.specs.invariants.Following.{Follows, Reads}
 use Rattle.lk_trace_files.specs.declared.check.Ending.TheVariants.{Unread}
 use Rattle.lk_trace_files.specs.declared.check.Report.{Report}
@@ -112,12 +112,6 @@ stops number (Began header) report behind follows = let no : false ≡ true = fo
 stops number (Made line outcome) report behind follows = let no : false ≡ true = follows in cc
 stops number (Differs line difference) report behind follows = follows.1
 stops number (Fault fault) report behind follows = follows.1
-
--- nothing was read
-pub reads_new : (all left : Option (List ℕ)) → Keeps all left → Reads all left 1 None
-reads_new None left kept = tt
-reads_new (Some text) None kept = absurd kept
-reads_new (Some text) (Some rest) kept = ap verdict_of (sym kept)
 
 -- a line that does not end the text
 pub reads_on : (all old new : Option (List ℕ)) (number : ℕ) (reading : Option Checked)

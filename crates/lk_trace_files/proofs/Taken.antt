@@ -10,7 +10,7 @@ use Rattle.std.proofs.KnownBytes.{Consumes-kept, Consumes-nil, Consumes-trans}
 use Rattle.std.proofs.lemmas.List.Splits.{slice_split_none, slice_split_at}
 use Rattle.std.proofs.lemmas.List.Elements.{All-append}
 use Rattle.std.proofs.lemmas.List.{get_or_default, drop_more, drop-drop}
-use Rattle.std.proofs.lemmas.Slice.{between_is, between_from_start}
+use Rattle.std.proofs.lemmas.Slice.{between_is}
 use Rattle.std.proofs.lemmas.Bool.{false_from_ne_true, eqb-true}
 use Rattle.memchr.specs.Find.{Nowhere, NoneBefore, Passes, is_byte}
 use Rattle.lk_replay.proofs.Cuts.{line_first, line_last}
@@ -157,23 +157,6 @@ range_rest xs i j n =
 
 pub range_empty : (xs : List ℕ) (i j : ℕ) → j ≤ i → slice_range xs i j ≡ []
 range_empty xs i j none = ap (λ n. take n (drop i xs)) {y = 0} (omega arith)
-
--- a read behind all that was read ahead
-pub read_ahead : (old new : Option (List ℕ)) (before chunk : List ℕ) (n : ℕ) → before ≡ []
-    → Consumes old new (take n chunk)
-    → Keeps (prepend_known before old) (prepend_known (slice_range chunk 0 n) new)
-read_ahead None new before chunk n none taken = tt
-read_ahead (Some xs) None before chunk n none taken = absurd taken
-read_ahead (Some xs) (Some ys) before chunk n none taken =
-    ap (λ l. l ++ ys) (between_from_start chunk n) ∙ sym taken ∙ ap (λ l. l ++ xs) (sym none)
-
--- a read that failed
-pub read_failed : (old new : Option (List ℕ)) (before after : List ℕ) → before ≡ [] → after ≡ []
-    → Keeps old new → Keeps (prepend_known before old) (prepend_known after new)
-read_failed None new before after none still kept = tt
-read_failed (Some xs) None before after none still kept = absurd kept
-read_failed (Some xs) (Some ys) before after none still kept =
-    ap (λ l. l ++ ys) still ∙ kept ∙ ap (λ l. l ++ xs) (sym none)
 
 -- nothing is left
 pub at_end : (known : Option (List ℕ)) (ahead : List ℕ) → ahead ≡ [] → IsAtEnd known

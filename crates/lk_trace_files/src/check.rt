@@ -9,7 +9,7 @@ ghost use Rattle.lk_trace_files.specs.invariants.Following.{Follows};
 
 use crate::lines::{Line, Lines};
 use crate::summary::Summary;
-use crate::texts::{fault_text, put_difference, put_standing};
+use crate::texts::{Standing, Wrong};
 use lk_trace::{Checker, Difference, Event, Made, TextFault, TraceLine, TraceReader};
 use std::alloc::{AllocError, Global};
 use std::fmt::Write;
@@ -83,7 +83,7 @@ impl Report {
             line: 0,
             message: String::new(alloc),
             standing: String::new(alloc),
-            summary: Summary::new(),
+            summary: Summary::default(),
         }
     }
 
@@ -103,9 +103,10 @@ impl Report {
     ) -> Result<(), AllocError>
         ensures { IfOk result (λ _. verdict_in self.new ≡ verdict_in self.old) }
     {
-        self.message.push_str("refused: ")?;
-        put_difference(&mut self.message, checker.lock(), line, difference, &[])?;
-        put_standing(&mut self.standing, checker.lock())
+        let lock = checker.lock();
+        let (wrong, standing) = (Wrong::unnamed(lock, line, difference), Standing(lock));
+        write!(self.message, "refused: {wrong}")?;
+        write!(self.standing, "{standing}")
     }
 
     // Counts a move that was made.
@@ -124,7 +125,8 @@ impl Report {
             return Ok(());
         }
         self.settle(Ending::Faulty, number);
-        self.message.push_str(fault_text(TextFault::NoHeader))
+        let fault = TextFault::NoHeader;
+        write!(self.message, "{fault}")
     }
 }
 
@@ -168,7 +170,7 @@ fn take_line(
         }
         Event::Fault(fault) => {
             report.settle(Ending::Faulty, number);
-            report.message.push_str(fault_text(fault))?;
+            write!(report.message, "{fault}")?;
             Ok(false)
         }
     }

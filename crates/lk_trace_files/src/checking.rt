@@ -12,7 +12,6 @@ use std::fs;
 use std::io::{Read, Write};
 use std::rt::Runtime;
 use std::thread::{Threads, map_vec};
-use std::vec::IntoIter;
 
 /// What a check is asked for. A file `-` is standard input.
 #[derive(Debug, Drop)]
@@ -56,26 +55,21 @@ impl<R: Runtime> Progress<'_, R> {
 
 // The reports of a job, in the order of its files.
 #[derive(Drop)]
-struct Reports {
-    format: Format,
-    summary: bool,
+struct Reports<'a> {
+    job: &'a CheckJob,
     // what waits to be written
     text: String,
     endings: Vec<Ending>,
 }
 
-impl Reports {
-    fn new(alloc: Global, job: &CheckJob) -> Result<Reports, AllocError>
+impl<'a> Reports<'a> {
+    fn new(alloc: Global, job: &'a CheckJob) -> Result<Reports<'a>, AllocError>
         ensures { IfOk result (λ reports. reports.endings.items ≡ []) }
     {
         let mut text = String::new(alloc);
         put_front(&mut text, job.format, job.files.len())?;
-        Ok(Reports {
-            format: job.format,
-            summary: job.summary,
-            text,
-            endings: Vec::new(alloc),
-        })
+        let endings = Vec::new(alloc);
+        Ok(Reports { job, text, endings })
     }
 
     // Writes the report of the next file, of this name.
@@ -84,14 +78,7 @@ impl Reports {
             (self.new.endings.items ≡ self.old.endings.items ++ report.now.ending ∷ []) }
     {
         let number = self.endings.len().saturating_add(1);
-        put_report(
-            &mut self.text,
-            self.format,
-            number,
-            name,
-            report,
-            self.summary,
-        )?;
+        put_report(&mut self.text, self.job, number, name, report)?;
         output.write_all(self.text.as_bytes())?;
         self.text.clear();
         self.endings.push(report.ending)?;
@@ -155,12 +142,8 @@ pub fn check_side_by_side<R: Threads + Sync, I: Read + Send + Drop>(
     )
 }
 
-// The inputs of a round, and where there is no input to be checked, the report.
-#[derive(Drop)]
-struct Round<I: Drop> {
-    inputs: Vec<I>,
-    early: Vec<Option<Report>>,
-}
+// The inputs of a round, and of each file that is none of them the report.
+type Round<I> = (Vec<I>, Vec<Option<Report>>);
 
 // Opens the files of a round. Standard input is checked at once.
 fn open_round<R: Runtime>(
@@ -168,46 +151,22 @@ fn open_round<R: Runtime>(
     alloc: Global,
     names: &[String],
 ) -> Result<Round<R::File>, AllocError> {
-    let mut round = Round {
-        inputs: Vec::new(alloc),
-        early: Vec::new(alloc),
-    };
+    let mut inputs = Vec::new(alloc);
+    let mut early = Vec::new(alloc);
     for name in names {
         if name.as_str() == "-" {
-            let report = check_input(alloc, rt.reader(), &mut NoWatcher)?;
-            round.early.push(Some(report))?;
+            early.push(Some(check_input(alloc, rt.reader(), &mut NoWatcher)?))?;
             continue;
         }
         match fs::open(rt, name) {
             Ok(file) => {
-                round.inputs.push(file)?;
-                round.early.push(None)?;
+                inputs.push(file)?;
+                early.push(None)?;
             }
-            Err(error) => round.early.push(Some(unread(alloc, &error)?))?,
+            Err(error) => early.push(Some(unread(alloc, &error)?))?,
         }
     }
-    Ok(round)
-}
-
-// The reports of a round that are left.
-#[derive(Drop)]
-struct Checked {
-    early: IntoIter<Option<Report>>,
-    late: IntoIter<Result<Report, AllocError>>,
-}
-
-impl Checked {
-    // The next file's report. There is one for each.
-    fn next(&mut self) -> Result<Report, AllocError> {
-        match self.early.next() {
-            Some(Some(report)) => Ok(report),
-            Some(None) => match self.late.next() {
-                Some(report) => report,
-                None => Err(AllocError),
-            },
-            None => Err(AllocError),
-        }
-    }
+    Ok((inputs, early))
 }
 
 // Checks the files of a round side by side, and writes their reports.
@@ -215,7 +174,7 @@ fn check_round<R: Runtime + Threads + Sync, O: Write>(
     rt: &R,
     alloc: Global,
     names: &[String],
-    reports: &mut Reports,
+    reports: &mut Reports<'_>,
     output: &mut O,
 ) -> Result<(), Failure>
 where
@@ -223,13 +182,14 @@ where
     ensures { OnOk result
         (length reports.new.endings.items ≡ length reports.old.endings.items + length names.now) }
 {
-    let Round { inputs, early } = open_round(rt, alloc, names)?;
-    let mut checked = Checked {
-        early: early.into_iter(),
-        late: check_side_by_side(rt, alloc, inputs)?.into_iter(),
-    };
+    let (inputs, early) = open_round(rt, alloc, names)?;
+    let mut early = early.into_iter();
+    let mut late = check_side_by_side(rt, alloc, inputs)?.into_iter();
     for name in names {
-        let report = checked.next()?;
+        let report = match early.next() {
+            Some(Some(report)) => report,
+            _ => late.next().unwrap_or(Err(AllocError))?,
+        };
         reports.put(output, name, &report)?;
     }
     Ok(())
@@ -240,7 +200,7 @@ fn check_rounds<R: Runtime + Threads + Sync, O: Write>(
     rt: &R,
     alloc: Global,
     job: &CheckJob,
-    reports: &mut Reports,
+    reports: &mut Reports<'_>,
     output: &mut O,
 ) -> Result<(), Failure>
 where
@@ -264,7 +224,7 @@ fn check_each<R: Runtime, O: Write>(
     alloc: Global,
     files: &[String],
     told: bool,
-    reports: &mut Reports,
+    reports: &mut Reports<'_>,
     output: &mut O,
 ) -> Result<(), Failure>
     ensures { OnOk result

@@ -6,16 +6,17 @@ mod grammar;
 
 use crate::check::Ending;
 use crate::failures::Failure;
-use crate::lines::{Line, Lines};
+use crate::rewriting::{Rewriter, Stopped, rewrite};
 use crate::sentences::sentence;
-use crate::texts::{fault_text, put_difference, put_standing, put_thread, put_word};
+use crate::texts::{Called, Lock, Standing, Wrong};
 use faulty::put_fault;
-use lk_locks::{LockKind, Machine, Move, Op};
+use grammar::MOVES;
+use lk_locks::Machine;
+use lk_replay::parts::move_named;
 use lk_trace::{
-    Checker, Difference, Event, Made, TextFault, TraceLine, TraceReader, move_text, name_at,
-    outcome_text, step_text,
+    Event, Made, TextFault, TraceLine, TraceReader, move_text, name_at, outcome_text, step_text,
 };
-use lk_words::{Effect, WordArray, Words};
+use lk_words::{Effect, WordArray};
 use std::alloc::{AllocError, Global};
 use std::fmt::Write as _;
 use std::io::{Read, Write};
@@ -28,193 +29,132 @@ pub struct Asked<'a> {
     pub names: &'a [String],
 }
 
-fn value_at(words: &WordArray, place: usize) -> u64 {
-    if place < words.size() {
-        words.get(place)
-    } else {
-        0
-    }
-}
-
 // Writes the words that a section changed.
-fn put_changes(
-    text: &mut String,
-    kind: LockKind,
-    before: &WordArray,
-    after: &WordArray,
-) -> Result<(), AllocError> {
-    for place in 0..3usize {
-        let (old, new) = (value_at(before, place), value_at(after, place));
-        if let Some(word) = name_at(kind, place) {
-            if old != new {
-                text.push_str(", ")?;
-                put_word(text, word)?;
-                write!(text, " {old} to {new}")?;
-            }
+fn put_changes(text: &mut String, lock: &Lock, before: &WordArray) -> Result<(), AllocError> {
+    let after = lock.machine().words().as_slice();
+    for (place, (old, new)) in before.as_slice().iter().zip(after).enumerate() {
+        match name_at(lock.kind(), place) {
+            Some(word) if old != new => write!(text, ", {word} {old} to {new}")?,
+            _ => {}
         }
     }
     Ok(())
 }
 
 // Writes what a step found and left.
-fn put_values(
-    text: &mut String,
-    checker: &Checker,
-    before: &WordArray,
-    effect: Option<Effect>,
-) -> Result<(), AllocError> {
-    let kind = checker.lock().kind();
-    let Some(
-        Effect {
-            word,
-            found,
-            left,
-            ..
-        },
-    ) = effect
-    else {
-        return put_changes(text, kind, before, checker.lock().machine().words());
-    };
-    text.push_str(", ")?;
-    if let Some(word) = name_at(kind, word) {
-        put_word(text, word)?;
-    }
-    if found == left {
-        write!(text, " {found}")
-    } else {
-        write!(text, " {found} to {left}")
+fn put_values(text: &mut String, lock: &Lock, effect: Effect) -> Result<(), AllocError> {
+    let (found, left) = (effect.found, effect.left);
+    match name_at(lock.kind(), effect.word) {
+        Some(word) if found == left => write!(text, ", {word} {found}"),
+        Some(word) => write!(text, ", {word} {found} to {left}"),
+        None => Ok(()),
     }
 }
 
 // Writes a move that was made.
 fn put_move(
     text: &mut String,
-    asked: Asked<'_>,
-    checker: &Checker,
+    names: &[String],
+    lock: &Lock,
     before: &WordArray,
     line: TraceLine,
     made: Made,
 ) -> Result<(), AllocError> {
-    let word = move_text(line.action);
-    let came = outcome_text(made.outcome);
-    let thread = line.thread;
+    let (thread, word, came) = (
+        line.thread,
+        move_text(line.action),
+        outcome_text(made.outcome),
+    );
     write!(text, "{thread} {word}: {came}")?;
-    put_values(text, checker, before, made.effect)?;
-    text.push_str("; ")?;
-    put_thread(text, asked.names, thread)?;
-    text.push_str(" ")?;
-    let kind = checker.lock().kind();
-    text.push_str(sentence(kind, made.from, line.action, made.outcome))?;
-    text.push_str("; ")?;
-    put_standing(text, checker.lock())?;
-    text.push_str("\n")
+    match made.effect {
+        Some(effect) => put_values(text, lock, effect)?,
+        None => put_changes(text, lock, before)?,
+    }
+    let meaning = sentence(lock.kind(), made.from, line.action, made.outcome);
+    let (called, standing) = (Called(thread, names), Standing(lock));
+    writeln!(text, "; {called} {meaning}; {standing}")
 }
-
-const CALLS: [Op; 7] = [
-    Op::Acquire,
-    Op::Release,
-    Op::ReadLock,
-    Op::ReadUnlock,
-    Op::WriteLock,
-    Op::WriteUnlock,
-    Op::Downgrade,
-];
 
 // Writes what a thread could do: its next step, or the calls that would be accepted.
 fn put_due(text: &mut String, machine: &Machine<WordArray>, thread: u8) -> Result<(), AllocError> {
-    if thread >= machine.threads() {
-        let threads = machine.threads();
+    let threads = machine.threads();
+    if thread >= threads {
         return writeln!(text, "  the lock has {threads} threads, from 0 on");
     }
     if let Some(next) = machine.next_step(thread) {
         let next = step_text(next);
         return writeln!(text, "  due: {thread} {next}");
     }
-    text.push_str("  accepted would be:")?;
-    for op in CALLS {
-        if machine.check(thread, Move::Call(op)).is_ok() {
-            let word = move_text(Move::Call(op));
-            write!(text, " {thread} {word}")?;
+    write!(text, "  accepted would be:")?;
+    for word in MOVES {
+        match move_named(word.as_bytes()) {
+            Some(action) if machine.check(thread, action).is_ok() => {
+                write!(text, " {thread} {word}")?;
+            }
+            _ => {}
         }
     }
-    text.push_str("\n")
+    writeln!(text)
 }
 
-// Writes why a line is refused.
-fn put_refused(
-    text: &mut String,
-    checker: &Checker,
-    number: u64,
-    line: TraceLine,
-    difference: Difference,
-    names: &[String],
-) -> Result<(), AllocError> {
-    write!(text, "{number}: refused: ")?;
-    put_difference(text, checker.lock(), line, difference, names)?;
-    text.push_str("\n  ")?;
-    put_standing(text, checker.lock())?;
-    text.push_str("\n")?;
-    put_due(text, checker.lock().machine(), line.thread)
-}
-
-// What has been told so far.
+// What has been explained so far.
 #[derive(Drop)]
-struct Telling<'a> {
+struct Explainer<'a> {
     alloc: Global,
     asked: Asked<'a>,
     trace: TraceReader,
     moves: u64,
-    text: String,
 }
 
-impl Telling<'_> {
-    // Tells of a line. The ending, where it is the last.
-    fn line(&mut self, number: u64, bytes: &[u8]) -> Result<Option<Ending>, AllocError> {
+impl Rewriter for Explainer<'_> {
+    type Stop = Ending;
+
+    fn line(
+        &mut self,
+        number: u64,
+        line: &[u8],
+        text: &mut String,
+    ) -> Result<Option<Ending>, AllocError> {
         let before = match self.trace.checker() {
             Some(checker) => Some(checker.lock().machine().words().copy()),
             None => None,
         };
-        let event = self.trace.line(bytes);
-        let Some(checker) = self.trace.checker() else {
-            return match event {
-                Event::Fault(fault) => {
-                    put_fault(&mut self.text, self.alloc, number, bytes, fault)?;
-                    Ok(Some(Ending::Faulty))
-                }
-                _ => Ok(None),
-            };
+        let event = self.trace.line(line);
+        if let Event::Fault(fault) = event {
+            put_fault(text, self.alloc, number, line, fault)?;
+            return Ok(Some(Ending::Faulty));
+        }
+        let (Some(checker), Some(before)) = (self.trace.checker(), before) else {
+            return Ok(None);
         };
-        match (event, before) {
-            (Event::Made(line, made), Some(before)) => {
+        let lock = checker.lock();
+        match event {
+            Event::Made(line, made) => {
                 self.moves = self.moves.saturating_add(1);
-                if self.asked.moves.0 <= self.moves && self.moves <= self.asked.moves.1 {
-                    write!(self.text, "{number}: ")?;
-                    put_move(&mut self.text, self.asked, checker, &before, line, made)?;
+                let (first, last) = self.asked.moves;
+                if first <= self.moves && self.moves <= last {
+                    write!(text, "{number}: ")?;
+                    put_move(text, self.asked.names, lock, &before, line, made)?;
                 }
                 Ok(None)
             }
-            (Event::Differs(line, difference), _) => {
-                put_refused(
-                    &mut self.text,
-                    checker,
-                    number,
+            Event::Differs(line, difference) => {
+                let names = self.asked.names;
+                let wrong = Wrong {
+                    lock,
                     line,
                     difference,
-                    self.asked.names,
-                )?;
+                    names,
+                };
+                let standing = Standing(lock);
+                writeln!(text, "{number}: refused: {wrong}\n  {standing}")?;
+                put_due(text, lock.machine(), line.thread)?;
                 Ok(Some(Ending::Refused))
-            }
-            (Event::Fault(fault), _) => {
-                put_fault(&mut self.text, self.alloc, number, bytes, fault)?;
-                Ok(Some(Ending::Faulty))
             }
             _ => Ok(None),
         }
     }
 }
-
-// Bytes that wait before they are written.
-const MOST_WAITING: usize = 65_536;
 
 /// Tells of each move of a trace that is asked for, and answers how the trace ended.
 ///
@@ -228,43 +168,28 @@ pub fn explain_input<R: Read + Drop, O: Write>(
     asked: Asked<'_>,
     output: &mut O,
 ) -> Result<Ending, Failure> {
-    let mut lines = Lines::new(alloc, input)?;
-    let mut line = Line::new();
-    let mut telling = Telling {
+    let mut explainer = Explainer {
         alloc,
         asked,
         trace: TraceReader::new(),
         moves: 0,
-        text: String::new(alloc),
     };
-    let mut ending = Ending::Accepted;
-    for number in 1..u64::MAX {
-        match lines.next_line(&mut line) {
-            Ok(true) => {}
-            Ok(false) => {
-                if telling.trace.checker().is_none() {
-                    let text = fault_text(TextFault::NoHeader);
-                    writeln!(telling.text, "{number}: {text}")?;
-                    ending = Ending::Faulty;
-                }
-                break;
-            }
-            Err(error) => {
-                writeln!(telling.text, "{number}: {error}")?;
-                ending = Ending::Unread;
-                break;
-            }
+    let (number, stopped) = rewrite(alloc, input, &mut explainer, output)?;
+    let mut text = String::new(alloc);
+    let ending = match stopped {
+        Stopped::AtEnd if explainer.trace.checker().is_some() => Ending::Accepted,
+        Stopped::AtEnd => {
+            let fault = TextFault::NoHeader;
+            writeln!(text, "{number}: {fault}")?;
+            Ending::Faulty
         }
-        if let Some(last) = telling.line(number, line.bytes())? {
-            ending = last;
-            break;
+        Stopped::At(ending) => ending,
+        Stopped::Unread(error) => {
+            writeln!(text, "{number}: {error}")?;
+            Ending::Unread
         }
-        if telling.text.len() > MOST_WAITING {
-            output.write_all(telling.text.as_bytes())?;
-            telling.text.clear();
-        }
-    }
-    output.write_all(telling.text.as_bytes())?;
+    };
+    output.write_all(text.as_bytes())?;
     output.flush()?;
     Ok(ending)
 }

@@ -1,7 +1,9 @@
 //! The reports of a check in three forms: lines as compilers write them, TAP, and JSON.
 
 use crate::check::{Ending, Report};
+use crate::checking::CheckJob;
 use std::alloc::AllocError;
+use std::fmt;
 use std::fmt::Write;
 
 /// The form of the reports.
@@ -14,52 +16,31 @@ pub enum Format {
 
 const UNCONTENDED: &str = "no thread ever waited, so the run shows nothing of contention";
 
-// Writes where a report is about: the name, and the line where there is one.
-fn put_place(text: &mut String, name: &str, report: &Report) -> Result<(), AllocError> {
-    text.push_str(name)?;
-    let line = report.line;
-    if line > 0 && report.ending != Ending::Unread {
-        write!(text, ":{line}")?;
-    }
-    text.push_str(": ")
-}
-
 fn put_text(
     text: &mut String,
     name: &str,
     report: &Report,
-    summary: bool,
+    counted: bool,
 ) -> Result<(), AllocError> {
+    let (line, message, standing) = (report.line, &report.message, &report.standing);
     if report.ending != Ending::Accepted {
-        put_place(text, name, report)?;
-        text.push_str(&report.message)?;
-        text.push_str("\n")?;
-        if !report.standing.is_empty() {
-            put_place(text, name, report)?;
-            text.push_str("note: ")?;
-            text.push_str(&report.standing)?;
-            text.push_str("\n")?;
-        }
-    }
-    if summary {
         text.push_str(name)?;
-        text.push_str(": ")?;
-        report.summary.put(text)?;
-        text.push_str("\n")?;
-        if !report.summary.is_contended() {
-            text.push_str(name)?;
-            text.push_str(": warning: ")?;
-            text.push_str(UNCONTENDED)?;
-            text.push_str("\n")?;
+        if line > 0 {
+            write!(text, ":{line}")?;
+        }
+        writeln!(text, ": {message}")?;
+    }
+    if !standing.is_empty() {
+        writeln!(text, "{name}:{line}: note: {standing}")?;
+    }
+    if counted {
+        let summary = &report.summary;
+        writeln!(text, "{name}: {summary}")?;
+        if !summary.is_contended() {
+            writeln!(text, "{name}: warning: {UNCONTENDED}")?;
         }
     }
     Ok(())
-}
-
-fn put_comment(text: &mut String, comment: &str) -> Result<(), AllocError> {
-    text.push_str("# ")?;
-    text.push_str(comment)?;
-    text.push_str("\n")
 }
 
 fn put_tap(
@@ -67,97 +48,86 @@ fn put_tap(
     number: usize,
     name: &str,
     report: &Report,
-    summary: bool,
+    counted: bool,
 ) -> Result<(), AllocError> {
-    if report.ending != Ending::Accepted {
-        text.push_str("not ")?;
+    let (line, message, standing) = (report.line, &report.message, &report.standing);
+    if report.ending == Ending::Accepted {
+        writeln!(text, "ok {number} - {name}")?;
+    } else {
+        writeln!(text, "not ok {number} - {name}\n# line {line}: {message}")?;
     }
-    write!(text, "ok {number} - ")?;
-    text.push_str(name)?;
-    text.push_str("\n")?;
-    if report.ending != Ending::Accepted {
-        let line = report.line;
-        write!(text, "# line {line}: ")?;
-        text.push_str(&report.message)?;
-        text.push_str("\n")?;
-        if !report.standing.is_empty() {
-            put_comment(text, &report.standing)?;
-        }
+    if !standing.is_empty() {
+        writeln!(text, "# {standing}")?;
     }
-    if summary {
-        text.push_str("# ")?;
-        report.summary.put(text)?;
-        text.push_str("\n")?;
-        if !report.summary.is_contended() {
-            put_comment(text, UNCONTENDED)?;
+    if counted {
+        let summary = &report.summary;
+        writeln!(text, "# {summary}")?;
+        if !summary.is_contended() {
+            writeln!(text, "# {UNCONTENDED}")?;
         }
     }
     Ok(())
 }
 
-/// Writes text as a string of JSON.
-pub fn put_json_text(text: &mut String, value: &str) -> Result<(), AllocError> {
-    text.push_str("\"")?;
-    for c in value.chars() {
-        match c {
-            '"' => text.push_str("\\\"")?,
-            '\\' => text.push_str("\\\\")?,
-            c if (c as u32) < 32 => {
-                let code = c as u32;
-                write!(text, "\\u{code:04x}")?;
+// Text as a string of JSON.
+#[derive(Clone, Copy)]
+struct Quoted<'a>(&'a str);
+
+impl fmt::Display for Quoted<'_> {
+    fn fmt<W: fmt::Write>(&self, f: &mut fmt::Formatter<W>) -> fmt::Result {
+        f.write_str("\"")?;
+        for c in self.0.chars() {
+            let code = c as u32;
+            match c {
+                '"' | '\\' => write!(f, "\\{c}")?,
+                _ if code < 32 => write!(f, "\\u{code:04x}")?,
+                _ => write!(f, "{c}")?,
             }
-            c => text.push(c)?,
         }
+        f.write_str("\"")
     }
-    text.push_str("\"")
 }
 
 fn put_json(
     text: &mut String,
     name: &str,
     report: &Report,
-    summary: bool,
+    counted: bool,
 ) -> Result<(), AllocError> {
-    text.push_str("{\"file\":")?;
-    put_json_text(text, name)?;
-    text.push_str(",\"ending\":\"")?;
-    text.push_str(report.ending.text())?;
-    text.push_str("\"")?;
+    let (name, line, ending) = (Quoted(name), report.line, report.ending.text());
+    write!(text, "{{\"file\":{name},\"ending\":\"{ending}\"")?;
     if report.ending != Ending::Accepted {
-        let line = report.line;
-        write!(text, ",\"line\":{line},\"message\":")?;
-        put_json_text(text, &report.message)?;
-        if !report.standing.is_empty() {
-            text.push_str(",\"standing\":")?;
-            put_json_text(text, &report.standing)?;
-        }
+        let message = Quoted(&report.message);
+        write!(text, ",\"line\":{line},\"message\":{message}")?;
     }
-    if summary {
-        text.push_str(",")?;
+    if !report.standing.is_empty() {
+        let standing = Quoted(&report.standing);
+        write!(text, ",\"standing\":{standing}")?;
+    }
+    if counted {
         report.summary.put_fields(text)?;
     }
     text.push_str("}\n")
 }
 
-/// Writes the report of an input of this number, from 1, and this name. There is no summary of one
-/// that could not be read.
+/// Writes the report of a job's input of this number, from 1, and this name. There is no summary of
+/// one that could not be read.
 pub fn put_report(
     text: &mut String,
-    format: Format,
+    job: &CheckJob,
     number: usize,
     name: &str,
     report: &Report,
-    summary: bool,
 ) -> Result<(), AllocError> {
-    let summary = summary && report.ending != Ending::Unread;
-    match format {
-        Format::Text => put_text(text, name, report, summary),
-        Format::Tap => put_tap(text, number, name, report, summary),
-        Format::Json => put_json(text, name, report, summary),
+    let counted = job.summary && report.ending != Ending::Unread;
+    match job.format {
+        Format::Text => put_text(text, name, report, counted),
+        Format::Tap => put_tap(text, number, name, report, counted),
+        Format::Json => put_json(text, name, report, counted),
     }
 }
 
-/// Writes what stands before the first report of so many.
+/// Writes what comes before the first report of so many.
 pub fn put_front(text: &mut String, format: Format, count: usize) -> Result<(), AllocError> {
     match format {
         Format::Tap => write!(text, "TAP version 14\n1..{count}\n"),

@@ -4,15 +4,16 @@ mod reading;
 mod telling;
 mod writing;
 
+use crate::check::Ending;
 use crate::failures::Failure;
-use lk_order::{Ending, Found, find_order};
-use reading::{Taken, take_logs};
+use lk_order::{Found, find_order};
+use reading::take_logs;
 use std::alloc::Global;
 use std::fmt::Write;
 use std::fs;
 use std::rt::Files;
 use telling::{put_cut, put_stuck};
-use writing::{path_in, write_schedules, write_trace};
+use writing::{write_schedules, write_trace};
 
 /// What is to be put into one order, and the folder for what is found.
 #[derive(Debug, Drop)]
@@ -20,12 +21,6 @@ pub struct OrderJob {
     pub logs: Vec<String>,
     pub folder: String,
 }
-
-/// The status where the logs have no order.
-const STUCK_STATUS: u8 = 1;
-
-/// The status where the logs are not those of one run.
-const FAULTY_STATUS: u8 = 4;
 
 // Writes the trace and the schedules of an order.
 fn write_found<R: Files>(
@@ -36,7 +31,7 @@ fn write_found<R: Files>(
     errors: &mut String,
 ) -> Result<(), Failure> {
     fs::create_dir_all(rt, folder)?;
-    let path = path_in(alloc, folder, "run.trace")?;
+    let path = format!(in alloc; "{folder}/run.trace")?;
     let mut file = fs::create(rt, path.as_str())?;
     write_trace(alloc, &found.order, &mut file)?;
     let left_out = write_schedules(rt, alloc, &found.order, folder)?;
@@ -52,9 +47,9 @@ fn write_found<R: Files>(
 }
 
 /// Puts the logs into one order and writes its trace and its schedules into the folder. What there
-/// is to say goes into `errors`. The answer is the status of the program: 0 where there is an
-/// order, also up to where a log was cut short, 1 where a step cannot be placed, 3 where a log
-/// could not be read, 4 where the logs are not those of one run.
+/// is to say goes into `errors`. The answer is `Accepted` where there is an order, also up to where
+/// a log was cut short, `Refused` where a step cannot be placed, `Unread` where a log could not be
+/// read, `Faulty` where the logs are not those of one run.
 ///
 /// # Errors
 ///
@@ -64,25 +59,25 @@ pub fn order_logs<R: Files>(
     alloc: Global,
     job: &OrderJob,
     errors: &mut String,
-) -> Result<u8, Failure> {
+) -> Result<Ending, Failure> {
     let (logs, names) = match take_logs(rt, alloc, &job.logs, errors)? {
-        Taken::Run { logs, names } => (logs, names),
-        Taken::Unfit(status) => return Ok(status),
+        Ok(taken) => taken,
+        Err(ending) => return Ok(ending),
     };
     let Some(found) = find_order(alloc, logs)? else {
         errors.push_str("locktrace: the logs are not of one run\n")?;
-        return Ok(FAULTY_STATUS);
+        return Ok(Ending::Faulty);
     };
     write_found(rt, alloc, &found, &job.folder, errors)?;
     match found.ending {
-        Ending::Whole => Ok(0),
-        Ending::Cut => {
+        lk_order::Ending::Whole => Ok(Ending::Accepted),
+        lk_order::Ending::Cut => {
             put_cut(errors, &found.order, &names)?;
-            Ok(0)
+            Ok(Ending::Accepted)
         }
-        Ending::Stuck(stuck) => {
+        lk_order::Ending::Stuck(stuck) => {
             put_stuck(errors, &found.order, &names, stuck)?;
-            Ok(STUCK_STATUS)
+            Ok(Ending::Refused)
         }
     }
 }

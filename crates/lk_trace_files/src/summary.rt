@@ -4,12 +4,12 @@
 use crate::texts::Lock;
 use lk_locks::{LockKind, Move, Outcome, Phase, StepKind};
 use lk_trace::{Made, TraceLine, WordName, place_of};
-use lk_words::WordArray;
 use std::alloc::AllocError;
+use std::fmt;
 use std::fmt::Write;
 
 /// Counts along a trace. They stay at their greatest value.
-#[derive(Clone, Copy)]
+#[derive(Clone, Copy, Default)]
 pub struct Summary {
     // bit t where thread t moved
     seen: u64,
@@ -31,36 +31,19 @@ fn counter_of(kind: LockKind) -> Option<WordName> {
     }
 }
 
-fn standing(words: &WordArray, place: usize) -> u64 {
-    use lk_words::Words;
-    if place < words.size() {
-        words.get(place)
-    } else {
-        0
-    }
-}
+// How many there are, in the form of one or of several.
+#[derive(Clone, Copy)]
+struct Count(u64, &'static str, &'static str);
 
-// Writes how many there are, in the form of one or of several.
-fn put_count(text: &mut String, count: u64, one: &str, several: &str) -> Result<(), AllocError> {
-    let what = if count == 1 { one } else { several };
-    write!(text, "{count} {what}")
+impl fmt::Display for Count {
+    fn fmt<W: fmt::Write>(&self, f: &mut fmt::Formatter<W>) -> fmt::Result {
+        let Count(count, one, several) = *self;
+        let what = if count == 1 { one } else { several };
+        write!(f, "{count} {what}")
+    }
 }
 
 impl Summary {
-    /// Nothing is counted yet.
-    pub fn new() -> Summary {
-        Summary {
-            seen: 0,
-            moves: 0,
-            waits: 0,
-            failed: 0,
-            late: 0,
-            longest: 0,
-            rounds: 0,
-            counter: 0,
-        }
-    }
-
     /// Whether some thread waited.
     pub fn is_contended(&self) -> bool {
         self.waits > 0 || self.late > 0 || self.failed > 0
@@ -70,7 +53,8 @@ impl Summary {
     fn note_lock(&mut self, lock: &Lock) {
         self.longest = self.longest.max(lock.queue().len());
         if let Some(word) = counter_of(lock.kind()) {
-            let now = standing(lock.machine().words(), place_of(lock.kind(), word));
+            let words = lock.machine().words().as_slice();
+            let now = words.get(place_of(lock.kind(), word)).copied().unwrap_or(0);
             if now < self.counter {
                 self.rounds = self.rounds.saturating_add(1);
             }
@@ -99,39 +83,7 @@ impl Summary {
         }
     }
 
-    /// Writes the counts.
-    pub fn put(&self, text: &mut String) -> Result<(), AllocError> {
-        put_count(
-            text,
-            u64::from(self.seen.count_ones()),
-            "thread, ",
-            "threads, ",
-        )?;
-        put_count(text, self.moves, "move, ", "moves, ")?;
-        put_count(text, self.waits, "wait, ", "waits, ")?;
-        put_count(
-            text,
-            self.failed,
-            "failed compare-and-swap, ",
-            "failed compare-and-swaps, ",
-        )?;
-        put_count(
-            text,
-            self.late,
-            "poll of a late link, ",
-            "polls of a late link, ",
-        )?;
-        let longest = self.longest;
-        write!(text, "longest queue {longest}, ")?;
-        put_count(
-            text,
-            self.rounds,
-            "round of the counter",
-            "rounds of the counter",
-        )
-    }
-
-    /// Writes the counts as fields of a JSON object.
+    /// Writes the counts as further fields of a JSON object.
     pub fn put_fields(&self, text: &mut String) -> Result<(), AllocError> {
         let threads = self.seen.count_ones();
         let Summary {
@@ -145,9 +97,24 @@ impl Summary {
         } = *self;
         write!(
             text,
-            "\"threads\":{threads},\"moves\":{moves},\"waits\":{waits},"
+            ",\"threads\":{threads},\"moves\":{moves},\"waits\":{waits}"
         )?;
-        write!(text, "\"failed_cas\":{failed},\"late_link_polls\":{late},")?;
-        write!(text, "\"longest_queue\":{longest},\"rounds\":{rounds}")
+        write!(text, ",\"failed_cas\":{failed},\"late_link_polls\":{late}")?;
+        write!(text, ",\"longest_queue\":{longest},\"rounds\":{rounds}")
+    }
+}
+
+impl fmt::Display for Summary {
+    fn fmt<W: fmt::Write>(&self, f: &mut fmt::Formatter<W>) -> fmt::Result {
+        let threads = Count(u64::from(self.seen.count_ones()), "thread", "threads");
+        let moves = Count(self.moves, "move", "moves");
+        let waits = Count(self.waits, "wait", "waits");
+        let cas = "failed compare-and-swap";
+        let failed = Count(self.failed, cas, "failed compare-and-swaps");
+        let late = Count(self.late, "poll of a late link", "polls of a late link");
+        let longest = self.longest;
+        let rounds = Count(self.rounds, "round of the counter", "rounds of the counter");
+        write!(f, "{threads}, {moves}, {waits}, {failed}, {late}, ")?;
+        write!(f, "longest queue {longest}, {rounds}")
     }
 }

@@ -3,7 +3,8 @@
 use clap::error::ErrorKind;
 use clap::{Arg, ArgAction, ArgMatches, Command, value_parser};
 use lk_trace_files::{CheckJob, Format, OrderJob};
-use std::alloc::{AllocError, AllocFailed, Global};
+use std::alloc::{AllocError, Global};
+use thiserror::Error;
 
 /// What the program is asked to do. A file `-` is standard input.
 #[derive(Debug, Drop)]
@@ -22,25 +23,16 @@ pub enum Job {
 }
 
 /// Why there is no job.
-#[derive(Debug, Drop)]
+#[derive(Debug, Drop, Error)]
 pub enum ParseFault {
     /// Help or the version was asked for. This is the text.
+    #[error("{0}")]
     Told(String),
     /// The words ask for nothing that the program does.
+    #[error("{0}")]
     Usage(String),
-    OutOfMemory,
-}
-
-impl From<AllocError> for ParseFault {
-    fn from(_error: AllocError) -> ParseFault {
-        ParseFault::OutOfMemory
-    }
-}
-
-impl<T: Drop> From<AllocFailed<T>> for ParseFault {
-    fn from(_error: AllocFailed<T>) -> ParseFault {
-        ParseFault::OutOfMemory
-    }
+    #[error("out of memory")]
+    Memory(#[from(alloc)] AllocError),
 }
 
 /// The version of the program, as the file VERSION has it.
@@ -163,7 +155,7 @@ fn copied(alloc: Global, texts: &[&str]) -> Result<Vec<String>, AllocError> {
 fn usage(alloc: Global, text: &str) -> ParseFault {
     match String::from_str(alloc, text) {
         Ok(text) => ParseFault::Usage(text),
-        Err(_) => ParseFault::OutOfMemory,
+        Err(error) => ParseFault::Memory(error),
     }
 }
 
@@ -230,7 +222,7 @@ fn explain_given(alloc: Global, matches: &ArgMatches<'_>) -> Result<Job, ParseFa
 // What the parser's error is to the program.
 fn fault_told(alloc: Global, error: &clap::Error) -> ParseFault {
     match (error.kind(), error.to_string(alloc)) {
-        (ErrorKind::OutOfMemory, _) | (_, Err(_)) => ParseFault::OutOfMemory,
+        (ErrorKind::OutOfMemory, _) | (_, Err(_)) => ParseFault::Memory(AllocError),
         (ErrorKind::DisplayHelp | ErrorKind::DisplayVersion, Ok(text)) => ParseFault::Told(text),
         (_, Ok(text)) => ParseFault::Usage(text),
     }

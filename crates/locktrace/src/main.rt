@@ -8,11 +8,11 @@ mod command_line;
 
 use command_line::{Job, ParseFault, parse_words};
 use lk_trace_files::{
-    Asked, Ending, Failure, Scheduled, check_files, explain_input, order_logs, worst,
+    Asked, Ending, Failure, Unscheduled, check_files, explain_input, order_logs, worst,
     write_schedule,
 };
-use std::alloc::Global;
-use std::io::{Eprint, ErrorKind, IsTerminal, Write};
+use std::alloc::{AllocError, Global};
+use std::io::{ErrorKind, IsTerminal, Write};
 use std::process::ExitCode;
 use std::rt::Runtime;
 use std::thread::Threads;
@@ -33,7 +33,7 @@ fn job_given(rt: &HostRuntime) -> Result<Job, ParseFault> {
     let words = match env::args(rt) {
         Ok(words) => words,
         Err(error) if error.kind() == ErrorKind::OutOfMemory => {
-            return Err(ParseFault::OutOfMemory);
+            return Err(ParseFault::Memory(AllocError));
         }
         Err(_) => return Err(ParseFault::Usage(String::from_str(alloc, FOREIGN_WORDS)?)),
     };
@@ -47,20 +47,22 @@ fn write_file<R: Runtime, O: Write>(
     alloc: Global,
     file: &str,
     output: &mut O,
-) -> Result<u8, Failure> {
+) -> Result<Ending, Failure> {
     let scheduled = if file == "-" {
         write_schedule(alloc, rt.reader(), output)?
     } else {
         match fs::open(rt, file) {
             Ok(input) => write_schedule(alloc, input, output)?,
-            Err(error) => Scheduled::Unread(error),
+            Err(error) => Err(Unscheduled::Unread(error)),
         }
     };
-    if !matches!(&scheduled, Scheduled::Whole) {
-        let text = scheduled.text(alloc, file)?;
-        let _ = eprint!(rt; "{text}");
+    match scheduled {
+        Ok(()) => Ok(Ending::Accepted),
+        Err(unscheduled) => {
+            let _ = eprintln!(rt; "{file}{unscheduled}");
+            Ok(unscheduled.ending())
+        }
     }
-    Ok(scheduled.ending().status())
 }
 
 // Explains a trace.
@@ -70,19 +72,17 @@ fn explain_file<R: Runtime, O: Write>(
     file: &str,
     asked: Asked<'_>,
     output: &mut O,
-) -> Result<u8, Failure> {
-    let ending = if file == "-" {
-        explain_input(alloc, rt.reader(), asked, output)?
-    } else {
-        match fs::open(rt, file) {
-            Ok(input) => explain_input(alloc, input, asked, output)?,
-            Err(error) => {
-                let _ = eprintln!(rt; "{file}: {error}");
-                Ending::Unread
-            }
+) -> Result<Ending, Failure> {
+    if file == "-" {
+        return explain_input(alloc, rt.reader(), asked, output);
+    }
+    match fs::open(rt, file) {
+        Ok(input) => explain_input(alloc, input, asked, output),
+        Err(error) => {
+            let _ = eprintln!(rt; "{file}: {error}");
+            Ok(Ending::Unread)
         }
-    };
-    Ok(ending.status())
+    }
 }
 
 // Does a job, and gives the status that the program ends with.
@@ -98,35 +98,21 @@ where
 {
     match job {
         Job::Check(job) => Ok(worst(&check_files(rt, alloc, job, told, output)?)),
-        Job::Schedule { file } => write_file(rt, alloc, file, output),
+        Job::Schedule { file } => Ok(write_file(rt, alloc, file, output)?.status()),
         Job::Explain { file, moves, names } => {
             let asked = Asked {
                 moves: *moves,
                 names,
             };
-            explain_file(rt, alloc, file, asked, output)
+            Ok(explain_file(rt, alloc, file, asked, output)?.status())
         }
         Job::Order(job) => {
             let mut errors = String::new(alloc);
             let ended = order_logs(rt, alloc, job, &mut errors);
             let _ = eprint!(rt; "{errors}");
-            ended
+            Ok(ended?.status())
         }
     }
-}
-
-// The status of what was done. What kept it from being done is told.
-fn status_told<R: Eprint>(rt: &R, ended: Result<u8, Failure>) -> u8 {
-    match ended {
-        Ok(status) => return status,
-        Err(Failure::Output(error)) => {
-            let _ = eprintln!(rt; "locktrace: cannot write: {error}");
-        }
-        Err(Failure::Memory) => {
-            let _ = eprintln!(rt; "locktrace: out of memory");
-        }
-    }
-    FAILED_STATUS
 }
 
 fn main(rt: HostRuntime) -> ExitCode {
@@ -143,7 +129,10 @@ fn main(rt: HostRuntime) -> ExitCode {
             let _ = rt.stderr().write_all(text.as_bytes());
             Ok(USAGE_STATUS)
         }
-        Err(ParseFault::OutOfMemory) => Err(Failure::Memory),
+        Err(ParseFault::Memory(error)) => Err(Failure::Memory(error)),
     };
-    ExitCode::from(status_told(&rt, ended))
+    ExitCode::from(ended.unwrap_or_else(|failure| {
+        let _ = eprintln!(rt; "locktrace: {failure}");
+        FAILED_STATUS
+    }))
 }

@@ -11,21 +11,27 @@ use lk_replay::parts::{Header, is_skipped, number_of};
 use lk_trace::{MOST_OF_A_LINE, TraceLine, read_header, read_log_line, whole_number};
 use std::alloc::Global;
 use std::marker::Model;
+use thiserror::Error;
 
 /// Why a text is no log.
-#[derive(Clone, Copy, PartialEq, Eq, Debug)]
+#[derive(Clone, Copy, PartialEq, Eq, Debug, Error)]
 pub enum LogFault {
     /// No line but comments and empty ones.
+    #[error("no header (NoHeader)")]
     NoHeader,
     /// The first line that is not skipped is no header.
+    #[error("not a log's header: lock NAME threads N thread T (BadHeader)")]
     BadHeader,
     /// A later line is no move.
+    #[error("not a move (BadLine)")]
     BadMove,
     /// A line that is not skipped behind the last one.
+    #[error("a line behind the last (BadLine)")]
     BehindTheEnd,
     /// Line number 4,294,967,295.
+    #[error("too many lines (TooLong)")]
     TooLong,
-    /// A request for memory was refused.
+    #[error("out of memory")]
     OutOfMemory,
 }
 

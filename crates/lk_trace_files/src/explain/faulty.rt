@@ -1,8 +1,7 @@
 //! A line that is not a trace's: the column, what stands there, what could stand there, and the
 //! nearest word.
 
-use crate::explain::grammar::{Due, Wrong, wrong_place};
-use crate::texts::fault_text;
+use crate::explain::grammar::{WrongPlace, wrong_in_header, wrong_in_move};
 use lk_trace::{MOST_OF_A_LINE, TextFault};
 use std::alloc::{AllocError, Global};
 use std::fmt::Write;
@@ -32,8 +31,8 @@ fn nearest(
 }
 
 // Writes what stands at a place, and what could.
-fn put_wrong(text: &mut String, alloc: Global, wrong: Wrong<'_>) -> Result<(), AllocError> {
-    let (column, due) = (wrong.column, wrong.due.text());
+fn put_wrong(text: &mut String, alloc: Global, wrong: WrongPlace<'_>) -> Result<(), AllocError> {
+    let (column, due) = (wrong.column, wrong.due);
     write!(text, "  column {column}: ")?;
     let Some(word) = wrong.word else {
         return writeln!(text, "the end of the line, expected {due}");
@@ -42,17 +41,9 @@ fn put_wrong(text: &mut String, alloc: Global, wrong: Wrong<'_>) -> Result<(), A
         return writeln!(text, "bytes that are no text, expected {due}");
     };
     writeln!(text, "'{word}', expected {due}")?;
-    match nearest(alloc, word, wrong.due.words())? {
+    match nearest(alloc, word, due.words())? {
         Some(near) => writeln!(text, "  did you mean '{near}'?"),
         None => Ok(()),
-    }
-}
-
-// Where a line of this kind of fault begins.
-fn first_due(fault: TextFault) -> Due {
-    match fault {
-        TextFault::BadLine => Due::Thread,
-        _ => Due::Lock,
     }
 }
 
@@ -64,15 +55,21 @@ pub fn put_fault(
     line: &[u8],
     fault: TextFault,
 ) -> Result<(), AllocError> {
-    let told = fault_text(fault);
-    writeln!(text, "{number}: {told}")?;
+    writeln!(text, "{number}: {fault}")?;
     if line.len() > MOST_OF_A_LINE {
-        return text.push_str("  no header and no move has more than 96 bytes\n");
+        return writeln!(text, "  no header and no move has more than 96 bytes");
     }
-    match wrong_place(line, first_due(fault)) {
+    let wrong = match fault {
+        TextFault::BadLine => wrong_in_move(line),
+        _ => wrong_in_header(line),
+    };
+    match wrong {
         Some(wrong) => put_wrong(text, alloc, wrong),
-        None => text.push_str(
-            "  expected fewer threads than words of that many bits have values\n",
-        ),
+        None => {
+            writeln!(
+                text,
+                "  expected fewer threads than words of that many bits have values"
+            )
+        }
     }
 }

@@ -1,37 +1,32 @@
-//! What may stand where in a line of a trace, word by word: docs/TRACE.md has the grammar.
+//! What may come next in a line of a trace, word by word: docs/TRACE.md has the grammar. Header,
+//! thread and move are a schedule's, and `lk_replay` says where they end; here is the rest.
 //!
 //! It serves to say what is wrong with a line. Whether one is wrong is decided by `lk_trace`.
 
 use lk_locks::{Move, StepKind};
-use lk_replay::parts::{lock_named, move_named, number_of};
+use lk_replay::parts::{
+    Expected, cut_word, move_named, number_of, unreadable_header, unreadable_move,
+};
 use lk_trace::whole_number;
+use std::fmt;
 
-/// What is due at a place of a line. Behind a step it says which: `done` and `failed` stand behind
-/// a compare-and-swap alone.
+/// What is expected at a place of a line. After a step it says which: `done` and `failed` may
+/// follow a compare-and-swap alone.
 #[derive(Clone, Copy, PartialEq, Eq, Debug)]
 pub enum Due {
-    Lock,
-    Name,
-    Threads,
-    Count,
-    Bits,
-    Width,
-    Thread,
-    Action,
+    OfSchedule(Expected),
     Section,
     Outcome,
     Place(StepKind),
-    Of(StepKind),
     Owner(StepKind),
-    Found(StepKind),
-    FoundValue(StepKind),
-    Left(StepKind),
-    LeftValue(StepKind),
-    Wrote(StepKind),
-    End,
+    /// One of the `PARTS` from this on.
+    Part(StepKind, usize),
+    /// A number, and then such a part.
+    Value(StepKind, usize),
 }
 
-const CALLS_AND_STEPS: [&str; 13] = [
+/// The words of all calls and steps.
+pub const MOVES: [&str; 13] = [
     "acquire",
     "release",
     "rlock",
@@ -47,199 +42,162 @@ const CALLS_AND_STEPS: [&str; 13] = [
     "section",
 ];
 
-// Where a word is the one that is due.
-fn when(is: bool, next: Due) -> Option<Due> {
-    if is { Some(next) } else { None }
+const LOCKS: [&str; 4] = ["ticket", "mcs", "rw-simple", "rw-fifo"];
+
+const OUTCOMES: [&str; 4] = ["moved", "waits", "entered", "left"];
+
+const PLACES: [&str; 5] = ["next_ticket", "now_serving", "tail", "next", "locked"];
+
+// What may follow a word of the lock, in this order. The last two are a compare-and-swap's.
+const PARTS: [&str; 5] = ["of", "found", "left", "done", "failed"];
+
+const END: Due = Due::OfSchedule(Expected::End);
+
+fn place_among(words: &[&str], word: &[u8]) -> Option<usize> {
+    words.iter().position(|known| known.as_bytes() == word)
 }
 
-fn is_one_of(word: &[u8], words: &[&str]) -> bool {
-    words.iter().any(|known| known.as_bytes() == word)
-}
-
-// What is due behind a call or the word of a step.
-fn behind(action: Move) -> Due {
-    match action {
-        Move::Call(_) => Due::End,
-        Move::Step(StepKind::Section) => Due::Section,
-        Move::Step(kind) => Due::Place(kind),
+// What is expected after a word of the lock.
+fn after_place(kind: StepKind, word: &[u8]) -> Option<Due> {
+    match place_among(&PLACES, word)? {
+        0..3 => Some(Due::Part(kind, 1)),
+        _ => Some(Due::Part(kind, 0)),
     }
-}
-
-fn behind_place(kind: StepKind, word: &[u8]) -> Option<Due> {
-    if is_one_of(word, &["next", "locked"]) {
-        return Some(Due::Of(kind));
-    }
-    when(
-        is_one_of(word, &["next_ticket", "now_serving", "tail"]),
-        Due::Found(kind),
-    )
-}
-
-fn behind_wrote(kind: StepKind, word: &[u8]) -> Option<Due> {
-    when(
-        kind == StepKind::Cas && is_one_of(word, &["done", "failed"]),
-        Due::End,
-    )
-}
-
-fn behind_left(kind: StepKind, word: &[u8]) -> Option<Due> {
-    if word == b"left".as_slice() {
-        return Some(Due::LeftValue(kind));
-    }
-    behind_wrote(kind, word)
-}
-
-fn behind_found(kind: StepKind, word: &[u8]) -> Option<Due> {
-    if word == b"found".as_slice() {
-        return Some(Due::FoundValue(kind));
-    }
-    behind_left(kind, word)
-}
-
-fn behind_of(kind: StepKind, word: &[u8]) -> Option<Due> {
-    if word == b"of".as_slice() {
-        return Some(Due::Owner(kind));
-    }
-    behind_found(kind, word)
-}
-
-fn behind_section(word: &[u8]) -> Option<Due> {
-    if whole_number(word).is_some() {
-        return Some(Due::Outcome);
-    }
-    behind_count(word)
-}
-
-fn behind_count(word: &[u8]) -> Option<Due> {
-    when(
-        is_one_of(word, &["moved", "waits", "entered", "left"]),
-        Due::End,
-    )
 }
 
 impl Due {
-    /// What is due behind this word. None where it cannot stand here.
-    pub fn next(self, word: &[u8]) -> Option<Due> {
-        match self {
-            Due::Lock => when(word == b"lock".as_slice(), Due::Name),
-            Due::Name => when(lock_named(word).is_some(), Due::Threads),
-            Due::Threads => when(word == b"threads".as_slice(), Due::Count),
-            Due::Count => when(number_of(word, 1, 64).is_some(), Due::Bits),
-            Due::Bits => when(word == b"bits".as_slice(), Due::Width),
-            Due::Width => when(number_of(word, 2, 64).is_some(), Due::End),
-            Due::Thread => when(number_of(word, 0, 255).is_some(), Due::Action),
-            Due::Action => Some(behind(move_named(word)?)),
-            Due::Section => behind_section(word),
-            Due::Outcome => behind_count(word),
-            Due::Place(kind) => behind_place(kind, word),
-            Due::Of(kind) => behind_of(kind, word),
-            Due::Owner(kind) => when(number_of(word, 0, 255).is_some(), Due::Found(kind)),
-            Due::Found(kind) => behind_found(kind, word),
-            Due::FoundValue(kind) => when(whole_number(word).is_some(), Due::Left(kind)),
-            Due::Left(kind) => behind_left(kind, word),
-            Due::LeftValue(kind) => when(whole_number(word).is_some(), Due::Wrote(kind)),
-            Due::Wrote(kind) => behind_wrote(kind, word),
-            Due::End => None,
+    // What is expected after a thread's number and a move.
+    fn after_move(line: &[u8]) -> Option<Due> {
+        let (_, rest) = cut_word(line)?;
+        let (word, _) = cut_word(rest)?;
+        match move_named(word)? {
+            Move::Call(_) => Some(END),
+            Move::Step(StepKind::Section) => Some(Due::Section),
+            Move::Step(kind) => Some(Due::Place(kind)),
         }
     }
 
-    /// Whether the line may end here.
-    pub fn may_end(self) -> bool {
-        matches!(
-            self,
-            Due::Bits
-                | Due::Section
-                | Due::Outcome
-                | Due::Place(_)
-                | Due::Of(_)
-                | Due::Found(_)
-                | Due::Left(_)
-                | Due::Wrote(_)
-                | Due::End
-        )
-    }
-
-    /// What could stand here, told.
-    pub fn text(self) -> &'static str {
+    // What is expected after this word. None where it may not be here.
+    fn after(self, word: &[u8]) -> Option<Due> {
         match self {
-            Due::Lock => "'lock'",
-            Due::Name => "ticket, mcs, rw-simple or rw-fifo",
-            Due::Threads => "'threads'",
-            Due::Count => "a number of threads, from 1 to 64",
-            Due::Bits => "the end, or 'bits'",
-            Due::Width => "a number of bits, from 2 to 64",
-            Due::Thread => "a thread's number, from 0 to 255, without leading zeros",
-            Due::Action => {
-                "a call (acquire, rlock ..) or a step (read, write, swap, cas, add, section)"
+            Due::OfSchedule(_) => None,
+            Due::Section if whole_number(word).is_some() => Some(Due::Outcome),
+            Due::Section | Due::Outcome => place_among(&OUTCOMES, word).map(|_| END),
+            Due::Place(kind) => after_place(kind, word),
+            Due::Owner(kind) => number_of(word, 0, 255).map(|_| Due::Part(kind, 1)),
+            Due::Value(kind, next) => whole_number(word).map(|_| Due::Part(kind, next)),
+            Due::Part(kind, first) => {
+                match place_among(self.words(), word)?.saturating_add(first) {
+                    0 => Some(Due::Owner(kind)),
+                    1 => Some(Due::Value(kind, 2)),
+                    2 => Some(Due::Value(kind, 3)),
+                    _ => Some(END),
+                }
             }
-            Due::Section => "the end, the section's count, or moved, waits, entered or left",
-            Due::Outcome => "the end, or moved, waits, entered or left",
-            Due::Place(_) => "the end, or a word: next_ticket, now_serving, tail, next or locked",
-            Due::Of(StepKind::Cas) => "the end, 'of', 'found', 'left', 'done' or 'failed'",
-            Due::Of(_) => "the end, 'of', 'found' or 'left'",
-            Due::Owner(_) => "a thread's number, from 0 to 255",
-            Due::Found(StepKind::Cas) => "the end, 'found', 'left', 'done' or 'failed'",
-            Due::Found(_) => "the end, 'found' or 'left'",
-            Due::FoundValue(_) | Due::LeftValue(_) => "a number of at most 64 bits",
-            Due::Left(StepKind::Cas) => "the end, 'left', 'done' or 'failed'",
-            Due::Left(_) => "the end, or 'left'",
-            Due::Wrote(StepKind::Cas) => "the end, 'done' or 'failed'",
-            Due::Wrote(_) | Due::End => "the end",
         }
     }
 
-    /// The words that could stand here.
+    // Whether the line may end here.
+    fn may_end(self) -> bool {
+        match self {
+            Due::OfSchedule(expected) => expected.may_end(),
+            _ => !matches!(self, Due::Owner(_) | Due::Value(..)),
+        }
+    }
+
+    /// The words that could be here.
     pub fn words(self) -> &'static [&'static str] {
         match self {
-            Due::Lock => &["lock"],
-            Due::Name => &["ticket", "mcs", "rw-simple", "rw-fifo"],
-            Due::Threads => &["threads"],
-            Due::Bits => &["bits"],
-            Due::Action => &CALLS_AND_STEPS,
-            Due::Section | Due::Outcome => &["moved", "waits", "entered", "left"],
-            Due::Place(_) => &["next_ticket", "now_serving", "tail", "next", "locked"],
-            Due::Of(StepKind::Cas) => &["of", "found", "left", "done", "failed"],
-            Due::Of(_) => &["of", "found", "left"],
-            Due::Found(StepKind::Cas) => &["found", "left", "done", "failed"],
-            Due::Found(_) => &["found", "left"],
-            Due::Left(StepKind::Cas) => &["left", "done", "failed"],
-            Due::Left(_) => &["left"],
-            Due::Wrote(StepKind::Cas) => &["done", "failed"],
+            Due::OfSchedule(Expected::Lock) => &["lock"],
+            Due::OfSchedule(Expected::Name) => &LOCKS,
+            Due::OfSchedule(Expected::Threads) => &["threads"],
+            Due::OfSchedule(Expected::Bits) => &["bits"],
+            Due::OfSchedule(Expected::Action) => &MOVES,
+            Due::Section | Due::Outcome => &OUTCOMES,
+            Due::Place(_) => &PLACES,
+            Due::Part(StepKind::Cas, first) => PARTS.get(first..).unwrap_or(&[]),
+            Due::Part(_, first) => PARTS.get(first..3).unwrap_or(&[]),
             _ => &[],
         }
     }
 }
 
-/// A place of a line at which something else is due: a word, or the end.
+impl fmt::Display for Due {
+    fn fmt<W: fmt::Write>(&self, f: &mut fmt::Formatter<W>) -> fmt::Result {
+        match self {
+            Due::OfSchedule(expected) => write!(f, "{expected}"),
+            Due::Section => {
+                f.write_str("the end, the section's count, or moved, waits, entered or left")
+            }
+            Due::Outcome => f.write_str("the end, or moved, waits, entered or left"),
+            Due::Place(_) => f.write_str(
+                "the end, or a word: next_ticket, now_serving, tail, next or locked",
+            ),
+            Due::Owner(_) => f.write_str("a thread's number, from 0 to 255"),
+            Due::Value(..) => f.write_str("a number of at most 64 bits"),
+            Due::Part(..) => {
+                let words = self.words();
+                f.write_str("the end")?;
+                for (at, word) in words.iter().enumerate() {
+                    let last = at.saturating_add(1) == words.len();
+                    f.write_str(match (last, words.len()) {
+                        (true, 1) => ", or",
+                        (true, _) => " or",
+                        _ => ",",
+                    })?;
+                    write!(f, " '{word}'")?;
+                }
+                Ok(())
+            }
+        }
+    }
+}
+
+/// A place of a line at which something else is expected: a word, or the end.
 #[derive(Clone, Copy)]
-pub struct Wrong<'a> {
+pub struct WrongPlace<'a> {
     /// Counted from 1.
     pub column: usize,
     pub word: Option<&'a [u8]>,
     pub due: Due,
 }
 
-/// The first place of a line where what stands there is not what is due.
-pub fn wrong_place(line: &[u8], first: Due) -> Option<Wrong<'_>> {
-    let mut due = first;
-    let mut column: usize = 1;
-    for word in line.split(|b| *b == b' ') {
-        let Some(next) = due.next(word) else {
-            return Some(Wrong {
-                column,
-                word: Some(word),
-                due,
-            });
+fn wrong(column: usize, word: Option<&[u8]>, due: Due) -> Option<WrongPlace<'_>> {
+    Some(WrongPlace { column, word, due })
+}
+
+// The first such place from a column on.
+fn wrong_from(line: &[u8], column: usize, due: Due) -> Option<WrongPlace<'_>> {
+    let Some(rest) = line.get(column.saturating_sub(1)..) else {
+        return wrong(column, None, due);
+    };
+    let (mut column, mut due) = (column, due);
+    for word in rest.split(|b| *b == b' ') {
+        let Some(next) = due.after(word) else {
+            return wrong(column, Some(word), due);
         };
-        due = next;
         column = column.saturating_add(word.len()).saturating_add(1);
+        due = next;
     }
     if due.may_end() {
-        return None;
+        None
+    } else {
+        wrong(column, None, due)
     }
-    Some(Wrong {
-        column,
-        word: None,
-        due,
-    })
+}
+
+/// The first place of a header at which something else is expected.
+pub fn wrong_in_header(line: &[u8]) -> Option<WrongPlace<'_>> {
+    let place = unreadable_header(line)?;
+    wrong_from(line, place.column, Due::OfSchedule(place.expected))
+}
+
+/// The first place of a move at which something else is expected.
+pub fn wrong_in_move(line: &[u8]) -> Option<WrongPlace<'_>> {
+    let place = unreadable_move(line)?;
+    let due = match place.expected {
+        Expected::End => Due::after_move(line)?,
+        expected => Due::OfSchedule(expected),
+    };
+    wrong_from(line, place.column, due)
 }

@@ -1,5 +1,6 @@
 //! The logs of a run, read from their files.
 
+use crate::check::Ending;
 use crate::lines::{Line, Lines};
 use lk_order::{Log, LogFault, LogReader, Shelf, Unfit};
 use std::alloc::{AllocError, Global};
@@ -7,60 +8,29 @@ use std::fmt::Write;
 use std::fs;
 use std::io::{Error, ErrorKind, Read};
 use std::rt::Files;
+use thiserror::Error;
 
 // The most threads of a lock.
 const MOST_THREADS: usize = 64;
 
-// The status where a file could not be read, and where the logs are not those of one run.
-const UNREAD_STATUS: u8 = 3;
+/// The logs of a run, by thread, and the names of their files; or what keeps them from being one's.
+pub type Taken<'a> = Result<(Vec<Log>, Vec<&'a str>), Ending>;
 
-const FAULTY_STATUS: u8 = 4;
-
-/// What came of the files.
-#[derive(Drop)]
-pub enum Taken<'a> {
-    /// The log of each thread, and the name of its file.
-    Run { logs: Vec<Log>, names: Vec<&'a str> },
-    /// They are not the logs of one run. The status of the program says why.
-    Unfit(u8),
-}
-
-// Why a log could not be read.
-#[derive(Debug, Drop)]
+// Why a log could not be read: what is said behind its name.
+#[derive(Debug, Drop, Error)]
 enum Unread {
-    Input(Error),
+    #[error(": {0}")]
+    Input(#[from] Error),
+    #[error(":{0}: {1}")]
     Fault(u64, LogFault),
-    Memory,
-}
-
-impl From<AllocError> for Unread {
-    fn from(_error: AllocError) -> Unread {
-        Unread::Memory
-    }
-}
-
-impl From<Error> for Unread {
-    fn from(error: Error) -> Unread {
-        Unread::Input(error)
-    }
-}
-
-// What is wrong with a log's text.
-fn fault_text(fault: LogFault) -> &'static str {
-    match fault {
-        LogFault::NoHeader => "no header (NoHeader)",
-        LogFault::BadHeader => "not a log's header: lock NAME threads N thread T (BadHeader)",
-        LogFault::BadMove => "not a move (BadLine)",
-        LogFault::BehindTheEnd => "a line behind the last (BadLine)",
-        LogFault::TooLong => "too many lines (TooLong)",
-        LogFault::OutOfMemory => "out of memory",
-    }
+    #[error(": out of memory")]
+    Memory(#[from(alloc)] AllocError),
 }
 
 // A fault in a line of this number.
 fn fault_at(number: u64, fault: LogFault) -> Unread {
     match fault {
-        LogFault::OutOfMemory => Unread::Memory,
+        LogFault::OutOfMemory => Unread::Memory(AllocError),
         _ => Unread::Fault(number, fault),
     }
 }
@@ -79,37 +49,13 @@ fn read_log<R: Read + Drop>(alloc: Global, input: R) -> Result<Log, Unread> {
         } else {
             reader.rest(line.bytes())
         };
-        if let Err(fault) = read {
-            return Err(fault_at(number, fault));
-        }
+        read.map_err(|fault| fault_at(number, fault))?;
     }
     Err(Unread::Input(Error::from(ErrorKind::FileTooLarge)))
 }
 
-// The log in the file of this name. What keeps it from being read is said, and its status given.
-fn log_in<R: Files>(
-    rt: &R,
-    alloc: Global,
-    name: &str,
-    errors: &mut String,
-) -> Result<Result<Log, u8>, AllocError> {
-    let read = match fs::open(rt, name) {
-        Ok(file) => read_log(alloc, file),
-        Err(error) => Err(Unread::Input(error)),
-    };
-    match read {
-        Ok(log) => Ok(Ok(log)),
-        Err(Unread::Memory) => Err(AllocError),
-        Err(Unread::Input(error)) => {
-            writeln!(errors, "{name}: {error}")?;
-            Ok(Err(UNREAD_STATUS))
-        }
-        Err(Unread::Fault(line, fault)) => {
-            let text = fault_text(fault);
-            writeln!(errors, "{name}:{line}: {text}")?;
-            Ok(Err(FAULTY_STATUS))
-        }
-    }
+fn log_in<R: Files>(rt: &R, alloc: Global, name: &str) -> Result<Log, Unread> {
+    read_log(alloc, fs::open(rt, name)?)
 }
 
 // The logs that were taken, and the names of their files by thread.
@@ -131,43 +77,27 @@ impl<'a> Run<'a> {
         })
     }
 
-    // Takes a log. False where it is none of the run, which is said.
-    fn put(&mut self, log: Log, name: &'a str, errors: &mut String) -> Result<bool, AllocError> {
+    // Takes a log. If it is none of the run, that is said.
+    fn put(&mut self, log: Log, name: &'a str, errors: &mut String) -> Result<Ending, AllocError> {
         let thread = log.thread();
         let Some(place) = self.names.get_mut(thread as usize) else {
-            return Ok(false);
+            return Ok(Ending::Faulty);
         };
+        let other = *place;
         match self.shelf.put(log) {
             Ok(()) => {
                 *place = name;
-                return Ok(true);
-            }
-            Err(Unfit::OtherLock) => {
-                writeln!(errors, "{name}: of another lock than the first log's")?;
+                return Ok(Ending::Accepted);
             }
             Err(Unfit::SecondLog) => {
-                let other = *place;
                 writeln!(
                     errors,
                     "{name}: a second log of thread {thread}, beside {other}"
                 )?;
             }
+            Err(unfit) => writeln!(errors, "{name}: {unfit}")?,
         }
-        Ok(false)
-    }
-
-    // All logs of the run. A thread without one is said.
-    fn taken(self, alloc: Global, errors: &mut String) -> Result<Taken<'a>, AllocError> {
-        if let Some(missing) = self.shelf.missing() {
-            let thread = missing.thread;
-            writeln!(errors, "locktrace: no log of thread {thread}")?;
-            return Ok(Taken::Unfit(FAULTY_STATUS));
-        }
-        let Run { shelf, names } = self;
-        Ok(Taken::Run {
-            logs: shelf.logs(alloc)?,
-            names,
-        })
+        Ok(Ending::Faulty)
     }
 }
 
@@ -179,19 +109,31 @@ pub fn take_logs<'a, R: Files>(
     errors: &mut String,
 ) -> Result<Taken<'a>, AllocError> {
     let mut run = Run::new(alloc)?;
-    let mut status = 0;
+    let mut worst = Ending::Accepted;
     for name in names {
-        match log_in(rt, alloc, name, errors)? {
-            Ok(log) => {
-                if !run.put(log, name.as_str(), errors)? {
-                    status = FAULTY_STATUS;
+        let ending = match log_in(rt, alloc, name) {
+            Ok(log) => run.put(log, name.as_str(), errors)?,
+            Err(Unread::Memory(error)) => return Err(error),
+            Err(unread) => {
+                writeln!(errors, "{name}{unread}")?;
+                match unread {
+                    Unread::Input(_) => Ending::Unread,
+                    _ => Ending::Faulty,
                 }
             }
-            Err(worse) => status = worse.max(status),
+        };
+        if ending.status() > worst.status() {
+            worst = ending;
         }
     }
-    if status > 0 {
-        return Ok(Taken::Unfit(status));
+    if worst != Ending::Accepted {
+        return Ok(Err(worst));
     }
-    run.taken(alloc, errors)
+    let Run { shelf, names } = run;
+    if let Some(missing) = shelf.missing() {
+        let thread = missing.thread;
+        writeln!(errors, "locktrace: no log of thread {thread}")?;
+        return Ok(Err(Ending::Faulty));
+    }
+    Ok(Ok((shelf.logs(alloc)?, names)))
 }

@@ -1,39 +1,28 @@
 //! What is said of an order that does not reach the end of the logs.
 
-use crate::texts::{put_difference, put_standing};
+use crate::texts::{Standing, Wrong};
 use lk_order::{Order, Stuck};
 use lk_trace::move_text;
 use std::alloc::AllocError;
 use std::fmt::Write;
 
-// Writes the name of a thread's file, and the line of a move in it.
-fn put_line_of(
-    text: &mut String,
-    order: &Order,
-    names: &[&str],
-    stuck: Stuck,
-) -> Result<(), AllocError> {
-    let name = names.get(stuck.thread as usize).copied().unwrap_or("");
-    let line = match order.logs().get(stuck.thread as usize) {
-        Some(log) => log.line_of(stuck.at).unwrap_or(0),
-        None => 0,
-    };
-    write!(text, "{name}:{line}: ")
-}
-
-/// Says which step cannot be placed, and why.
+/// Says which step cannot be placed, and why, with the line of the thread's file that it is in.
 pub fn put_stuck(
     text: &mut String,
     order: &Order,
     names: &[&str],
     stuck: Stuck,
 ) -> Result<(), AllocError> {
-    put_line_of(text, order, names, stuck)?;
-    let lock = order.checker().lock();
+    let thread = stuck.thread as usize;
+    let name = names.get(thread).copied().unwrap_or("");
+    let log = order.logs().get(thread);
+    let number = log.and_then(|log| log.line_of(stuck.at)).unwrap_or(0);
+    let (lock, placed) = (order.checker().lock(), order.len());
+    write!(text, "{name}:{number}: ")?;
     match (order.next(stuck.thread), stuck.difference) {
         (Some(line), Some(difference)) => {
-            text.push_str("cannot be placed: ")?;
-            put_difference(text, lock, line, difference, &[])?;
+            let wrong = Wrong::unnamed(lock, line, difference);
+            write!(text, "cannot be placed: {wrong}")?;
         }
         (Some(line), None) => {
             let word = move_text(line.action);
@@ -42,12 +31,11 @@ pub fn put_stuck(
         }
         (None, _) => {}
     }
-    text.push_str("\n")?;
-    put_line_of(text, order, names, stuck)?;
-    let placed = order.len();
-    write!(text, "note: {placed} steps placed; ")?;
-    put_standing(text, lock)?;
-    text.push_str("\n")
+    let standing = Standing(lock);
+    writeln!(
+        text,
+        "\n{name}:{number}: note: {placed} steps placed; {standing}"
+    )
 }
 
 /// Says that an order ends where a log was cut short.

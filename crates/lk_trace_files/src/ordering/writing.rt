@@ -14,14 +14,6 @@ use std::rt::Files;
 // Bytes that wait before they are written.
 const MOST_WAITING: usize = 65_536;
 
-/// The path of a file in a folder.
-pub fn path_in(alloc: Global, folder: &str, file: &str) -> Result<String, AllocError> {
-    let mut path = String::from_str(alloc, folder)?;
-    path.push_str("/")?;
-    path.push_str(file)?;
-    Ok(path)
-}
-
 // Writes the header of a trace or a schedule.
 fn put_header(text: &mut String, order: &Order) -> Result<(), AllocError> {
     let (name, threads, bits) = (lock_text(order.kind()), order.threads(), order.bits());
@@ -76,8 +68,7 @@ pub fn write_schedules<R: Files>(
             break;
         };
         let text = schedule_of(alloc, order, piece)?;
-        let file = format!(in alloc; "run-{number:04}.schedule")?;
-        let path = path_in(alloc, folder, &file)?;
+        let path = format!(in alloc; "{folder}/run-{number:04}.schedule")?;
         fs::write(rt, path.as_str(), &text)?;
     }
     Ok(pieces.left_out())

@@ -65,12 +65,12 @@ fn blank(alloc: Global, instances: &[Vec<Instance>]) -> Result<Vec<Vec<u32>>, Al
 
 // The next instance of a thread from `from` on whose successor is `thread`.
 fn next_after(row: &[Instance], from: usize, thread: u8) -> Option<usize> {
-    for k in from..row.len() {
-        if row[k].after == Neighbor::Thread(thread) {
-            return Some(k);
-        }
-    }
-    None
+    let later = row.get(from..)?.iter();
+    let ahead = later
+        .take_while(|instance| instance.after != Neighbor::Thread(thread))
+        .count();
+    let found = from.saturating_add(ahead);
+    if found < row.len() { Some(found) } else { None }
 }
 
 // Matches the instances of each thread with those of its predecessors, in order.
@@ -117,15 +117,6 @@ fn match_thread(
             None => instances[x].len(),
         };
     }
-}
-
-// How many instances all threads have.
-fn total_of(instances: &[Vec<Instance>]) -> usize {
-    let mut total: usize = 0;
-    for row in instances {
-        total = total.saturating_add(row.len());
-    }
-    total
 }
 
 // How many acquires of a list have swapped themselves in.
@@ -218,14 +209,10 @@ impl Chains {
         for _ in 0..self.threads {
             self.first.push(NONE)?;
         }
-        self.follow(
-            instances,
-            after,
-            number,
-            thread,
-            instance,
-            total_of(instances),
-        );
+        let total = instances
+            .iter()
+            .fold(0, |total: usize, row| total.saturating_add(row.len()));
+        self.follow(instances, after, number, thread, instance, total);
         Ok(())
     }
 
@@ -286,11 +273,8 @@ impl Chains {
         }
         let base = (number as usize).saturating_mul(self.threads);
         for t in 0..self.threads.min(MOST_THREADS) {
-            let first = self
-                .first
-                .get(base.saturating_add(t))
-                .copied()
-                .unwrap_or(NONE);
+            let place = base.saturating_add(t);
+            let first = self.first.get(place).copied().unwrap_or(NONE);
             if first != NONE && first as usize > begun[t] {
                 return false;
             }

@@ -25,62 +25,40 @@ pub struct Instance {
     pub unlinked: usize,
 }
 
-impl Instance {
-    fn new() -> Instance {
-        Instance {
-            before: Neighbor::Unknown,
-            after: Neighbor::Unknown,
-            unlinked: 0,
-        }
-    }
-}
+const NEW: Instance = Instance {
+    before: Neighbor::Unknown,
+    after: Neighbor::Unknown,
+    unlinked: 0,
+};
 
 // The neighbor that a word of the lock names.
 fn named(value: u64) -> Neighbor {
-    if value == 0 {
-        Neighbor::Nobody
-    } else if value <= 64 {
-        Neighbor::Thread((value - 1) as u8)
-    } else {
-        Neighbor::Unknown
+    match value {
+        0 => Neighbor::Nobody,
+        1..=64 => Neighbor::Thread((value - 1) as u8),
+        _ => Neighbor::Unknown,
     }
 }
 
 // What a step of a release tells of the instance. `at` is its place in the log.
 fn note(instance: &mut Instance, line: TraceLine, at: usize) {
-    match (line.action, line.seen) {
-        (
-            Move::Step(StepKind::Swap),
-            Seen::OnWord {
-                found: Some(found),
-                ..
-            },
-        ) => {
-            instance.before = named(found);
-        }
-        (
-            Move::Step(StepKind::Read),
-            Seen::OnWord {
-                word: WordName::Next(_),
-                found: Some(found),
-                ..
-            },
-        ) => {
-            if found == 0 {
-                instance.unlinked = at.saturating_add(1);
-            } else {
-                instance.after = named(found);
-            }
-        }
-        (
-            Move::Step(StepKind::Cas),
-            Seen::OnWord {
-                wrote: Some(true),
-                ..
-            },
-        ) => {
-            instance.after = Neighbor::Nobody;
-        }
+    let (
+        Move::Step(step),
+        Seen::OnWord {
+            word,
+            found,
+            wrote,
+            ..
+        },
+    ) = (line.action, line.seen)
+    else {
+        return;
+    };
+    match (step, word, found) {
+        (StepKind::Swap, _, Some(found)) => instance.before = named(found),
+        (StepKind::Read, WordName::Next(_), Some(0)) => instance.unlinked = at.saturating_add(1),
+        (StepKind::Read, WordName::Next(_), Some(found)) => instance.after = named(found),
+        (StepKind::Cas, ..) if wrote == Some(true) => instance.after = Neighbor::Nobody,
         _ => {}
     }
 }
@@ -97,7 +75,7 @@ pub fn instances_of(
     }
     for (at, line) in moves.iter().enumerate() {
         if let Move::Call(Op::Acquire) = line.action {
-            instances.push(Instance::new())?;
+            instances.push(NEW)?;
         } else if let Some(last) = instances.last_mut() {
             note(last, *line, at);
         }

@@ -1,5 +1,5 @@
 -- The part up to the first line feed, or all that was read ahead.
-use Rattle.std.proofs.Common.{◌≡◌, ◌+◌, ◌-◌, ◌++◌, ◌∙◌, true, false, length, length-drop}
+use Rattle.std.proofs.Common.{◌≡◌, ◌+◌, ◌-◌, ◌++◌, ◌∙◌, false, length, length-drop}
 use Rattle.std.proofs.Common.{length-take-le, take, drop, ap, sym, subst, arith, None, Some, List}
 use Rattle.std.proofs.Common.{ℕ, refl}
 use Rattle.std.specs.Io.KnownBytes.{prepend_known}
