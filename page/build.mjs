@@ -33,7 +33,7 @@ const style = () => readdirSync(join(SOURCES, 'style')).sort()
 function policy(script) {
   const hash = createHash('sha256').update(script).digest('base64');
   return `default-src 'none'; script-src 'sha256-${hash}' 'wasm-unsafe-eval'; `
-    + "style-src 'unsafe-inline'; base-uri 'none'; form-action 'none'";
+    + "style-src 'unsafe-inline'; img-src data:; base-uri 'none'; form-action 'none'";
 }
 
 function build(module) {
@@ -45,7 +45,7 @@ function build(module) {
   const script = `${bundle(SOURCES, 'main.js')}\nstart(${asScript(data)});`;
   // Functions, so that no `$` of a source is taken for a sign of the replacement.
   return read('src', 'index.html').replace('{{STYLE}}', style)
-    .replace('{{VERSION}}', () => read('..', 'VERSION').trim())
+    .replaceAll('{{VERSION}}', () => read('..', 'VERSION').trim())
     .replace('{{POLICY}}', () => policy(`\n${script}\n`)).replace('{{SCRIPT}}', () => script);
 }
 

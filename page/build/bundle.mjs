@@ -8,11 +8,14 @@ import { join } from 'node:path';
 const IMPORT = /^import \{([^}]+)\} from '\.\/([\w]+\.js)';\n/gm;
 const EXPORT = /^export (async function|function|class|const) (\w+)/gm;
 
+// Lines of comment, which a reader finds in the sources.
+const COMMENT = /^ *\/\/.*\n/gm;
+
 const variable = (file) => `m_${file.replace('.js', '')}`;
 
 function wrapped(file, source) {
   const names = [...source.matchAll(EXPORT)].map(([, , name]) => name);
-  const body = source
+  const body = source.replace(COMMENT, '')
     .replace(IMPORT, (_, list, from) => `const {${list} } = ${variable(from)};\n`)
     .replace(EXPORT, '$1 $2');
   const other = body.match(/^(import|export) .*/m);

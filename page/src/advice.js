@@ -1,7 +1,7 @@
 // What is wrong with a text, in words: what was found, what could stand there, and where it is
 // plain a line to write instead. That there is a fault, and in which line, the machine said.
 
-import { ACTION, CALLS, LAST_THREAD_NUMBER, MOST_THREADS, STEPS, wordOf } from './codes.js';
+import { CALLS, LAST_THREAD_NUMBER, MOST_THREADS, STEPS } from './codes.js';
 import { lineOf } from './bytes.js';
 import { LOCK_NAMES } from './locks.js';
 import { nearest } from './nearest.js';
@@ -12,13 +12,27 @@ const WORDS = [...CALLS, ...STEPS.slice(1)];
 const NUMBER = /^(0|[1-9][0-9]*)$/;
 
 // Blanks and bytes that cannot be seen. The first found is named, and taken away.
+const codeOf = (line, found) => {
+  const [letter] = line.match(found);
+  return { letter, code: `U+${letter.codePointAt(0).toString(16).toUpperCase().padStart(4, '0')}` };
+};
+const HIDDEN = /[\0-\x08\x0b\x0c\x0e-\x1f\x7f\u200b-\u200f\u2060\ufeff]/u;
+const STRANGER = /[^\0-\x7f]/u;
+
 const UNSEEN = [
+  { found: /^\xff\xfe|^\xfe\xff|(?:[ -~]\0){2}|(?:\0[ -~]){2}/, says: T.utf16, mended: () => null },
+  { found: /\r(?=[^\r])/, says: T.returnsAlone, mended: (line) => line.replace(/\r+/g, '\n') },
   { found: /^\uFEFF/, says: T.mark, mended: (line) => line.replace(/^\uFEFF/, '') },
   { found: /\r$/, says: T.returns, mended: (line) => line.replace(/\r+$/, ''), returns: true },
   { found: /\t/, says: T.tab, mended: (line) => line.replace(/\t+/g, ' ') },
   { found: / $/, says: T.blankEnd, mended: (line) => line.trimEnd() },
   { found: /^ /, says: T.blankStart, mended: (line) => line.trimStart() },
   { found: / {2}/, says: T.twoBlanks, mended: (line) => line.replace(/ {2,}/g, ' ') },
+  { found: /\u00a0/, says: T.noBreak, mended: (line) => line.replace(/\u00a0/g, ' ') },
+  {
+    found: HIDDEN, says: T.unseen, mended: (line) => line.replace(new RegExp(HIDDEN, 'gu'), ''),
+  },
+  { found: STRANGER, says: T.stranger, mended: () => null },
 ];
 
 const could = (what) => say(T.could, { could: what });
@@ -131,7 +145,10 @@ function partFault(words, ownWords) {
 
 function lineFault(line, fault, ownWords) {
   const unseen = UNSEEN.find(({ found }) => found.test(line));
-  if (unseen) return { say: [unseen.says], mended: unseen.mended(line), returns: unseen.returns };
+  if (unseen) {
+    const says = say(unseen.says, codeOf(line, unseen.found));
+    return { say: [says], mended: unseen.mended(line), returns: unseen.returns };
+  }
   const words = line.split(' ');
   if (fault.name === 'WordsTooNarrow') return tooNarrow(words);
   return fault.name === 'BadLine' ? moveFault(words, ownWords) : firstFault(words);
@@ -150,34 +167,4 @@ export function faultAdvice(run, ownWords) {
   if (OF_TEXT[fault.name]) return OF_TEXT[fault.name](fault);
   const found = lineOf(text, fault.line);
   return { say: [], mended: null, ...lineFault(found, fault, ownWords), line: fault.line, found };
-}
-
-// What the thread could do instead of the refused move, as the machine says.
-function possibleMoves(state, thread) {
-  const due = state.dueStep(thread);
-  if (due) return [fill(texts.refused.step, { word: wordOf(ACTION.step, due) })];
-  return CALLS.filter((_, call) => state.allows(thread, call))
-    .map((word) => fill(texts.refused.call, { word }));
-}
-
-function couldMove(run, thread, name) {
-  if (thread >= run.threads) return [];
-  const moves = possibleMoves(run.end, thread).join(texts.refused.or);
-  return moves ? [say(texts.refused.could, { thread: name, moves })] : [];
-}
-
-export function refusalAdvice(run, names) {
-  const { refusal } = run;
-  const found = lineOf(run.text, refusal.line);
-  const [number, word] = found.split(' ');
-  const thread = Number(number);
-  const name = thread < run.threads ? names.of(thread) : texts.thread(number);
-  const says = say(texts.refused[refusal.name], {
-    word,
-    thread: name,
-    Thread: say(name, {}),
-    threads: texts.threads(run.threads),
-    last: run.threads - 1,
-  });
-  return { line: refusal.line, found, say: [says, ...couldMove(run, thread, name)], mended: null };
 }

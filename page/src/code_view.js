@@ -4,12 +4,17 @@ import { ACTION, CALLS, PHASES } from './codes.js';
 import { html } from './markup.js';
 import { standingOf } from './shapes.js';
 
-// The phase or the call whose lines of code the move was.
-function madeLine(run, move) {
+// The phase or the call whose lines of code the move was; of a refused move the phase that is due.
+function madeLine({ run, move, refused }, state) {
+  if (refused) return dueOf(run, state);
   if (!move) return null;
   const { records } = run;
   return records.action(move) === ACTION.call
     ? { call: CALLS[records.code(move)] } : { phase: run.phaseBefore(move) };
+}
+
+function dueOf({ refusal: { thread }, threads }, state) {
+  return thread < threads && state.dueStep(thread) ? { phase: state.phase(thread) } : null;
 }
 
 function threadsAt(state, phase, threads) {
@@ -39,12 +44,12 @@ function wasMade(line, made) {
 function codeLine(view, line, here, threads) {
   const phase = line.phase !== undefined && html`data-phase="${PHASES[line.phase]}"`;
   return html`<div class="code-line ${line.kind || 'plain'} ${here && 'here'}" ${phase}
-    ${here && html`aria-current="step"`}><code>${line.code}</code>
+    ${here && html`aria-current="step"`}><code translate="no">${line.code}</code>
     <span class="discs">${marks(view, threads)}</span></div>`;
 }
 
 export function codeView(view, state, lines) {
-  const made = madeLine(view.run, view.move);
+  const made = madeLine(view, state);
   return html`${lines.map((line, i) => {
     const first = line.phase !== undefined && line.phase !== lines[i - 1]?.phase;
     const threads = first ? threadsAt(state, line.phase, view.run.threads) : [];

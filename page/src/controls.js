@@ -3,58 +3,70 @@
 import { listenForKeys } from './keys.js';
 import { byId, show } from './markup.js';
 import { lockOptions } from './play.js';
+import { drawPaper, toggleTheme } from './screen.js';
 import { texts } from './texts.js';
 
 function clicks(page) {
+  const { address, comparing, editing, modes, playing, stepping } = page;
   const does = {
-    first: () => page.go(0), back: () => page.step(-1), forward: () => page.step(1),
-    last: () => page.go(Infinity), run: () => page.toggleRunning(),
-    'mode-lessons': () => page.chooseLesson(),
-    'mode-own': () => page.toggleMode('own'), 'mode-play': () => page.toggleMode('play'),
-    'mode-quiz': () => page.toggleQuiz(), link: () => page.copyLink(), print: () => window.print(),
-    theme: () => page.toggleTheme(), 'show-keys': () => page.showKeys(), undo: () => page.undo(),
-    save: () => page.save(), copy: () => page.copy(), open: () => byId('file').click(),
+    first: () => page.go(0), back: () => stepping.step(-1), forward: () => stepping.step(1),
+    last: () => stepping.end(), run: () => stepping.toggleRunning(),
+    'mode-lessons': () => page.chooseLesson(), 'mode-own': () => modes.toggle('own'),
+    'mode-play': () => modes.toggle('play'), 'mode-quiz': () => modes.toggleQuiz(),
+    compare: () => comparing.toggle(),
+    link: () => address.copy(), print: () => window.print(), theme: () => toggleTheme(),
+    'show-keys': () => page.showKeys(), 'show-about': () => page.showAbout(),
+    'show-take': () => page.showTake(), undo: () => playing.undo(),
+    'undo-own': () => playing.undo(), save: () => editing.save(),
+    copy: () => editing.copy(), open: () => byId('file').click(),
     clear: () => page.openOwn(new TextEncoder().encode(texts.own.template)),
   };
   for (const [id, act] of Object.entries(does)) byId(id).addEventListener('click', act);
 }
 
 function partsThatAreDrawn(page) {
-  byId('time').addEventListener('click', (event) => {
-    const move = event.target.closest('[data-move]')?.dataset.move;
-    if (move && !(page.quiz.on && Number(move) > page.session.move)) page.go(Number(move));
-  });
+  for (const id of ['time', 'other']) {
+    byId(id).addEventListener('click', (event) => {
+      const move = event.target.closest('[data-move]')?.dataset.move;
+      if (move) page.go(Number(move));
+    });
+  }
   byId('choices').addEventListener('click', (event) => {
     const { thread, word } = event.target.closest('[data-word]')?.dataset ?? {};
-    if (word) page.choose(Number(thread), word);
+    if (word) page.playing.choose(Number(thread), word);
   });
   for (const id of ['verdict', 'nothing-verdict']) {
     byId(id).addEventListener('click', (event) => {
-      const { mend, returns } = event.target.dataset;
-      if (mend !== undefined) page.mend(mend);
-      if (returns) page.removeReturns();
+      const { keep, mend, returns } = event.target.dataset;
+      if (keep) page.editing.keepRemarks();
+      if (mend !== undefined) page.editing.mend(mend);
+      if (returns) page.editing.removeReturns();
     });
   }
+  byId('now').addEventListener('click', (event) => {
+    if (event.target.dataset.saveQuiz) page.modes.saveQuiz();
+  });
   byId('now').addEventListener('submit', (event) => {
     event.preventDefault();
-    page.checkQuiz(event.target);
+    page.modes.checkQuiz(event.target);
   });
 }
 
 function files(page) {
   byId('file').addEventListener('change', (event) => {
-    if (event.target.files[0]) page.openFile(event.target.files[0]);
+    if (event.target.files[0]) page.editing.openFile(event.target.files[0]);
     event.target.value = '';
   });
   addEventListener('dragover', (event) => event.preventDefault());
   addEventListener('drop', (event) => {
     event.preventDefault();
-    if (event.dataTransfer.files[0]) page.openFile(event.dataTransfer.files[0]);
+    const [file] = event.dataTransfer.files;
+    if (file) page.editing.openFile(file);
+    else page.editing.paste(event.dataTransfer.getData('text/plain'));
   });
   addEventListener('paste', (event) => {
     if (event.target.closest('textarea, input')) return;
-    const text = event.clipboardData.getData('text/plain');
-    if (text) page.openOwn(new TextEncoder().encode(text));
+    page.editing.paste(event.clipboardData.getData('text/plain'));
   });
 }
 
@@ -66,13 +78,16 @@ export function listen(page) {
   show(byId('new-lock'), lockOptions());
   byId('new').addEventListener('submit', (event) => {
     event.preventDefault();
-    page.beginNew(event.target);
+    page.playing.beginNew(event.target);
   });
+  byId('speed').addEventListener('change', () => page.stepping.setSpeed(byId('speed').value));
+  byId('every').addEventListener('change', () => page.playing.toggleEvery());
   byId('slider').addEventListener('input', (event) => page.go(Number(event.target.value)));
   for (const id of ['lanes', 'memory-picture']) {
     byId(id).addEventListener('scroll', () => page.draw());
   }
   addEventListener('resize', () => page.draw());
-  addEventListener('hashchange', () => page.openFragment());
-  addEventListener('beforeprint', () => page.drawPaper());
+  addEventListener('popstate', () => page.address.open());
+  addEventListener('pagehide', () => page.address.flush());
+  addEventListener('beforeprint', () => drawPaper(page));
 }

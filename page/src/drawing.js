@@ -1,13 +1,17 @@
 // Puts what is shown into the page's parts.
 
+import { OUTCOMES } from './codes.js';
 import { codeView } from './code_view.js';
 import { lanesPicture, numbersPicture } from './lanes.js';
 import { columnX, lanesOf, layOutLanes } from './layout.js';
 import { legend } from './legend.js';
 import { lockOf } from './locks.js';
 import { byId, html, show, write } from './markup.js';
-import { nowView, spokenText } from './now.js';
-import { quizForm, resultView, scoreText } from './quiz.js';
+import { nowView, spokenText, whoRows } from './now.js';
+import { quizForm, resultView, scoreView } from './quiz.js';
+import { commonMoves } from './compare.js';
+import { refusalFacts } from './refusal.js';
+import { refusedView } from './refused.js';
 import { sliderPicture } from './slider.js';
 import { texts } from './texts.js';
 
@@ -41,14 +45,16 @@ export function drawTime(page, view, room) {
   show(byId('numbers'), numbersPicture(view, layout));
   show(box, lanesPicture(view, layout, top, bottom));
   show(byId('legend'), legend(view.run));
-  const resting = view.run.threads - lanes.length;
+  const resting = view.run.threads - lanes.filter((one) => one < view.run.threads).length;
   write(byId('resting'), resting > 0 ? texts.resting(texts.threads(resting)) : '');
   page.layout = { ...layout, x: (move) => columnX(layout, move) };
 }
 
 // Scrolls so that the lane of the current move is in view.
 function revealLane(box, view, layout) {
-  const index = view.move ? layout.lanes.indexOf(view.run.records.thread(view.move)) : 0;
+  const { run, move, refused } = view;
+  const thread = refused ? run.refusal.thread : move && run.records.thread(move);
+  const index = view.place ? layout.lanes.indexOf(thread) : 0;
   const top = index * layout.laneHeight;
   if (top < box.scrollTop) box.scrollTop = top;
   else if (top + layout.laneHeight > box.scrollTop + box.clientHeight) {
@@ -97,12 +103,19 @@ export function drawCode(session, view, state) {
 
 export function drawNow(page, view, state) {
   const { quiz, session } = page;
-  const asks = quiz.asks(session);
-  const atEnd = quiz.on && view.move === view.run.count;
-  show(byId('now'), html`${quiz.on && html`<p class="score">${scoreText(quiz)}</p>`}
-    ${asks ? quizForm(view, state) : nowView(view, state)}
-    ${quiz.result && resultView(quiz)}${atEnd && html`<p class="hint">${texts.quiz.last}</p>`}`);
-  write(byId('spoken'), asks ? texts.spoken.hidden : spokenText(view, state));
+  const question = quiz.asks(session) && quiz.question(session);
+  const facts = view.refused && refusalFacts(session);
+  const atEnd = quiz.on && view.place === view.run.last;
+  const outcome = quiz.result && OUTCOMES[view.run.records.outcome(quiz.result.move)];
+  show(byId('now'), html`${quiz.on && scoreView(quiz)}
+    ${facts && refusedView(session, facts, whoRows(view, state))}
+    ${!facts && (question ? quizForm(view, question) : nowView(view, state))}
+    ${quiz.result && resultView(quiz.result, outcome)}
+    ${atEnd && html`<p class="hint">${texts.quiz.last}</p>`}`);
+  const said = question ? texts.spoken.hidden : spokenText(view, state);
+  const checked = quiz.result ? `${texts.quiz.checked(quiz.result)} ` : '';
+  const refused = facts && `${texts.refused.refused}. ${facts.said.join(' ')}`;
+  write(byId('spoken'), checked + (refused || said));
 }
 
 // Called last, since it asks where things were laid out.
@@ -115,19 +128,27 @@ export function revealCode() {
 export function drawSlider(view, width) {
   show(byId('slider-picture'), sliderPicture(view, width));
   const input = byId('slider');
-  input.max = view.run.count;
-  input.value = view.move;
-  input.setAttribute('aria-valuetext', texts.spoken.move(view.move, view.run.count));
-  write(byId('position'), texts.position(view.move, view.run.count));
+  input.max = view.run.last;
+  input.value = view.place;
+  const { refused, run: { count }, move } = view;
+  const { refused: { refused: word }, spoken, position } = texts;
+  input.setAttribute('aria-valuetext', refused ? word : spoken.move(move, count));
+  write(byId('position'), refused ? word : position(move, count));
 }
 
 function lockText(run) {
   return texts.subtitle(lockOf(run).title, texts.threads(run.threads), run.bits);
 }
 
+// Of a schedule that was made from one with a title.
+function branchTitle({ origin, run }) {
+  const common = run.hasLock && run !== origin.run ? commonMoves(origin.run, run) : 0;
+  return common && origin.title && texts.branchOf(origin.title, common);
+}
+
 export function drawHead(session) {
   const { run, remarks, lesson } = session;
-  const title = remarks.title || lesson || texts.untitled;
+  const title = remarks.title || lesson || branchTitle(session) || texts.untitled;
   write(byId('title'), title);
   document.title = `${title} - ${texts.product}`;
   write(byId('subtitle'), run.hasLock ? lockText(run) : texts.noLock);

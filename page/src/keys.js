@@ -1,23 +1,30 @@
 // Keys for everything. A key that a field or a button needs for itself is left to it.
 
 import { byId, html, show } from './markup.js';
+import { toggleTheme, zoom } from './screen.js';
 import { texts } from './texts.js';
 
-const IN_FIELDS = 'textarea, input:not([type=range]):not([type=radio]), select';
+const IN_FIELDS = 'textarea, select, '
+  + 'input:not([type=range]):not([type=radio]):not([type=checkbox])';
 const FAR = 10;
 const WIDER = 1.25;
 
 function actions(page) {
+  const { address, comparing, modes, playing, stepping } = page;
   return {
-    ArrowRight: () => page.step(1), ArrowLeft: () => page.step(-1),
-    PageDown: () => page.step(FAR), PageUp: () => page.step(-FAR),
-    Home: () => page.go(0), End: () => page.go(Infinity), ' ': () => page.toggleRunning(),
-    ']': () => page.sameThread(1), '[': () => page.sameThread(-1),
-    n: () => page.nextQuestion(), a: () => page.toggleAnswer(), o: () => page.chooseLesson(),
-    e: () => page.toggleMode('own'), g: () => page.toggleMode('play'), q: () => page.toggleQuiz(),
-    u: () => page.undo(), l: () => page.copyLink(), p: () => window.print(),
-    d: () => page.toggleTheme(), '?': () => page.showKeys(),
-    '+': () => page.zoom(WIDER), '=': () => page.zoom(WIDER), '-': () => page.zoom(1 / WIDER),
+    ArrowRight: () => stepping.step(1), ArrowLeft: () => stepping.step(-1),
+    PageDown: () => stepping.step(FAR), PageUp: () => stepping.step(-FAR),
+    Home: () => page.go(0), End: () => stepping.end(), ' ': () => stepping.toggleRunning(),
+    ']': () => stepping.sameThread(1), '[': () => stepping.sameThread(-1),
+    n: () => stepping.nextQuestion(), a: () => stepping.toggleAnswer(),
+    o: () => page.chooseLesson(), e: () => modes.toggle('own'), g: () => modes.toggle('play'),
+    q: () => modes.toggleQuiz(),
+    w: () => page.mode === 'play' && playing.toggleEvery(),
+    c: () => comparing.toggle(), u: () => playing.undo(), l: () => address.copy(),
+    t: () => page.showTake(),
+    p: () => window.print(), d: () => toggleTheme(), '?': () => page.showKeys(),
+    '.': () => stepping.faster(1), ',': () => stepping.faster(-1),
+    '+': () => zoom(page, WIDER), '=': () => zoom(page, WIDER), '-': () => zoom(page, 1 / WIDER),
   };
 }
 
@@ -25,17 +32,21 @@ function actions(page) {
 function isTheirs(key, target) {
   if (target.closest(IN_FIELDS)) return true;
   if (target.matches('input[type=radio]')) return /^Arrow| $/.test(key);
+  if (target.matches('input[type=checkbox]')) return key === ' ';
   return key === ' ' && target.closest('button, summary') !== null;
 }
 
 export function listenForKeys(page) {
   const does = actions(page);
   addEventListener('keydown', (event) => {
+    const undoes = (event.ctrlKey || event.metaKey) && event.key === 'z'
+      && !event.target.closest(IN_FIELDS);
+    if (undoes) page.playing.undo();
     if (event.ctrlKey || event.metaKey || event.altKey) return;
     if (event.key === 'Escape' && event.target.closest(IN_FIELDS)) event.target.blur();
     if (document.querySelector('dialog[open]') || isTheirs(event.key, event.target)) return;
     const key = event.key.length === 1 ? event.key.toLowerCase() : event.key;
-    const act = /^[0-9]$/.test(key) ? () => page.playThread(Number(key)) : does[key];
+    const act = /^[0-9]$/.test(key) ? () => page.playing.chooseFor(Number(key)) : does[key];
     if (!act) return;
     event.preventDefault();
     act();

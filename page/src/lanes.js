@@ -151,20 +151,39 @@ function laneMoves(view, layout, thread, middle) {
     .map((move) => moveMark(view, layout, move, middle));
 }
 
+// The refused move, crossed out, in the column behind the last move.
+function refusedMark(view, layout, thread, middle) {
+  const { refusal, last } = view.run;
+  const shown = refusal?.thread === thread && layout.last >= last;
+  if (!shown || (view.hidden && !view.refused)) return null;
+  const x = rounded(columnX(layout, last));
+  const tall = layout.laneHeight >= LOW_LANE;
+  return html`<g data-move="${last}" data-refused class="move ${future(layout, last)}">
+    <title>${texts.own.line(refusal.line)}: ${refusal.thread} ${refusal.word}</title>
+    <rect class="target" x="${x - layout.column / 2}" y="${middle - 24}"
+      width="${layout.column}" height="48"/>
+    <path class="refused-mark" d="M${x - 9} ${middle - 9}l18 18m0 -18l-18 18"/>
+    <text class="word-label refused-word" x="${x}" y="${middle - (tall ? 20 : 13)}"
+      text-anchor="middle">${refusal.word}</text>
+    ${tall && html`<text class="found fails" x="${x}" y="${middle + 27}"
+      text-anchor="middle">${texts.refused.refused}</text>`}</g>`;
+}
+
 function lane(view, layout, index) {
   const thread = layout.lanes[index];
   const middle = rounded(laneMiddle(layout, index));
   const shown = view.hidden ? { ...layout, last: layout.now } : layout;
-  const two = view.names.has(thread) && layout.laneHeight >= LOW_LANE;
+  const missing = thread >= view.run.threads;
+  const two = (missing || view.names.has(thread)) && layout.laneHeight >= LOW_LANE;
   const whole = view.names.of(thread);
   const name = fitted(whole, layout.gutter - NAME_EDGES.left - NAME_EDGES.right, 'lane');
   return html`<text class="lane-name" x="${NAME_EDGES.left}"
       y="${middle + (two ? 0 : 5)}"><title>${whole}</title>${name}</text>
     ${two && html`<text class="note" x="${NAME_EDGES.left}"
-      y="${middle + 18}">${texts.thread(thread)}</text>`}
+      y="${middle + 18}">${missing ? texts.refused.noSuch : texts.thread(thread)}</text>`}
     <path class="lane-line" d="M${layout.gutter - 4} ${middle}H${layout.width - 12}"/>
     ${spanBars(view, shown, thread, middle)}${unlinkedLines(view, shown, thread, middle)}
-    ${laneMoves(view, layout, thread, middle)}`;
+    ${laneMoves(view, layout, thread, middle)}${refusedMark(view, layout, thread, middle)}`;
 }
 
 // An arrow from the write to the step that it let go on: down or up first, then along.
@@ -198,6 +217,15 @@ function hereColumn(layout, y, height) {
     height="${height}" rx="7"/>`;
 }
 
+// A line before the first move that differs from what is compared.
+function differentColumn(view, layout) {
+  const { different } = view;
+  if (!different || different < layout.first || different > layout.last) return null;
+  const x = rounded(columnX(layout, different - 0.5));
+  return html`<path class="different" data-different="${different}" d="M${x} 0V${layout.height}"/>
+    <text class="different-sign" x="${x}" y="12" text-anchor="middle">≠</text>`;
+}
+
 const sized = (width, height) => html`width="${width}" height="${height}"
   viewBox="0 0 ${width} ${height}"`;
 
@@ -205,7 +233,7 @@ const sized = (width, height) => html`width="${width}" height="${height}"
 export function lanesPicture(view, layout, top, bottom) {
   const indexes = Array.from({ length: bottom - top + 1 }, (_, i) => top + i);
   return html`<svg ${sized(layout.width, layout.height)} role="img" aria-label="${texts.time}">
-    ${hereColumn(layout, -20, layout.height + 20)}
+    ${hereColumn(layout, -20, layout.height + 20)}${differentColumn(view, layout)}
     ${indexes.map((index) => lane(view, layout, index))}${arrows(view, layout)}</svg>`;
 }
 
@@ -219,7 +247,7 @@ export function numbersPicture(view, layout) {
     const x = rounded(columnX(layout, move));
     const asked = view.remarks.ask.has(move);
     numbers.push(html`<text class="number ${here && 'here'} ${future(layout, move)}" x="${x}"
-      y="22" text-anchor="middle" data-move="${move}">${move}</text>
+      y="22" text-anchor="middle" data-move="${move}">${move > view.run.count ? '✕' : move}</text>
       ${asked && html`<path class="ask-mark" d="M${x - 4} 2h8l-4 6z"/>`}`);
   }
   return html`<svg ${sized(layout.width, 30)} aria-hidden="true">

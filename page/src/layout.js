@@ -17,24 +17,27 @@ const HERE = 0.6;
 
 export function lanesOf(run, all) {
   const threads = Array.from({ length: run.threads }, (_, thread) => thread);
+  const refused = run.refusal?.thread;
+  // A refused move has its lane, even if there is no such thread.
+  if (refused >= run.threads) threads.push(refused);
   if (all || run.threads <= MANY_THREADS) return threads;
-  const moving = threads.filter((thread) => run.movesOf.has(thread));
+  const moving = threads.filter((thread) => run.movesOf.has(thread) || thread === refused);
   return moving.length ? moving : threads.slice(0, MANY_THREADS);
 }
 
 const leastColumn = (run) => lockOf(run).leastColumn ?? COLUMN.least;
 
 function columnWidth(run, room, zoom) {
-  const fitting = room / Math.max(1, run.count + 0.4);
+  const fitting = room / Math.max(1, run.last + 0.4);
   const least = leastColumn(run);
   const wanted = Math.min(Math.max(COLUMN.most, least), Math.max(least, fitting)) * zoom;
   return Math.min(COLUMN.widest, Math.max(COLUMN.narrowest, wanted));
 }
 
 function firstMove(run, move, visible) {
-  if (run.count <= visible) return 1;
+  if (run.last <= visible) return 1;
   const wanted = Math.round(move - HERE * visible) + 1;
-  return Math.min(Math.max(1, wanted), run.count - visible + 1);
+  return Math.min(Math.max(1, wanted), run.last - visible + 1);
 }
 
 // As wide as the longest name that a thread was given, where there is so much room.
@@ -45,15 +48,15 @@ export function gutterOf(names, width) {
 }
 
 // `room` has the width and the height that the lanes may take.
-export function layOutLanes({ run, move, names }, lanes, room, zoom) {
+export function layOutLanes({ run, place, names }, lanes, room, zoom) {
   const gutter = gutterOf(names, room.width);
   const column = columnWidth(run, room.width - gutter - 12, zoom);
   const visible = Math.max(1, Math.floor((room.width - gutter - 8) / column));
-  const first = firstMove(run, move, visible);
+  const first = firstMove(run, place, visible);
   const laneHeight = Math.min(LANE.tallest, Math.max(LANE.lowest, room.height / lanes.length));
   return {
-    gutter, column, first, last: Math.min(run.count, first + visible - 1), laneHeight,
-    width: room.width, now: move, lanes, height: laneHeight * lanes.length,
+    gutter, column, first, last: Math.min(run.last, first + visible - 1), laneHeight,
+    width: room.width, now: place, lanes, height: laneHeight * lanes.length,
   };
 }
 

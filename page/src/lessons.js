@@ -15,6 +15,13 @@ function lessonButton({ name, title }, current) {
 const titleOf = (group) => LOCKS.find(({ name }) => name === group)?.title
   ?? texts.lessons.groups[group];
 
+function keptView(kept) {
+  if (!kept.length) return null;
+  const one = ({ name, title, place }) => html`<li><button type="button" data-kept="${name}">
+    <b>${title || texts.untitled}</b> <span>${texts.lessons.keptMove(place)}</span></button></li>`;
+  return html`<section><h3>${texts.lessons.kept}</h3><ul>${kept.map(one)}</ul></section>`;
+}
+
 function lessonsView(lessons, current) {
   const groups = [...new Set(lessons.map(({ group }) => group))];
   return html`${groups.map((group) => html`<section><h3>${titleOf(group)}</h3><ul>
@@ -26,14 +33,13 @@ function lessonsView(lessons, current) {
 export function lessonsDialog(lessons, choose) {
   const dialog = byId('lessons');
   dialog.addEventListener('click', (event) => {
-    const chosen = event.target.closest('[data-lesson]');
-    if (event.target === dialog) dialog.close();
-    if (!chosen) return;
-    dialog.close();
-    choose(chosen.dataset.lesson);
+    const { lesson, kept } = event.target.closest('[data-lesson], [data-kept]')?.dataset ?? {};
+    if (event.target === dialog || lesson || kept) dialog.close();
+    if (lesson) choose.lesson(lesson);
+    if (kept) choose.kept(kept);
   });
-  return (current) => {
-    show(byId('lesson-list'), lessonsView(lessons, current));
+  return (current, kept) => {
+    show(byId('lesson-list'), html`${lessonsView(lessons, current)}${keptView(kept)}`);
     dialog.showModal();
     dialog.querySelector('[aria-current]')?.focus();
   };

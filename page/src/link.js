@@ -1,25 +1,39 @@
 // A link that carries the schedule and the move in its fragment: a lesson by its name, a schedule
-// of one's own by its bytes.
+// of one's own by its bytes, or by the name under which this browser keeps it.
 
 import { fromLink, toLink } from './bytes.js';
+import { askedLanguage } from './language.js';
+import { texts } from './texts.js';
 
 const MOST_IN_LINK = 24000;
 
-export function fragmentOf(session) {
-  const { lesson, run, move } = session;
-  if (lesson) return `#lesson=${lesson}&move=${move}`;
-  return run.text.length > MOST_IN_LINK ? null : `#schedule=${toLink(run.text)}&move=${move}`;
+// What comes after the schedule: the move, and the language if the address asked for one.
+export function endOf(place) {
+  const asked = askedLanguage(location.hash);
+  return `&move=${place}${asked ? `&lang=${asked}` : ''}`;
 }
 
-// {lesson or text, move}, or null where the fragment says neither.
+// Null for a schedule that is too long.
+export function fragmentOf(session) {
+  const { lesson, held, place } = session;
+  if (lesson) return `#lesson=${lesson}${endOf(place)}`;
+  return held.length > MOST_IN_LINK ? null : `#schedule=${toLink(held)}${endOf(place)}`;
+}
+
+// {lesson, kept or text, move}, or {wrong: what is wrong with it}; null for no fragment.
 export function readFragment(fragment) {
   const parts = new URLSearchParams(fragment.replace(/^#/, ''));
   const move = Number(parts.get('move') ?? 0);
-  if (parts.has('lesson')) return { lesson: parts.get('lesson'), move };
-  if (!parts.has('schedule')) return null;
+  // A language alone names no schedule, and needs none.
+  if (fragment.length < 2 || [...parts.keys()].join() === 'lang') return null;
+  for (const what of ['lesson', 'kept']) {
+    if (parts.has(what)) return { [what]: parts.get(what), move };
+  }
+  if (!parts.has('schedule')) return { wrong: texts.links.nothing };
   try {
-    return { text: fromLink(parts.get('schedule')), move };
+    // The move is the link's end.
+    return { text: fromLink(parts.get('schedule')), move, cut: !parts.has('move') };
   } catch {
-    return null;
+    return { wrong: texts.links.damaged };
   }
 }

@@ -2,13 +2,16 @@
 
 import { fromBase64 } from './bytes.js';
 import { listen } from './controls.js';
+import { differences, language, LANGUAGES, sources } from './language.js';
 import { Machine } from './machine.js';
 import { byId } from './markup.js';
 import { Page } from './page.js';
 import { reportOf } from './report.js';
 import { Run } from './run.js';
-import { Session } from './session.js';
+import { drawPaper, drawTheme } from './screen.js';
+import { linesOf, Session } from './session.js';
 import { StoredMachine } from './stored.js';
+import { frameOf, pictureOf, pngOf } from './take.js';
 import { texts } from './texts.js';
 
 // The machine where the browser can run it, else what it answered when the page was built.
@@ -22,25 +25,33 @@ function machineOf(data) {
 
 // The texts of the page that never change.
 function writeTexts() {
+  document.documentElement.lang = language;
   const named = (path) => path.split('.').reduce((at, name) => at[name], texts);
   const all = (selector) => document.querySelectorAll(selector);
-  for (const node of all('[data-text]')) node.prepend(named(node.dataset.text));
+  // A blank before the key, so that a name is not read as one word with it.
+  for (const node of all('[data-text]')) node.prepend(`${named(node.dataset.text)} `);
   for (const node of all('[data-label]')) {
     node.setAttribute('aria-label', named(node.dataset.label));
+    if (node.matches('button, select')) node.title = named(node.dataset.label);
   }
+  for (const node of all('[data-title]')) node.title = named(node.dataset.title);
 }
 
 export function start(data) {
   const machine = machineOf(data);
   const lessons = data.lessons.map((lesson) => ({ ...lesson, text: fromBase64(lesson.text) }));
   writeTexts();
-  const page = new Page(new Session(machine, data.code), lessons);
+  const page = new Page(new Session(machine, linesOf(data.code)), lessons);
   listen(page);
-  page.drawTheme();
-  page.drawRunning();
+  drawTheme();
+  page.stepping.draw();
   byId('banner').hidden = !machine.stored;
   document.body.classList.toggle('stored', Boolean(machine.stored));
-  page.begin();
-  // For tests: the report that the page would show of a text.
-  window.lockreplay = { page, report: (text) => reportOf(new Run(machine, text)), fromBase64 };
+  page.address.begin();
+  // For tests: the report that the page would show of a text, and what it would print.
+  window.lockreplay = {
+    page, report: (text) => reportOf(new Run(machine, text)), fromBase64,
+    drawPaper: () => drawPaper(page), pictureOf, pngOf, frameOf,
+    untranslated: () => differences(sources, LANGUAGES.de),
+  };
 }

@@ -4,51 +4,55 @@
 
 import { PHASE, PHASES } from './codes.js';
 import { fitted, widthOf } from './fitting.js';
+import { translated } from './language.js';
 import { html } from './markup.js';
 import { BOX_EDGES, picture, standingOf, useOf, wordBox } from './shapes.js';
 import { say, texts } from './texts.js';
 
-const says = {
-  ClearNext: { moved: '{who} writes nil into {whose} own next.' },
-  SwapTail: {
-    moved: '{who} swaps the tail and finds {foundName}. From here on {who} is in line, '
-      + 'though no word of {foundWhose} record says so.',
-    entered: '{who} swaps the tail for {whose} record. The tail was nil: {who} enters.',
+const T = translated('mcs', {
+  title: 'MCS queue lock', memory: 'Memory, in the order of the queue', noLink: 'no link',
+  atRest: (who) => `At rest: ${who}`,
+  says: {
+    ClearNext: { moved: '{who} writes nil into {whose} own next.' },
+    SwapTail: {
+      moved: '{who} swaps the tail and finds {foundName}. From here on {who} is in the queue, '
+        + 'though no word of {foundWhose} record says so.',
+      entered: '{who} swaps the tail for {whose} record. The tail was nil: {who} enters.',
+    },
+    SetLocked: { moved: '{who} sets {whose} own locked to 1.' },
+    LinkTo: { moved: '{who} writes the link: {otherWhose} next now points to {whom}.' },
+    AwaitGrant: {
+      waits: '{who} polls {whose} own locked and waits: it is still {found}.',
+      entered: '{who} finds {whose} own locked at {found}, and enters.',
+    },
+    ReadNext: {
+      moved: '{who} looks for a successor and finds {foundName}.',
+      nil: '{who} looks for a successor: {whose} next is nil.',
+    },
+    CasTail: {
+      moved: 'The compare-and-swap fails: the tail is {foundName}, not {whom}. Somebody is '
+        + 'behind {whom}, and {whom} cannot see who.',
+      left: 'The tail is still {whom}: the compare-and-swap sets it to nil, and {whom} has '
+        + 'left.',
+    },
+    AwaitLink: {
+      waits: '{who} polls: {whose} next is still nil. {who} has to wait for the link.',
+      moved: 'The link is there: {who} finds {foundName}.',
+    },
+    Grant: {
+      left: '{who} clears {otherWhose} locked, and has left. {other} is next, and enters with '
+        + 'its next poll.',
+    },
   },
-  SetLocked: { moved: '{who} sets {whose} own locked to 1.' },
-  LinkTo: { moved: '{who} writes the link: {otherWhose} next now points to {whom}.' },
-  AwaitGrant: {
-    waits: '{who} polls {whose} own locked and waits: it is still {found}.',
-    entered: '{who} finds {whose} own locked at {found}, and enters.',
+  captions: {
+    nobody: 'The queue is empty.',
+    alone: '{first} is alone in the queue.',
+    linked: 'Every link of the queue is written.',
+    missing: '{before} is followed by {after}, and only {after} knows.',
   },
-  ReadNext: {
-    moved: '{who} looks for a successor and finds {foundName}.',
-    nil: '{who} looks for a successor: {whose} next is nil.',
-  },
-  CasTail: {
-    moved: 'The compare-and-swap fails: the tail is {foundName}, not {whom}. Somebody is '
-      + 'behind {whom}, and {whom} cannot see who.',
-    left: 'The tail is still {whom}: the compare-and-swap sets it to nil, and {whom} has '
-      + 'left.',
-  },
-  AwaitLink: {
-    waits: '{who} polls: {whose} next is still nil. {who} has to wait for the link.',
-    moved: 'The link is there: {who} finds {foundName}.',
-  },
-  Grant: {
-    left: '{who} clears {otherWhose} locked, and has left. {other} is next, and enters with '
-      + 'its next poll.',
-  },
-};
-const captions = {
-  nobody: 'Nobody is in line.',
-  alone: '{first} is alone in line.',
-  linked: 'Every link of the line is written.',
-  missing: '{before} is followed by {after}, and only {after} knows.',
-};
+});
+const { says, captions, atRest } = T;
 const NIL = 'nil';
-const NO_LINK = 'no link';
-const atRest = (who) => `At rest: ${who}`;
 
 const TAIL = 0;
 const nextOf = (thread) => 1 + 2 * thread;
@@ -122,7 +126,7 @@ function layOut(view, state) {
 
 function recordField(view, y, label, word, state, width) {
   const value = valueText(word, state.word(word), view.names);
-  const use = useOf(view.run, view.move, word);
+  const use = useOf(view.run, view.marked, word);
   return html`<text class="mono field" x="14" y="${y + 19}">${label}</text>
     ${wordBox(FIELD.left, y, width - FIELD.left - FIELD.right, value, use)}`;
 }
@@ -177,7 +181,7 @@ function link(from, to, width, linked) {
   const middle = (from.x + width + to.x) / 2 - 2;
   return html`<path class="link missing" d="M${from.x + width + 3} ${y}H${to.x - 4}"/>
     <text class="missing-text" x="${middle}" y="${y - 9}"
-      text-anchor="middle">${NO_LINK}</text>`;
+      text-anchor="middle">${T.noLink}</text>`;
 }
 
 const isLinked = (state, before, after) => named(state.word(nextOf(before))) === after;
@@ -201,7 +205,7 @@ function tail(view, state, layout) {
   const wide = Math.min(widest, Math.max(TAIL_BOX.width, valueWidth(view.names)));
   const path = place && tailPath(left + wide, place.x + layout.width / 2, place.y - 4);
   return html`<text class="mono word-name strong" x="24" y="43">tail</text>
-    ${wordBox(left, 24, wide, value, useOf(view.run, view.move, TAIL))}
+    ${wordBox(left, 24, wide, value, useOf(view.run, view.marked, TAIL))}
     ${path && html`<path class="link" d="${path}"/>`}`;
 }
 
@@ -267,7 +271,7 @@ function mark(run, move, names) {
 }
 
 export const mcs = {
-  name: 'mcs', title: 'MCS queue lock', lesson: 'mcs', memory: 'Memory, in the order of the line',
+  name: 'mcs', title: T.title, lesson: 'mcs', memory: T.memory,
   signs: ['fails', 'inCall', 'line', 'holds', 'unlinked', 'ended'],
   says, mark, variant, values,
   wordName, valueText, draw, caption, restingNote, leastWidth,

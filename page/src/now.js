@@ -42,7 +42,14 @@ function outcomePill(records, move) {
   const name = OUTCOMES[records.outcome(move)];
   const fails = casFails(records, move);
   return html`<span class="outcome ${fails ? 'fails' : name}"
-    data-outcome="${name}">${fails ? texts.fails : texts.outcomes[name]}</span>`;
+    data-outcome="${name}" title="${texts.plain[fails ? 'fails' : name]}">${
+  texts.outcomes[name]}</span>`;
+}
+
+// The outcome in plain words.
+function plainWords(records, move) {
+  const name = OUTCOMES[records.outcome(move)];
+  return texts.plain[casFails(records, move) ? 'fails' : name];
 }
 
 function questions(view) {
@@ -55,9 +62,13 @@ function questions(view) {
 }
 
 function factList(view, state, rows) {
-  return html`<dl class="facts">${rows}
-    <dt>${texts.facts.holds}</dt><dd data-holders>${holdersList(view, state)}</dd>
-    <dt>${texts.facts.line}</dt><dd data-queue>${queueList(view, state)}</dd></dl>`;
+  return html`<dl class="facts">${rows}${whoRows(view, state)}</dl>`;
+}
+
+// Who holds, and who is in the queue.
+export function whoRows(view, state) {
+  return html`<dt>${texts.facts.holds}</dt><dd data-holders>${holdersList(view, state)}</dd>
+    <dt>${texts.facts.line}</dt><dd data-queue>${queueList(view, state)}</dd>`;
 }
 
 // Words between backticks are code.
@@ -82,6 +93,7 @@ export function nowView(view, state) {
     <dd class="mono">${wrote || html`<span class="soft">${texts.noWord}</span>`}</dd>`;
   return html`<div class="head"><b>${move}</b><span>${names.of(records.thread(move))},
       <span class="mono">${word}</span></span>${outcomePill(records, move)}</div>
+    <p class="plain">${plainWords(records, move)}</p>
     <p class="say">${sentence(view, move)}</p>${factList(view, state, rows)}${questions(view)}
     <p class="report-line" title="${texts.facts.report}"><code>${reportLine(run, move)}</code></p>`;
 }

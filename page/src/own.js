@@ -1,19 +1,23 @@
 // A schedule of one's own: opened, pasted, dropped or edited, and what is said of it.
 
-import { faultAdvice, refusalAdvice } from './advice.js';
+import { faultAdvice } from './advice.js';
 import { MOST_BYTES } from './codes.js';
 import { html } from './markup.js';
 import { LOCK_NAMES } from './locks.js';
 import { ownWords } from './locks_code.js';
+import { refusalFacts } from './refusal.js';
+import { refusedLine } from './refused.js';
 import { lastLine } from './report.js';
 import { texts } from './texts.js';
 
 const T = texts.own;
 
 export function adviceOf(session) {
-  const { run, names } = session;
+  const { run } = session;
   if (run.fault) return faultAdvice(run, run.hasLock ? ownWords(session.lines[run.kind]) : []);
-  return run.refusal ? refusalAdvice(run, names) : null;
+  if (!run.refusal) return null;
+  const facts = refusalFacts(session);
+  return { line: facts.line, say: facts.said, refused: facts };
 }
 
 // The verdict on the text: the report's last line, and in words what is wrong and what could stand
@@ -23,16 +27,26 @@ export function verdictView(session, advice) {
   if (!run.known) return html`<p class="verdict bad"><b>${texts.notStored}</b></p>`;
   const report = html`<p class="report-line"><code>${lastLine(run)}</code></p>`;
   const accepted = run.count ? T.ends(run.count) : T.noMoves;
-  if (!advice) return html`<p class="verdict good">${accepted}</p>${report}`;
+  const stale = staleView(session);
+  if (!advice) return html`<p class="verdict good">${accepted}</p>${report}${stale}`;
   return html`<div class="verdict bad">
-    ${advice.line > 0 && html`<b>${T.line(advice.line)}</b>`}
+    ${advice.line > 0 && html`<strong>${T.line(advice.line)}</strong>`}
+    ${advice.refused && refusedLine(advice.refused)}
     ${advice.found !== undefined && html`<code class="found-line">${advice.found || ' '}</code>`}
     ${advice.say.map((line) => html`<p>${line}</p>`)}
     ${advice.mended && html`<button type="button"
       data-mend="${advice.mended}">${T.fix(advice.mended)}</button>`}
     ${advice.returns && html`<button type="button"
       data-returns="true">${T.removeReturns}</button>`}
-    ${run.count > 0 && html`<p class="soft">${T.stepThrough(run.count)}</p>`}</div>${report}`;
+    ${run.count > 0 && html`<p class="soft">${T.stepThrough(run.count)}</p>`}</div>
+    ${report}${stale}`;
+}
+
+// The remarks that are left out, since they belong to other moves.
+function staleView({ stale }) {
+  if (!stale.length) return null;
+  return html`<p class="stale">${T.stale(stale.length)}
+    <button type="button" data-keep="true">${T.keep}</button></p>`;
 }
 
 // Where there is no lock to show: what a schedule looks like.
@@ -44,9 +58,9 @@ export async function bytesOfFile(file) {
   return new Uint8Array(await file.slice(0, MOST_BYTES + 1).arrayBuffer());
 }
 
-export function saveAs(name, bytes) {
+export function saveAs(name, bytes, type = 'text/plain') {
   const link = document.createElement('a');
-  link.href = URL.createObjectURL(new Blob([bytes], { type: 'text/plain' }));
+  link.href = URL.createObjectURL(new Blob([bytes], { type }));
   link.download = name;
   link.click();
   setTimeout(() => URL.revokeObjectURL(link.href), 10000);

@@ -1,6 +1,7 @@
 // Choosing who moves: for each thread its due step, or the calls that the machine would accept.
 
 import { ACTION, CALLS, MOST_BYTES, MOST_MOVES, STEPS } from './codes.js';
+import { ownWords } from './locks_code.js';
 import { LOCKS } from './locks.js';
 import { html } from './markup.js';
 import { standingOf } from './shapes.js';
@@ -8,6 +9,7 @@ import { texts } from './texts.js';
 
 const T = texts.play;
 const LONGEST_LINE = 32;
+const LOOKS = { [ACTION.call]: 'may', [ACTION.step]: 'due' };
 
 // The moves that the machine accepts next from this thread, as words of a schedule.
 export function choicesOf(state, thread) {
@@ -17,11 +19,14 @@ export function choicesOf(state, thread) {
     .map((word) => ({ word, action: ACTION.call }));
 }
 
-function threadRow(view, state, thread) {
+// Every move of the lock, whether it would be accepted or not; nothing shows which would be.
+const everyMove = (lines) => ownWords(lines).map((word) => ({ word }));
+
+function threadRow(view, thread, choices) {
   const name = view.names.of(thread);
   const standing = standingOf(view.run, view.move, thread);
-  const buttons = choicesOf(state, thread).map(({ word, action }) => html`<button type="button"
-    class="mono ${action === ACTION.call ? 'may' : 'due'}" data-thread="${thread}"
+  const buttons = choices.map(({ word, action }) => html`<button type="button"
+    class="mono ${LOOKS[action]}" data-thread="${thread}"
     data-word="${word}" aria-label="${name}: ${word}">${word}</button>`);
   return html`<li><span class="disc ${standing}">${view.names.mark(thread)}</span>
     <span class="who">${name}</span><span class="choices">${buttons}</span></li>`;
@@ -32,14 +37,17 @@ export function hasRoom(session) {
   return session.move < MOST_MOVES && session.run.text.length + LONGEST_LINE <= MOST_BYTES;
 }
 
-export function playView(session, state) {
+export function playView(session, state, every) {
+  if (session.machine.stored) return html`<p class="hint">${T.noMachine}</p>`;
   if (!session.run.hasLock) return html`<p class="hint">${T.faulty}</p>`;
   if (!hasRoom(session)) return html`<p class="hint">${T.full}</p>`;
   const { run, move } = session;
   const view = session.view();
   const threads = Array.from({ length: run.threads }, (_, thread) => thread);
-  return html`<p class="hint">${move < run.count ? T.branch(move) : T.hint}</p>
-    <ul class="threads">${threads.map((thread) => threadRow(view, state, thread))}</ul>`;
+  const all = everyMove(session.lines[run.kind]);
+  const row = (thread) => threadRow(view, thread, every ? all : choicesOf(state, thread));
+  return html`<p class="hint">${move < run.last ? T.branch(move) : T.hint}</p>
+    <ul class="threads">${threads.map(row)}</ul>`;
 }
 
 // The header of a new schedule. Whether it may stand so the machine says.

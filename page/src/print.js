@@ -66,10 +66,12 @@ export function paper(view) {
   const gutter = gutterOf(view.names, STRIP.width);
   const inStrip = Math.floor((STRIP.width - gutter - 20) / STRIP.column);
   const strips = [];
-  for (let first = from; first <= to; first += inStrip) {
-    strips.push(strip(view, lanes, gutter, first, Math.min(to, first + inStrip - 1)));
+  // A refused move has a column of its own.
+  const end = to === run.count ? run.last : to;
+  for (let first = from; first <= end; first += inStrip) {
+    strips.push(strip(view, lanes, gutter, first, Math.min(end, first + inStrip - 1)));
   }
   const part = to - from + 1 < run.count && html`<p>${T.part(from, to, run.count)}</p>`;
   return html`${part}${strips}<div class="legend"><span>${legend(run)}</span></div>
-    ${questions(view)}${table(view, from, to)}`;
+    ${questions(view)}${run.count > 0 && table(view, from, to)}`;
 }

@@ -1,9 +1,9 @@
-// The quiz: outcome, holders and line of the next move are asked for before they are shown, and
-// counted.
+// The quiz: one question on the next move before it is shown, each move once, and a score that
+// stays when the quiz is closed or another schedule is opened.
 
-import { OUTCOMES } from './codes.js';
+import { questionsOf } from './questions.js';
+import { moveText } from './report.js';
 import { html } from './markup.js';
-import { holdersText, moveText, queueText } from './report.js';
 import { texts } from './texts.js';
 
 const T = texts.quiz;
@@ -11,76 +11,115 @@ const T = texts.quiz;
 export class Quiz {
   constructor() {
     this.on = false;
-    this.clear();
-  }
-
-  clear() {
-    this.right = 0;
-    this.asked = 0;
     this.result = null;
+    // By the letters of a schedule: what was answered, by move.
+    this.sheets = new Map();
+    this.run = null;
   }
 
-  // Whether the next move is asked for now, and not yet shown.
-  asks(session) {
-    return this.on && session.run.hasLock && session.move < session.run.count && !this.result;
+  clear() { this.result = null; }
+
+  // The questions of a run, made once, and what was answered of its schedule.
+  meet(session) {
+    if (this.run === session.run) return;
+    this.run = session.run;
+    this.questions = questionsOf(session.run);
+    const title = session.remarks.title || session.lesson || texts.untitled;
+    const key = String.fromCharCode(...session.held.subarray(0, 60000));
+    if (!this.sheets.has(key)) this.sheets.set(key, { title, answers: new Map() });
+    this.sheet = this.sheets.get(key);
   }
 
-  // Compares the answers with what the machine says of the next move.
+  // The question on the next move; null when it has none, or was answered.
+  question(session) {
+    this.meet(session);
+    const move = session.place + 1;
+    return (!this.sheet.answers.has(move) && this.questions.get(move)) || null;
+  }
+
+  asks(session) { return this.on && !this.result && this.question(session) !== null; }
+
+  // How far one may go: to the move before the first question that is not answered.
+  limit(session) {
+    if (!this.on) return Infinity;
+    this.meet(session);
+    const open = [...this.questions.keys()].filter((move) => !this.sheet.answers.has(move));
+    return Math.min(...open) - 1;
+  }
+
+  // Whether what comes is hidden.
+  hides(session) {
+    return this.on && session.place < session.run.last && this.limit(session) < Infinity;
+  }
+
   check(session, given) {
-    const { run } = session;
-    const move = session.move + 1;
-    const state = run.state(move);
-    const truth = {
-      outcome: OUTCOMES[run.records.outcome(move)],
-      holders: holdersText(state),
-      queue: queueText(state),
-    };
-    const items = Object.entries(truth)
-      .map(([what, is]) => ({ what, is, given: given[what], right: given[what] === is }));
-    this.asked += items.length;
-    this.right += items.filter(({ right }) => right).length;
-    this.result = { move, items };
+    const { kind, move, truth } = this.question(session);
+    const right = given === truth;
+    const said = moveText(session.run, move);
+    this.result = { kind, move, truth, given, right, said };
+    this.sheet.answers.set(move, this.result);
+  }
+
+  // {right, wrong, points} over all schedules, or over one sheet.
+  score(sheets = [...this.sheets.values()]) {
+    const all = sheets.flatMap(({ answers }) => [...answers.values()]);
+    const right = all.filter((one) => one.right).length;
+    const wrong = all.length - right;
+    return { right, wrong, points: Math.max(0, right - wrong) };
+  }
+
+  // For the teacher: every answer, as a text.
+  report() {
+    const sheets = [...this.sheets.values()].filter(({ answers }) => answers.size);
+    const lines = sheets.flatMap((sheet) => [
+      `# ${sheet.title}`, `# ${T.score(this.score([sheet]))}`,
+      ...[...sheet.answers.values()].map(({ move, said, kind, given, truth, right }) => (
+        `${right ? '+' : '-'} ${move} ${said} ${kind}: ${given}${right ? '' : ` (${truth})`}`)), '',
+    ]);
+    return `${T.fileHead}\n# ${T.score(this.score())}\n\n${lines.join('\n')}`;
   }
 }
 
 // An answer as the report would write it.
 export const normalised = (text) => text.toLowerCase().replace(/\s+/g, '') || '-';
 
-export const givenOf = (form) => {
-  const data = new FormData(form);
-  return {
-    outcome: data.get('outcome') ?? '',
-    holders: normalised(data.get('holders')),
-    queue: normalised(data.get('queue')),
-  };
-};
+// What the form says; nothing where nothing was chosen or typed.
+export function givenOf(form) {
+  const { outcome, answer } = Object.fromEntries(new FormData(form));
+  return outcome ?? (answer.trim() && normalised(answer));
+}
+
+// The outcomes that a step can have.
+const STEP_OUTCOMES = ['moved', 'waits', 'entered', 'left'];
 
 const radio = (name) => html`<label><input type="radio" name="outcome" value="${name}" required>
   ${T.outcomes[name]}</label>`;
-const field = (name, label, value) => html`<label class="field"><span>${label}</span>
-  <input class="mono" name="${name}" value="${value}" spellcheck="false"></label>`;
 
-// The fields begin with who holds and who is in line now, so only what changes is to be typed.
-export function quizForm(view, state) {
-  const { run, move, names } = view;
-  const [thread, word] = moveText(run, move + 1).split(' ');
-  return html`<form id="quiz-form" autocomplete="off"><h3>${T.title}</h3>
-    <p class="say">${T.next(move + 1, names.of(Number(thread)), word)}</p>
-    <fieldset><legend>${T.outcome}</legend>${OUTCOMES.map(radio)}</fieldset>
-    ${field('holders', T.holders, holdersText(state))}${field('queue', T.queue, queueText(state))}
-    <p class="hint">${T.hint}</p><button class="strong">${T.check}<kbd>Enter</kbd></button></form>`;
+export function quizForm(view, question) {
+  const { run, names } = view;
+  const [thread, word] = moveText(run, question.move).split(' ');
+  const asked = question.kind === 'outcome'
+    ? html`<fieldset><legend>${T.outcome}</legend>${STEP_OUTCOMES.map(radio)}</fieldset>`
+    : html`<label class="field"><span>${T[question.kind]}</span>
+      <input class="mono" name="answer" required spellcheck="false"></label>
+      <p class="hint">${T.hint[question.kind]}</p>`;
+  return html`<form id="quiz-form" autocomplete="off"
+    data-kind="${question.kind}" data-move="${question.move}"><h3>${T.title}</h3>
+    <p class="say">${T.next(question.move, names.of(Number(thread)), word)}</p>${asked}
+    <button class="strong">${T.check}<kbd>Enter</kbd></button></form>`;
 }
 
-const LABELS = { outcome: T.outcome, holders: T.holders, queue: T.queue };
-
-function resultRow({ what, is, given, right }) {
-  return html`<li class="${right ? 'right' : 'wrong'}"><b>${right ? '✓' : '✕'}</b>
-    <span>${LABELS[what]}</span> <code>${is}</code>
-    ${!right && html`<span class="soft">${T.wrong(given)}</span>`}</li>`;
+// Whether it was right, and why: the move's outcome says what becomes of holders and queue.
+export function resultView({ kind, truth, given, right }, outcome) {
+  return html`<div class="result"><p class="${right ? 'right' : 'wrong'}">
+    <b>${right ? '✓' : '✕'}</b> <span>${T.short[kind]}</span> <code>${truth}</code>
+    ${!right && html`<span class="soft">${T.wrong(given)}</span>`}</p>
+    ${!right && html`<p class="why">${T.why[outcome]}</p>`}</div>`;
 }
 
-export function resultView(quiz) {
-  return html`<ul class="result">${quiz.result.items.map(resultRow)}</ul>`;
+export function scoreView(quiz) {
+  const score = quiz.score();
+  const some = score.right + score.wrong > 0;
+  return html`<p class="score">${T.score(score)} ${some && html`<button type="button"
+    data-save-quiz="true">${T.save}</button>`}</p>`;
 }
-
-export const scoreText = (quiz) => T.score(quiz.right, quiz.asked);

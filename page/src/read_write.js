@@ -2,24 +2,38 @@
 // what is said below it.
 
 import { OUTCOME, PHASES } from './codes.js';
+import { translated } from './language.js';
 import { html } from './markup.js';
 import { standingOf, token } from './shapes.js';
 import { say, texts } from './texts.js';
 
-const INSIDE = 'inside';
-const NOBODY = 'nobody';
-const AT_MONITOR = 'at the monitor';
-const POLL_FAILED = 'failed poll';
-const wants = {
-  TryRead: 'wants to read', LeaveRead: 'wants to stop reading', TryWrite: 'wants to write',
-  AwaitReaders: 'announced, waits for the readers', LeaveWrite: 'wants to stop writing',
-  TryDowngrade: 'wants to go on as a reader',
-};
-const captions = {
-  readers: '{readers} inside, {words}.',
-  writer: '{writer} writes, {words}.',
-  nobody: 'Nobody is inside, {words}.',
-};
+const T = translated('readWrite', {
+  memory: 'Memory: who is where', inside: 'inside', nobody: 'nobody',
+  atMonitor: 'at the monitor', pollFailed: 'failed poll',
+  wants: {
+    TryRead: 'wants to read', LeaveRead: 'wants to stop reading', TryWrite: 'wants to write',
+    AwaitReaders: 'announced, waits for the readers', LeaveWrite: 'wants to stop writing',
+    TryDowngrade: 'wants to go on as a reader',
+  },
+  captions: {
+    readers: '{readers} inside, {words}.', writer: '{writer} writes, {words}.',
+    nobody: 'Nobody is inside, {words}.',
+  },
+  // The sentences that name no more than the counts of readers that come and that go.
+  sections: {
+    TryRead: {
+      waits: '{who} polls and waits: the flag is set.',
+      entered: '{who} finds the flag clear and counts itself: {coming} is now {left}.',
+    },
+    LeaveRead: { left: '{who} counts itself out: {going} is now {left}. {who} has left.' },
+    LeaveWrite: { left: '{who} clears the flag, and has left.' },
+    TryDowngrade: {
+      entered: '{who} becomes a reader in one section: {coming} is now {left}, and the flag is '
+        + 'clear.',
+    },
+  },
+});
+const { wants, captions } = T;
 const WRITER = 3;
 const MONITOR_ROW = 34;
 
@@ -30,8 +44,8 @@ export function room(view, state, x, y, width) {
   const tokens = state.holders.map((thread, i) => token(
     x + 24 + 32 * (i % inRow), y + 50 + 32 * Math.floor(i / inRow), view, thread));
   const standing = state.holders.length ? standingOf(view.run, view.move, state.holders[0]) : '';
-  const label = standing ? `${INSIDE}: ${texts.standing[standing]}` : INSIDE;
-  const nobody = html`<text class="note" x="${x + 14}" y="${y + 54}">${NOBODY}</text>`;
+  const label = standing ? `${T.inside}: ${texts.standing[standing]}` : T.inside;
+  const nobody = html`<text class="note" x="${x + 14}" y="${y + 54}">${T.nobody}</text>`;
   return html`<rect class="room" x="${x}" y="${y}" width="${width}"
       height="${44 + 32 * rows}" rx="12"/>
     <text class="room-name" x="${x + 14}" y="${y + 23}">${label}</text>
@@ -53,12 +67,12 @@ export function monitor(view, state, x, y) {
   const rows = callers(view, state).map((thread, i) => {
     const at = y + 40 + MONITOR_ROW * i;
     const wanted = wants[PHASES[state.phase(thread)]];
-    const vain = pollFailed(view, thread) ? `; ${POLL_FAILED}` : '';
+    const vain = pollFailed(view, thread) ? `; ${T.pollFailed}` : '';
     return html`${token(x + 13, at, view, thread)}
       <text class="wants" x="${x + 36}" y="${at + 5}">${wanted}${vain}</text>`;
   });
-  const nobody = html`<text class="note" x="${x}" y="${y + 44}">${NOBODY}</text>`;
-  return html`<text class="room-name" x="${x}" y="${y + 14}">${AT_MONITOR}</text>
+  const nobody = html`<text class="note" x="${x}" y="${y + 44}">${T.nobody}</text>`;
+  return html`<text class="room-name" x="${x}" y="${y + 14}">${T.atMonitor}</text>
     ${rows.length ? rows : nobody}`;
 }
 
@@ -69,19 +83,13 @@ export function monitorHeight(view, state) {
 const wordsText = (names, state) => names.map((name, word) => `${name} ${state.word(word)}`)
   .join(', ');
 
-// The sentences that name no more than the counts of readers that come and that go.
-export const sectionsSay = (coming, going) => ({
-  TryRead: {
-    waits: '{who} polls and waits: the flag is set.',
-    entered: `{who} finds the flag clear and counts itself: ${coming} is now {left}.`,
-  },
-  LeaveRead: { left: `{who} counts itself out: ${going} is now {left}. {who} has left.` },
-  LeaveWrite: { left: '{who} clears the flag, and has left.' },
-  TryDowngrade: {
-    entered: `{who} becomes a reader in one section: ${coming} is now {left}, and the flag is `
-      + 'clear.',
-  },
-});
+const counting = (text, coming, going) => text.replaceAll('{coming}', coming)
+  .replaceAll('{going}', going);
+
+// The sections' sentences with the names of both counts.
+export const sectionsSay = (coming, going) => Object.fromEntries(
+  Object.entries(T.sections).map(([phase, outcomes]) => [phase, Object.fromEntries(
+    Object.entries(outcomes).map(([name, text]) => [name, counting(text, coming, going)]))]));
 
 // Below the picture: who is inside, and the words.
 export function readersCaption(names) {
@@ -104,5 +112,5 @@ export function sectionMark(shortNames) {
 
 // What the entries of `locks.js` share. The calls have long words, so the columns are wide.
 export const readWrite = {
-  memory: 'Memory: who is where', leastColumn: 56, valueText: (_, value) => String(value),
+  memory: T.memory, leastColumn: 56, valueText: (_, value) => String(value),
 };

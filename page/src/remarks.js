@@ -14,6 +14,12 @@ function comments(text) {
   return letters.split('\n').filter((line) => line.startsWith('#'));
 }
 
+// {what, number, text} of a remark with a number, or null.
+export function remarkOf(line) {
+  const found = line.match(REMARK)?.groups;
+  return found ? { ...found, number: Number(found.number) } : null;
+}
+
 function note(remarks, number, text, goesOn) {
   const before = goesOn && remarks.get(number);
   remarks.set(number, before ? `${before} ${text}` : text);

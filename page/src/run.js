@@ -1,9 +1,10 @@
 // One schedule text as the machine plays it: its records, its states, and where it ends.
 
-import { ANSWER, FAULTS, MOST_BYTES, MOST_MOVES, PHASE, REFUSALS } from './codes.js';
+import { ANSWER, CALLS, FAULTS, MOST_BYTES, MOST_MOVES, PHASE, REFUSALS } from './codes.js';
 import { Records } from './machine.js';
-import { beforeLine } from './bytes.js';
+import { beforeLine, lineOf } from './bytes.js';
 
+const RLOCK = CALLS.indexOf('rlock');
 const STATES_KEPT = 256;
 // Faults before which moves may stand.
 const LATE_FAULTS = ['BadLine', 'TooManyMoves'];
@@ -27,13 +28,22 @@ export class Run {
     this.end = this.hasLock ? answer.state : null;
     this.records = new Records(this.hasLock ? answer.records : new Uint8Array());
     this.count = this.records.count;
-    this.refusal = this.hasLock && this.end.answer === ANSWER.refused ? refusalOf(this.end) : null;
+    this.refusal = this.hasLock && this.end.answer === ANSWER.refused
+      ? refusalOf(this.end, text) : null;
     this.movesOf = movesByThread(this.records);
   }
 
   get kind() { return this.end.kind; }
   get threads() { return this.end.threads; }
   get bits() { return this.end.bits; }
+  // Whether one can hold the lock as a reader: at the beginning the machine accepts the call.
+  get hasReaders() {
+    const { machine, played } = this;
+    const begun = () => machine.play(played, 0, false, this.count ? this.bytesFor(1) : undefined);
+    return (this.readers ??= begun().state.allows(0, RLOCK));
+  }
+  // The last place to step to: the last move, or the refused one behind it.
+  get last() { return this.count + (this.refusal ? 1 : 0); }
 
   // The machine's state after so many moves; the last few asked for are kept.
   state(moves) {
@@ -72,9 +82,13 @@ export class Run {
 }
 
 const faultOf = (state) => ({ name: FAULTS[state.reason], line: state.line });
-const refusalOf = (state) => ({
-  name: REFUSALS[state.reason], line: state.line, wanted: state.wantedStep,
-});
+
+// The refused move: what the machine said of it, and its line's two words.
+function refusalOf(state, text) {
+  const [thread, word] = lineOf(text, state.line).split(' ');
+  const name = REFUSALS[state.reason];
+  return { name, line: state.line, wanted: state.wantedStep, thread: Number(thread), word };
+}
 
 // What can be stepped through of a text with a fault: the lines before it.
 function playablePart(text, fault) {

@@ -1,6 +1,7 @@
 // The FIFO read-write lock: what is said of its sections, and its memory: both counts of readers,
 // on a wheel where words are narrow, the flag, who is inside, and who is at the monitor.
 
+import { translated } from './language.js';
 import { html } from './markup.js';
 import {
   monitor, monitorHeight, readersCaption, readWrite, room, sectionMark, sectionsSay,
@@ -9,23 +10,26 @@ import { picture, useOf, wordBox } from './shapes.js';
 import { say } from './texts.js';
 import { handLegend, HANDS, hasWheel, wheelOf, wheelPlaced } from './wheel.js';
 
-const says = {
-  ...sectionsSay('readAcquires', 'readReleases'),
-  TryWrite: {
-    waits: '{who} polls and waits: the flag is set. {who} is not in line.',
-    moved: '{who} sets the flag, and so is announced: no reader comes in any more. The '
-      + 'counts are {acquires} and {releases}, so {who} waits for the readers.',
-    entered: '{who} sets the flag, finds the counts equal, and writes.',
+const T = translated('rwFifo', {
+  title: 'FIFO read-write lock',
+  announced: '{writer} is announced: no reader may pass.',
+  says: {
+    TryWrite: {
+      waits: '{who} polls and waits: the flag is set. {who} is not in the queue.',
+      moved: '{who} sets the flag, and so is announced: no reader comes in any more. The '
+        + 'counts are {acquires} and {releases}, so {who} waits for the readers.',
+      entered: '{who} sets the flag, finds the counts equal, and writes.',
+    },
+    AwaitReaders: {
+      waits: '{who} polls and waits: the counts are {acquires} and {releases}, so there are '
+        + 'readers inside.',
+      entered: '{who} finds the counts equal, {acquires} and {releases}: no reader is inside, '
+        + 'and {who} writes.',
+    },
+    wraps: 'After {found} comes {left}: the count has gone round.',
   },
-  AwaitReaders: {
-    waits: '{who} polls and waits: the counts are {acquires} and {releases}, so there are '
-      + 'readers inside.',
-    entered: '{who} finds the counts equal, {acquires} and {releases}: no reader is inside, '
-      + 'and {who} writes.',
-  },
-  wraps: 'After {found} comes {left}: the count has gone round.',
-};
-const ANNOUNCED = '{writer} is announced: no reader may pass.';
+});
+const says = { ...sectionsSay('readAcquires', 'readReleases'), ...T.says };
 
 const WORDS = ['readAcquires', 'readReleases', 'flag'];
 const ACQUIRES = 0;
@@ -43,7 +47,7 @@ function counts(view, state) {
 
 function draw(view, state) {
   const box = (word, x, width) => wordBox(x, 40, width, String(state.word(word)),
-    useOf(view.run, view.move, word), WORDS[word]);
+    useOf(view.run, view.marked, word), WORDS[word]);
   const wheel = hasWheel(view.run.bits);
   const left = wheel ? 232 : 24;
   const roomHeight = 44 + 32 * Math.max(1, Math.ceil(state.holders.length / 7));
@@ -59,7 +63,7 @@ const plain = readersCaption(WORDS);
 function caption(view, state) {
   const { text } = plain(view, state);
   if (!state.queue.length) return { text };
-  const announced = say(ANNOUNCED, { writer: view.names.of(state.queue[0]) });
+  const announced = say(T.announced, { writer: view.names.of(state.queue[0]) });
   return { text: `${text} ${announced}` };
 }
 
@@ -71,7 +75,7 @@ function values(view, move) {
 const leastWidth = (view) => (hasWheel(view.run.bits) ? 512 : 400);
 
 export const rwFifo = {
-  ...readWrite, name: 'rw-fifo', title: 'FIFO read-write lock', lesson: 'fifo',
+  ...readWrite, name: 'rw-fifo', title: T.title, lesson: 'fifo',
   signs: ['inCall', 'line', 'reads', 'writes', 'ended'],
   says, goesRound: ['TryRead', 'LeaveRead', 'TryDowngrade'],
   mark: sectionMark(['acq.', 'rel.', 'flag']), values,

@@ -1,20 +1,24 @@
 // The simple read-write lock: what is said of its sections, and its memory: the count of readers,
 // the writer's flag, who is inside, and who is at the monitor.
 
+import { translated } from './language.js';
 import { html } from './markup.js';
 import {
   monitor, monitorHeight, readersCaption, readWrite, room, sectionMark, sectionsSay,
 } from './read_write.js';
 import { picture, useOf, wordBox } from './shapes.js';
 
-const says = {
-  ...sectionsSay('readers', 'readers'),
-  TryWrite: {
-    waits: '{who} polls and waits: readers is {readers}, and the flag is {flag}. Both have to '
-      + 'be 0.',
-    entered: '{who} finds no reader and the flag clear, sets the flag, and writes.',
+const T = translated('rwSimple', {
+  title: 'Simple read-write lock',
+  says: {
+    TryWrite: {
+      waits: '{who} polls and waits: readers is {readers}, and the flag is {flag}. Both have to '
+        + 'be 0.',
+      entered: '{who} finds no reader and the flag clear, sets the flag, and writes.',
+    },
   },
-};
+});
+const says = { ...sectionsSay('readers', 'readers'), ...T.says };
 
 const WORDS = ['readers', 'flag'];
 const READERS = 0;
@@ -22,7 +26,7 @@ const FLAG = 1;
 
 function draw(view, state) {
   const box = (word, x) => wordBox(x, 40, 108, String(state.word(word)),
-    useOf(view.run, view.move, word), WORDS[word]);
+    useOf(view.run, view.marked, word), WORDS[word]);
   const roomWidth = Math.min(272, view.width * 0.44);
   const inside = 190 + 32 * state.holders.length / 6;
   const height = Math.max(250, 40 + monitorHeight(view, state), inside);
@@ -40,7 +44,7 @@ function values(view, move) {
 const leastWidth = () => 600;
 
 export const rwSimple = {
-  ...readWrite, name: 'rw-simple', title: 'Simple read-write lock', lesson: 'simple',
+  ...readWrite, name: 'rw-simple', title: T.title, lesson: 'simple',
   signs: ['inCall', 'reads', 'writes', 'ended'],
   says, mark: sectionMark(['readers', 'flag']), values,
   wordName: (word) => WORDS[word], draw, caption, leastWidth,

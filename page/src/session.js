@@ -1,6 +1,7 @@
 // What is shown: one schedule, the move at which it stands, and everything derived from the two.
 
 import { arrowsOf } from './arrows.js';
+import { Bound, withoutLines } from './bound.js';
 import { lettersOf, throughLine } from './bytes.js';
 import { awaitedLines, codeLine } from './locks_code.js';
 import { LOCK_NAMES, lockOf } from './locks.js';
@@ -11,19 +12,61 @@ import { placeAfter, Run } from './run.js';
 const NO_ARROWS = { arrows: [], arrowEnds: [] };
 
 export class Session {
-  constructor(machine, code) {
+  constructor(machine, lines) {
     this.machine = machine;
-    this.lines = LOCK_NAMES.map((lock) => code[lock].map(codeLine));
+    this.lines = lines;
     this.move = 0;
+    this.place = 0;
   }
 
+  // Whether the refused move is shown.
+  get refused() { return this.place > this.run.count; }
+
+  // Another session on the same machine.
+  twin() {
+    return new Session(this.machine, this.lines);
+  }
+
+  // A text of its own.
   open(text, lesson = null, move = 0) {
+    this.bound = new Bound();
+    this.load(text, lesson, move);
+    this.origin = { run: this.run, title: this.remarks.title || lesson };
+  }
+
+  // A text that was made from this one: of its remarks those are left that still hold.
+  derive(text, lesson, move) {
+    this.load(text, lesson, move);
+  }
+
+  // What `restore` brings back.
+  get shown() {
+    const { run: { text }, lesson, place, bound, origin } = this;
+    return { text, lesson, place, bound, origin };
+  }
+
+  restore({ text, lesson, place, bound, origin }) {
+    this.bound = bound;
+    this.origin = origin;
+    this.load(text, lesson, place);
+  }
+
+  // The remarks hold as they are.
+  keepRemarks() {
+    this.bound = new Bound();
+    this.load(this.run.text, this.lesson, this.place);
+  }
+
+  load(text, lesson, move) {
     this.run = new Run(this.machine, text);
     this.lesson = lesson;
-    this.remarks = remarksOf(text);
+    this.stale = this.bound.stale(this.run);
+    // What is saved and linked.
+    this.held = withoutLines(text, this.stale);
+    this.remarks = remarksOf(this.held);
     this.names = new Names(this.remarks.name);
     this.arrows = this.run.hasLock ? this.arrowsNow() : NO_ARROWS;
-    this.go(move);
+    this.go(move instanceof Function ? move(this) : move);
   }
 
   arrowsNow() {
@@ -34,22 +77,29 @@ export class Session {
     return { arrows, arrowEnds: arrows.map(({ to }) => to) };
   }
 
+  // To a move, or to the refused one behind the last.
   go(move) {
-    this.move = Math.min(this.run.count, Math.max(0, Math.trunc(move) || 0));
+    this.place = Math.min(this.run.last, Math.max(0, Math.trunc(move) || 0));
+    this.move = Math.min(this.run.count, this.place);
   }
 
   view(extra) {
-    const { run, move, names, remarks } = this;
-    return { run, move, names, remarks, ...this.arrows, ...extra };
+    const { run, move, names, remarks, place, refused } = this;
+    // The move whose words are marked: of a refused one its thread's last, which decided it.
+    const marked = refused ? run.lastMoveOf(run.refusal.thread, move) : move;
+    return { run, move, names, remarks, place, refused, marked, ...this.arrows, ...extra };
   }
 
   // The line of the text in which the current move stands; before the first move the header's.
   line() {
-    return this.move ? this.run.records.line(this.move) : headerLine(this.run.text);
+    return this.move ? this.run.records.line(this.move) : this.headerLine();
   }
+
+  headerLine() { return headerLine(this.run.text); }
 
   // The last move at or before a line of the text.
   moveAtLine(line) {
+    if (this.run.refusal && line >= this.run.refusal.line) return this.run.last;
     const moves = { length: this.run.count };
     return placeAfter(Array.from(moves, (_, i) => this.run.records.line(i + 1)), line);
   }
@@ -61,6 +111,9 @@ export class Session {
     return { letters: `${text}${moveLine}\n`, plain: kept.plain };
   }
 }
+
+// The code of each lock, line by line.
+export const linesOf = (code) => LOCK_NAMES.map((lock) => code[lock].map(codeLine));
 
 // The first line that is neither empty nor a comment.
 export function headerLine(text) {

@@ -18,7 +18,7 @@ function kindOf(records, move) {
   return records.outcome(move) === OUTCOME.entered ? 'enters' : null;
 }
 
-const placeOf = (run, width, move) => EDGE + (width - 2 * EDGE) * move / Math.max(1, run.count);
+const placeOf = (run, width, move) => EDGE + (width - 2 * EDGE) * move / Math.max(1, run.last);
 
 // A tick for each place where something is, at most one of a kind in two dots of the screen.
 function ticks(view, width) {
@@ -33,6 +33,7 @@ function ticks(view, width) {
     const kind = kindOf(run.records, move);
     if (kind) put(kind, move);
   }
+  if (run.refusal && !view.hidden) put('fails', run.last);
   return [...seen.values()];
 }
 
@@ -42,7 +43,7 @@ export function sliderPicture(view, width) {
   if (drawn.run !== view.run || drawn.width !== width || drawn.hidden !== view.hidden) {
     drawn = { run: view.run, width, hidden: view.hidden, ticks: ticks(view, width) };
   }
-  const x = placeOf(view.run, width, view.move);
+  const x = placeOf(view.run, width, view.place);
   return html`<svg width="${width}" height="42" viewBox="0 0 ${width} 42" aria-hidden="true">
     <path class="track" d="M${EDGE} 21H${width - EDGE}"/>
     <path class="track done" d="M${EDGE} 21H${x}"/>

@@ -6,7 +6,6 @@ import { AS_WRITER, HOLDS, IN_LINE, OUTCOME, PHASE } from './codes.js';
 import { placeAfter } from './run.js';
 
 const UNLINKED = [PHASE.SetLocked, PHASE.LinkTo];
-const READS = [PHASE.Reading, PHASE.LeaveRead];
 const IN_A_CALL = [OUTCOME.called, OUTCOME.moved, OUTCOME.waits];
 
 // One of holds, reads, writes, line, call, rest.
@@ -15,7 +14,7 @@ export function standingAfter(run, move) {
   const standing = run.records.standing(move);
   if (standing & HOLDS) {
     if (standing & AS_WRITER) return 'writes';
-    return READS.includes(run.records.phase(move)) ? 'reads' : 'holds';
+    return run.hasReaders ? 'reads' : 'holds';
   }
   if (standing & IN_LINE) return 'line';
   return IN_A_CALL.includes(run.records.outcome(move)) ? 'call' : 'rest';

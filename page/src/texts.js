@@ -1,7 +1,9 @@
-// What the page says, but for what it says of one lock alone: that is in the lock's file. {..}
-// stands for what the machine or the schedule gave.
+// What the page says, in English, but for what it says of one lock alone: that is in the lock's
+// file. {..} is what the machine or the schedule gave.
 
-export const texts = {
+import { translated } from './language.js';
+
+const english = {
   product: 'lockreplay',
   thread: (number) => `thread ${number}`,
   shortThread: (number) => `T${number}`,
@@ -9,51 +11,92 @@ export const texts = {
   subtitle: (lock, threads, bits) => `${lock}, ${threads}, words of ${bits} bits`,
   noLock: 'No lock yet',
   untitled: 'Your own schedule',
+  branchOf: (title, move) => `${title}: another way after move ${move}`,
 
-  modes: { lessons: 'Lessons', own: 'Your own', play: 'Play', quiz: 'Quiz' },
+  modes: { lessons: 'Lessons', own: 'Your own', play: 'Play', quiz: 'Quiz', compare: 'Compare' },
+  compare: {
+    label: 'The schedule that is compared', title: (title) => `Compared with: ${title}`,
+    first: (move) => `First difference: move ${move}`, same: 'No difference',
+    here: 'here:', there: 'there:',
+    nothing: 'There is nothing to compare with. Branch off first, in Play or by an edit.',
+  },
   tools: {
-    copyLink: 'Copy link', print: 'Print', dark: 'Dark', light: 'Light', keys: 'Keys',
+    copyLink: 'Link', print: 'Print', dark: 'Dark', light: 'Light', keys: 'Keys',
     first: 'First move', back: 'One move back', forward: 'One move forward', last: 'Last move',
     run: 'Play the moves one after another', pause: 'Pause', slider: 'Move', close: 'Close',
-    wider: 'Wider columns', narrower: 'Narrower columns',
+    wider: 'Wider columns', narrower: 'Narrower columns', take: 'Take away',
+    speed: 'Speed at which the moves are played',
   },
-  linkCopied: 'The link is copied.',
-  linkInBar: 'The link is in the address bar.',
-  linkTooLong: 'This schedule is too long for a link. Save it as a file.',
+  take: {
+    title: 'To take away', svg: 'This state as a picture (SVG)',
+    png: 'This state as a picture (PNG)', report: 'The whole report', schedule: 'The schedule',
+    frame: 'Copy a frame for a slide', frameCopied: 'The frame is copied.',
+    noPicture: 'This browser cannot make the picture. Take the SVG.',
+  },
+  about: {
+    title: 'About this page',
+    proved: 'This page runs the machine of lockreplay itself, compiled to WebAssembly. Each of its '
+      + 'functions is proved to do what its contract says: what is accepted, refused and reported '
+      + 'is what the definitions of the four locks say. Pictures and sentences are not proved.',
+    documents: {
+      PROOF: 'What is proved', LOCKS: 'The locks as code', GUIDE: 'Guide for teachers',
+    },
+    source: 'The source is in the folder that this page came with: page/src, crates/lk_page.',
+    licence: 'Licence: Apache-2.0 OR MIT.',
+    browsers: 'It needs 64-bit WebAssembly memory: Chromium from 133 or Firefox from 134 on. '
+      + 'Another browser shows the lessons as they were played before.',
+    language: 'Language:',
+  },
+  links: {
+    copied: 'The link is copied.', inBar: 'The link is in the address bar.',
+    fromDisk: 'It names this file on your disk. To share it, put the page on a web server.',
+    tooLong: 'This schedule is too long for a link. It is saved as a file, which the page opens.',
+    damaged: 'This link is damaged, and its schedule cannot be read. The address is as it was.',
+    nothing: 'This link names no schedule. The address is as it was.',
+    cut: 'This link has no end. Perhaps a part of its schedule is missing.',
+    noLesson: (name) => `There is no lesson “${name}”. The address is as it was.`,
+    notKept: 'This link names a schedule that is kept in another browser, or no more. '
+      + 'Open its file instead.',
+  },
+  noSchedule: 'The clipboard has no schedule. Paste into the text (key E).',
 
   time: 'Threads over time',
   noMoves: 'No move has been made. Choose a step of a thread.',
   resting: (threads) => `${threads} without a move`,
   legend: {
-    call: 'call', vain: 'failed poll', enters: 'enters', leaves: 'leaves',
-    fails: 'compare-and-swap fails', inCall: 'in a call', line: 'in line', holds: 'holds',
-    reads: 'reads', writes: 'writes', unlinked: 'in line, not linked',
+    call: 'called', vain: 'waits: failed poll', enters: 'entered', leaves: 'left',
+    fails: 'cas fails', inCall: 'in a call', line: 'in the queue', holds: 'holds',
+    reads: 'reads', writes: 'writes', unlinked: 'in the queue, not linked',
     ended: 'the write that ended a wait',
   },
   marks: {
-    fails: 'fails', done: 'done', unlinked: 'in line, not linked',
-    holds: 'holds', reads: 'reads', writes: 'writes', line: 'in line',
+    fails: 'fails', done: 'done', unlinked: 'in the queue, not linked',
+    holds: 'holds', reads: 'reads', writes: 'writes', line: 'queue',
   },
 
   memory: 'Memory',
   standing: {
-    holds: 'holds', reads: 'reads', writes: 'writes', line: 'in line', call: 'in a call',
+    holds: 'holds', reads: 'reads', writes: 'writes', line: 'queue', call: 'in a call',
     rest: 'at rest',
   },
   ownVariable: (name) => `${name}’s own variable`,
   wheel: (bits, places) => `${bits} bits: ${places} numbers, then round`,
 
-  code: 'What each thread does next',
+  code: 'Code: this move, and each thread’s next step',
   now: 'This move',
   position: (move, count) => `${move} of ${count}`,
-  start: 'All words are 0, and nobody is in line.',
+  start: 'All words are 0, and the queue is empty.',
   startHint: 'Press → for the first move.',
   before: 'before the first move',
   outcomes: {
-    called: 'begins', moved: 'goes on', waits: 'waits', entered: 'enters', left: 'leaves',
+    called: 'called', moved: 'moved', waits: 'waits', entered: 'entered', left: 'left',
   },
-  fails: 'fails',
-  facts: { wrote: 'Wrote', holds: 'Holds', line: 'In line', report: 'Report' },
+  plain: {
+    called: 'a call begins', moved: 'the call goes on', waits: 'a failed poll',
+    entered: 'it holds from here on', left: 'it holds no more',
+    fails: 'the compare-and-swap fails',
+  },
+  facts: { wrote: 'Wrote', holds: 'Holds', line: 'Queue', report: 'Report' },
   noWord: 'no word',
   nobody: 'nobody',
   asReader: 'reads',
@@ -68,7 +111,7 @@ export const texts = {
     start: (count) => `Before the first of ${count} moves.`,
     did: (who, word, outcome) => `${who}, ${word}, ${outcome}.`,
     holds: (names) => `Holds: ${names}.`,
-    line: (names) => `In line: ${names}.`,
+    line: (names) => `Queue: ${names}.`,
     ask: (question) => `Question: ${question}`,
     hidden: 'What comes of the next move is asked before it is shown.',
   },
@@ -79,6 +122,7 @@ export const texts = {
     groups: {
       refused: 'Moves that are refused', fault: 'Texts that are no schedule',
     },
+    kept: 'Kept in this browser', keptMove: (place) => `at move ${place}`,
     moves: (count) => (count === 1 ? '1 move' : `${count} moves`),
   },
 
@@ -105,12 +149,17 @@ export const texts = {
       : `The ${count} moves before it can be stepped through.`),
     fix: (line) => `Write “${line}”`,
     removeReturns: 'Remove every carriage return',
+    stale: (count) => (count === 1
+      ? 'One line of comment belongs to other moves. It is not shown, saved or linked.'
+      : `${count} lines of comment belong to other moves. They are not shown, saved or linked.`),
+    keep: 'Keep them',
   },
 
   play: {
     title: 'Play',
     hint: 'Choose who moves. What is made here is a schedule that the lock really runs.',
     branch: (move) => `A choice here goes on after move ${move}.`,
+    every: 'Every move, also those that are refused',
     undo: 'Undo',
     step: (word) => word,
     next: 'next',
@@ -125,18 +174,31 @@ export const texts = {
   quiz: {
     title: 'Before it is shown',
     next: (move, who, word) => `Move ${move}: ${who}, ${word}`,
-    outcome: 'What comes of it?',
+    outcome: 'What is its outcome?',
     holders: 'Who holds then?',
-    queue: 'Who is in line then?',
-    hint: 'As in the report: - for nobody, 0 for a holder, r0,2 for readers, w1 for a writer.',
+    queue: 'Who is in the queue then?',
+    short: { outcome: 'outcome', holders: 'hold', queue: 'queue' },
+    hint: {
+      holders: 'As in the report: - for nobody, 0 for a holder, r0,2 for readers, w1 for a writer.',
+      queue: 'As in the report: - for nobody, 0,2 for thread 0 and behind it thread 2.',
+    },
     check: 'Check',
-    score: (right, asked) => `${right} of ${asked} right`,
-    right: 'right', wrong: (given) => `not ${given || 'nothing'}`,
+    score: ({ right, wrong, points }) => `Points: ${points} (${right} right, ${wrong} wrong)`,
+    rule: 'A wrong answer takes a point away.',
+    save: 'Save for the teacher', fileName: 'quiz.txt',
+    fileHead: '# lockreplay: answers of a quiz. A wrong answer takes a point away.',
+    wrong: (given) => `not ${given || 'nothing'}`,
+    checked: ({ right, truth }) => (right ? 'Right.' : `Wrong: ${truth}.`),
     last: 'That was the last move.',
-    again: 'From the first move',
     outcomes: {
-      called: 'called: a call begins', moved: 'moved: it goes on', waits: 'waits: a failed poll',
+      moved: 'moved: it goes on', waits: 'waits: a failed poll',
       entered: 'entered: it holds', left: 'left: it holds no more',
+    },
+    why: {
+      moved: 'The outcome is “moved”: the call goes on, and the same threads hold the lock.',
+      waits: 'The outcome is “waits”: the poll failed, and the thread polls again.',
+      entered: 'The outcome is “entered”: from this move on the thread holds the lock.',
+      left: 'The outcome is “left”: from this move on the thread does not hold the lock so.',
     },
   },
 
@@ -153,11 +215,15 @@ export const texts = {
       ['O', 'lessons'],
       ['E', 'your own schedule; Escape leaves the text'],
       ['G', 'play: choose who moves'],
-      ['0 to 9', 'in Play: this thread’s step, or its first allowed call'],
-      ['U', 'in Play: undo'],
+      ['0 to 9', 'in Play: this thread’s step; of several choices the first, Tab to the others'],
+      ['W', 'in Play: every move, also those that are refused'],
+      ['U, Ctrl Z', 'undo: a choice, an edit, another schedule'],
       ['Q', 'quiz'],
+      ['C', 'compare with what this was branched off from, or with the other read-write lock'],
       ['L', 'copy a link to this move'],
       ['P', 'print'],
+      ['T', 'take away: picture, report, schedule, a frame for a slide'],
+      [', .', 'slower, faster'],
       ['D', 'dark or light'],
       ['+ −', 'wider, narrower columns'],
       ['?', 'these keys'],
@@ -174,7 +240,7 @@ export const texts = {
   print: {
     questions: 'Questions', table: 'Moves', move: 'Move', thread: 'Thread',
     what: 'Call or step', outcome: 'Outcome', says: 'What it did', holds: 'Holds',
-    line: 'In line',
+    line: 'Queue',
     part: (from, to, count) => `Moves ${from} to ${to} of ${count}`,
   },
 
@@ -197,6 +263,13 @@ export const texts = {
     AlreadyHolds: '{Thread} holds the lock already. These locks are not reentrant.',
     NoCall: '{Thread} is in no call, so it has no step to make.',
     WrongStep: 'The step that {thread} has to make next is another one.',
+    due: 'Due is the step “{step}”, in line {number} of the code: “{code}”.',
+    nobodyHolds: 'Nobody holds the lock.',
+    holds: '{list} holds the lock{mode}.',
+    holdTogether: '{list} hold the lock{mode}.',
+    modes: ['', '', ' and reads', ' and writes'],
+    refused: 'refused', noSuch: 'no such thread', decided: 'Decided by', found: 'found',
+    move: (number) => `move ${number}:`, noMove: (who) => `no move of ${who} yet`,
     could: 'Here {thread} could {moves}.',
     step: 'make the step “{word}”',
     call: 'call “{word}”',
@@ -214,6 +287,11 @@ export const texts = {
     twoBlanks: 'There are two blanks in a row.',
     tab: 'There is a tab. Words stand apart by one blank.',
     mark: 'The line begins with a byte order mark.',
+    utf16: 'The text is UTF-16. Save it as UTF-8, or as plain ASCII.',
+    returnsAlone: 'The lines end with carriage returns (CR) alone. They end with a line feed.',
+    noBreak: 'There is a no-break space. Words stand apart by one plain blank.',
+    unseen: 'There is a character that cannot be seen, {code}.',
+    stranger: '“{letter}” is no letter of ASCII, but {code}.',
     TooLong: 'The text has more than 1,048,576 bytes, the most that a schedule may have.',
     TooManyMoves: 'This would be move 65,537. A schedule has at most 65,536.',
     NoHeader: 'There is no header: every line is empty or begins with #.',
@@ -240,6 +318,8 @@ export const texts = {
     ownMoves: 'The moves of this lock are {moves}.',
   },
 };
+
+export const texts = translated('page', english);
 
 // Puts values into a text.
 export const fill = (text, values) => text.replace(/\{(\w+)\}/g, (_, name) => values[name]);

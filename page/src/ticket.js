@@ -2,6 +2,7 @@
 // are narrow, and who has which ticket.
 
 import { PHASES } from './codes.js';
+import { translated } from './language.js';
 import { html } from './markup.js';
 import { picture, token, useOf, wordBox } from './shapes.js';
 import { say, texts } from './texts.js';
@@ -13,26 +14,29 @@ const WORDS = ['next_ticket', 'now_serving'];
 const OWN_VARIABLE = {
   AwaitTurn: 'ticket', TicketInside: 'ticket', ReadServing: 'ticket', PassOn: 'served',
 };
-const says = {
-  TakeTicket: {
-    moved: '{who} draws ticket {found}, and is in line from here on. next_ticket is now '
-      + '{left}.',
+const T = translated('ticket', {
+  title: 'Ticket lock', memory: 'Memory: who has which ticket', next: 'next',
+  strip: 'The tickets that are out, in the order of the queue, and the next one',
+  says: {
+    TakeTicket: {
+      moved: '{who} draws ticket {found}, and is in the queue from here on. next_ticket is now '
+        + '{left}.',
+    },
+    AwaitTurn: {
+      waits: '{who} polls and waits: now_serving is {found}, and {whose} ticket is {number}.',
+      entered: '{who} finds {whose} ticket, {found}, in now_serving, and enters.',
+    },
+    ReadServing: { moved: '{who} reads now_serving, to pass it on: it is {found}.' },
+    PassOn: { left: '{who} writes {left} into now_serving, and has left.' },
+    wraps: 'After {found} comes {left}: the numbers have gone round.',
   },
-  AwaitTurn: {
-    waits: '{who} polls and waits: now_serving is {found}, and {whose} ticket is {number}.',
-    entered: '{who} finds {whose} ticket, {found}, in now_serving, and enters.',
+  captions: {
+    nobody: 'No ticket is out: the next one is {next}.',
+    line: 'Served is {serving}; the next ticket is {next}.',
+    wraps: 'The tickets have gone round: {first} is served before {last}.',
   },
-  ReadServing: { moved: '{who} reads now_serving, to pass it on: it is {found}.' },
-  PassOn: { left: '{who} writes {left} into now_serving, and has left.' },
-  wraps: 'After {found} comes {left}: the numbers have gone round.',
-};
-const captions = {
-  nobody: 'No ticket is out: the next one is {next}.',
-  line: 'Served is {serving}; the next ticket is {next}.',
-  wraps: 'The tickets have gone round: {first} is served before {last}.',
-};
-const NEXT = 'next';
-const STRIP = 'The tickets that are out, in the order of the line, and the next one';
+});
+const { says, captions } = T;
 
 const CELL = 74;
 const CELL_ROW = 92;
@@ -47,7 +51,7 @@ const holdersOfTickets = (state) => state.queue.map((thread) => ({
 
 function words(view, state, x) {
   const box = (word, at) => wordBox(at, 40, 112, String(state.word(word)),
-    useOf(view.run, view.move, word), WORDS[word]);
+    useOf(view.run, view.marked, word), WORDS[word]);
   return html`${box(NEXT_TICKET, x)}${box(NOW_SERVING, x + 128)}`;
 }
 
@@ -92,7 +96,7 @@ function cell(view, { thread, number }, x, y) {
   const next = thread === undefined;
   const below = next
     ? html`<text class="note" x="${middle}" y="${y + 52}"
-      text-anchor="middle">${NEXT}</text>`
+      text-anchor="middle">${T.next}</text>`
     : token(middle, y + 54, view, thread);
   return html`<rect class="cell ${next && 'next'}" x="${x}" y="${y}" width="${CELL - 8}"
       height="34" rx="6"/>
@@ -118,11 +122,11 @@ function served(view, state) {
 
 function wide(view, state) {
   const box = (word, x) => wordBox(x, 40, 120, String(state.word(word)),
-    useOf(view.run, view.move, word), WORDS[word]);
+    useOf(view.run, view.marked, word), WORDS[word]);
   const { drawn, height } = strip(view, state, 116);
   return picture(view, 140 + height, caption(view, state).text,
     html`${box(NOW_SERVING, 24)}${box(NEXT_TICKET, 160)}
-      <text class="note" x="24" y="104">${STRIP}</text>${drawn}${served(view, state)}`);
+      <text class="note" x="24" y="104">${T.strip}</text>${drawn}${served(view, state)}`);
 }
 
 const draw = (view, state) => (hasWheel(view.run.bits) ? narrow(view, state) : wide(view, state));
@@ -145,7 +149,7 @@ const values = (view, move) => ({ number: view.run.phaseNumberBefore(move) });
 const leastWidth = (view) => (hasWheel(view.run.bits) ? 576 : 420);
 
 export const ticket = {
-  name: 'ticket', title: 'Ticket lock', lesson: 'ticket', memory: 'Memory: who has which ticket',
+  name: 'ticket', title: T.title, lesson: 'ticket', memory: T.memory,
   signs: ['inCall', 'line', 'holds', 'ended'],
   says, goesRound: ['TakeTicket', 'PassOn'], mark, values,
   wordName, valueText, draw, caption, leastWidth,

@@ -84,6 +84,14 @@ class Firefox:
         assert answer["type"] == "success", answer
         return json.loads(answer["result"]["value"])
 
+    def until(self, script, value=None):
+        """Waits until the script gives something true, and gives that."""
+        late = time.monotonic() + PATIENCE
+        while not (given := self.run(script, value)):
+            assert time.monotonic() < late, f"never true: {script}"
+            time.sleep(0.02)
+        return given
+
     def press(self, key):
         """A key, as the browser would have it from a keyboard."""
         actions = [{"type": "keyDown", "value": key}, {"type": "keyUp", "value": key}]

@@ -104,6 +104,14 @@ def writing_and_playing(driver, _):
     until(driver, position="4 of 4")
 
 
+# An answer by keys alone: a choice, or a word.
+ANSWERS = {
+    "outcome": [Keys.SPACE, Keys.ENTER],
+    "holders": ["0", Keys.ENTER],
+    "queue": ["0", Keys.ENTER],
+}
+
+
 def themes_and_quiz(driver, _):
     open_page(driver, "#lesson=mcs-record-used-again&move=0")
     press(driver, "d")
@@ -111,12 +119,11 @@ def themes_and_quiz(driver, _):
     press(driver, "d")
     until(driver, theme="light")
     press(driver, "q")
+    press(driver, Keys.END)
     until(driver, quiz=True)
-    press(driver, Keys.SPACE)
-    press(driver, Keys.TAB, Keys.TAB, Keys.ENTER)
-    until(driver, position="1 of 9")
-    press(driver, Keys.ARROW_RIGHT)
-    until(driver, quiz=True)
+    asked = int(run(driver, "return document.getElementById('quiz-form').dataset.move"))
+    press(driver, *ANSWERS[run(driver, "return document.getElementById('quiz-form').dataset.kind")])
+    until(driver, position=f"{asked} of 9", quiz=False)
 
 
 def slider(driver, _):

@@ -66,7 +66,7 @@ def measure(driver, text):
 
 def stretch(driver, start):
     timed(driver, f"{start};", 1)
-    return timed(driver, "page.step(1);", STEPS)
+    return timed(driver, "page.stepping.step(1);", STEPS)
 
 
 def loads_and_steps(driver, _):

@@ -58,7 +58,8 @@ def step_through(driver, report):
         shown = shown_at(driver, f"{move} of {len(moves)}")
         compare(shown, move, line, report.splitlines()[move - 1])
     body.send_keys(Keys.ARROW_RIGHT)
-    shown_at(driver, f"{len(moves)} of {len(moves)}")
+    refused = report.splitlines()[-1].startswith("refused")
+    shown_at(driver, "refused" if refused else f"{len(moves)} of {len(moves)}")
 
 
 def each_lesson(driver, _):

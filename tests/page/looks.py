@@ -104,7 +104,7 @@ def labels(driver, _):
         "Ann",
         "compare-and-swap fails",
         "Holds: Ann",
-        "In line: Ann, Bob",
+        "Queue: Ann, Bob",
         "Question:",
     ]:
         assert part in spoken, spoken
@@ -137,7 +137,7 @@ def heads_have_room(driver, _):
 NAMES_DRAWN = """
 const { page } = window.lockreplay;
 page.openOwn(new TextEncoder().encode(arguments[0]));
-page.setMode('lessons');
+page.modes.set('lessons');
 page.go(page.session.run.count);
 const box = (one) => one.getBoundingClientRect();
 const drawn = (one) => one.lastChild.textContent;

@@ -69,6 +69,12 @@ FAULTS = [
     (HEADER + "0 acquire\n 0 add\n", 3, ["blank at the line’s beginning"], 1),
     (HEADER + "0 acquire\n0  add\n", 3, ["two blanks in a row"], 1),
     (HEADER + "0 acquire\n0\tadd\n", 3, ["a tab"], 1),
+    (HEADER + "0 acquire\n0\u00a0add\n", 3, ["no-break space", "Write “0 add”"], 1),
+    (HEADER + "0 acquire\n0 a\u200bdd\n", 3, ["U+200B", "Write “0 add”"], 1),
+    (HEADER + "0 acquire\n0 a\0dd\n", 3, ["U+0000", "Write “0 add”"], 1),
+    (HEADER + "0 \u0430cquire\n", 2, ["“\u0430” is no letter of ASCII, but U+0430"], 0),
+    ("lock mcs threads 2\r0 acquire\r", 1, ["carriage returns (CR) alone"], 0),
+    ("l\0o\0c\0k\0", 1, ["UTF-16"], 0),
     (HEADER + "0 acquire\n00 add\n", 3, ["no leading zero"], 1),
     (HEADER + "256 acquire\n", 2, ["“256” is no thread’s number", "from 0 to 255"], 0),
     (HEADER + "acquire\n", 2, ["This is no move"], 0),
@@ -118,7 +124,7 @@ def said(driver, _):
         for part in parts:
             assert part in shown["verdict"], (text, part, shown["verdict"])
         if count:
-            run(driver, "window.lockreplay.page.go(0); window.lockreplay.page.step(1)")
+            run(driver, "window.lockreplay.page.go(0); window.lockreplay.page.stepping.step(1)")
             assert run(driver, SHOWN)["position"] == f"1 of {count}", text
 
 
@@ -270,7 +276,7 @@ def markup_is_text(driver, _):
     for move in [0, 1]:
         run(
             driver,
-            "window.lockreplay.page.go(arguments[0]); window.lockreplay.page.drawPaper()",
+            "window.lockreplay.page.go(arguments[0]); window.lockreplay.drawPaper()",
             move,
         )
         found = run(

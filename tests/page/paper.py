@@ -35,7 +35,7 @@ def only_paper_is_printed(driver, _):
     open_page(driver, "#lesson=ticket-hand-over&move=5")
     run(
         driver,
-        "document.documentElement.dataset.theme = 'dark'; window.lockreplay.page.drawPaper()",
+        "document.documentElement.dataset.theme = 'dark'; window.lockreplay.drawPaper()",
     )
     driver.execute_cdp_cmd("Emulation.setEmulatedMedia", {"media": "print"})
     shown = run(
@@ -56,7 +56,7 @@ def a_long_schedule(driver, _):
     run(
         driver,
         f"const {{ page }} = window.lockreplay; page.openOwn(new TextEncoder().encode('{text}'));"
-        "page.go(1000); page.drawPaper()",
+        "page.go(1000); window.lockreplay.drawPaper()",
     )
     rows = run(driver, ROWS)
     assert len(rows) == 400 and rows[0][0] == "800" and rows[-1][0] == "1199", (len(rows), rows[0])

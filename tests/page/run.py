@@ -1,7 +1,8 @@
 #!/usr/bin/python3
 """Tests of page/lockreplay.html in real browsers: tests/page/run.py PROGRAM [MODULE...]
 
-Each module has its browser, three at a time. After each, the browser's log must have no error,
+Each module has its browser, three at a time; a name with `@firefox` or `@chromium` behind it is
+run in that one. After each, the browser's log must have no error,
 and no request may have left the page. Needs what packages.txt has for browsers.
 """
 import concurrent.futures
@@ -12,6 +13,7 @@ import sys
 import time
 import traceback
 
+from both import opened
 from browser import PAGE, chromium
 
 IN_FIREFOX = ["firefox"]
@@ -21,12 +23,13 @@ IN_CHROMIUM = [
     "playing",
     "random_texts",
     "own_texts",
-    "quizzing",
     "keyboard",
     "links",
     "looks",
     "paper",
 ]
+# The same checks in both browsers.
+IN_BOTH = ["refused", "branches", "keeping", "quizzing", "taking", "languages"]
 # Measured, so by itself.
 ALONE = ["large"]
 AT_ONCE = 3
@@ -54,11 +57,21 @@ def in_chromium(name, program):
             stays_silent(driver)
 
 
+def in_browser(name, which):
+    """The checks of a module in one of the browsers."""
+    module = importlib.import_module(name)
+    with opened(which) as browser:
+        for check in module.CHECKS:
+            check(browser)
+
+
 def run_module(name, program):
     """What to print of a module, and whether all is well."""
     begun = time.monotonic()
     try:
-        if name in IN_FIREFOX:
+        if "@" in name:
+            in_browser(*name.split("@"))
+        elif name in IN_FIREFOX:
             importlib.import_module(name).check_all(program)
         else:
             in_chromium(name, program)
@@ -83,7 +96,8 @@ def main(words):
     if not words:
         sys.exit(__doc__)
     program = os.path.abspath(words[0])
-    names = words[1:] or IN_FIREFOX + IN_CHROMIUM + ALONE
+    both = [f"{name}@{which}" for name in IN_BOTH for which in ("chromium", "firefox")]
+    names = words[1:] or both + IN_FIREFOX + IN_CHROMIUM + ALONE
     together = run_all([name for name in names if name not in ALONE], program, AT_ONCE)
     alone = run_all([name for name in names if name in ALONE], program, 1)
     return 0 if together and alone else 1

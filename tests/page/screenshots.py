@@ -8,8 +8,8 @@ from browser import TOP, chromium, open_page, run
 
 PICTURES = TOP / "docs" / "pictures"
 MOST_BYTES = 200_000
-PLAY = "window.lockreplay.page.setMode('play')"
-QUIZ = "window.lockreplay.page.toggleQuiz()"
+PLAY = "window.lockreplay.page.modes.set('play')"
+QUIZ = "window.lockreplay.page.modes.toggleQuiz()"
 FAULT = """
 const text = 'lock mcs threads 2\\n0 acquire\\n0 write\\n0 swap\\n0 realease\\n';
 window.lockreplay.page.openOwn(new TextEncoder().encode(text));

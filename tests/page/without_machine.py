@@ -27,6 +27,11 @@ def lessons_are_shown(driver, _):
     )
     told = run(driver, "return document.getElementById('verdict').textContent")
     assert "Only the lessons can be shown" in told, told
+    open_page(driver, "#lesson=mcs-late-link&move=0")
+    run(driver, "window.lockreplay.page.modes.set('play')")
+    choices = driver.find_element(By.ID, "choices")
+    assert "needs a browser with 64-bit" in choices.text, choices.text
+    assert not choices.find_elements(By.TAG_NAME, "button")
     driver.execute_cdp_cmd("Page.removeScriptToEvaluateOnNewDocument", added)
 
 

@@ -1,0 +1,70 @@
+// The schedule as a text: typed, mended, opened from a file, saved and copied.
+
+import { bytesOf, lettersOf } from './bytes.js';
+import { Editor } from './editor.js';
+import { bytesOfFile, saveAs } from './own.js';
+import { Run } from './run.js';
+import { tell, toClipboard } from './telling.js';
+import { texts } from './texts.js';
+
+export class Editing {
+  constructor(page) {
+    this.page = page;
+    this.editor = new Editor((text, line) => this.edited(text, line), (line) => this.caretAt(line));
+  }
+
+  async openFile(file) {
+    try {
+      this.page.openOwn(await bytesOfFile(file));
+    } catch {
+      tell(texts.couldNotRead);
+    }
+  }
+
+  // A text that is no schedule does not take the place of what is shown.
+  paste(letters) {
+    const text = new TextEncoder().encode(letters);
+    const { page } = this;
+    const isOne = new Run(page.session.machine, text).hasLock;
+    if (isOne || (letters && page.mode === 'own')) page.openOwn(text);
+    else tell(texts.noSchedule);
+  }
+
+  edited(text, line) {
+    const { page } = this;
+    page.stepping.pause();
+    page.quiz.clear();
+    page.playing.remember('edit');
+    page.derive(text, (session) => session.moveAtLine(line));
+  }
+
+  caretAt(line) { this.page.go(this.page.session.moveAtLine(line)); }
+
+  mend(line) {
+    const at = this.page.session.run.fault.line;
+    const { letters, plain } = lettersOf(this.page.session.run.text);
+    const lines = letters.split('\n');
+    lines[at - 1] = line;
+    this.edited(bytesOf(lines.join('\n'), plain), at);
+  }
+
+  removeReturns() {
+    const { letters, plain } = lettersOf(this.page.session.run.text);
+    this.edited(bytesOf(letters.replace(/\r+(?=\n|$)/g, ''), plain), 1);
+  }
+
+  save() {
+    const { lesson, held } = this.page.session;
+    saveAs(lesson ? `${lesson}.schedule` : texts.own.fileName, held);
+  }
+
+  copy() {
+    const { letters } = lettersOf(this.page.session.held);
+    toClipboard(letters, texts.own.copied, texts.own.notCopied);
+  }
+
+  keepRemarks() {
+    this.page.session.keepRemarks();
+    this.page.show();
+  }
+}

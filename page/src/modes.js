@@ -1,0 +1,53 @@
+// The modes: which panel is beside the schedule, and whether moves are asked for first.
+
+import { byId } from './markup.js';
+import { saveAs } from './own.js';
+import { givenOf } from './quiz.js';
+import { texts } from './texts.js';
+
+export class Modes {
+  constructor(page) {
+    this.page = page;
+    this.mode = 'lessons';
+  }
+
+  toggle(mode) { this.set(this.mode === mode ? 'lessons' : mode); }
+
+  set(mode) {
+    this.mode = mode;
+    this.page.draw();
+  }
+
+  // A lesson with a fault is shown as a text, and any other has no use for the text's panel.
+  fitLesson() {
+    const { fault } = this.page.session.run;
+    if (this.mode === 'own' && !fault) this.set('lessons');
+    else if (fault) this.set('own');
+  }
+
+  toggleQuiz() {
+    const { quiz, session, stepping } = this.page;
+    quiz.on = !quiz.on;
+    quiz.clear();
+    stepping.pause();
+    this.page.go(session.place);
+    if (quiz.asks(session)) this.askFocus();
+  }
+
+  askFocus() { byId('quiz-form')?.querySelector('input')?.focus(); }
+
+  saveQuiz() {
+    saveAs(texts.quiz.fileName, new TextEncoder().encode(this.page.quiz.report()));
+  }
+
+  checkQuiz(form) {
+    const { quiz, session } = this.page;
+    const given = givenOf(form);
+    if (!given) return;
+    quiz.check(session, given);
+    session.go(session.place + 1);
+    this.page.moved = true;
+    this.page.draw();
+    byId('forward').focus();
+  }
+}

@@ -1,0 +1,66 @@
+// Playing: a chosen move goes on from the one that is shown, and undo takes it back.
+
+import { bytesOf } from './bytes.js';
+import { byId } from './markup.js';
+import { hasRoom, newHeader } from './play.js';
+
+const MOST_UNDONE_BYTES = 16000000;
+
+export class Playing {
+  constructor(page) {
+    this.page = page;
+    this.undone = [];
+    // Whether moves are offered that would be refused.
+    this.every = false;
+  }
+
+  get possible() {
+    const { mode, session } = this.page;
+    return mode === 'play' && session.run.hasLock && !session.machine.stored;
+  }
+
+  choose(thread, word) {
+    const { session } = this.page;
+    if (!this.possible || !hasRoom(session)) return;
+    this.remember('play');
+    const { letters, plain } = session.textWith(`${thread} ${word}`);
+    const place = session.move + 1;
+    this.page.derive(bytesOf(letters, plain), place);
+    if (session.stale.length) this.page.derive(session.held, place);
+  }
+
+  // The thread's one choice is made; of several the first is focused.
+  chooseFor(thread) {
+    if (!this.possible) return;
+    const choices = byId('choices').querySelectorAll(`[data-thread="${thread}"]`);
+    if (choices.length > 1) choices[0].focus();
+    else choices[0]?.click();
+  }
+
+  toggleEvery() {
+    this.every = !this.every;
+    byId('every').checked = this.every;
+    this.page.draw();
+  }
+
+  // What is shown, before something else is. Edits one after another are one change.
+  remember(why) {
+    const { session, address } = this.page;
+    const last = this.undone[this.undone.length - 1];
+    if (!session.run || (why === 'edit' && last?.why === 'edit')) return;
+    this.undone.push({ ...session.shown, work: address.work, why });
+    let room = MOST_UNDONE_BYTES;
+    const kept = this.undone.findLastIndex(({ text }) => { room -= text.length; return room < 0; });
+    if (kept >= 0) this.undone.splice(0, kept + 1);
+  }
+
+  undo() {
+    const before = this.undone.pop();
+    if (!before) return;
+    this.page.stepping.pause();
+    this.page.quiz.clear();
+    this.page.restore(before);
+  }
+
+  beginNew(form) { this.page.open(new TextEncoder().encode(newHeader(form)), null, 0); }
+}

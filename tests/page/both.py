@@ -1,0 +1,73 @@
+"""One way to drive either browser, for checks that run in both."""
+import contextlib
+
+from selenium.webdriver.common.action_chains import ActionChains
+from selenium.webdriver.common.keys import Keys
+
+import browser as chromium_browser
+from bidi import firefox
+from browser import PAGE
+
+WAITED = """
+return document.readyState === 'complete' && Boolean(window.lockreplay);
+"""
+
+
+class InChromium:
+    def __init__(self, driver):
+        self.driver = driver
+
+    def open(self, fragment=""):
+        chromium_browser.open_page(self.driver, fragment)
+
+    def reload(self):
+        self.driver.refresh()
+        self.until(WAITED)
+
+    def run(self, script, value=None):
+        return self.driver.execute_script(f"const [value] = arguments; {script}", value)
+
+    def press(self, *keys):
+        ActionChains(self.driver).send_keys(*keys).perform()
+
+    def until(self, script, value=None):
+        """Waits until the script gives something true, and gives that."""
+        return chromium_browser.wait(self.driver, lambda _: self.run(script, value))
+
+
+class InFirefox:
+    def __init__(self, tab):
+        self.tab = tab
+
+    def open(self, fragment=""):
+        self.tab.open(PAGE.as_uri() + fragment)
+
+    def reload(self):
+        self.tab.ask(
+            "browsingContext.reload", {"context": self.tab.context, "wait": "complete"}
+        )
+        self.until(WAITED)
+
+    def run(self, script, value=None):
+        return self.tab.run(script, value)
+
+    def press(self, *keys):
+        for key in keys:
+            self.tab.press(key)
+
+    def until(self, script, value=None):
+        return self.tab.until(script, value)
+
+
+@contextlib.contextmanager
+def opened(name):
+    """The browser of this name, to be driven by a check."""
+    if name == "firefox":
+        with firefox() as tab:
+            yield InFirefox(tab)
+    else:
+        with chromium_browser.chromium() as driver:
+            yield InChromium(driver)
+
+
+KEYS = {name: getattr(Keys, name) for name in ("END", "HOME", "ARROW_RIGHT", "ARROW_LEFT", "TAB")}
