@@ -1,0 +1,27 @@
+#!/usr/bin/env python3
+"""Compares tests/rows/spaces.txt with the search of spaces.py, over the second replayer.
+
+bench/count.py compares the same rows with SPIN's search. Prints `N passed, M failed`, and ends with
+1 where one failed.
+"""
+import sys
+
+import search_rows
+from spaces import Space
+from tally import Tally
+
+
+def main():
+    tally = Tally()
+    for row, counts, kinds in search_rows.spaces():
+        space = Space(row.lock, row.threads, row.rounds, row.bits)
+        found = search_rows.Counts(len(space), sum(map(len, space.transitions)), space.depth)
+        tally.check(f"{row}: counts", found, counts)
+        tally.check(f"{row}: kinds", len(space.kinds()), kinds)
+    return tally.end() if tally.passed else 1
+
+
+if __name__ == "__main__":
+    if sys.argv[1:]:
+        sys.exit(__doc__)
+    sys.exit(main())
