@@ -97,6 +97,7 @@ tried-layout:
 	tests/mutant_cases.py
 tried-spaces:
 	tests/search_counts.py
+	tests/search_sketches.py
 tried-fuzz:
 	fuzz/fuzz.py $(PROGRAM) --seconds $(FUZZ_SECONDS)
 $(addprefix tried-,$(filter-out oracle layout spaces fuzz,$(TRIED))): tried-%:

@@ -23,16 +23,35 @@ class Counts(NamedTuple):
     depth: int  # the longest of the shortest runs to the states
 
 
+class Sketch(NamedTuple):
+    space: Space
+    lines: list
+    length: int  # None if no run has the lines
+    states: int  # None if a run has them
+    run: list  # (thread, word) of each move, of a shortest run
+
+    def __str__(self):
+        return f"{self.space}: {'; '.join(self.lines)}"
+
+
 def rows(name):
-    """The fields of each row."""
-    for line in (ROWS / f"{name}.txt").read_text().splitlines():
+    """The text of each row. A line that begins with a space goes on with the one above it."""
+    text = (ROWS / f"{name}.txt").read_text().replace("\n  ", " | ")
+    for line in text.splitlines():
         if line and not line.startswith("//"):
-            yield [field.strip() for field in line.split("|")]
+            yield line.split(" | ")
 
 
 def space(written):
     lock, *numbers = written.split()
     return Space(lock, *map(int, numbers))
+
+
+def run(written):
+    """The moves of a run: those of one thread are written one after the other."""
+    for part in written.split("; "):
+        thread, *words = part.split()
+        yield from ((int(thread), word) for word in words)
 
 
 def spaces():
@@ -43,7 +62,10 @@ def spaces():
 
 
 def sketches():
-    """Each space with the lines of a sketch, a shortest run as text or None, and its length or
-    None."""
-    for written, sketch, length in rows("sketches"):
-        yield space(written), sketch.split("; "), None if length == "nowhere" else int(length)
+    for written, lines, end, *runs in rows("sketches"):
+        nowhere, number = end.startswith("nowhere "), int(end.split()[-1])
+        if len(runs) != (not nowhere):
+            raise ValueError(f"{written} | {lines}: a run, or `nowhere`")
+        length, states = (None, number) if nowhere else (number, None)
+        yield Sketch(space(written), lines.split("; "), length, states,
+                     [move for written in runs for move in run(written)])
