@@ -16,7 +16,6 @@ import subprocess
 
 MODELS = pathlib.Path(__file__).resolve().parent / "spin"
 WIDEST = 8  # the words of the models are bytes; a count that stays below 256 has no need of more
-MOST_DEPTH = 10_000_000  # of a search that goes depth first; `pan` takes 46 bytes for each
 STATES = re.compile(r"^ *(\d+) states, stored$", re.MULTILINE)
 TRANSITIONS = re.compile(r"^ *(\d+) transitions \(= stored\+matched\)$", re.MULTILINE)
 DEPTH = re.compile(r"depth reached (\d+), errors: 0$", re.MULTILINE)
@@ -35,8 +34,10 @@ def build(space, folder, *options):
     return pathlib.Path(folder) / "pan"
 
 
-def command(program, *words):
-    return [program, f"-m{MOST_DEPTH}", "-n", *words]
+def command(program):
+    """How `pan` is called. Its limit of 10,000 moves for a run is far above what a run of a few
+    rounds has: but for failed polls, which lead back to their state, none comes near it."""
+    return [program, "-n"]  # without a list of code that was never reached
 
 
 def figures(output):
