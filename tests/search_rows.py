@@ -1,4 +1,4 @@
-"""The tables of searches: tests/rows/spaces.txt and tests/rows/sketches.txt. Their heads say how
+"""The tables of searches: spaces.txt, kinds.txt and sketches.txt of tests/rows. Their heads say how
 they are written.
 """
 from pathlib import Path
@@ -59,6 +59,12 @@ def spaces():
     for written, counts in rows("spaces"):
         *numbers, kinds = map(int, counts.split())
         yield space(written), Counts(*numbers), kinds
+
+
+def kinds(lock):
+    """The kinds of a lock's transitions, each with its length."""
+    return {tuple(kind.split()): int(length) for name, kind, length in rows("kinds")
+            if name == lock}
 
 
 def sketches():
