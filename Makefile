@@ -79,7 +79,7 @@ check:
 endif
 
 # The built program, and the rows by themselves, side by side. Nothing is proved here.
-TRIED := rows oracle process refusals writes short_memory memory documents documents_fail layout fuzz
+TRIED := rows oracle process refusals writes short_memory memory documents documents_fail layout spaces fuzz
 .PHONY: tried $(addprefix tried-,$(TRIED))
 tried: $(PROGRAM) $(TRACER) tools
 	$(MAKE) --no-print-directory --jobs=$(shell nproc) --output-sync=target $(addprefix tried-,$(TRIED)) \
@@ -95,9 +95,12 @@ tried-layout:
 	tests/packages_list.py
 	tests/wanted_cases.py
 	tests/mutant_cases.py
+tried-spaces:
+	tests/search_counts.py
+	tests/search_sketches.py
 tried-fuzz:
 	fuzz/fuzz.py $(PROGRAM) --seconds $(FUZZ_SECONDS)
-$(addprefix tried-,$(filter-out oracle layout fuzz,$(TRIED))): tried-%:
+$(addprefix tried-,$(filter-out oracle layout spaces fuzz,$(TRIED))): tried-%:
 	tests/$*.py $(PROGRAM)
 
 .PHONY: page test-page
@@ -146,6 +149,13 @@ library: $(LIBRARY)
 bench: $(PROGRAM) tools
 	bench/run.py $(PROGRAM)
 	bench/batch.py $(PROGRAM)
+
+.PHONY: bench-search
+
+## bench-search | counts the states of the locks' schedules with SPIN, beside the worked rows
+bench-search: tools
+	tests/wanted.sh bench-search
+	bench/count.py
 
 ## soak [SOAK_SECONDS=3600] | each long run once, then the fuzzer for the rest of the time
 soak: $(PROGRAM) tools

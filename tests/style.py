@@ -19,13 +19,14 @@ import subprocess
 import sys
 
 TOP = pathlib.Path(__file__).resolve().parent.parent
-KINDS = {".rt", ".antt", ".py", ".js", ".mjs", ".c", ".h", ".sh", ".md"}
+KINDS = {".rt", ".antt", ".py", ".js", ".mjs", ".c", ".h", ".pml", ".sh", ".md"}
 COLUMNS, LINES, BODY = 100, 400, 40
 
 # What a file of each kind opens with, behind a line `#!`.
 HEADS = {
     ".rt": ("//!", "//"), ".antt": ("--",), ".py": ('"""',), ".sh": ("#",), ".md": ("# ",),
     ".js": ("//", "/*"), ".mjs": ("//", "/*"), ".c": ("/*", "//"), ".h": ("/*", "//"),
+    ".pml": ("/*",),
 }
 NAMED_BY_PLACE = ["*/Lib.antt", "*/Answers.antt", "*/Invariants.antt", "*/Proof.antt"]
 # How a function begins: its indent is the first group.
