@@ -1,7 +1,7 @@
 //! The FIFO read-write lock, as a monitor, with counts of 8 bits.
 //!
-//! After Herlihy and Shavit, "The Art of Multiprocessor Programming", chapter 8, with a downgrade. A
-//! writer sets the flag first, and then waits for the readers that are inside.
+//! After Herlihy and Shavit, "The Art of Multiprocessor Programming", chapter 8, with a downgrade.
+//! A writer sets the flag first, and then waits for the readers that are inside.
 
 mod driver;
 mod read_write;

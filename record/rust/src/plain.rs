@@ -7,13 +7,9 @@ use std::sync::atomic::{self, Ordering};
 pub trait Plain: Debug {
     /// What it has.
     type Value: Copy + PartialEq;
-    /// `load` of the standard library, and so on.
     fn load(&self, order: Ordering) -> Self::Value;
-    #[allow(missing_docs)]
     fn store(&self, value: Self::Value, order: Ordering);
-    #[allow(missing_docs)]
     fn swap(&self, value: Self::Value, order: Ordering) -> Self::Value;
-    #[allow(missing_docs)]
     fn compare_exchange(
         &self,
         old: Self::Value,
@@ -21,7 +17,6 @@ pub trait Plain: Debug {
         success: Ordering,
         failure: Ordering,
     ) -> Result<Self::Value, Self::Value>;
-    #[allow(missing_docs)]
     fn compare_exchange_weak(
         &self,
         old: Self::Value,
@@ -33,9 +28,7 @@ pub trait Plain: Debug {
 
 /// An atomic that can be added to. Sums go round.
 pub trait Counter: Plain {
-    #[allow(missing_docs)]
     fn fetch_add(&self, amount: Self::Value, order: Ordering) -> Self::Value;
-    #[allow(missing_docs)]
     fn fetch_sub(&self, amount: Self::Value, order: Ordering) -> Self::Value;
     /// The sum, as the atomic has it afterwards.
     fn plus(value: Self::Value, amount: Self::Value) -> Self::Value;
@@ -117,4 +110,6 @@ macro_rules! counter {
     )* };
 }
 
-counter!(AtomicU8 of u8, AtomicU16 of u16, AtomicU32 of u32, AtomicU64 of u64, AtomicUsize of usize);
+counter!(
+    AtomicU8 of u8, AtomicU16 of u16, AtomicU32 of u32, AtomicU64 of u64, AtomicUsize of usize
+);

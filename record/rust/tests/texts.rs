@@ -188,48 +188,43 @@ fn nothing_is_recorded_outside_of_a_run() {
     assert_eq!(word.peek(SeqCst), 2);
 }
 
+fn refuses<T>(result: Result<T, Error>, due: &str) {
+    let said = result.map(drop).expect_err(due).to_string();
+    assert_eq!(said, due);
+}
+
 #[test]
-fn a_misuse_is_said_in_a_sentence() -> Result<(), Error> {
-    let bits = |threads, bits| Run::of(Lock::Ticket, threads).bits(bits).open().map(drop);
-    let free = || Run::of(Lock::Mcs, 1).open();
-    let (run, again) = (free()?, free()?);
-    let taken = {
-        let _log = again.enter(0)?;
-        run.enter(0).map(drop)
-    };
-    let rows = [
-        (bits(0, 8), "a run has 1 to 64 threads, not 0"),
-        (bits(65, 8), "a run has 1 to 64 threads, not 65"),
-        (bits(1, 1), "a counter has 2 to 64 bits, not 1"),
-        (bits(1, 65), "a counter has 2 to 64 bits, not 65"),
-        (
-            bits(4, 2),
-            "4 threads are too many for counters of 2 bits: there must be fewer threads than a \
-             counter has values",
-        ),
-        (
-            Run::of(Lock::Mcs, 2).room(usize::MAX).open().map(drop),
-            "no memory for 2 logs of 18446744073709551615 moves each",
-        ),
-        (run.enter(1).map(drop), "there is no thread 1: the run has 1, counted from 0"),
-        (again.enter(0).map(drop), "thread 0 has its log already: open a run for each recording"),
-        (
-            again.threads(LIMIT, |_| ()).map(drop),
-            "thread 0 has its log already: open a run for \
-             each recording",
-        ),
-        (taken, "this thread has a log already: drop that before it enters a run"),
-        (run.save("/dev/null/logs"), "/dev/null/logs: Not a directory (os error 20)"),
-        (
-            "spin".parse::<Lock>().map(drop),
-            "there is no lock 'spin': the locks are ticket, mcs, \
-             rw-simple, rw-fifo",
-        ),
-    ];
-    for (result, due) in rows {
-        assert_eq!(result.expect_err(due).to_string(), due);
-    }
-    assert!(bits(3, 2).is_ok());
+fn a_run_that_cannot_be_is_refused() {
+    let open = |threads, bits| Run::of(Lock::Ticket, threads).bits(bits).open();
+    refuses(open(0, 8), "a run has 1 to 64 threads, not 0");
+    refuses(open(65, 8), "a run has 1 to 64 threads, not 65");
+    refuses(open(1, 1), "a counter has 2 to 64 bits, not 1");
+    refuses(open(1, 65), "a counter has 2 to 64 bits, not 65");
+    refuses(
+        open(4, 2),
+        "4 threads are too many for counters of 2 bits: there must be fewer threads than a \
+         counter has values",
+    );
+    assert!(open(3, 2).is_ok());
+    let room = usize::MAX;
+    let due = format!("no memory for 2 logs of {room} moves each");
+    refuses(Run::of(Lock::Mcs, 2).room(room).open(), &due);
+    let due = "there is no lock 'spin': the locks are ticket, mcs, rw-simple, rw-fifo";
+    refuses("spin".parse::<Lock>(), due);
+}
+
+#[test]
+fn a_thread_that_cannot_enter_is_refused() -> Result<(), Error> {
+    let (first, second) = (Run::of(Lock::Mcs, 1).open()?, Run::of(Lock::Mcs, 1).open()?);
+    refuses(first.enter(1), "there is no thread 1: the run has 1, counted from 0");
+    let log = first.enter(0)?;
+    let due = "this thread has a log already: drop that before it enters a run";
+    refuses(second.enter(0), due);
+    drop(log);
+    let due = "thread 0 has its log already: open a run for each recording";
+    refuses(first.enter(0), due);
+    refuses(first.threads(LIMIT, |_| ()), due);
+    refuses(second.save("/dev/null/logs"), "/dev/null/logs: Not a directory (os error 20)");
     Ok(())
 }
 
