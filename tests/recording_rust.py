@@ -165,8 +165,9 @@ class Cases(Tally):
 
 def build(cases, crate):
     """The crate by itself, and then its examples, those with a mistake among them."""
-    cases.fault("cargo test", crate.call(*CARGO, "test"))
-    cases.fault("cargo clippy", crate.call(*CLIPPY, "--all-targets"))
+    for features in [[], ["--no-default-features"]]:
+        cases.fault(f"cargo test {features}", crate.call(*CARGO, "test", *features))
+        cases.fault(f"cargo clippy {features}", crate.call(*CLIPPY, "--all-targets", *features))
     cases.fault("cargo doc", crate.call(*CARGO, "doc", "--no-deps"))
     for mistake in MISTAKES:
         cases.fault(f"plant {name_of(mistake)}", crate.plant(mistake))

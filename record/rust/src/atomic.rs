@@ -3,7 +3,7 @@
 use std::fmt;
 use std::sync::atomic::{self, Ordering};
 
-use crate::current::{self, Turn};
+use crate::current::{self, Name, Turn};
 use crate::moves::{Step, Word};
 use crate::plain::{Counter, Plain};
 
@@ -31,8 +31,7 @@ use crate::plain::{Counter, Plain};
 /// ```
 pub struct Atomic<A: Plain> {
     plain: A,
-    word: Option<Word>,
-    value_of: fn(A::Value) -> u64,
+    name: Name<A::Value>,
 }
 
 /// A number of 8 bits.
@@ -57,20 +56,20 @@ macro_rules! constructors {
         /// An atomic that is not noted. It is a place where threads are switched.
         #[must_use]
         pub const fn new(value: $value) -> Self {
-            Atomic { plain: $plain(value), word: None, value_of: $value_of }
+            Atomic { plain: $plain(value), name: Name::none($value_of) }
         }
 
         /// Its operations are noted as operations on this word.
         #[must_use]
         pub const fn noted(self, word: Word) -> Self {
-            Atomic { word: Some(word), ..self }
+            Atomic { name: self.name.on(word), ..self }
         }
 
         /// The same, for values that are not those of the word in a trace: a pointer's value is 0
         /// for nil and j + 1 for thread j's record, a flag's 0 or 1.
         #[must_use]
         pub const fn noted_as(self, word: Word, value_of: fn($value) -> u64) -> Self {
-            Atomic { word: Some(word), value_of, ..self }
+            Atomic { name: Name::of(word, value_of), ..self }
         }
     };
 }
@@ -184,12 +183,12 @@ impl<A: Plain> Atomic<A> {
     }
 
     fn shown(&self, value: A::Value) -> u64 {
-        (self.value_of)(value)
+        self.name.value(value)
     }
 
     /// The value in a trace, if it is needed.
     fn value(&self, turn: &Turn, value: A::Value) -> u64 {
-        if turn.is_recorded() && self.word.is_some() {
+        if turn.is_recorded() && self.name.word().is_some() {
             self.shown(value)
         } else {
             0
@@ -200,7 +199,7 @@ impl<A: Plain> Atomic<A> {
     /// afterwards its thread may have left it.
     fn begin(&self) -> (Turn, Option<usize>) {
         let turn = current::turn();
-        let owner = match self.word {
+        let owner = match self.name.word() {
             Some(Word::Next | Word::Locked) => {
                 current::other_owner_of((self as *const Self).cast::<u8>() as usize)
             }
@@ -217,7 +216,7 @@ impl<A: Plain> Atomic<A> {
         changed: bool,
         steps: impl FnOnce(Word) -> [Step; N],
     ) {
-        match self.word {
+        match self.name.word() {
             _ if !turn.is_recorded() => {}
             None => current::unnoted(changed),
             Some(word) => {
@@ -248,7 +247,7 @@ impl<A: Counter> Atomic<A> {
 
     fn note_sum(&self, turn: &Turn, owner: Option<usize>, found: A::Value, left: A::Value) {
         let changed = found != left;
-        if self.word == Some(Word::NowServing) {
+        if self.name.word() == Some(Word::NowServing) {
             self.end(turn, owner, changed, |word| {
                 [Step::read(word, self.shown(found)), Step::write(word, self.shown(left))]
             });

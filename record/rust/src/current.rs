@@ -10,10 +10,39 @@ use std::sync::Arc;
 use std::thread;
 
 use crate::draw::Draw;
-use crate::moves::{Call, Move, Step};
+use crate::moves::{Call, Move, Outcome, Step, Word};
 use crate::noise;
 use crate::run::Shared;
 use crate::tape::Tape;
+
+/// The word that an atomic is, and its values in a trace.
+pub(crate) struct Name<V> {
+    word: Option<Word>,
+    value_of: fn(V) -> u64,
+}
+
+impl<V> Name<V> {
+    pub(crate) const fn none(value_of: fn(V) -> u64) -> Name<V> {
+        Name { word: None, value_of }
+    }
+
+    pub(crate) const fn of(word: Word, value_of: fn(V) -> u64) -> Name<V> {
+        Name { word: Some(word), value_of }
+    }
+
+    /// The same values, on this word.
+    pub(crate) const fn on(&self, word: Word) -> Name<V> {
+        Name::of(word, self.value_of)
+    }
+
+    pub(crate) fn word(&self) -> Option<Word> {
+        self.word
+    }
+
+    pub(crate) fn value(&self, value: V) -> u64 {
+        (self.value_of)(value)
+    }
+}
 
 /// What a thread records with.
 #[derive(Debug)]
@@ -44,15 +73,9 @@ pub(crate) fn with<R>(record: impl FnOnce(&mut Recorder) -> R) -> Option<R> {
     place(|current| current.as_mut().map(record)).flatten()
 }
 
-/// Begins to record; the recorder comes back if the thread records already.
-pub(crate) fn install(recorder: Recorder) -> Result<(), Recorder> {
-    let mut waiting = Some(recorder);
-    place(|current| {
-        if current.is_none() {
-            *current = waiting.take();
-        }
-    });
-    waiting.map_or(Ok(()), Err)
+/// Begins to record, in the place of what recorded before.
+pub(crate) fn install(recorder: Recorder) {
+    place(|current| *current = Some(recorder));
 }
 
 /// Ends recording.
@@ -93,6 +116,11 @@ pub(crate) struct Turn {
 /// Lets others go first, and begins an operation.
 pub(crate) fn turn() -> Turn {
     Turn { is_recorded: with(Recorder::take_turn).is_some() }
+}
+
+/// Lets others go first.
+pub(crate) fn pause() {
+    let _turn = turn();
 }
 
 impl Turn {
@@ -139,7 +167,7 @@ impl Drop for InCall {
 
 /// Another thread may have its turn here, though no step was taken.
 pub fn switch() {
-    let _turn = turn();
+    pause();
     unnoted(true);
 }
 
@@ -184,6 +212,38 @@ pub fn operation<R>(parts: impl FnOnce() -> R) -> R {
 /// of this thread. It may be on the stack, on the heap or in an array, and another at each call.
 pub fn own_record<T: ?Sized>(record: &T) {
     with(|recorder| recorder.shared.records.set(recorder.thread, record));
+}
+
+/// The sections of a monitor, counted by all threads together.
+#[derive(Debug)]
+pub(crate) struct Sections(u64);
+
+impl Sections {
+    pub(crate) const fn none() -> Sections {
+        Sections(0)
+    }
+}
+
+/// Notes the end of a monitor's section.
+pub(crate) fn section(sections: &mut Sections, outcome: Outcome) {
+    sections.0 += 1;
+    let count = sections.0;
+    with(|recorder| recorder.note(Move::Section { count, outcome }));
+}
+
+/// `Seed`: waits until the thread is woken at an address.
+pub(crate) fn sleep(address: usize) {
+    with(|recorder| recorder.shared.turns.sleep(recorder.thread, address));
+}
+
+/// `Seed`: wakes the threads that wait at an address, or one of them.
+pub(crate) fn wake(address: usize, all: bool) {
+    with(|recorder| recorder.shared.turns.wake(address, all));
+}
+
+/// Whether this thread records.
+pub(crate) fn is_recorded() -> bool {
+    with(|_| ()).is_some()
 }
 
 /// Whether one thread runs at a time.

@@ -14,7 +14,8 @@
 //! 3. Open a [`Run`] in some [`Mode`], let its [threads](Run::threads) work, and
 //!    [save](Run::save) it.
 //!
-//! ```
+#![cfg_attr(feature = "record", doc = "```")]
+#![cfg_attr(not(feature = "record"), doc = "```ignore")]
 //! use lockreplay_record::{call, switch, AtomicU8, Call, Ending, Error, Lock, Mode, Run, Word};
 //! use std::sync::atomic::Ordering::{Acquire, Relaxed, Release};
 //! use std::time::Duration;
@@ -95,35 +96,55 @@
 //! # What is not recorded
 //!
 //! A thread that has no [`Log`], and one that panics, records nothing: its operations are made as
-//! they are. So a lock with these atomics can be used without a run. They cost a look at a
-//! thread-local variable; a build for use takes those of the standard library.
+//! they are. So a lock with these atomics can be used without a run, for a look at a thread-local
+//! variable each. Without the feature `record`, which is on by default, the same types are those of
+//! the standard library in all but name: they are as large, and nothing of the notes is left. A
+//! lock's own crate depends on this one with `default-features = false`, and its tests with them.
 #![forbid(unsafe_code)]
 #![warn(missing_docs)]
+// The text above is about the crate with its feature.
+#![cfg_attr(not(feature = "record"), allow(rustdoc::broken_intra_doc_links))]
 
 mod atomic;
+#[cfg_attr(not(feature = "record"), path = "off.rs")]
 mod current;
-mod draw;
-mod error;
-mod lock;
-mod mode;
 mod monitor;
 mod moves;
-mod noise;
 mod plain;
+
+#[cfg(feature = "record")]
+mod draw;
+#[cfg(feature = "record")]
+mod error;
+#[cfg(feature = "record")]
+mod lock;
+#[cfg(feature = "record")]
+mod mode;
+#[cfg(feature = "record")]
+mod noise;
+#[cfg(feature = "record")]
 mod records;
+#[cfg(feature = "record")]
 mod run;
+#[cfg(feature = "record")]
 mod save;
+#[cfg(feature = "record")]
 mod stage;
+#[cfg(feature = "record")]
 mod tape;
+#[cfg(feature = "record")]
 mod turns;
 
 pub use atomic::{
     Atomic, AtomicBool, AtomicPtr, AtomicU16, AtomicU32, AtomicU64, AtomicU8, AtomicUsize,
 };
 pub use current::{call, note, operation, own_record, switch, InCall};
-pub use error::Error;
-pub use lock::Lock;
-pub use mode::Mode;
 pub use monitor::{Condvar, Mutex, MutexGuard};
 pub use moves::{Call, Outcome, Step, Word};
-pub use run::{Ending, Log, Run, Setup};
+#[cfg(feature = "record")]
+pub use {
+    error::Error,
+    lock::Lock,
+    mode::Mode,
+    run::{Ending, Log, Run, Setup},
+};

@@ -6,8 +6,8 @@ use std::sync::atomic::{AtomicUsize, Ordering};
 use std::sync::{self, PoisonError, TryLockError};
 use std::time::Duration;
 
-use crate::current;
-use crate::moves::{Move, Outcome};
+use crate::current::{self, Sections};
+use crate::moves::Outcome;
 
 /// How often a thread that waits looks whether its run was stopped.
 const LOOK: Duration = Duration::from_millis(100);
@@ -43,7 +43,7 @@ pub struct Mutex<T> {
 
 struct Counted<T> {
     data: T,
-    sections: u64,
+    sections: Sections,
 }
 
 /// What a [`Mutex`] has, until this is dropped.
@@ -67,23 +67,21 @@ impl<T> Mutex<T> {
     /// A mutex with this in it.
     #[must_use]
     pub const fn new(data: T) -> Mutex<T> {
-        Mutex { plain: sync::Mutex::new(Counted { data, sections: 0 }) }
+        Mutex { plain: sync::Mutex::new(Counted { data, sections: Sections::none() }) }
     }
 
     /// Waits until no other thread has the mutex, and takes it.
     pub fn lock(&self) -> MutexGuard<'_, T> {
-        loop {
-            let turn = current::turn();
-            if !current::is_seeded() {
-                drop(turn);
-                return self.guard(self.plain.lock().unwrap_or_else(PoisonError::into_inner));
-            }
+        while current::is_seeded() {
+            let _turn = current::turn();
             match self.plain.try_lock() {
                 Ok(plain) => return self.guard(plain),
                 Err(TryLockError::Poisoned(error)) => return self.guard(error.into_inner()),
                 Err(TryLockError::WouldBlock) => current::unnoted(false),
             }
         }
+        current::pause();
+        self.guard(self.plain.lock().unwrap_or_else(PoisonError::into_inner))
     }
 
     fn guard<'a>(&'a self, plain: sync::MutexGuard<'a, Counted<T>>) -> MutexGuard<'a, T> {
@@ -95,9 +93,7 @@ impl<T> MutexGuard<'_, T> {
     /// Notes that a section of the monitor ends here, and what it did. A section is from getting
     /// the mutex to leaving it or waiting in it.
     pub fn note(&mut self, outcome: Outcome) {
-        self.plain.sections += 1;
-        let count = self.plain.sections;
-        current::with(|recorder| recorder.note(Move::Section { count, outcome }));
+        current::section(&mut self.plain.sections, outcome);
     }
 }
 
@@ -113,25 +109,26 @@ impl Condvar {
         let MutexGuard { plain, mutex } = guard;
         if current::is_seeded() {
             drop(plain);
-            current::with(|recorder| {
-                recorder.shared.turns.sleep(recorder.thread, self.address());
-            });
+            current::sleep(self.address());
             return mutex.lock();
         }
-        mutex.guard(self.wait_for_real(plain))
+        if current::is_recorded() {
+            return mutex.guard(self.wait_for_real(plain));
+        }
+        mutex.guard(self.plain.wait(plain).unwrap_or_else(PoisonError::into_inner))
     }
 
     /// Wakes one of the threads that wait.
     pub fn notify_one(&self) {
         self.notified.fetch_add(1, Ordering::Relaxed);
-        current::with(|recorder| recorder.shared.turns.wake(self.address(), false));
+        current::wake(self.address(), false);
         self.plain.notify_one();
     }
 
     /// Wakes the threads that wait.
     pub fn notify_all(&self) {
         self.notified.fetch_add(1, Ordering::Relaxed);
-        current::with(|recorder| recorder.shared.turns.wake(self.address(), true));
+        current::wake(self.address(), true);
         self.plain.notify_all();
     }
 

@@ -126,6 +126,7 @@ impl Step {
 }
 
 /// What a thread did.
+#[cfg(feature = "record")]
 #[derive(Clone, Copy, Debug, PartialEq, Eq)]
 pub(crate) enum Move {
     Call(Call),
@@ -133,6 +134,7 @@ pub(crate) enum Move {
     Section { count: u64, outcome: Outcome },
 }
 
+#[cfg(feature = "record")]
 impl Move {
     /// Whether this is a poll that found what `last` found.
     pub(crate) fn repeats(&self, last: &Move) -> bool {
@@ -217,6 +219,7 @@ impl fmt::Display for Step {
     }
 }
 
+#[cfg(feature = "record")]
 impl fmt::Display for Move {
     fn fmt(&self, out: &mut fmt::Formatter<'_>) -> fmt::Result {
         match self {

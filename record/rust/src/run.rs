@@ -165,7 +165,7 @@ impl Run {
         if thread >= threads {
             return Err(Error::NoSuchThread { thread, threads });
         }
-        if current::with(|_| ()).is_some() {
+        if current::is_recorded() {
             return Err(Error::AlreadyRecorded);
         }
         self.0.turns.come(thread)?;
@@ -176,8 +176,7 @@ impl Run {
         };
         let tape = tape.ok_or(Error::ThreadTaken(thread))?;
         let shared = Arc::clone(&self.0);
-        current::install(Recorder { shared, thread, tape, noise, depth: 0 })
-            .map_err(|_| Error::AlreadyRecorded)?;
+        current::install(Recorder { shared, thread, tape, noise, depth: 0 });
         let shared = Arc::clone(&self.0);
         let mut log = Log { shared, thread, has_begun: false, of_this_thread: PhantomData };
         self.0.turns.start(thread)?;

@@ -1,5 +1,6 @@
 //! What each mode does: seeds, noise, runs that stand still, and threads that were started
 //! elsewhere.
+#![cfg(feature = "record")]
 
 use std::sync::atomic::{AtomicUsize, Ordering::SeqCst};
 use std::thread;

@@ -1,4 +1,5 @@
 //! The texts of a run, and what is said where the crate is used wrongly.
+#![cfg(feature = "record")]
 
 use std::fs;
 use std::path::PathBuf;

@@ -43,7 +43,7 @@ fn words() -> Option<Words> {
     };
     let folder = words.next()?;
     let limit = Duration::from_secs(words.next().map_or(Some(60), |word| word.parse().ok())?);
-    words.next().is_none().then(|| Words { mode, threads, rounds, folder, limit })
+    words.next().is_none().then_some(Words { mode, threads, rounds, folder, limit })
 }
 
 fn number<T: FromStr>(word: Option<String>) -> Option<T> {
