@@ -10,6 +10,7 @@ use std::ptr;
 use std::sync::atomic::Ordering::SeqCst;
 use std::thread;
 
+use driver::Driver;
 use lockreplay_record::{call, own_record, AtomicBool, AtomicPtr, Call, Lock, Word};
 
 const MOST_THREADS: usize = 64;
@@ -98,10 +99,10 @@ fn pointer_to(record: &Record) -> *mut Record {
 }
 
 fn main() -> ExitCode {
-    let lock = McsLock::new();
-    driver::drive(Lock::Mcs, 64, |thread, round| {
+    let round = |lock: &McsLock, thread: usize, round: usize| {
         lock.acquire(thread);
         driver::inside(thread, round);
         lock.release(thread);
-    })
+    };
+    Driver { lock: Lock::Mcs, bits: 64, new: McsLock::new, round }.drive()
 }

@@ -9,6 +9,7 @@ use std::process::ExitCode;
 use std::sync::atomic::Ordering::SeqCst;
 use std::thread;
 
+use driver::Driver;
 use lockreplay_record::{call, AtomicU8, Call, Lock, Word};
 
 struct TicketLock {
@@ -40,10 +41,10 @@ impl TicketLock {
 }
 
 fn main() -> ExitCode {
-    let lock = TicketLock::new();
-    driver::drive(Lock::Ticket, 8, |thread, round| {
+    let round = |lock: &TicketLock, thread: usize, round: usize| {
         lock.acquire();
         driver::inside(thread, round);
         lock.release();
-    })
+    };
+    Driver { lock: Lock::Ticket, bits: 8, new: TicketLock::new, round }.drive()
 }

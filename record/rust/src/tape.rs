@@ -24,6 +24,8 @@ pub(crate) struct Tape {
 pub(crate) enum Added {
     /// It is in the log.
     Written,
+    /// It is in the log, and a poll that found what the one before it did.
+    Repeated,
     /// It is a poll that was written often enough.
     Again,
     /// The log is full.
@@ -54,7 +56,11 @@ impl Tape {
             return Added::Dropped;
         }
         self.moves.push(made);
-        Added::Written
+        if repeats {
+            Added::Repeated
+        } else {
+            Added::Written
+        }
     }
 
     pub(crate) fn moves(&self) -> &[Move] {

@@ -9,8 +9,9 @@ use std::sync::{Condvar, Mutex, MutexGuard, PoisonError};
 use std::time::{Duration, Instant};
 
 use crate::error::Error;
+use crate::explore::Path;
 use crate::mode::Mode;
-use crate::stage::{Next, Phase, Stage};
+use crate::stage::{Effect, Next, Phase, Stage};
 use crate::tape::Added;
 
 /// What a stopped thread unwinds with.
@@ -31,12 +32,17 @@ pub(crate) struct Turns {
 }
 
 impl Turns {
-    pub(crate) fn new(mode: Mode, threads: usize, moves: usize) -> Result<Turns, Error> {
+    pub(crate) fn new(
+        mode: Mode,
+        threads: usize,
+        moves: usize,
+        path: Option<Path>,
+    ) -> Result<Turns, Error> {
         let seed = if let Mode::Seed(seed) = mode { seed } else { 0 };
         let ordered = if mode.has_order() { moves } else { 0 };
         Ok(Turns {
             mode,
-            stage: Mutex::new(Stage::new(threads, ordered, seed)?),
+            stage: Mutex::new(Stage::new(threads, ordered, seed, path)?),
             own: (0..threads).map(|_| Condvar::new()).collect(),
             free: Condvar::new(),
             changed: Condvar::new(),
@@ -98,7 +104,7 @@ impl Turns {
         let mut stage = self.stage();
         stage.set_phase(thread, if ended { Phase::Ended } else { Phase::Cut });
         if ended {
-            stage.unnoted(true);
+            stage.made(thread, Effect::Step);
             self.hand_on(&mut stage);
         } else {
             self.stop(&stage);
@@ -143,10 +149,10 @@ impl Turns {
         }
     }
 
-    /// Something was done that is not noted. What changed nothing may be a poll.
-    pub(crate) fn unnoted(&self, changed: bool) {
+    /// Something was done that is not noted.
+    pub(crate) fn unnoted(&self, thread: usize, effect: Effect) {
         if self.is_seeded() {
-            self.stage().unnoted(changed);
+            self.stage().made(thread, effect);
         }
     }
 
@@ -195,7 +201,7 @@ impl Turns {
         if !self.is_seeded() {
             return;
         }
-        stage.holder = match stage.draw_next() {
+        stage.holder = match stage.next() {
             Next::Thread(thread) => Some(thread),
             Next::Nobody => None,
             Next::StandsStill => {
