@@ -131,6 +131,7 @@ test-traces: $(TRACER) $(PROGRAM) tools
 	tests/trace_values.py $(TRACER)
 	tests/order_search.py $(TRACER)
 	tests/recording.py $(TRACER) $(PROGRAM)
+	tests/recording_rust.py $(TRACER)
 
 ## mutants CRATE=NAME [MISTAKE=NAME] | a crate's mutants are refused, their right twins proved
 mutants: tools
