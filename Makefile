@@ -42,7 +42,7 @@ gate:
 	tests/gate.sh
 
 # What `make test` does after the proofs, in this order.
-PARTS := tried release-checks test-refused test-page test-library test-traces
+PARTS := tried release-checks test-refused test-page test-library test-traces test-planted
 
 ## test-built | what `make test` does after the proofs
 test-built:
@@ -126,12 +126,28 @@ test-library: $(LIBRARY) tools
 .PHONY: test-traces
 
 ## test-traces | tries locktrace on texts, random traces and logs, and recorded locks
-test-traces: $(TRACER) $(PROGRAM) tools
+test-traces: $(TRACER) $(PROGRAM) $(LIBRARY) tools
 	tests/locktrace.py $(TRACER)
 	tests/trace_values.py $(TRACER)
 	tests/order_search.py $(TRACER)
 	tests/recording.py $(TRACER) $(PROGRAM)
 	tests/recording_rust.py $(TRACER)
+	tests/recording_modes.py $(LIBRARY)
+
+.PHONY: test-planted conform
+
+## test-planted [TOURS=FOLDER] | planted mistakes of recorded locks are noticed as the tables say
+test-planted: $(TRACER) $(LIBRARY) tools
+	tests/planted.py $(TRACER) $(LIBRARY) $(addprefix --tours ,$(TOURS))
+
+LOCK    :=
+THREADS := 2
+ROUNDS  := 1
+TOUR    :=
+## conform LOCK=NAME [THREADS=2] [ROUNDS=1] | a recorded lock follows all schedules of a tour
+conform: $(TRACER) $(LIBRARY) tools
+	$(if $(LOCK),,$(error which lock? make conform LOCK=mcs))
+	examples/recording/conform.sh $(TRACER) $(LIBRARY) $(LOCK) $(THREADS) $(ROUNDS) $(TOUR)
 
 ## mutants CRATE=NAME [MISTAKE=NAME] | a crate's mutants are refused, their right twins proved
 mutants: tools
