@@ -28,7 +28,7 @@ REAL = ("4", "200")  # threads and rounds
 SEEDED = ("3", "30")
 SHORT = ("3", "4")  # what LR_PCT is for
 EXPLORED = ("3", "1", "2")  # threads, rounds and preemptions
-MOST = "5000"  # runs that are explored
+MOST = "3000"  # runs that are explored
 SEARCHES = ("SEED", "ATOMICS", "PCT", "EXPLORE", "FOLLOW")
 ENOUGH = 38  # mistakes that have to be noticed in all runs of one mode
 
@@ -67,7 +67,7 @@ class Trials:
 
     def is_noticed(self, program, seed, logs):
         """Whether a run by real threads hangs, or its logs have no order."""
-        if ran(program, *REAL, seed, logs, 1).returncode != 0:
+        if ran(program, *REAL, seed, logs).returncode != 0:
             return True
         words = [self.locktrace, "order", *sorted(logs.glob("thread-*.log")), "-o", logs]
         return ran(*words).returncode == 1
@@ -117,7 +117,10 @@ def main():
         trials = Trials(given.locktrace.resolve(), given.library.resolve(),
                         given.tours and given.tours.resolve(), Path(name))
         noticed = pool.map(lambda mistake: trials.noticed(mistake, modes), mistakes)
-        found = {(mistake.lock, mistake.name): row for mistake, row in zip(mistakes, noticed)}
+        found = {}
+        for mistake, row in zip(mistakes, noticed):
+            found[mistake.lock, mistake.name] = row
+            print(mistake.lock, mistake.name, *row.values(), sep=" | ", flush=True)
     tables = TOP / "docs" / "PLANTED.md"
     if given.write:
         tables.write_text(document(tables.read_text(), mistakes, found))
