@@ -6,8 +6,9 @@
 Builds `recording.c` without a mode and with LR_VALUES, over the header of this tree and over that
 of a commit, and lets them take turns: figures are nanoseconds for one acquire and release of one
 thread, medians of ROUNDS, and the ratio of the two headers is the median of the ratios of each
-round. Then `turns.c`: five ways of handing a turn over. Then as many runs as `LR_EXPLORE` makes of
-two threads of examples/recording/mcs.c with at most 5 preemptions, or 1,000 of them.
+round. Then `turns.c`: five ways of handing a turn over. Then 1,000 runs that `LR_EXPLORE` makes of
+two threads of examples/recording/mcs.c with at most 5 preemptions. Both are done on all cores and
+on one.
 
 With --check the status is 1 if recording costs more than LIMIT times what it did at the commit,
 or the 1,000 runs take more than SECONDS. The tolerance of LIMIT is what two builds of one source
@@ -24,6 +25,7 @@ from pathlib import Path
 TOP = Path(__file__).resolve().parent.parent
 ROUNDS, LOOPS = 15, 300000
 LIMIT, SECONDS, RUNS = 1.05, 2.0, 1000
+ON = ((), ("taskset", "-c", "0"))
 FIGURES = ("ticket", "mcs", "note")
 FLAGS = ("-std=c11", "-O2", "-Wall", "-Wextra", "-pthread")
 
@@ -73,19 +75,22 @@ def notes(folder, before):
 
 def turns(folder):
     ran("gcc", "-O2", "-pthread", "-o", folder / "turns", TOP / "bench" / "turns.c")
-    print(ran(folder / "turns", 20000), end="")
+    for on in ON:
+        print(*on, ran(*on, folder / "turns", 20000).replace("\n", ", "))
 
 
 def search(folder, library):
     """Seconds for 1,000 runs."""
     ran("gcc", *FLAGS, "-DLR_EXPLORE", "-DLR_ATOMICS", "-o", folder / "search",
         TOP / "examples" / "recording" / "mcs.c", library)
-    begun = time.monotonic()
-    said = ran(folder / "search", 2, 2, 5, folder, RUNS)
-    taken = time.monotonic() - begun
-    print(f"{said.strip()}: {taken:.2f} s")
-    assert said.startswith(f"{RUNS} runs")
-    return taken
+    taken = []
+    for on in ON:
+        begun = time.monotonic()
+        said = ran(*on, folder / "search", 2, 2, 5, folder, RUNS)
+        taken.append(time.monotonic() - begun)
+        print(*on, f"{said.strip()}: {taken[-1]:.2f} s")
+        assert said.startswith(f"{RUNS} runs")
+    return max(taken)
 
 
 def main():

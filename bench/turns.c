@@ -3,11 +3,13 @@
        turns ROUNDS
 
    Two threads hand one turn to and fro. A condition variable wakes whoever waits for it under a
-   mutex; a semaphore and a futex wake one thread; spinning needs a core for each thread;
-   coroutines are on one thread, and cannot be used where a lock blocks or looks at its thread. */
+   mutex; a semaphore and a futex wake one thread; spinning needs a core for each thread, and is left
+   out on one core; coroutines are on one thread, and cannot be used if a lock blocks or asks which
+   thread it runs on. */
 #define _GNU_SOURCE
 #include <linux/futex.h>
 #include <pthread.h>
+#include <sched.h>
 #include <semaphore.h>
 #include <stdatomic.h>
 #include <stdio.h>
@@ -108,7 +110,9 @@ int main(int count, char **arguments)
     try_threads("semaphore", by_semaphore);
     try_threads("futex", by_futex);
     turn = 0;
-    try_threads("spinning", by_spinning);
+    cpu_set_t cores;
+    if (!sched_getaffinity(0, sizeof cores, &cores) && CPU_COUNT(&cores) > 1)
+        try_threads("spinning", by_spinning);
     try_coroutines();
     return 0;
 }

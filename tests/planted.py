@@ -25,7 +25,7 @@ from planted_table import document, in_all
 from tally import Tally
 
 RUNS = 60
-REAL = ("4", "200")  # threads and rounds
+REAL = ("4", "100")  # threads and rounds
 SEEDED = ("3", "30")
 SHORT = ("3", "4")  # what LR_PCT is for
 EXPLORED = ("3", "1", "2")  # threads, rounds and preemptions
