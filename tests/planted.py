@@ -1,16 +1,17 @@
 #!/usr/bin/env python3
 """Planted mistakes in the recorded locks: in how many runs each is noticed, in each mode.
 
-    planted.py LOCKTRACE LIBRARY [--tours FOLDER]            what seeds and searches give
-    planted.py LOCKTRACE LIBRARY [--tours FOLDER] --write    all modes, and writes docs/PLANTED.md
+    planted.py LOCKTRACE LIBRARY [--tours FOLDER] [--modes MODE,..] [--write]
 
-Each mistake of tests/planted is an edit of a lock of examples/recording. Without --write the modes
-are tried that give the same each time, and compared with the tables of docs/PLANTED.md: of a right
-lock nothing may be refused. FOLDER has the schedules of `locktrace tour`, LOCK THREADS in a folder
-`LOCK-THREADS` each; without it the column FOLLOW is not compared. Two processes run at a time. The
+Each mistake of tests/planted is an edit of a lock of examples/recording. The modes are tried that
+give the same each time, and compared with the tables of docs/PLANTED.md: of a right lock nothing
+may be refused. With --write the tables are written: what the modes tried say, and of others what
+was there. FOLDER has the schedules of `locktrace tour` for three threads and one round, in a folder
+`LOCK-3` for each file of a lock; without it FOLLOW is not tried. Two processes run at a time. The
 last line counts the cases; the status is 1 if one failed.
 """
 import argparse
+import os
 import re
 import subprocess
 import sys
@@ -24,11 +25,12 @@ from planted_table import document, in_all
 from tally import Tally
 
 RUNS = 60
-REAL = ("4", "200")  # threads and rounds
+REAL = ("4", "100")  # threads and rounds
 SEEDED = ("3", "30")
 SHORT = ("3", "4")  # what LR_PCT is for
 EXPLORED = ("3", "1", "2")  # threads, rounds and preemptions
-MOST = "5000"  # runs that are explored
+MOST = "3000"  # runs that are explored
+REAL_MODES = ("VALUES", "NOISE")
 SEARCHES = ("SEED", "ATOMICS", "PCT", "EXPLORE", "FOLLOW")
 ENOUGH = 38  # mistakes that have to be noticed in all runs of one mode
 
@@ -38,26 +40,36 @@ def ran(*words):
                           check=False)
 
 
+def on_cores(cores):
+    """Lets the processes that this thread starts from now on run on these cores only."""
+    os.sched_setaffinity(0, cores)
+
+
 class Trials:
     """Tries a lock with a mistake in each mode."""
 
     def __init__(self, locktrace, library, tours, folder):
         self.locktrace, self.library, self.tours = locktrace, library, tours
-        self.folder = folder
+        self.folder, self.cores = folder, os.sched_getaffinity(0)
 
     def noticed(self, mistake, modes):
-        """What each mode says of the mistake."""
+        """What each mode says of the mistake. One thread at a time is fastest on one core."""
         folder = self.folder / f"{mistake.lock}-{mistake.name}"
+        core = sorted(self.cores)[len(mistake.name) % len(self.cores)]
         folder.mkdir()
         source = planted(mistake, folder)
-        return {mode: self.in_mode(mistake, mode, source, folder) for mode in modes}
+        said = {}
+        for mode in modes:
+            on_cores(self.cores if mode in REAL_MODES else {core})
+            said[mode] = self.in_mode(mistake, mode, source, folder)
+        return said
 
     def in_mode(self, mistake, mode, source, folder):
         program = folder / mode
         build(source, mode, self.library, program)
         logs = folder / f"{mode}-logs"
         logs.mkdir()
-        if mode in ("VALUES", "NOISE"):
+        if mode in REAL_MODES:
             return str(sum(self.is_noticed(program, seed, logs) for seed in range(1, RUNS + 1)))
         if mode == "EXPLORE":
             return explored(ran(program, *EXPLORED, logs, MOST).stdout)
@@ -67,7 +79,7 @@ class Trials:
 
     def is_noticed(self, program, seed, logs):
         """Whether a run by real threads hangs, or its logs have no order."""
-        if ran(program, *REAL, seed, logs, 1).returncode != 0:
+        if ran(program, *REAL, seed, logs).returncode != 0:
             return True
         words = [self.locktrace, "order", *sorted(logs.glob("thread-*.log")), "-o", logs]
         return ran(*words).returncode == 1
@@ -107,20 +119,24 @@ def main():
     words.add_argument("locktrace", type=Path)
     words.add_argument("library", type=Path)
     words.add_argument("--tours", type=Path)
+    words.add_argument("--modes", default=",".join(SEARCHES))
     words.add_argument("--write", action="store_true")
     given = words.parse_args()
     wanted.install("recording")
-    modes = [mode for mode in MODES if (given.write or mode in SEARCHES)
-             and (mode != "FOLLOW" or given.tours)]
+    modes = [mode for mode in given.modes.split(",") if mode != "FOLLOW" or given.tours]
     mistakes = [*map(right, LOCKS), *all_mistakes()]
     with tempfile.TemporaryDirectory() as name, ThreadPoolExecutor(2) as pool:
         trials = Trials(given.locktrace.resolve(), given.library.resolve(),
                         given.tours and given.tours.resolve(), Path(name))
         noticed = pool.map(lambda mistake: trials.noticed(mistake, modes), mistakes)
-        found = {(mistake.lock, mistake.name): row for mistake, row in zip(mistakes, noticed)}
+        found = {}
+        for mistake, row in zip(mistakes, noticed):
+            found[mistake.lock, mistake.name] = row
+            print(mistake.lock, mistake.name, *row.values(), sep=" | ", flush=True)
     tables = TOP / "docs" / "PLANTED.md"
     if given.write:
-        tables.write_text(document(tables.read_text(), mistakes, found))
+        text = tables.read_text()
+        tables.write_text(document(text, mistakes, found, rows_of(text)))
     tally = Tally()
     compare(tally, found, rows_of(tables.read_text()))
     return tally.end()

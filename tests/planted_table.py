@@ -14,23 +14,22 @@ def in_all(row):
                or re.match(r"[1-9]\d* of \d+$", cell) for cell in said)
 
 
-def table(lock, mistakes, found):
-    modes = [mode for mode in MODES if mode in next(iter(found.values()))]
+def table(lock, mistakes, found, before):
     yield f"## Planted in `{lock}.c`"
     yield ""
-    yield f"| Mistake | What the lock does | {' | '.join(modes)} |"
-    yield "|---|---|" + "---|" * len(modes)
+    yield f"| Mistake | What the lock does | {' | '.join(MODES)} |"
+    yield "|---|---|" + "---|" * len(MODES)
     for mistake in mistakes:
         if mistake.lock == lock:
-            row = found[lock, mistake.name]
-            cells = " | ".join(row[mode] for mode in modes)
+            row = {**before.get((lock, mistake.name), {}), **found[lock, mistake.name]}
+            cells = " | ".join(row.get(mode, "-") for mode in MODES)
             yield f"| `{mistake.name}` | {mistake.what} | {cells} |"
     yield ""
 
 
-def document(text, mistakes, found):
-    """The document with new tables."""
+def document(text, mistakes, found, before):
+    """The document with new tables; what was not tried now is as it was before."""
     before, rest = text.split(BEGIN)
     after = rest.split(END)[1]
-    lines = [line for lock in LOCKS for line in table(lock, mistakes, found)]
+    lines = [line for lock in LOCKS for line in table(lock, mistakes, found, before)]
     return before + BEGIN + "\n" + "\n".join(lines) + END + after

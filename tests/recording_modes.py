@@ -14,6 +14,7 @@ import tempfile
 from pathlib import Path
 
 import wanted
+from planted_locks import mistakes_of, planted
 from recording_builds import ROOT, WARNINGS, build, compilers, language, ran
 from tally import Tally
 
@@ -160,6 +161,22 @@ def try_searches(tally, folder, library):
         done = ran(program, *words.split(), folder)
         tally.check(f"{program.name} {words}", done.stdout, lambda text: said in text)
         tally.check(f"{program.name} {words} status", done.returncode, 1 if mistake else 0)
+        saved = folder / "run.trace"
+        tally.check(f"{program.name} {words} saves", saved.exists(), bool(mistake))
+        saved.unlink(missing_ok=True)
+
+
+def try_races(tally, folder):
+    """ThreadSanitizer sees a data race of free threads, and none of one thread at a time."""
+    [mistake] = [it for it in mistakes_of("rw_fifo") if it.name == "counted_outside_before"]
+    (folder / "races" / "logs").mkdir(parents=True)
+    source = planted(mistake, folder / "races").parent / "rw_fifo.c"
+    (source.parent / "driver_of_one_run.h").rename(source.parent / "driver.h")
+    for mode, due in (("VALUES", True), ("SEED", False)):
+        ran("gcc", "-std=c11", "-O1", "-w", "-g", "-fsanitize=thread", "-pthread", f"-DLR_{mode}",
+            "-o", folder / mode, source)
+        said = ran(folder / mode, 4, 200, 1, folder / "races" / "logs", 5).stderr
+        tally.check(f"data races by {mode}", "ThreadSanitizer: data race" in said, due)
 
 
 def try_atomics(tally, folder):
@@ -183,6 +200,7 @@ def main(library):
         try_schedules(tally, folder, Path(library).resolve())
         try_traces(tally, folder)
         try_searches(tally, folder, Path(library).resolve())
+        try_races(tally, folder)
         try_atomics(tally, folder)
     return tally.end()
 

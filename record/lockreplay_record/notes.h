@@ -30,38 +30,59 @@ static inline unsigned lr_owner(int64_t thread)
     return thread >= 0 && thread < LR_THREADS ? (unsigned)thread : 255u;
 }
 
-/* Whether a note is the third one or a later one of a thread that polls and finds the same. The
-   second is written: where the first found what the thread waited for, it shows that the thread did
-   not see it. A section has no value, so where one thread runs at a time it is left out only if
-   nobody moved in between. A schedule that is followed has every poll. */
-static inline int lr_is_again(lr_log *log, const lr_move *move)
+/* A note knows its kind when it is compiled, so what it does is worked out then. */
+#define LR_AT_ONCE static inline __attribute__((always_inline))
+
+LR_AT_ONCE int lr_waits(const lr_move *move) { return move->kind.part == LR_OUTCOME_waits; }
+
+/* Whether a move is a poll that found what another move did. A section that waits has no value. */
+LR_AT_ONCE int lr_is_same(const lr_move *move, const lr_move *other)
 {
-    const lr_move *last = &log->last;
-    int waits = move->kind.part == LR_OUTCOME_waits;
-    if (memcmp(&move->kind, &last->kind, sizeof(lr_kind)) ||
-        (!waits && (move->kind.word != LR_STEP_read || move->value != last->value))) {
-        log->again = 0;
-        return 0;
-    }
-    if (LR_TURNS && waits && log->turn.seen != log->run->ordered) return 0;
+    if (move->kind.word != LR_STEP_read && !lr_waits(move)) return 0;
+    return !memcmp(&move->kind, &other->kind, sizeof(lr_kind)) &&
+           (lr_waits(move) || move->value == other->value);
+}
+
+/* Whether a move is left out: the third one or a later one of a thread that polls and finds the
+   same. The second is written: if the first found what the thread waited for, it shows that the
+   thread did not see it. With one thread at a time a section is left out only if nobody moved in
+   between, since it has no value. A schedule that is followed has every poll. `end` is where the
+   thread's moves end. */
+LR_AT_ONCE int lr_is_left_out(const lr_log *log, const lr_move *end, const lr_move *move)
+{
 #ifdef LR_FOLLOW
+    (void)log, (void)end, (void)move;
     return 0;
 #else
-    return log->again++ > 0;
+    if (LR_TURNS && lr_waits(move) && log->turn.seen != log->run->ordered) return 0;
+    return lr_is_same(move, &end[-1]) && lr_is_same(move, &end[-2]);
 #endif
 }
 
-static inline void lr_append(lr_log *log, const lr_move *move)
+/* Counts a move for which there is no room. */
+__attribute__((cold)) static inline void lr_drop(lr_log *log, lr_move move)
+{
+    size_t dropped = lr_count_of(log->dropped);
+    if (!dropped) memcpy(log->last, &log->moves[log->room] - 2, sizeof log->last);
+    if (lr_is_left_out(log, &log->last[2], &move)) return;
+    log->last[0] = log->last[1];
+    log->last[1] = move;
+    lr_set_count(log->dropped, dropped + 1);
+    if (LR_TURNS) log->run->is_cut = 1;
+}
+
+/* Writes a move, unless it is left out or dropped. */
+LR_AT_ONCE void lr_append(lr_log *log, const lr_move *move)
 {
     lr_run *run = log->run;
     size_t count = lr_count_of(log->count);
-    log->last = *move;
     if (count == log->room) {
-        lr_set_count(log->dropped, lr_count_of(log->dropped) + 1);
-        if (LR_TURNS) run->is_cut = 1;
+        lr_drop(log, *move);
         return;
     }
-    log->moves[count] = *move;
+    lr_move *end = &log->moves[count];
+    if (lr_is_left_out(log, end, move)) return;
+    *end = *move;
     lr_set_count(log->count, count + 1);
     if (!LR_TURNS || run->is_cut) return;
     run->order[run->ordered] = (unsigned char)log->thread;
@@ -81,15 +102,16 @@ static inline void lr_before_note(lr_log *log, unsigned word)
     if (word != LR_STEP_section) lr_pass_if_due(log);
 }
 
-/* Where a step was made that found something else than before, the others may find so too. */
-static inline void lr_after_note(lr_log *log, unsigned word, int again)
+/* If a step found something else than the one before it, the others may find so too. */
+static inline void lr_after_note(lr_log *log, const lr_move *move, int polls)
 {
     lr_run *run = log->run;
-    int joined = log->turn.joined, polls = log->again > 0;
+    unsigned word = move->kind.word;
+    int joined = log->turn.joined;
     log->turn.joined = 0;
     log->turn.seen = run->ordered;
     run->stuck = polls ? run->stuck | lr_bit(log->thread) : 0;
-    if (!again) run->in_vain = 0;
+    if (!polls) run->in_vain = 0;
 #ifdef LR_FOLLOW
     lr_made(log, word);
 #endif
@@ -100,17 +122,18 @@ static inline void lr_after_note(lr_log *log, unsigned word, int again)
 }
 #endif
 
-static inline void lr_note(lr_log *log, unsigned word, unsigned place, unsigned owner,
-                           unsigned part, uint64_t value)
+LR_AT_ONCE void lr_note(lr_log *log, unsigned word, unsigned place, unsigned owner, unsigned part,
+                        uint64_t value)
 {
     lr_move move = {value, {(uint16_t)word, (uint16_t)place, (uint16_t)owner, (uint16_t)part}};
 #if LR_TURNS
     lr_before_note(log, word);
+    int polls = lr_is_same(&move, &log->turn.noted);
+    log->turn.noted = move;
 #endif
-    int again = lr_is_again(log, &move);
-    if (!again) lr_append(log, &move);
+    lr_append(log, &move);
 #if LR_TURNS
-    lr_after_note(log, word, again);
+    lr_after_note(log, &move, polls);
 #else
     lr_noise(log);
 #endif

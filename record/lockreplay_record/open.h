@@ -21,7 +21,7 @@ static inline int lr_is_wrong(const char *lock, unsigned threads, unsigned bits,
     else if (bits < 8 && threads >> bits)
         lr_say("%u threads and counters of %u bits: there have to be fewer threads than values",
                threads, bits);
-    else if (moves >= SIZE_MAX / sizeof(lr_move) / threads)
+    else if (moves >= SIZE_MAX / sizeof(lr_move) / threads - 2)
         lr_say("%zu moves for each thread are more than memory can have", moves);
     else
         return 0;
@@ -64,7 +64,7 @@ static inline void lr_open_log(lr_run *run, unsigned thread, size_t moves)
     log->thread = thread;
     log->room = moves;
     log->noise = run->seed ^ (uint64_t)(thread + 1) << 48;
-    if (run->moves) log->moves = &run->moves[thread * moves];
+    if (run->moves) log->moves = &run->moves[thread * (moves + 2) + 2];
     sem_init(&log->turn.comes, 0, 0);
 }
 
@@ -74,9 +74,9 @@ static inline lr_run *lr_open(const char *lock, unsigned threads, unsigned bits,
     if (lr_is_wrong(lock, threads, bits, moves)) return NULL;
     lr_run *run = (lr_run *)calloc(1, sizeof(lr_run));
     if (!run) return NULL;
-    size_t all = threads * moves;
-    run->moves = (lr_move *)malloc(all * sizeof(lr_move) + 1);
-    run->order = (unsigned char *)malloc(LR_TURNS ? all + 1 : 1);
+    size_t all = threads * (moves + 2);
+    run->moves = (lr_move *)malloc(all * sizeof(lr_move));
+    run->order = (unsigned char *)malloc(LR_TURNS ? all : 1);
     run->lock = lock;
     run->threads = threads;
     run->bits = bits;

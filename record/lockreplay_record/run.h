@@ -41,6 +41,7 @@ typedef struct lr_turn {
     int has_passed;     /* nothing was done since the turn came back */
     const void *awaits; /* the condition for which the thread waits */
     size_t seen;        /* how many moves of all threads were written at the last note */
+    lr_move noted;      /* the last note, also if it was left out or dropped */
     size_t next_call;   /* the line of its schedule at which its next call is looked for */
     unsigned priority;  /* with LR_PCT: the greatest goes first */
 } lr_turn;
@@ -48,11 +49,10 @@ typedef struct lr_turn {
 typedef struct lr_log {
     char apart[LR_APART]; /* keeps two threads' logs on cache lines of their own */
     struct lr_run *run;
-    lr_move *moves;
+    lr_move *moves; /* before the first one are two that no thread makes */
     size_t room;
-    lr_move last;   /* the last move, also if it was dropped */
-    unsigned again; /* how many notes after it were the same */
     size_t count, dropped;
+    lr_move last[2]; /* of those that were dropped */
     unsigned thread;
     int begun, ended; /* ended: 1 after the thread's last move */
     pthread_t id;     /* of a thread that a driver's run started */
@@ -90,7 +90,7 @@ typedef struct lr_run {
     uint64_t inside; /* the threads between lr_begin and lr_end, a bit for each */
     uint64_t parked; /* those that wait for a condition */
     uint64_t stuck;  /* those that polled in vain, and nobody moved since */
-    size_t turns, in_vain; /* in_vain: how many notes in a row found the same */
+    size_t turns, in_vain; /* in_vain: how many of the last turns made no step but polls */
     int stands_still;
     unsigned char *order; /* whose each move is, up to the first that was dropped */
     size_t ordered;

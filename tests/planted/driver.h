@@ -1,12 +1,14 @@
-/* Takes the place of examples/recording/driver.h for planted mistakes: many seeds in one process.
+/* Takes the place of examples/recording/driver.h for planted mistakes.
 
-       LOCK THREADS ROUNDS SEEDS
+       LOCK THREADS ROUNDS SEEDS             LR_SEED: prints how many of the runs by the seeds from
+                                             1 on are refused or stand still
+       LOCK THREADS ROUNDS SEED DIRECTORY    LR_VALUES: status 1 if nothing is noted for 60 ms
+                                             though some thread has not ended
 
-   Prints how many of the runs by the seeds from 1 on are refused or stand still. The other modes
-   are those of the examples' own driver.
+   The other modes are those of the examples' own driver.
 
    SPDX-License-Identifier: Apache-2.0 OR MIT */
-#ifndef LR_SEED
+#if !defined LR_SEED && !defined LR_VALUES
 #include "driver_of_one_run.h"
 #else
 
@@ -16,10 +18,11 @@
 #include <stdio.h>
 #include <stdlib.h>
 #include <string.h>
+#include <sys/select.h>
 
 #include "../../record/lockreplay_record.h"
 
-enum { MOST_MOVES = 128, MOST_THREADS = 64 };
+enum { MOST_MOVES = 128, MOST_THREADS = 64, LOOKS = 6 };
 
 static void open_lock(void);
 static void one_round(unsigned thread, unsigned round, lr_log *log);
@@ -27,7 +30,7 @@ static unsigned rounds_of_each;
 
 static void inside(unsigned thread, unsigned round, lr_log *log)
 {
-    (void)thread, (void)round;
+    if (!LR_TURNS && (round * 7 + thread) % 3 == 0) sched_yield();
     LR_SWITCH(log);
 }
 
@@ -36,24 +39,76 @@ static void some_rounds(unsigned thread, lr_log *log)
     for (unsigned round = 0; round < rounds_of_each; round++) one_round(thread, round, log);
 }
 
-int main(int count, char **words)
+static const char *words_of_call[] = {"LOCK", "THREADS", "ROUNDS", "SEEDS or SEED", "DIRECTORY"};
+
+#ifdef LR_SEED
+static unsigned refused_of(const lr_driver *driver, unsigned seeds)
 {
-    lr_driver driver = {LOCK, 0, BITS, open_lock, some_rounds};
-    unsigned refused = 0, seeds = count == 4 ? (unsigned)atoi(words[3]) : 0;
-    if (!seeds) return 2;
-    driver.threads = (unsigned)atoi(words[1]);
-    rounds_of_each = (unsigned)atoi(words[2]);
+    unsigned refused = 0;
     for (unsigned seed = 1; seed <= seeds; seed++) {
         size_t room = (size_t)rounds_of_each * MOST_MOVES;
-        lr_run *run = lr_open(LOCK, driver.threads, BITS, room, seed);
-        if (!run) return 3;
-        unsigned missing = lr_go(run, &driver, 10);
+        lr_run *run = lr_open(LOCK, driver->threads, BITS, room, seed);
+        if (!run) _Exit(3);
+        unsigned missing = lr_go(run, driver, 10);
         refused += run->said[0] || lr_check(run);
         if (!missing) lr_close(run);
     }
-    printf("%u\n", refused);
+    return refused;
+}
+
+static int try_runs(const lr_driver *driver, char **words)
+{
+    printf("%u\n", refused_of(driver, (unsigned)atoi(words[3])));
     fflush(stdout);
-    _Exit(0);
+    return 0;
+}
+#else
+static size_t noted(lr_run *run)
+{
+    size_t count = 0;
+    for (unsigned t = 0; t < run->threads; t++) count += lr_count_of(run->logs[t].count);
+    return count;
+}
+
+/* Whether all threads end: it looks every 10 ms whether something was noted. */
+static int all_end(lr_run *run)
+{
+    size_t before = 0;
+    for (int looks = 0; lr_missing(run) && looks < LOOKS; looks++) {
+        struct timeval pause = {0, 10000};
+        size_t now = noted(run);
+        if (now != before) looks = 0;
+        before = now;
+        select(0, NULL, NULL, NULL, &pause);
+    }
+    return !lr_missing(run);
+}
+
+static int try_runs(const lr_driver *driver, char **words)
+{
+    size_t room = (size_t)rounds_of_each * MOST_MOVES;
+    lr_run *run = lr_open(LOCK, driver->threads, BITS, room, strtoul(words[3], NULL, 10));
+    if (!run) return 3;
+    run->driver = driver;
+    open_lock();
+    for (unsigned t = 0; t < driver->threads; t++)
+        if (pthread_create(&run->logs[t].id, NULL, lr_work, &run->logs[t])) return 3;
+    int is_well = all_end(run);
+    return lr_save(run, words[4]) ? 3 : !is_well;
+}
+#endif
+
+int main(int count, char **words)
+{
+    lr_driver driver = {LOCK, 0, BITS, open_lock, some_rounds};
+    int due = LR_TURNS ? 4 : 5;
+    if (count != due) {
+        for (int i = 0; i < due; i++) fprintf(stderr, "%s ", words_of_call[i]);
+        return 2;
+    }
+    driver.threads = (unsigned)atoi(words[1]);
+    rounds_of_each = (unsigned)atoi(words[2]);
+    _Exit(try_runs(&driver, words));
 }
 
 #endif
