@@ -1,5 +1,7 @@
 // Texts of pictures that fit their room: measured as they are drawn, and cut where the room ends.
 
+import { looks } from './looks.js';
+
 const MEASURED = 5000;
 const LONGEST = 200;
 // The fonts of `style`, by what is written in them.
@@ -8,19 +10,21 @@ const FONTS = {
   name: ['660 15px', '--letters'],
   small: ['600 13px', '--letters'],
   word: ['560 14.5px', '--mono'],
+  wants: ['400 14.5px', '--letters'],
 };
+const IN_A_HALL = { small: ['600 14.5px', '--letters'] };
 
 // Made when it is first used, since the build reads this file without a browser.
 let pen = null;
 const widths = new Map();
 
 function fontOf(kind) {
-  const [size, family] = FONTS[kind];
+  const [size, family] = (looks.hall && IN_A_HALL[kind]) || FONTS[kind];
   return `${size} ${getComputedStyle(document.documentElement).getPropertyValue(family)}`;
 }
 
 export function widthOf(text, kind) {
-  const key = `${kind} ${text}`;
+  const key = `${looks.hall} ${kind} ${text}`;
   if (!widths.has(key)) {
     if (widths.size === MEASURED) widths.clear();
     pen ??= document.createElement('canvas').getContext('2d');
