@@ -11,6 +11,8 @@ const SIDE = 330;
 const WIDE = 1130;
 const TWO = 820;
 const PHONE = 600;
+// From which width on so many tools have room; the others are in a menu.
+const TOOLS = { all: 1720, most: 1181, few: 600, none: 0 };
 // The share of the height that lanes may take, and in a low window.
 const LANES = { wide: 0.29, medium: 0.245, tall: 0.2, phone: 0.145, row: 0.29, column: 0.24 };
 const LOW = { height: 800, share: 0.26 };
@@ -53,7 +55,10 @@ export function arrange({ mode, session }) {
   if (body.style.getPropertyValue('--zoom') !== String(zoom)) {
     body.style.setProperty('--zoom', zoom);
   }
-  if (body.dataset.layout !== layout) body.dataset.layout = layout;
+  const tools = Object.keys(TOOLS).find((name) => whole >= TOOLS[name]);
+  for (const [name, value] of Object.entries({ layout, tools })) {
+    if (body.dataset[name] !== value) body.dataset[name] = value;
+  }
   for (const name of ['hall', 'embed']) body.classList.toggle(name, looks[name]);
   hideParts(parts, session.run.hasLock);
 }

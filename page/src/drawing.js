@@ -25,13 +25,11 @@ export function drawTexts(page, view, state) {
 function drawCaption(view, state) {
   const lock = lockOf(view.run);
   const caption = lock.caption(view, state);
-  const resting = lock.restingNote?.(view, state) ?? '';
   write(byId('memory-title'), lock.memory);
   const covered = covers(view);
   const missing = caption.missing && !covered && 'missing';
   const text = covered ? texts.covered : caption.text;
-  show(byId('memory-caption'), html`<span class="${missing}">${text}</span>
-    ${resting && html`<span class="soft">${resting}</span>`}`);
+  show(byId('memory-says'), html`<span class="${missing}">${text}</span>`);
 }
 
 function drawNow(page, view, state) {

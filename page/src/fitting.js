@@ -34,6 +34,10 @@ export function widthOf(text, kind) {
   return widths.get(key);
 }
 
+// The first of some texts that fits the room, else as much of the last as does.
+export const firstFitting = (all, room, kind) => all.find((text) => widthOf(text, kind) <= room)
+  ?? fitted(all[all.length - 1], room, kind);
+
 // The whole text if it fits the room, else as much of its beginning as fits, and `…`.
 export function fitted(text, room, kind) {
   if (text.length <= LONGEST && widthOf(text, kind) <= room) return text;

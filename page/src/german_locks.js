@@ -3,7 +3,8 @@
 export const germanLocks = {
   ticket: {
     title: 'Ticket-Sperre', memory: 'Speicher: wer welches Ticket hat',
-    next: 'nächstes', strip: 'Die vergebenen Tickets in der Reihenfolge der Schlange, und das '
+    next: 'nächstes', stripShort: 'Tickets in der Reihenfolge der Schlange',
+    strip: 'Die vergebenen Tickets in der Reihenfolge der Schlange, und das '
       + 'nächste',
     says: {
       TakeTicket: {

@@ -56,7 +56,8 @@ export function listenForKeys(page) {
     if (document.querySelector('dialog[open]') || isTheirs(event.key, event.target)) return;
     const key = event.key.length === 1 ? event.key.toLowerCase() : event.key;
     const onLane = event.target.id === 'lanes' && lanes[key];
-    const act = onLane || (/^[0-9]$/.test(key) ? () => page.playing.chooseFor(Number(key)) : does[key]);
+    const digit = /^[0-9]$/.test(key) && (() => page.playing.chooseFor(Number(key)));
+    const act = onLane || digit || does[key];
     if (!act) return;
     event.preventDefault();
     act();

@@ -19,7 +19,7 @@ const NARROW = 34;
 // How far the value below a mark may reach over its column.
 const FOUND_ROOM = 1.15;
 // Letters above a mark stay within the picture.
-const HIGHEST = 13;
+const HIGHEST = 14;
 const LOOKS = ['read', 'swap', 'add', 'section'];
 
 const rounded = (number) => Math.round(number * 10) / 10;
@@ -209,8 +209,8 @@ function laneOption(view, layout, index, drawn) {
     .map((move) => `${move} ${wordOf(records.action(move), records.code(move))} ${
       texts.outcomes[OUTCOMES[records.outcome(move)]]}`);
   const chosen = thread === layout.chosen;
-  const label = texts.spoken.lane(view.names.of(thread),
-    texts.standing[standingOf(view.run, view.move, thread)], moves.join(', '));
+  const standing = texts.standing[standingOf(view.run, view.move, thread)];
+  const label = `${view.names.of(thread)}, ${standing}. ${moves.join(', ')}`;
   return html`<g role="option" id="lane-${thread}" aria-selected="${chosen}"
     aria-label="${label}">${chosen && html`<rect class="chosen" x="3"
     y="${layout.laneHeight * index + 3}" width="${layout.width - 6}"

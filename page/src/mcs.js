@@ -3,9 +3,10 @@
 // is missing is drawn as missing.
 
 import { PHASE, PHASES } from './codes.js';
-import { fitted, widthOf } from './fitting.js';
+import { firstFitting, fitted, widthOf } from './fitting.js';
 import { folding, movingThread } from './folding.js';
 import { translated } from './language.js';
+import { looks } from './looks.js';
 import { html } from './markup.js';
 import { covers } from './remarks.js';
 import { BOX_EDGES, movingMark, picture, standingOf, useOf, wordBox } from './shapes.js';
@@ -65,7 +66,8 @@ const named = (value) => Number(value) - 1;
 
 const OWN_VARIABLE = { SetLocked: 'pred', LinkTo: 'pred', Grant: 'succ' };
 const RECORD = {
-  narrowest: 130, widest: 156, height: 108, gap: 52, top: 96, row: 184, left: 19, edge: 14,
+  narrowest: 126, widest: 156, height: 108, gap: 52, wideGap: 60, top: 86, row: 184, left: 19,
+  edge: 14,
 };
 // Up to so many records stay in one row, even where a picture of two rows would be larger.
 const BESIDE = 4;
@@ -75,6 +77,9 @@ const WIDEST = 240;
 const HEAD = { left: 14, right: 13, between: 9 };
 const FIELD = { left: 76, right: 12 };
 const TAIL_BOX = { left: 70, width: 86, widest: 170 };
+
+// Between records there is room for "no link".
+const gapNow = () => (looks.hall ? RECORD.wideGap : RECORD.gap);
 
 function valueText(word, value, names) {
   if (isLocked(word)) return String(value);
@@ -117,14 +122,14 @@ function widestRecord(names) {
 // Of more records than have room some are folded: `places` has for each thread where it is.
 function layOut(view, state) {
   const room = view.width - 2 * RECORD.left;
-  const most = Math.max(1, Math.floor((room + RECORD.gap) / (RECORD.narrowest + RECORD.gap)));
+  const most = Math.max(1, Math.floor((room + gapNow()) / (RECORD.narrowest + gapNow())));
   const { shown, hidden } = order(view, state, most);
   const fitting = Math.max(1, Math.floor((view.height - RECORD.top + RECORD.edge) / RECORD.row));
   const moving = movingThread(view);
   const all = folding(shown, (one) => one === moving, view.tight ? most * fitting : Infinity);
   const inRow = Math.min(most, Math.max(1, all.length));
-  const width = Math.min(widestRecord(view.names), (room - (inRow - 1) * RECORD.gap) / inRow);
-  const gap = inRow > 1 ? Math.min(88, (room - inRow * width) / (inRow - 1)) : RECORD.gap;
+  const width = Math.min(widestRecord(view.names), (room - (inRow - 1) * gapNow()) / inRow);
+  const gap = inRow > 1 ? Math.min(88, (room - inRow * width) / (inRow - 1)) : gapNow();
   const places = new Map();
   const entries = all.map(({ one, folded }, i) => {
     const row = Math.floor(i / inRow);
@@ -155,7 +160,8 @@ function ownVariable(view, state, thread, width) {
     <text class="mono value" x="${width / 2}" y="19"
       text-anchor="middle">${fitted(held, width - BOX_EDGES, 'word')}</text>
     <text class="note" x="${width / 2}" y="45"
-      text-anchor="middle">${fitted(whose, width + RECORD.gap - BOX_EDGES, 'small')}</text>
+      text-anchor="middle">${
+  firstFitting([whose, texts.variable], width + gapNow() - BOX_EDGES, 'small')}</text>
   </g>`;
 }
 
@@ -249,10 +255,11 @@ function draw(view, state) {
   const { width } = layout;
   const height = RECORD.top + layout.rows * RECORD.row - RECORD.edge;
   const text = covers(view) ? T.memory : caption(view, state).text;
-  return picture(view, height, text, html`${tail(view, state, layout)}
+  const drawn = picture(view, height, text, html`${tail(view, state, layout)}
     ${layout.entries.map((entry) => (entry.folded ? foldedRecords(view, entry, width)
     : record(view, state, entry.one, entry.place, width)))}
     ${!covers(view) && links(view, state, layout)}`);
+  return Object.assign(drawn, { note: restingNote(view, layout.hidden) });
 }
 
 function leastWidth(view, state) {
@@ -260,15 +267,13 @@ function leastWidth(view, state) {
   const beside = Math.min(BESIDE, busy);
   const { names } = view;
   const record = names.given.size ? widestRecord(names) : RECORD.narrowest;
-  return 2 * RECORD.left + beside * record + (beside - 1) * RECORD.gap;
+  return 2 * RECORD.left + beside * record + (beside - 1) * gapNow();
 }
 
-// Threads at rest have no record where there is no room.
-function restingNote(view, state) {
-  const resting = Array.from({ length: view.run.threads }, (_, thread) => thread)
-    .filter((thread) => standingOf(view.run, view.move, thread) === 'rest');
-  if (resting.length > MOST_NAMED) return atRest(texts.threads(resting.length));
-  const named = resting.map((thread) => view.names.short(thread)).join(', ');
+// Who is at rest and has no record.
+function restingNote(view, hidden) {
+  if (hidden.length > MOST_NAMED) return atRest(texts.threads(hidden.length));
+  const named = hidden.map((thread) => view.names.short(thread)).join(', ');
   return named && atRest(named);
 }
 
@@ -296,5 +301,5 @@ export const mcs = {
   name: 'mcs', title: T.title, lesson: 'mcs', memory: T.memory,
   signs: ['fails', 'inCall', 'line', 'holds', 'unlinked', 'ended'],
   says, mark, variant, values,
-  wordName, valueText, draw, caption, restingNote, leastWidth,
+  wordName, valueText, draw, caption, leastWidth,
 };

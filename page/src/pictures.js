@@ -47,6 +47,7 @@ export function drawPictures(page, view, state, sizes) {
     const changed = parts.filter((part) => differs(now[part], fitted[part]));
     changed.forEach((part) => DRAWS[part](page, view, state, now[part]));
     if (!changed.length) break;
+    page.moved = true;
     fitted = now;
   }
   reveal(page, view);
@@ -135,7 +136,9 @@ function scaledPicture(size, lock, view, state) {
 }
 
 function drawMemory(view, state, size) {
-  show(byId('memory-picture'), scaledPicture(size, lockOf(view.run), view, state));
+  const picture = scaledPicture(size, lockOf(view.run), view, state);
+  show(byId('memory-picture'), picture);
+  write(byId('memory-note'), picture.note ?? '');
 }
 
 function drawSlider(view, width) {

@@ -14,7 +14,7 @@ const T = translated('readWrite', {
   atMonitor: 'at the monitor', pollFailed: 'failed poll',
   wants: {
     TryRead: 'wants to read', LeaveRead: 'wants to stop reading', TryWrite: 'wants to write',
-    AwaitReaders: 'announced, waits for the readers', LeaveWrite: 'wants to stop writing',
+    AwaitReaders: 'announced, awaits the readers', LeaveWrite: 'wants to stop writing',
     TryDowngrade: 'wants to go on as a reader',
   },
   captions: {

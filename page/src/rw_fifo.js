@@ -36,13 +36,20 @@ const ACQUIRES = 0;
 const RELEASES = 1;
 const FLAG = 2;
 
+// What the hands are: beside the words, or below the wheel where the picture is narrow.
+const LEGEND_BESIDE = 640;
+const legendAt = ({ width }) => (width >= LEGEND_BESIDE ? [400, 46] : [36, 250]);
+
+const wheelHeight = ({ width }) => (width >= LEGEND_BESIDE ? 246 : 280);
+
 function counts(view, state) {
+  const [x, y] = legendAt(view);
   const wheel = wheelPlaced(view.run.bits, 104, 160, 58);
   const hands = [{ value: state.word(RELEASES), style: HANDS.inner },
     { value: state.word(ACQUIRES), style: HANDS.outer }];
   return html`${wheelOf(wheel, hands, [])}
-    ${handLegend(36, 254, 'outer', WORDS[ACQUIRES])}
-    ${handLegend(36, 274, 'inner', WORDS[RELEASES])}`;
+    ${handLegend(x, y, 'outer', WORDS[ACQUIRES])}
+    ${handLegend(x, y + 20, 'inner', WORDS[RELEASES])}`;
 }
 
 // The widths of the room, and of the callers, which are beside it or below it.
@@ -58,7 +65,7 @@ function draw(view, state) {
   const below = 104 + roomHeight(view, state, ROOM);
   const beside = view.width >= left + ROOM + GAP + CALLERS;
   const [x, y] = beside ? [left + ROOM + GAP, 92] : [left + 4, below];
-  const height = Math.max(wheel ? 286 : 180, below, monitorEnd(view, state, y));
+  const height = Math.max(wheel ? wheelHeight(view) : 180, below, monitorEnd(view, state, y));
   return picture(view, height, caption(view, state).text,
     html`${box(ACQUIRES, 24, 116)}${box(RELEASES, 156, 116)}${box(FLAG, 288, 70)}
       ${wheel && counts(view, state)}${room(view, state, left, 92, ROOM)}

@@ -105,6 +105,8 @@ const english = {
     rest: 'at rest',
   },
   ownVariable: (name) => `${name}’s own variable`,
+  variable: 'own variable',
+  bits: (bits) => `${bits} bits`,
   wheel: (bits, places) => `${bits} bits: ${places} numbers, then round`,
 
   code: 'Code: this move, and each thread’s next step',
@@ -138,7 +140,6 @@ const english = {
     did: (who, word, outcome) => `${who}, ${word}, ${outcome}.`,
     holds: (names) => `Holds: ${names}.`,
     line: (names) => `Queue: ${names}.`,
-    lane: (name, standing, moves) => `${name}, ${standing}. ${moves}`,
     ask: (question) => `Question: ${question}`,
     hidden: 'What comes of the next move is asked before it is shown.',
   },

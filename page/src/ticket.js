@@ -3,7 +3,7 @@
 
 import { PHASES } from './codes.js';
 import { translated } from './language.js';
-import { fitted } from './fitting.js';
+import { firstFitting } from './fitting.js';
 import { html } from './markup.js';
 import { folding, movingThread } from './folding.js';
 import { foldedToken, picture, token, useOf, wordBox } from './shapes.js';
@@ -19,6 +19,7 @@ const OWN_VARIABLE = {
 const T = translated('ticket', {
   title: 'Ticket lock', memory: 'Memory: who has which ticket', next: 'next',
   strip: 'The tickets that are out, in the order of the queue, and the next one',
+  stripShort: 'Tickets in the order of the queue',
   says: {
     TakeTicket: {
       moved: '{who} draws ticket {found}, and is in the queue from here on. next_ticket is now '
@@ -85,7 +86,9 @@ function legend(x, y) {
     ${handLegend(x, y + 24, 'inner', WORDS[NOW_SERVING])}`;
 }
 
+// From which widths on the words are beside each other, and what the hands are beside the tickets.
 const BESIDE = 576;
+const LEGEND_BESIDE = 640;
 
 function narrow(view, state) {
   const middle = 150;
@@ -100,11 +103,14 @@ function narrow(view, state) {
     place: Number(number), draw: (x, y) => token(x, y, view, thread),
   }));
   const x = 2 * middle + 10;
-  const height = Math.max(292, top + 14 + OWN_ROW * all.length);
+  const legendBeside = view.width >= LEGEND_BESIDE;
+  const height = Math.max(legendBeside ? 258 : 292, top + 14 + OWN_ROW * all.length);
   return picture(view, height, caption(view, state).text, html`${wheelOf(wheel, hands, tokens)}
-    ${legend(middle - 62, 258)}${words(view, state, x, beside)}
+    ${legendBeside ? legend(x + 172, top + 14) : legend(middle - 62, 258)}
+    ${words(view, state, x, beside)}
     <text class="note" x="${x}" y="${top - 14}">${
-  fitted(texts.wheel(view.run.bits, wheel.places), view.width - x - 8, 'small')}</text>
+  firstFitting([texts.wheel(view.run.bits, wheel.places), texts.bits(view.run.bits)],
+    view.width - x - 8, 'small')}</text>
     ${ownVariables(view, all, x, top)}`);
 }
 
@@ -154,7 +160,8 @@ function wide(view, state) {
   const { drawn, height } = strip(view, state, 116);
   return picture(view, 140 + height, caption(view, state).text,
     html`${box(NOW_SERVING, 24)}${box(NEXT_TICKET, 160)}
-      <text class="note" x="24" y="104">${fitted(T.strip, view.width - 32, 'small')}</text>
+      <text class="note" x="24" y="104">${
+  firstFitting([T.strip, T.stripShort], view.width - 32, 'small')}</text>
       ${drawn}${served(view, state)}`);
 }
 

@@ -1,4 +1,4 @@
-"""The page by keys alone, for a screen reader, at 200 %, on a phone, and in the system's colours."""
+"""The page by keys alone, read aloud, at 200 %, on a phone, and in the colours of the system."""
 from both import KEYS
 from looks import contrast
 

@@ -49,6 +49,8 @@ if (session.run.hasLock) {
   if (!moving && made && document.querySelector('.record')) wrong.push('no record');
   if (!inView('#now .say', byId('now'))) wrong.push('no sentence');
   inView('#memory-picture text', byId('memory-picture'));
+  const short = all('#memory-picture text').filter((one) => one.textContent.endsWith('…'));
+  if (short.length) wrong.push(`cut: ${short[0].textContent}`);
   inView('#numbers text', byId('time'));
   inView('#lanes text', byId('lanes'));
   inView('#memory-caption', byId('memory'));

@@ -48,6 +48,10 @@ return {
     : bar !== null && inside(rect(bar), page),
   current: document.getElementById('current').textContent.replace(/\\s+/g, ' ').trim(),
   header: document.querySelector('header').checkVisibility(),
+  cut: [...document.querySelectorAll('#memory-picture text')].filter((one) => (
+    one.checkVisibility() && (one.lastChild.textContent.endsWith('…')
+    || !inside(rect(one), rect(document.getElementById('memory-picture'))))))
+    .map((one) => one.textContent),
   moving: [...document.querySelectorAll('#memory-picture [data-moving]')].every((one) => (
     inside(rect(one), rect(document.getElementById('memory-picture'))))),
 };
@@ -67,6 +71,8 @@ def letters_are_large(browser):
                 shown = browser.run(IN_VIEW)
                 assert shown["parts"] == pair.split(","), (where, shown)
                 assert shown["line"] and shown["moving"], (where, shown)
+                # Beside the lanes memory may be scrolled, on the lowest screens.
+                assert not shown["cut"] or pair == "time,memory", (where, shown)
                 assert shown["current"].startswith(str(move)), (where, shown)
 
 

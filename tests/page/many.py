@@ -18,7 +18,8 @@ const inside = (one, outer) => rect(one).left >= rect(outer).left - 1.5
   && rect(one).bottom <= rect(outer).bottom + 1.5;
 const all = (selector) => [...document.querySelectorAll(selector)];
 const count = (selector) => all(selector).length;
-const more = (nodes) => nodes.reduce((sum, one) => sum + Number(/\\d+/.exec(one.textContent)[0]), 0);
+const number = (one) => Number(/\\d+/.exec(one.textContent)[0]);
+const more = (nodes) => nodes.reduce((sum, one) => sum + number(one), 0);
 const { session } = window.lockreplay.page;
 const here = all('#lanes .word-label.here')[0];
 return {
@@ -82,7 +83,7 @@ def idle_lanes_are_folded(browser):
     browser.open()
     lines = ["lock ticket threads 20"]
     for thread in range(20):
-        lines += [f"{thread} {word}" for word in ["acquire", "add", "read", "release", "read", "write"]]
+        lines += [f"{thread} {word}" for word in "acquire add read release read write".split()]
     browser.run(OPEN, ["\n".join(lines) + "\n", "lessons", 120])
     shown = browser.run(SHOWN)
     assert shown["lanes"] <= 6 and shown["note"].startswith(f"{20 - shown['lanes']} threads"), shown
