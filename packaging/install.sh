@@ -5,13 +5,14 @@
 #   packaging/install.sh uninstall FOLDER
 #
 # FOLDER is DESTDIR and PREFIX together. Nothing is installed when a file of the list is missing.
-# What is taken away is each file that the list names, and the whole folder of documents. Other
-# folders stay, since others may use them.
+# What is taken away is each file that the list names, the whole folder of documents, and that of
+# the recording header's parts. Other folders stay, since others may use them.
 set -eu
 cd "$(dirname "$0")/.."
 umask 022
 LIST=packaging/contents.txt
 DOCUMENTS=share/doc/lockreplay
+PARTS=include/lockreplay_record
 
 # Each of these is called by `each` with the KIND, SOURCE and TARGET of a line.
 
@@ -34,7 +35,9 @@ place_all() {
 # in the folder of documents everything is this project's, so patterns are not asked what they found
 take_away() {
     case $3 in "$DOCUMENTS"/*) return ;; esac
-    rm -f "$(place_of "$1" "$2" "$3")"
+    for source in $2; do
+        rm -f "$(place_of "$1" "$source" "$3")"
+    done
 }
 
 # place KIND SOURCE PLACE: one file
@@ -73,5 +76,5 @@ if [ "$1" = install ]; then
     each place_all
 else
     each take_away
-    rm -rf "${folder:?}/$DOCUMENTS"
+    rm -rf "${folder:?}/$DOCUMENTS" "${folder:?}/$PARTS"
 fi

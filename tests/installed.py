@@ -65,9 +65,9 @@ def due_files():
 def try_licences(tally, tree):
     """What is copied alone says its licence, and the texts are there."""
     documents = tree / "share" / "doc" / "lockreplay"
-    alone = [*tree.glob("include/*"), *documents.glob("examples/recording/*.[ch]"),
+    alone = [*tree.glob("include/**/*.h"), *documents.glob("examples/recording/*.[ch]"),
              *documents.glob("examples/bindings/*"), *documents.glob("page/*")]
-    tally.check("files that are copied alone", len(alone), lambda count: count >= 13)
+    tally.check("files that are copied alone", len(alone), lambda count: count >= 30)
     for file in alone:
         tally.check(f"licence of {file.name}", LICENCE in file.read_text(), True)
     tally.check("the Apache licence", (documents / "LICENSE-APACHE").read_text(),

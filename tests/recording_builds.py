@@ -9,6 +9,8 @@ SOURCES = ROOT / "examples" / "recording"
 HEADER = ROOT / "record" / "lockreplay_record.h"
 EXAMPLES = sorted(path.stem for path in SOURCES.glob("*.c"))
 ALSO_C_PLUS_PLUS = ["rw_simple", "rw_fifo"]
+# Which of a macro's arguments is done without the header.
+MONITOR = {"LR_LOCK": 1, "LR_UNLOCK": 1, "LR_WAIT": 3, "LR_SIGNAL": 2, "LR_BROADCAST": 2}
 WARNINGS = ["-Wall", "-Wextra", "-Wpedantic", "-Werror"]
 SANITIZERS = ["address,undefined", "thread"]
 
@@ -18,14 +20,22 @@ def ran(*words, text=None, folder=None):
                           capture_output=True, text=True)
 
 
-def language(compiler):
-    return ["-x", "c++", "-std=c++17"] if "++" in compiler else ["-std=c11"]
+def language(compiler, standard="17"):
+    return ["-x", "c++", f"-std=c++{standard}"] if "++" in compiler else ["-std=c11"]
 
 
-def build(compiler, example, mode, target, *more):
-    """What the compiler says; nothing where it has no error and no warning."""
+def build(compiler, example, mode, target, *more, library=None):
+    """What the compiler says; nothing if it has no error and no warning."""
+    libraries = ["-x", "none", library] if library else []
     done = ran(compiler, *language(compiler), *WARNINGS, "-O2", "-pthread", f"-DLR_{mode}", *more,
-               "-o", target, SOURCES / f"{example}.c")
+               "-o", target, SOURCES / f"{example}.c", *libraries)
+    return done.stderr + ("" if done.returncode == 0 else f"status {done.returncode}")
+
+
+def compile_only(compiler, standard, example, mode, *options):
+    """The same without linking: what is built of it is not kept."""
+    done = ran(compiler, *language(compiler, standard), *WARNINGS, "-O2", "-pthread", "-c",
+               f"-DLR_{mode}", *options, "-o", "/dev/null", SOURCES / f"{example}.c")
     return done.stderr + ("" if done.returncode == 0 else f"status {done.returncode}")
 
 
@@ -52,6 +62,17 @@ def all_builds():
                 yield compiler, example, mode
 
 
+def all_compiled():
+    """Every compiler, standard, example, mode and options that go together."""
+    options = {"OFF": [], "VALUES": ["-DLR_NOISE"], "SEED": ["-DLR_PCT=3", "-DLR_SPURIOUS=9"],
+               "FOLLOW": ["-DLR_CHECK"], "EXPLORE": []}
+    for compiler in compilers():
+        for standard in ["17", "20"] if "++" in compiler else ["11"]:
+            for example in ALSO_C_PLUS_PLUS if "++" in compiler else EXAMPLES:
+                for mode, more in options.items():
+                    yield compiler, standard, example, mode, "-DLR_ATOMICS", *more
+
+
 def end_of_call(text, start):
     """The index behind the bracket that closes the one at `start`."""
     depth = 0
@@ -63,13 +84,14 @@ def end_of_call(text, start):
 
 
 def without_notes(text):
-    """A source with no trace of the header: no note, no inclusion, of LR_WAIT what waits."""
+    """A source with no trace of the header: no note, no inclusion, of a monitor what it does."""
     text = re.sub(r'#include ".*lockreplay_record\.h"\n', "", text)
     while found := re.search(r"LR_[A-Z_]+(?=\()", text):
         end = end_of_call(text, found.end())
         kept = ""
-        if found.group() == "LR_WAIT":
-            kept = re.split(r",\s*(?![^()]*\))", text[found.end() + 1:end - 1])[2]
+        if found.group() in MONITOR:
+            parts = re.split(r",\s*(?![^()]*\))", text[found.end() + 1:end - 1])
+            kept = parts[MONITOR[found.group()]]
         text = text[:found.start()] + kept + text[end:]
     return text
 

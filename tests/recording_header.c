@@ -29,7 +29,9 @@ static void check_log(const char *name, lr_run *run, const char *due)
     }
     text[fread(text, 1, sizeof text - 1, file)] = '\0';
     fclose(file);
-    check(name, strcmp(text, due) == 0);
+    const char *end = strchr(text, '\n');
+    check("the first line has the run's number", strncmp(text, "# run ", 6) == 0 && end);
+    check(name, end && strcmp(end + 1, due) == 0);
     lr_close(run);
 }
 
@@ -79,7 +81,16 @@ static void every_section(void)
     LR_CALL(log, wlock);
     LR_SECTION(log, ++sections, moved);
     LR_SECTION(log, ++sections, waits);
-    LR_WAIT(log, waited = 2, waited = 1, waited = 3);
+    LR_LOCK(log, waited = 4);
+    check("the mutex is taken", waited == 4);
+    LR_WAIT(log, &waited, waited = 2, waited = 1, waited = 3);
+    check("what waits is done", waited == 1);
+    LR_SIGNAL(log, &waited, waited = 5);
+    check("what signals is done", waited == 5);
+    LR_BROADCAST(log, &waited, waited = 6);
+    check("what broadcasts is done", waited == 6);
+    LR_UNLOCK(log, waited = 7);
+    check("the mutex is given back", waited == 7);
     LR_SECTION(log, ++sections, waits);
     LR_SECTION(log, ++sections, entered);
     LR_CALL(log, wunlock);
@@ -88,28 +99,48 @@ static void every_section(void)
     LR_CALL(log, runlock);
     LR_CALL(log, downgrade);
     lr_end(log);
-    check("what waits is done", waited == 1);
     check_log("every section", run,
               "lock rw-fifo threads 1 bits 8 thread 0\n"
-              "wlock\nsection 1 moved\nsection 2 waits\nsection 4 entered\nwunlock\n"
+              "wlock\nsection 1 moved\nsection 2 waits\nsection 3 waits\nsection 4 entered\n"
+              "wunlock\n"
               "section 5 left\nrlock\nrunlock\ndowngrade\ndropped 0\n");
 }
 
-static void looks_in_vain_are_written_once(void)
+static void the_third_equal_look_is_left_out(void)
 {
     lr_run *run = one_thread("ticket", 4, 100);
     lr_log *log = lr_log_of(run, 0);
+    LR_READ(log, now_serving, 1);
+    LR_READ(log, now_serving, 1);
     LR_READ(log, now_serving, 1);
     LR_READ(log, now_serving, 1);
     LR_READ(log, now_serving, 2);
     LR_READ(log, now_serving, 1);
     LR_WRITE(log, now_serving, 2);
     LR_WRITE(log, now_serving, 2);
+    LR_WRITE(log, now_serving, 2);
     lr_end(log);
     check_log("failed polls", run,
               "lock ticket threads 1 bits 4 thread 0\n"
-              "read now_serving found 1\nread now_serving found 2\nread now_serving found 1\n"
-              "write now_serving left 2\nwrite now_serving left 2\ndropped 0\n");
+              "read now_serving found 1\nread now_serving found 1\n"
+              "read now_serving found 2\nread now_serving found 1\n"
+              "write now_serving left 2\nwrite now_serving left 2\nwrite now_serving left 2\n"
+              "dropped 0\n");
+}
+
+static void a_third_wait_is_left_out(void)
+{
+    lr_run *run = one_thread("rw-simple", 64, 100);
+    lr_log *log = lr_log_of(run, 0);
+    LR_CALL(log, rlock);
+    LR_SECTION(log, 1, waits);
+    LR_SECTION(log, 2, waits);
+    LR_SECTION(log, 3, waits);
+    LR_SECTION(log, 4, entered);
+    lr_end(log);
+    check_log("sections that wait", run,
+              "lock rw-simple threads 1 bits 64 thread 0\n"
+              "rlock\nsection 1 waits\nsection 2 waits\nsection 4 entered\ndropped 0\n");
 }
 
 static void a_full_log_counts_what_it_drops(void)
@@ -120,11 +151,44 @@ static void a_full_log_counts_what_it_drops(void)
     LR_ADD(log, next_ticket, 0);
     LR_READ(log, now_serving, 7);
     LR_READ(log, now_serving, 7);
+    LR_READ(log, now_serving, 7);
     LR_READ(log, now_serving, 0);
     lr_end(log);
     check_log("a full log", run,
               "lock ticket threads 1 bits 64 thread 0\n"
-              "acquire\nadd next_ticket found 0\ndropped 2\n");
+              "acquire\nadd next_ticket found 0\ndropped 3\n");
+}
+
+/* Puts a text into a file of the directory, or sees whether the file is there. */
+static int file_of(const char *name, const char *text)
+{
+    char path[4096];
+    snprintf(path, sizeof path, "%s/%s", directory, name);
+    FILE *file = fopen(path, text ? "w" : "r");
+    if (!file) return 0;
+    if (text) fputs(text, file);
+    return fclose(file) == 0;
+}
+
+static void what_an_earlier_run_left_is_taken_away(void)
+{
+    lr_run *run = one_thread("mcs", 64, 1);
+    lr_end(lr_log_of(run, 0));
+    check("files of a run", file_of("thread-1.log", "x") && file_of("thread-63.log", "x"));
+    check("files beside them", file_of("run.trace", "x") && file_of("other.log", "x"));
+    check_log("an earlier run", run, "lock mcs threads 1 bits 64 thread 0\ndropped 0\n");
+    check("thread 1 is gone", !file_of("thread-1.log", NULL));
+    check("thread 63 is gone", !file_of("thread-63.log", NULL));
+    check("the trace is gone", !file_of("run.trace", NULL));
+    check("another file is there", file_of("other.log", NULL));
+}
+
+static void two_runs_have_two_numbers(void)
+{
+    lr_run *one = lr_open("mcs", 1, 64, 1, 0), *other = lr_open("mcs", 1, 64, 1, 0);
+    check("numbers of runs", one && other && one->number != other->number);
+    lr_close(one);
+    lr_close(other);
 }
 
 static void a_log_that_has_not_ended_says_so(void)
@@ -157,8 +221,11 @@ int main(int count, char **words)
     directory = words[1];
     every_note();
     every_section();
-    looks_in_vain_are_written_once();
+    the_third_equal_look_is_left_out();
+    a_third_wait_is_left_out();
     a_full_log_counts_what_it_drops();
+    what_an_earlier_run_left_is_taken_away();
+    two_runs_have_two_numbers();
     a_log_that_has_not_ended_says_so();
     what_cannot_be_opened_or_saved();
     return failed;

@@ -16,7 +16,7 @@ enum { BITS = 64 };
 
 #include "driver.h"
 
-#if defined LR_VALUES || defined LR_SEED
+#if LR_RECORDS
 
 static _Thread_local lr_log *own_log;
 
@@ -53,7 +53,7 @@ typedef struct {
 static record records[MOST_THREADS];
 static ck_spinlock_mcs_t tail = CK_SPINLOCK_MCS_INITIALIZER;
 
-#if defined LR_VALUES || defined LR_SEED
+#if LR_RECORDS
 
 /* The thread of the record that this is a field of. */
 static unsigned thread_of(const void *field)
@@ -115,7 +115,11 @@ static void noted_grant(unsigned *locked, unsigned value)
 
 #endif /* recorded */
 
-static void open_lock(void) {}
+static void open_lock(void)
+{
+    memset(records, 0, sizeof records);
+    ck_spinlock_mcs_init(&tail);
+}
 
 static void one_round(unsigned thread, unsigned round LR_ONLY(, lr_log *log))
 {
@@ -126,3 +130,17 @@ static void one_round(unsigned thread, unsigned round LR_ONLY(, lr_log *log))
     LR_CALL(log, release);
     ck_spinlock_mcs_unlock(&tail, &records[thread].node);
 }
+
+#ifdef LR_FOLLOW
+static void one_call(unsigned thread, int call, lr_log *log)
+{
+    own_log = log;
+    if (call == LR_CALL_acquire) {
+        LR_CALL(log, acquire);
+        ck_spinlock_mcs_lock(&tail, &records[thread].node);
+    } else {
+        LR_CALL(log, release);
+        ck_spinlock_mcs_unlock(&tail, &records[thread].node);
+    }
+}
+#endif

@@ -14,7 +14,7 @@ enum { BITS = 16 };
 
 #include "driver.h"
 
-#if defined LR_VALUES || defined LR_SEED
+#if LR_RECORDS
 
 enum { SHIFT = 16, MASK = 0xFFFF };
 
@@ -60,7 +60,7 @@ static void noted_increment(uint16_t *half)
 
 static ck_spinlock_ticket_t the_lock = CK_SPINLOCK_TICKET_INITIALIZER;
 
-static void open_lock(void) {}
+static void open_lock(void) { ck_spinlock_ticket_init(&the_lock); }
 
 static void one_round(unsigned thread, unsigned round LR_ONLY(, lr_log *log))
 {
@@ -71,3 +71,18 @@ static void one_round(unsigned thread, unsigned round LR_ONLY(, lr_log *log))
     LR_CALL(log, release);
     ck_spinlock_ticket_unlock(&the_lock);
 }
+
+#ifdef LR_FOLLOW
+static void one_call(unsigned thread, int call, lr_log *log)
+{
+    (void)thread;
+    own_log = log;
+    if (call == LR_CALL_acquire) {
+        LR_CALL(log, acquire);
+        ck_spinlock_ticket_lock(&the_lock);
+    } else {
+        LR_CALL(log, release);
+        ck_spinlock_ticket_unlock(&the_lock);
+    }
+}
+#endif

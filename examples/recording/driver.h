@@ -1,12 +1,16 @@
 /* What runs each example of this folder: threads that take its lock and give it back.
 
-       EXAMPLE THREADS ROUNDS SEED DIRECTORY [SECONDS]
+       EXAMPLE THREADS ROUNDS SEED DIRECTORY [SECONDS]       LR_VALUES, LR_SEED and without a mode
+       EXAMPLE SCHEDULES DIRECTORY                           LR_FOLLOW
+       EXAMPLE THREADS ROUNDS PREEMPTIONS DIRECTORY [RUNS]   LR_EXPLORE
 
    An example defines LOCK, the lock's name in a trace, and BITS, the width of its counters, and
-   includes this file; then it defines `open_lock` and `one_round`: a call that takes the lock,
-   `inside`, and a call that gives it back. The logs go to DIRECTORY. Status: 0 all threads ended;
-   1 some hang, after SECONDS (60) or where a seeded run stands still, and their logs end there;
-   2 usage; 3 memory, a thread or a write was refused.
+   includes this file; then it defines `open_lock`, which makes its lock new, `one_round`: a call
+   that takes the lock, `inside`, and a call that gives it back, and with LR_FOLLOW `one_call`. The
+   logs go to DIRECTORY. Status: 0 all threads ended, every schedule was followed, no run was
+   refused; 1 some threads hang, after SECONDS (60) or if a run stands still, and their logs end
+   there, or a schedule was not followed, or a run was refused; 2 usage; 3 memory, a thread or a
+   write was refused.
 
    SPDX-License-Identifier: Apache-2.0 OR MIT */
 #include <pthread.h>
@@ -14,6 +18,7 @@
 #include <stdint.h>
 #include <stdio.h>
 #include <stdlib.h>
+#include <string.h>
 
 #include "../../record/lockreplay_record.h"
 
@@ -29,6 +34,12 @@ static void inside(unsigned thread, unsigned round LR_ONLY(, lr_log *log))
     if ((round * 7 + thread) % 3 == 0) sched_yield();
     LR_SWITCH(log);
 }
+
+#ifdef LR_FOLLOW
+#include "follow_driver.h"
+#elif defined LR_EXPLORE
+#include "explore_driver.h"
+#else
 
 struct work {
     pthread_t id;
@@ -78,3 +89,5 @@ int main(int count, char **words)
     LR_ONLY(lr_close(run);)
     return 0;
 }
+
+#endif

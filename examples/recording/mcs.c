@@ -93,7 +93,7 @@ static void mcs_release(mcs_lock *lock, record *own LR_ONLY(, lr_log *log))
 
 static mcs_lock the_lock;
 
-static void open_lock(void) {}
+static void open_lock(void) { memset(&the_lock, 0, sizeof the_lock); }
 
 static void one_round(unsigned thread, unsigned round LR_ONLY(, lr_log *log))
 {
@@ -102,3 +102,14 @@ static void one_round(unsigned thread, unsigned round LR_ONLY(, lr_log *log))
     inside(thread, round LR_ONLY(, log));
     mcs_release(&the_lock, own LR_ONLY(, log));
 }
+
+#ifdef LR_FOLLOW
+static void one_call(unsigned thread, int call, lr_log *log)
+{
+    record *own = &the_lock.records[thread];
+    if (call == LR_CALL_acquire)
+        mcs_acquire(&the_lock, own, log);
+    else
+        mcs_release(&the_lock, own, log);
+}
+#endif

@@ -15,16 +15,19 @@ static void monitor_open(rw_monitor *own)
     pthread_cond_init(&own->changed, NULL);
 }
 
-static void monitor_enter(rw_monitor *own) { pthread_mutex_lock(&own->mutex); }
-
-static void monitor_leave(rw_monitor *own)
+static void monitor_enter(rw_monitor *own LR_ONLY(, lr_log *log))
 {
-    pthread_cond_broadcast(&own->changed);
-    pthread_mutex_unlock(&own->mutex);
+    LR_LOCK(log, pthread_mutex_lock(&own->mutex));
+}
+
+static void monitor_leave(rw_monitor *own LR_ONLY(, lr_log *log))
+{
+    LR_BROADCAST(log, &own->changed, pthread_cond_broadcast(&own->changed));
+    LR_UNLOCK(log, pthread_mutex_unlock(&own->mutex));
 }
 
 static void monitor_wait(rw_monitor *own LR_ONLY(, lr_log *log))
 {
-    LR_WAIT(log, pthread_mutex_unlock(&own->mutex),
+    LR_WAIT(log, &own->changed, pthread_mutex_unlock(&own->mutex),
             pthread_cond_wait(&own->changed, &own->mutex), pthread_mutex_lock(&own->mutex));
 }

@@ -5,7 +5,11 @@
 
 static rw_lock the_lock;
 
-static void open_lock(void) { monitor_open(&the_lock.monitor); }
+static void open_lock(void)
+{
+    memset(&the_lock, 0, sizeof the_lock);
+    monitor_open(&the_lock.monitor);
+}
 
 static void read_round(unsigned thread, unsigned round LR_ONLY(, lr_log *log))
 {
@@ -34,3 +38,17 @@ static void one_round(unsigned thread, unsigned round LR_ONLY(, lr_log *log))
     else
         read_round(thread, round LR_ONLY(, log));
 }
+
+#ifdef LR_FOLLOW
+static void one_call(unsigned thread, int call, lr_log *log)
+{
+    (void)thread;
+    switch (call) {
+    case LR_CALL_rlock: read_lock(&the_lock, log); break;
+    case LR_CALL_wlock: write_lock(&the_lock, log); break;
+    case LR_CALL_runlock: read_unlock(&the_lock, log); break;
+    case LR_CALL_wunlock: write_unlock(&the_lock, log); break;
+    default: downgrade(&the_lock, log); break;
+    }
+}
+#endif

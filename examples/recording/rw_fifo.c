@@ -32,23 +32,23 @@ static int reader_must_wait(const rw_lock *lock)
 static void read_lock(rw_lock *lock LR_ONLY(, lr_log *log))
 {
     LR_CALL(log, rlock);
-    monitor_enter(&lock->monitor);
+    monitor_enter(&lock->monitor LR_ONLY(, log));
     while (reader_must_wait(lock)) {
         LR_SECTION(log, ++lock->monitor.sections, waits);
         monitor_wait(&lock->monitor LR_ONLY(, log));
     }
     lock->read_acquires++;
     LR_SECTION(log, ++lock->monitor.sections, entered);
-    monitor_leave(&lock->monitor);
+    monitor_leave(&lock->monitor LR_ONLY(, log));
 }
 
 static void read_unlock(rw_lock *lock LR_ONLY(, lr_log *log))
 {
     LR_CALL(log, runlock);
-    monitor_enter(&lock->monitor);
+    monitor_enter(&lock->monitor LR_ONLY(, log));
     lock->read_releases++;
     LR_SECTION(log, ++lock->monitor.sections, left);
-    monitor_leave(&lock->monitor);
+    monitor_leave(&lock->monitor LR_ONLY(, log));
 }
 
 /* The writer's flag is set: no more readers come in, and those inside go. */
@@ -65,7 +65,7 @@ static void wait_for_readers(rw_lock *lock LR_ONLY(, lr_log *log))
 static void write_lock(rw_lock *lock LR_ONLY(, lr_log *log))
 {
     LR_CALL(log, wlock);
-    monitor_enter(&lock->monitor);
+    monitor_enter(&lock->monitor LR_ONLY(, log));
     while (lock->writer) {
         LR_SECTION(log, ++lock->monitor.sections, waits);
         monitor_wait(&lock->monitor LR_ONLY(, log));
@@ -73,26 +73,26 @@ static void write_lock(rw_lock *lock LR_ONLY(, lr_log *log))
     lock->writer = 1;
     if (has_readers(lock)) wait_for_readers(lock LR_ONLY(, log));
     LR_SECTION(log, ++lock->monitor.sections, entered);
-    monitor_leave(&lock->monitor);
+    monitor_leave(&lock->monitor LR_ONLY(, log));
 }
 
 static void write_unlock(rw_lock *lock LR_ONLY(, lr_log *log))
 {
     LR_CALL(log, wunlock);
-    monitor_enter(&lock->monitor);
+    monitor_enter(&lock->monitor LR_ONLY(, log));
     lock->writer = 0;
     LR_SECTION(log, ++lock->monitor.sections, left);
-    monitor_leave(&lock->monitor);
+    monitor_leave(&lock->monitor LR_ONLY(, log));
 }
 
 static void downgrade(rw_lock *lock LR_ONLY(, lr_log *log))
 {
     LR_CALL(log, downgrade);
-    monitor_enter(&lock->monitor);
+    monitor_enter(&lock->monitor LR_ONLY(, log));
     lock->writer = 0;
     lock->read_acquires++;
     LR_SECTION(log, ++lock->monitor.sections, entered);
-    monitor_leave(&lock->monitor);
+    monitor_leave(&lock->monitor LR_ONLY(, log));
 }
 
 #include "read_write_rounds.h"

@@ -20,23 +20,23 @@ typedef struct {
 static void read_lock(rw_lock *lock LR_ONLY(, lr_log *log))
 {
     LR_CALL(log, rlock);
-    monitor_enter(&lock->monitor);
+    monitor_enter(&lock->monitor LR_ONLY(, log));
     while (lock->writer) {
         LR_SECTION(log, ++lock->monitor.sections, waits);
         monitor_wait(&lock->monitor LR_ONLY(, log));
     }
     lock->readers++;
     LR_SECTION(log, ++lock->monitor.sections, entered);
-    monitor_leave(&lock->monitor);
+    monitor_leave(&lock->monitor LR_ONLY(, log));
 }
 
 static void read_unlock(rw_lock *lock LR_ONLY(, lr_log *log))
 {
     LR_CALL(log, runlock);
-    monitor_enter(&lock->monitor);
+    monitor_enter(&lock->monitor LR_ONLY(, log));
     lock->readers--;
     LR_SECTION(log, ++lock->monitor.sections, left);
-    monitor_leave(&lock->monitor);
+    monitor_leave(&lock->monitor LR_ONLY(, log));
 }
 
 static int writer_must_wait(const rw_lock *lock)
@@ -51,33 +51,33 @@ static int writer_must_wait(const rw_lock *lock)
 static void write_lock(rw_lock *lock LR_ONLY(, lr_log *log))
 {
     LR_CALL(log, wlock);
-    monitor_enter(&lock->monitor);
+    monitor_enter(&lock->monitor LR_ONLY(, log));
     while (writer_must_wait(lock)) {
         LR_SECTION(log, ++lock->monitor.sections, waits);
         monitor_wait(&lock->monitor LR_ONLY(, log));
     }
     lock->writer = 1;
     LR_SECTION(log, ++lock->monitor.sections, entered);
-    monitor_leave(&lock->monitor);
+    monitor_leave(&lock->monitor LR_ONLY(, log));
 }
 
 static void write_unlock(rw_lock *lock LR_ONLY(, lr_log *log))
 {
     LR_CALL(log, wunlock);
-    monitor_enter(&lock->monitor);
+    monitor_enter(&lock->monitor LR_ONLY(, log));
     lock->writer = 0;
     LR_SECTION(log, ++lock->monitor.sections, left);
-    monitor_leave(&lock->monitor);
+    monitor_leave(&lock->monitor LR_ONLY(, log));
 }
 
 static void downgrade(rw_lock *lock LR_ONLY(, lr_log *log))
 {
     LR_CALL(log, downgrade);
-    monitor_enter(&lock->monitor);
+    monitor_enter(&lock->monitor LR_ONLY(, log));
     lock->writer = 0;
     lock->readers++;
     LR_SECTION(log, ++lock->monitor.sections, entered);
-    monitor_leave(&lock->monitor);
+    monitor_leave(&lock->monitor LR_ONLY(, log));
 }
 
 #include "read_write_rounds.h"

@@ -55,7 +55,7 @@ static void ticket_release(ticket_lock *lock LR_ONLY(, lr_log *log))
 
 static ticket_lock the_lock;
 
-static void open_lock(void) {}
+static void open_lock(void) { memset(&the_lock, 0, sizeof the_lock); }
 
 static void one_round(unsigned thread, unsigned round LR_ONLY(, lr_log *log))
 {
@@ -63,3 +63,14 @@ static void one_round(unsigned thread, unsigned round LR_ONLY(, lr_log *log))
     inside(thread, round LR_ONLY(, log));
     ticket_release(&the_lock LR_ONLY(, log));
 }
+
+#ifdef LR_FOLLOW
+static void one_call(unsigned thread, int call, lr_log *log)
+{
+    (void)thread;
+    if (call == LR_CALL_acquire)
+        ticket_acquire(&the_lock, log);
+    else
+        ticket_release(&the_lock, log);
+}
+#endif

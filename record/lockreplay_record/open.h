@@ -1,0 +1,200 @@
+/* Opening a run, the threads in it, and closing it.
+   SPDX-License-Identifier: Apache-2.0 OR MIT */
+#ifndef LR_OPEN_H
+#define LR_OPEN_H
+
+static inline int lr_is_lock(const char *lock)
+{
+    return lock && (!strcmp(lock, "ticket") || !strcmp(lock, "mcs") ||
+                    !strcmp(lock, "rw-simple") || !strcmp(lock, "rw-fifo"));
+}
+
+/* Says which argument of `lr_open` is wrong, and answers whether one is. */
+static inline int lr_is_wrong(const char *lock, unsigned threads, unsigned bits, size_t moves)
+{
+    if (!lr_is_lock(lock))
+        lr_say("there is no lock '%s': ticket, mcs, rw-simple or rw-fifo", lock ? lock : "");
+    else if (threads < 1 || threads > LR_THREADS)
+        lr_say("%u threads: a run has 1 to %d", threads, LR_THREADS);
+    else if (bits < 2 || bits > 64)
+        lr_say("%u bits: a counter has 2 to 64", bits);
+    else if (bits < 8 && threads >> bits)
+        lr_say("%u threads and counters of %u bits: there have to be fewer threads than values",
+               threads, bits);
+    else if (moves >= SIZE_MAX / sizeof(lr_move) / threads)
+        lr_say("%zu moves for each thread are more than memory can have", moves);
+    else
+        return 0;
+    return 1;
+}
+
+static inline void lr_close(lr_run *run)
+{
+    if (!run) return;
+    for (unsigned t = 0; t < run->threads; t++) sem_destroy(&run->logs[t].turn.comes);
+    pthread_cond_destroy(&run->changed);
+    pthread_mutex_destroy(&run->mutex);
+#ifdef LR_FOLLOW
+    free(run->lines);
+#endif
+#ifdef LR_EXPLORE
+    free(run->choices);
+#endif
+    free(run->order);
+    free(run->moves);
+    free(run);
+}
+
+/* A number by which the logs of one run are known: of the time, or where a seed or a schedule
+   decides the run, of that. */
+static inline uint64_t lr_number_of(const lr_run *run)
+{
+    struct timespec now;
+    uint64_t state = run->seed;
+    if (!LR_TURNS && !timespec_get(&now, TIME_UTC)) return 0;
+    if (!LR_TURNS) state ^= (uint64_t)now.tv_sec * 1000000000u + (uint64_t)now.tv_nsec;
+    if (!LR_TURNS) state ^= (uint64_t)(uintptr_t)run << 20;
+    return lr_draw(&state);
+}
+
+static inline void lr_open_log(lr_run *run, unsigned thread, size_t moves)
+{
+    lr_log *log = &run->logs[thread];
+    log->run = run;
+    log->thread = thread;
+    log->room = moves;
+    log->noise = run->seed ^ (uint64_t)(thread + 1) << 48;
+    if (run->moves) log->moves = &run->moves[thread * moves];
+    sem_init(&log->turn.comes, 0, 0);
+}
+
+static inline lr_run *lr_open(const char *lock, unsigned threads, unsigned bits, size_t moves,
+                              uint64_t seed)
+{
+    if (lr_is_wrong(lock, threads, bits, moves)) return NULL;
+    lr_run *run = (lr_run *)calloc(1, sizeof(lr_run));
+    if (!run) return NULL;
+    size_t all = threads * moves;
+    run->moves = (lr_move *)malloc(all * sizeof(lr_move) + 1);
+    run->order = (unsigned char *)malloc(LR_TURNS ? all + 1 : 1);
+    run->lock = lock;
+    run->threads = threads;
+    run->bits = bits;
+    run->seed = run->drawn = seed;
+    run->number = lr_number_of(run);
+    run->holder = LR_NOBODY;
+    pthread_mutex_init(&run->mutex, NULL);
+    pthread_cond_init(&run->changed, NULL);
+    for (unsigned t = 0; t < threads; t++) lr_open_log(run, t, moves);
+#ifdef LR_PCT
+    lr_draw_priorities(run);
+#endif
+    if (run->moves && run->order) { /* each page of the logs is touched before the run */
+        memset(run->moves, 1, all * sizeof(lr_move));
+        return run;
+    }
+    lr_close(run);
+    return NULL;
+}
+
+static inline lr_log *lr_log_of(lr_run *run, unsigned thread)
+{
+    if (thread < run->threads) return &run->logs[thread];
+    lr_say("there is no thread %u: the run has the threads 0 to %u", thread, run->threads - 1);
+    _Exit(2);
+}
+
+/* Lets no thread go on before all have come, or with one at a time before it is its turn. */
+static inline void lr_begin(lr_log *log)
+{
+    lr_run *run = log->run;
+    pthread_mutex_lock(&run->mutex);
+    if (log->begun) {
+        lr_say("thread %u begins twice: each thread has a log of its own", log->thread);
+        _Exit(2);
+    }
+    lr_self = log;
+    log->begun = 1;
+    run->inside |= lr_bit(log->thread);
+    int is_last = ++run->begun == run->threads;
+    if (is_last) pthread_cond_broadcast(&run->changed);
+    while (!LR_TURNS && run->begun < run->threads) pthread_cond_wait(&run->changed, &run->mutex);
+    pthread_mutex_unlock(&run->mutex);
+#if LR_TURNS
+    if (is_last) lr_give(run, lr_next(run, LR_NOBODY));
+    lr_await_turn(log);
+#endif
+}
+
+static inline void lr_end(lr_log *log)
+{
+    lr_run *run = log->run;
+    if (!log->begun || log->ended) {
+        lr_say("thread %u ends, and has not begun or has ended before", log->thread);
+        _Exit(2);
+    }
+#if LR_TURNS
+    lr_pass_if_due(log);
+    run->in_vain = 0;
+    run->stuck = 0;
+#endif
+    lr_self = NULL;
+    pthread_mutex_lock(&run->mutex);
+    run->inside &= ~lr_bit(log->thread);
+    lr_set_count(log->ended, 1);
+    pthread_cond_broadcast(&run->changed);
+    pthread_mutex_unlock(&run->mutex);
+#if LR_TURNS
+    lr_give(run, lr_next(run, LR_NOBODY));
+#endif
+}
+
+static inline unsigned lr_missing(const lr_run *run)
+{
+    unsigned missing = 0;
+    for (unsigned t = 0; t < run->threads; t++) missing += !lr_count_of(run->logs[t].ended);
+    return missing;
+}
+
+/* What a run that did not come to its end in time is waiting for. */
+static inline void lr_say_late(lr_run *run)
+{
+    if (run->begun < run->threads)
+        snprintf(run->said, LR_SAID, "%u of %u threads have called lr_begin", run->begun,
+                 run->threads);
+    else if (LR_TURNS)
+        snprintf(run->said, LR_SAID,
+                 "thread %u has its turn and does not give it back: it blocks, or it has ended "
+                 "without lr_end, or it polls without a note", run->holder);
+    else
+        snprintf(run->said, LR_SAID, "%u of %u threads have not ended", lr_missing(run),
+                 run->threads);
+}
+
+/* Waits until all threads have ended, the run is over, or the time is. How many have not ended. */
+static inline unsigned lr_wait_for(lr_run *run, unsigned seconds)
+{
+    struct timespec until;
+    int late = 0;
+    timespec_get(&until, TIME_UTC);
+    until.tv_sec += (time_t)seconds;
+    pthread_mutex_lock(&run->mutex);
+    while ((LR_TURNS || lr_missing(run)) && !run->is_over && !late)
+        late = pthread_cond_timedwait(&run->changed, &run->mutex, &until);
+    unsigned missing = lr_missing(run);
+    if (late && missing) lr_say_late(run);
+    pthread_mutex_unlock(&run->mutex);
+    return missing;
+}
+
+/* What a run ended by before its threads did, or an empty text. */
+static inline const char *lr_said(const lr_run *run) { return run->said; }
+
+static inline unsigned lr_await(lr_run *run, unsigned seconds)
+{
+    unsigned missing = lr_wait_for(run, seconds);
+    if (run->said[0]) lr_say("%s", run->said);
+    return missing;
+}
+
+#endif /* LR_OPEN_H */

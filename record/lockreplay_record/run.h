@@ -1,0 +1,157 @@
+/* What is kept of a run: its moves, the log of each thread, and whose turn it is.
+   SPDX-License-Identifier: Apache-2.0 OR MIT */
+#ifndef LR_RUN_H
+#define LR_RUN_H
+
+#include <errno.h>
+#include <inttypes.h>
+#include <pthread.h>
+#include <semaphore.h>
+#include <stdarg.h>
+#include <stdint.h>
+#include <stdio.h>
+#include <stdlib.h>
+#include <string.h>
+#include <time.h>
+
+enum { LR_THREADS = 64, LR_OWN = 256, LR_NOBODY = 256, LR_APART = 128, LR_SAID = 256 };
+enum { LR_CALL_acquire, LR_CALL_release, LR_CALL_rlock, LR_CALL_runlock, LR_CALL_wlock,
+       LR_CALL_wunlock, LR_CALL_downgrade, LR_STEP_read, LR_STEP_write, LR_STEP_swap, LR_STEP_cas,
+       LR_STEP_add, LR_STEP_section, LR_WORDS };
+enum { LR_PLACE_none, LR_PLACE_next_ticket, LR_PLACE_now_serving, LR_PLACE_tail, LR_PLACE_next,
+       LR_PLACE_locked };
+enum { LR_PART_none, LR_PART_found, LR_PART_left, LR_PART_done, LR_PART_failed,
+       LR_OUTCOME_moved, LR_OUTCOME_waits, LR_OUTCOME_entered, LR_OUTCOME_left };
+
+typedef struct lr_kind {
+    uint16_t word, place, owner, part; /* owner: the thread whose record it is, or LR_OWN */
+} lr_kind;
+
+typedef struct lr_move {
+    uint64_t value; /* what was found or left; the count of a section */
+    lr_kind kind;
+} lr_move;
+
+/* What only the modes need in which one thread runs at a time. */
+typedef struct lr_turn {
+    sem_t comes;
+    int joined;         /* the next note is followed by one of the same operation */
+    int in_monitor;     /* between LR_LOCK and LR_UNLOCK */
+    int is_due;         /* a section was noted: its turn ends when its monitor is left */
+    int has_passed;     /* nothing was done since the turn came back */
+    const void *awaits; /* the condition for which the thread waits */
+    size_t seen;        /* how many moves of all threads were written at the last note */
+    size_t next_call;   /* the line of its schedule at which its next call is looked for */
+    unsigned priority;  /* with LR_PCT: the greatest goes first */
+} lr_turn;
+
+typedef struct lr_log {
+    char apart[LR_APART]; /* keeps two threads' logs on cache lines of their own */
+    struct lr_run *run;
+    lr_move *moves;
+    size_t room;
+    lr_move last;   /* the last move, also if it was dropped */
+    unsigned again; /* how many notes after it were the same */
+    size_t count, dropped;
+    unsigned thread;
+    int begun, ended; /* ended: 1 after the thread's last move */
+    pthread_t id;     /* of a thread that a driver's run started */
+    uint64_t noise;   /* with LR_NOISE: the state of its draws */
+    lr_turn turn;
+} lr_log;
+
+/* A line of a schedule that is followed. */
+typedef struct lr_line {
+    unsigned char thread, word;
+    unsigned number; /* in its file, from 1 */
+} lr_line;
+
+/* What was chosen in a run that is explored: of `options` the one that goes on. */
+typedef struct lr_choice {
+    uint64_t options;
+    uint16_t chosen, current; /* current: who would have gone on, or LR_NOBODY */
+} lr_choice;
+
+typedef struct lr_run {
+    const struct lr_driver *driver;
+    const char *lock;
+    unsigned threads, bits;
+    uint64_t seed, drawn, number;
+    pthread_mutex_t mutex; /* of `begun`, `ended` of each log and `is_over` */
+    pthread_cond_t changed;
+    unsigned begun;
+    int is_over;        /* nobody gets a turn any more */
+    char said[LR_SAID]; /* why it ended before its threads */
+    lr_log logs[LR_THREADS];
+    lr_move *moves; /* of all logs */
+
+    /* One thread at a time: only the thread whose turn it is touches these. */
+    unsigned holder;
+    uint64_t inside; /* the threads between lr_begin and lr_end, a bit for each */
+    uint64_t parked; /* those that wait for a condition */
+    uint64_t stuck;  /* those that polled in vain, and nobody moved since */
+    size_t turns, in_vain; /* in_vain: how many notes in a row found the same */
+    int stands_still;
+    unsigned char *order; /* whose each move is, up to the first that was dropped */
+    size_t ordered;
+    int is_cut; /* a move was dropped */
+#ifdef LR_PCT
+    size_t changes[LR_PCT]; /* at which turns the thread that runs becomes the last */
+#endif
+#ifdef LR_FOLLOW
+    lr_line *lines;
+    size_t count, at;
+    int is_at_end; /* every line was made: each thread may come to its end */
+#endif
+#ifdef LR_EXPLORE
+    const unsigned char *way; /* what to choose first */
+    size_t way_length;
+    lr_choice *choices;
+    size_t chosen, choices_room;
+#endif
+} lr_run;
+
+/* The log of the thread that runs: one variable for all files of a program. */
+#ifdef __cplusplus
+extern "C" {
+__attribute__((weak)) thread_local lr_log *lr_self;
+}
+#else
+__attribute__((weak)) _Thread_local lr_log *lr_self;
+#endif
+
+/* `lr_save` may read what is counted while threads still run. */
+#define lr_count_of(count) __atomic_load_n(&(count), __ATOMIC_ACQUIRE)
+#define lr_set_count(count, value) __atomic_store_n(&(count), value, __ATOMIC_RELEASE)
+
+static inline uint64_t lr_bit(unsigned thread) { return UINT64_C(1) << thread; }
+
+/* The next number of splitmix64 (Steele, Lea and Flood, 2014). */
+static inline uint64_t lr_draw(uint64_t *state)
+{
+    uint64_t z = (*state += UINT64_C(0x9E3779B97F4A7C15));
+    z = (z ^ (z >> 30)) * UINT64_C(0xBF58476D1CE4E5B9);
+    z = (z ^ (z >> 27)) * UINT64_C(0x94D049BB133111EB);
+    return z ^ (z >> 31);
+}
+
+/* A sentence on what is wrong with a call of this header. */
+__attribute__((format(printf, 1, 2))) static inline void lr_say(const char *format, ...)
+{
+    va_list values;
+    va_start(values, format);
+    fputs("lockreplay_record: ", stderr);
+    vfprintf(stderr, format, values);
+    fputc('\n', stderr);
+    va_end(values);
+}
+
+static inline const char *lr_word(unsigned word)
+{
+    static const char *const words[] = {"acquire", "release", "rlock", "runlock", "wlock",
+                                        "wunlock", "downgrade", "read", "write", "swap",
+                                        "cas", "add", "section"};
+    return words[word];
+}
+
+#endif /* LR_RUN_H */

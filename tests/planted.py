@@ -1,0 +1,130 @@
+#!/usr/bin/env python3
+"""Planted mistakes in the recorded locks: in how many runs each is noticed, in each mode.
+
+    planted.py LOCKTRACE LIBRARY [--tours FOLDER]            what seeds and searches give
+    planted.py LOCKTRACE LIBRARY [--tours FOLDER] --write    all modes, and writes docs/PLANTED.md
+
+Each mistake of tests/planted is an edit of a lock of examples/recording. Without --write the modes
+are tried that give the same each time, and compared with the tables of docs/PLANTED.md: of a right
+lock nothing may be refused. FOLDER has the schedules of `locktrace tour`, LOCK THREADS in a folder
+`LOCK-THREADS` each; without it the column FOLLOW is not compared. Two processes run at a time. The
+last line counts the cases; the status is 1 if one failed.
+"""
+import argparse
+import re
+import subprocess
+import sys
+import tempfile
+from concurrent.futures import ThreadPoolExecutor
+from pathlib import Path
+
+import wanted
+from planted_locks import LOCKS, MODES, TOP, all_mistakes, build, planted, right, rows_of
+from planted_table import document, in_all
+from tally import Tally
+
+RUNS = 60
+REAL = ("4", "200")  # threads and rounds
+SEEDED = ("3", "30")
+SHORT = ("3", "4")  # what LR_PCT is for
+EXPLORED = ("3", "1", "2")  # threads, rounds and preemptions
+MOST = "5000"  # runs that are explored
+SEARCHES = ("SEED", "ATOMICS", "PCT", "EXPLORE", "FOLLOW")
+ENOUGH = 38  # mistakes that have to be noticed in all runs of one mode
+
+
+def ran(*words):
+    return subprocess.run([str(word) for word in words], capture_output=True, text=True,
+                          check=False)
+
+
+class Trials:
+    """Tries a lock with a mistake in each mode."""
+
+    def __init__(self, locktrace, library, tours, folder):
+        self.locktrace, self.library, self.tours = locktrace, library, tours
+        self.folder = folder
+
+    def noticed(self, mistake, modes):
+        """What each mode says of the mistake."""
+        folder = self.folder / f"{mistake.lock}-{mistake.name}"
+        folder.mkdir()
+        source = planted(mistake, folder)
+        return {mode: self.in_mode(mistake, mode, source, folder) for mode in modes}
+
+    def in_mode(self, mistake, mode, source, folder):
+        program = folder / mode
+        build(source, mode, self.library, program)
+        logs = folder / f"{mode}-logs"
+        logs.mkdir()
+        if mode in ("VALUES", "NOISE"):
+            return str(sum(self.is_noticed(program, seed, logs) for seed in range(1, RUNS + 1)))
+        if mode == "EXPLORE":
+            return explored(ran(program, *EXPLORED, logs, MOST).stdout)
+        if mode == "FOLLOW":
+            return followed(ran(program, self.tours / f"{mistake.lock}-3", logs).stdout)
+        return ran(program, *(SHORT if mode == "PCT" else SEEDED), RUNS).stdout.strip()
+
+    def is_noticed(self, program, seed, logs):
+        """Whether a run by real threads hangs, or its logs have no order."""
+        if ran(program, *REAL, seed, logs, 1).returncode != 0:
+            return True
+        words = [self.locktrace, "order", *sorted(logs.glob("thread-*.log")), "-o", logs]
+        return ran(*words).returncode == 1
+
+
+def explored(said):
+    """Which run of a search is refused, and how many preemptions it has; or how many runs are
+    made."""
+    runs, preemptions = re.match(r"(\d+) runs with up to (\d+)", said).groups()
+    if "refused" in said:
+        return f"run {runs}, {preemptions}"
+    return "none" if "preemptions, all of them" in said else f"none of {MOST}"
+
+
+def followed(said):
+    """How many schedules of a tour are refused."""
+    schedules, refused = re.match(r"(\d+) schedules of \d+ moves, (\d+) not", said).groups()
+    return f"{refused} of {schedules}"
+
+
+def compare(tally, found, rows):
+    """What was found beside the tables, and that right locks are not blamed."""
+    tally.check("the mistakes of the tables", set(rows), set(found))
+    for key, noticed in found.items():
+        for mode, said in noticed.items():
+            tally.check(f"{key} {mode}", said, rows.get(key, {}).get(mode))
+        if key[1] == "none":
+            blamed = [mode for mode, said in noticed.items()
+                      if not re.match(r"(0|none|0 of \d+)$", said)]
+            tally.check(f"{key} is right", blamed, [])
+    enough = sum(in_all(row) for (_, name), row in rows.items() if name != "none")
+    tally.check("noticed in all runs of a mode", enough, lambda count: count >= ENOUGH)
+
+
+def main():
+    words = argparse.ArgumentParser(usage=__doc__)
+    words.add_argument("locktrace", type=Path)
+    words.add_argument("library", type=Path)
+    words.add_argument("--tours", type=Path)
+    words.add_argument("--write", action="store_true")
+    given = words.parse_args()
+    wanted.install("recording")
+    modes = [mode for mode in MODES if (given.write or mode in SEARCHES)
+             and (mode != "FOLLOW" or given.tours)]
+    mistakes = [*map(right, LOCKS), *all_mistakes()]
+    with tempfile.TemporaryDirectory() as name, ThreadPoolExecutor(2) as pool:
+        trials = Trials(given.locktrace.resolve(), given.library.resolve(),
+                        given.tours and given.tours.resolve(), Path(name))
+        noticed = pool.map(lambda mistake: trials.noticed(mistake, modes), mistakes)
+        found = {(mistake.lock, mistake.name): row for mistake, row in zip(mistakes, noticed)}
+    tables = TOP / "docs" / "PLANTED.md"
+    if given.write:
+        tables.write_text(document(tables.read_text(), mistakes, found))
+    tally = Tally()
+    compare(tally, found, rows_of(tables.read_text()))
+    return tally.end()
+
+
+if __name__ == "__main__":
+    sys.exit(main())

@@ -1,0 +1,36 @@
+"""The tables of docs/PLANTED.md, between its own texts."""
+import re
+
+from planted_locks import LOCKS, MODES
+
+RUNS = "60"
+BEGIN, END = "<!-- tables -->", "<!-- end of the tables -->"
+
+
+def in_all(row):
+    """Whether a mistake is noticed in all runs of a mode. A search is one run."""
+    said = [row.get(mode, "") for mode in MODES]
+    return any(cell == RUNS or cell.startswith("run ")
+               or re.match(r"[1-9]\d* of \d+$", cell) for cell in said)
+
+
+def table(lock, mistakes, found):
+    modes = [mode for mode in MODES if mode in next(iter(found.values()))]
+    yield f"## Planted in `{lock}.c`"
+    yield ""
+    yield f"| Mistake | What the lock does | {' | '.join(modes)} |"
+    yield "|---|---|" + "---|" * len(modes)
+    for mistake in mistakes:
+        if mistake.lock == lock:
+            row = found[lock, mistake.name]
+            cells = " | ".join(row[mode] for mode in modes)
+            yield f"| `{mistake.name}` | {mistake.what} | {cells} |"
+    yield ""
+
+
+def document(text, mistakes, found):
+    """The document with new tables."""
+    before, rest = text.split(BEGIN)
+    after = rest.split(END)[1]
+    lines = [line for lock in LOCKS for line in table(lock, mistakes, found)]
+    return before + BEGIN + "\n" + "\n".join(lines) + END + after
