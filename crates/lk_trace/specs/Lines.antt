@@ -1,7 +1,7 @@
 -- Definitions. A line of a trace, and a line of a log: a move, and what its thread saw. This
 -- project's own.
 use Rattle.std.specs.Prelude.{ℕ, List, [], ◌∷◌, Option, Some, None, Bool, true, false}
-use Rattle.std.specs.Prelude.{if◌then◌else◌, ◌&&◌, nat_le, codes, option_map}
+use Rattle.std.specs.Prelude.{if◌then◌else◌, ◌&&◌, nat_le, nat_lt, codes, length, option_map}
 use Rattle.std.specs.Str.{bytes_eq}
 use Rattle.std.specs.Borrow.{Bor}
 use Rattle.lk_locks.specs.declared.kinds.Move.{Move}
@@ -183,6 +183,13 @@ trace_line_of line = line_of_words (words_of line)
 -- the move that a line of this thread's log is
 unfoldable pub log_line_of : ℕ → List ℕ → Option TraceLine
 log_line_of thread line = move_with thread (words_of line)
+
+-- the same of a line of at most 96 bytes
+abbrev pub short_line_of : List ℕ → Option TraceLine
+short_line_of line = if nat_lt 96 (length line) then None else trace_line_of line
+
+abbrev pub short_log_line_of : ℕ → List ℕ → Option TraceLine
+short_log_line_of thread line = if nat_lt 96 (length line) then None else log_line_of thread line
 
 -- the words of what is left of a line
 abbrev pub words_left : Option (Bor (List ℕ)) → Words

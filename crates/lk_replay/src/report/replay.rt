@@ -1,12 +1,14 @@
 //! The lines of a report, one after another: a move is played where its line is printed. No line
 //! asks for memory.
 
-ghost use Rattle.std.specs.Prelude.{◌≡◌, ◌≤◌, length, take};
+ghost use Rattle.std.specs.Prelude.{◌≡◌, ◌≤◌, length, take, ◌+◌, ◌++◌, [], IfSome, MatchOption};
+ghost use Rattle.std.specs.Prelude.{None, ◌<◌};
 ghost use Rattle.lk_locks.specs.Sequential.{nobody};
 ghost use Rattle.lk_locks.specs.invariants.Tracking.{IsTracked};
-ghost use Rattle.lk_replay.specs.Printing.{next_refused};
-ghost use Rattle.lk_replay.specs.Replay.{start_of};
-ghost use Rattle.lk_replay.specs.Report.{move_text};
+ghost use Rattle.lk_replay.specs.Printing.{next_refused, IsPrinting, Printing, printing};
+ghost use Rattle.lk_replay.specs.Replay.{start_of, replay_from, replay_of};
+ghost use Rattle.lk_replay.specs.Report.{move_text, replay_text};
+ghost use Rattle.lk_replay.specs.Ending.{ending_of};
 
 use crate::output_buffer::{LEAST_PLACE, Source};
 use crate::played::Accepted;
@@ -31,9 +33,6 @@ pub struct Replay<'a> {
 }
 
 impl<'a> Model for Replay<'a> {
-    ghost use Rattle.lk_replay.specs.Printing.{IsPrinting, Printing, printing};
-    ghost use Rattle.lk_replay.specs.Replay.{replay_from};
-
     ghost Value = { Printing };
 
     ghost view = { λ a. printing a.status a.count (replay_from a.machine a.moves.now) };
@@ -80,12 +79,6 @@ fn next_refused(machine: &Machine<WordArray>, moves: &[Line]) -> Option<(u32, Re
 }
 
 impl<'a> Replay<'a> {
-    ghost use Rattle.std.specs.Prelude.{◌≡◌, ◌+◌, ◌≤◌, ◌++◌, [], length, take, IfSome, MatchOption};
-    ghost use Rattle.std.specs.Prelude.{None, ◌<◌};
-    ghost use Rattle.lk_replay.specs.Ending.{ending_of};
-    ghost use Rattle.lk_replay.specs.Replay.{replay_of};
-    ghost use Rattle.lk_replay.specs.Report.{replay_text};
-
     /// The replay of a schedule, at its start.
     pub fn new(schedule: &'a Schedule) -> Replay<'a>
         ensures text { result.lines ++ result.last ≡ replay_text schedule.now.kind
