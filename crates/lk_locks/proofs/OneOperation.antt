@@ -1,11 +1,9 @@
 -- Each step of a queue lock that is accepted is one operation, of the kind that the move names.
-use Rattle.std.proofs.Common.{arith, length, ◌<◌, ◌≤◌}
-use Rattle.std.proofs.Common.{List, None, Option, Some, ap, refl, sym, ℕ, ◌∙◌, ◌≡◌, ◌==◌}
-use Rattle.std.proofs.Common.{if◌then◌else◌}
+use Rattle.std.proofs.Common.{arith, length, ◌<◌, ◌≤◌, List, None, Option, Some, ap, refl, sym, ℕ}
+use Rattle.std.proofs.Common.{◌∙◌, ◌≡◌, ◌==◌, if◌then◌else◌, false, option_map, true}
 use Rattle.lk_words.specs.Operations.{performed, word_of}
 use Rattle.lk_words.specs.declared.operation.Answer.{Answer}
 use Rattle.lk_words.specs.declared.operation.Answer.TheVariants.{Found, Swapped}
-use Rattle.std.proofs.Common.{false, option_map, true}
 use Rattle.lk_words.specs.declared.operation.Operation.{Operation}
 use Rattle.lk_locks.specs.Change.{Change, kind_of, step_by}
 use Rattle.lk_locks.specs.OneOperation.{IsMade, IsOneOperation, IsStepOf}

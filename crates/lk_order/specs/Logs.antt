@@ -1,8 +1,7 @@
 -- Definitions. The log of one thread, and how it is read line by line. This project's own.
 use Rattle.std.specs.Prelude.{◌≡◌, ◌<◌, ◌≤◌, ◌^◌, ◌+◌, ◌==◌, ◌++◌, ◌∷◌, [], ℕ, List, length, drop}
-use Rattle.std.specs.Prelude.{Bool}
-use Rattle.std.specs.Prelude.{Option, Some, None, Result, Ok, Err, is_some, nat_eq, nat_lt, codes}
-use Rattle.std.specs.Prelude.{if◌then◌else◌}
+use Rattle.std.specs.Prelude.{Bool, Option, Some, None, Result, Ok, Err, is_some, nat_eq, nat_lt}
+use Rattle.std.specs.Prelude.{codes, if◌then◌else◌}
 use Rattle.std.specs.List.{All, starts_with}
 use Rattle.std.specs.Str.{bytes_eq}
 use Rattle.lk_locks.specs.declared.kinds.LockKind.{LockKind}

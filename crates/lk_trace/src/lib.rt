@@ -15,7 +15,6 @@ mod rw_fifo;
 mod rw_simple;
 mod ticket;
 mod trace;
-mod vocabulary;
 
 pub use checker::{Checker, Made};
 pub use difference::Difference;
@@ -23,4 +22,3 @@ pub use line::{MOST_OF_A_LINE, Seen, TraceLine, read_line, read_log_line};
 pub use names::{WordName, name_at};
 pub use numbers::whole_number;
 pub use trace::{Event, TextFault, TraceReader, read_header};
-pub use vocabulary::{lock_text, move_text, outcome_text, refusal_text, step_text};

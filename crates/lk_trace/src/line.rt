@@ -2,7 +2,7 @@
 
 ghost use Rattle.std.specs.Prelude.{◌≡◌, [], ◌∷◌, IfSome, MatchOption, None, Some};
 ghost use Rattle.lk_replay.specs.Lines.{words_of};
-ghost use Rattle.lk_trace.specs.Lines.{counted, counted_and, move_with, outcome_named, owner_of};
+ghost use Rattle.lk_trace.specs.Lines.{counted, counted_and, move_with, owner_of};
 ghost use Rattle.lk_trace.specs.Lines.{place_in, result_alone, result_of, section_of, seen_of};
 ghost use Rattle.lk_trace.specs.Lines.{short_line_of, short_log_line_of, tagged, values_of};
 ghost use Rattle.lk_trace.specs.Lines.{whole_number, words_left};
@@ -10,7 +10,7 @@ ghost use Rattle.lk_trace.specs.Lines.{whole_number, words_left};
 use crate::WordName;
 use crate::numbers::whole_number;
 use lk_locks::{Move, Outcome, StepKind};
-use lk_replay::parts::{cut_word, move_named, number_of};
+use lk_replay::parts::{cut_word, move_named, number_of, outcome_named};
 
 /// The most bytes of a header and of a move.
 pub const MOST_OF_A_LINE: usize = 96;
@@ -158,22 +158,6 @@ fn values_of(rest: Rest<'_>, thread: u8, kind: StepKind) -> Option<Seen>
         left,
         wrote,
     })
-}
-
-fn outcome_named(word: &[u8]) -> Option<Outcome>
-    ensures { result ≡ outcome_named word.now }
-{
-    if word == b"moved".as_slice() {
-        Some(Outcome::Moved)
-    } else if word == b"waits".as_slice() {
-        Some(Outcome::Waits)
-    } else if word == b"entered".as_slice() {
-        Some(Outcome::Entered)
-    } else if word == b"left".as_slice() {
-        Some(Outcome::Left)
-    } else {
-        None
-    }
 }
 
 // The count of a section, or else its outcome.

@@ -4,8 +4,8 @@
 use crate::check::Ending;
 use crate::failures::Failure;
 use crate::rewriting::{Rewriter, Stopped, rewrite};
-use lk_replay::parts::is_skipped;
-use lk_trace::{TextFault, move_text, read_header, read_line};
+use lk_replay::parts::{is_skipped, move_text};
+use lk_trace::{TextFault, read_header, read_line};
 use std::alloc::{AllocError, Global};
 use std::fmt::Write as _;
 use std::io::{Error, Read, Write};

@@ -1,8 +1,7 @@
 -- The room of the MCS queue lock: each step goes on with its call, and each move keeps the queue of
 -- the swaps.
-use Rattle.std.proofs.Common.{List, [], ap, arith, false, inl, inr, length, refl}
-use Rattle.std.proofs.Common.{set, slice_index, sym, true, ℕ, ◌*◌, ◌++◌, ◌+◌, ◌-◌, ◌<◌}
-use Rattle.std.proofs.Common.{◌∙◌, ◌∷◌, ◌≡◌, ◌≢◌, ◌≤◌, ◌^◌}
+use Rattle.std.proofs.Common.{List, [], ap, arith, false, inl, inr, length, refl, set, slice_index}
+use Rattle.std.proofs.Common.{sym, true, ℕ, ◌*◌, ◌++◌, ◌+◌, ◌-◌, ◌<◌, ◌∙◌, ◌∷◌, ◌≡◌, ◌≢◌, ◌≤◌, ◌^◌}
 use Rattle.std.proofs.lemmas.Bool.{eq-eqb, false≢true}
 use Rattle.std.proofs.lemmas.Bool.Decides.{eqb_tells}
 use Rattle.std.proofs.lemmas.List.{get_or-set_same}
@@ -13,8 +12,8 @@ use Rattle.lk_locks.specs.State.{phase_at, start}
 use Rattle.lk_locks.specs.Steps.{move_change}
 use Rattle.lk_locks.specs.invariants.Rooms.{AgreeAs}
 use Rattle.lk_locks.specs.invariants.Threads.{EachOnce}
-use Rattle.lk_locks.specs.invariants.mcs.{IsBehind, IsFirst, IsOutside, IsQueue}
-use Rattle.lk_locks.specs.invariants.mcs.{last_of, locked_of, next_of, tail_of}
+use Rattle.lk_locks.specs.invariants.mcs.{IsBehind, IsFirst, IsOutside, IsQueue, last_of, locked_of}
+use Rattle.lk_locks.specs.invariants.mcs.{next_of, tail_of}
 use Rattle.lk_locks.specs.mcs.{locked, next}
 use Rattle.lk_locks.proofs.Cases.{IsAgreed, IsRoom, IsTaken, waits}
 use Rattle.lk_locks.proofs.Threads.{all_idle}

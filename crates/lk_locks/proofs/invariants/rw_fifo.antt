@@ -1,12 +1,12 @@
 -- The room of the FIFO read-write lock: each section goes on with its call, and each move keeps the
 -- counts and the flag.
 use Rattle.std.proofs.Common.{List, None, Some, [], ap, arith, eqb, false, inl, inr, length, refl}
-use Rattle.std.proofs.Common.{set, slice_index, sym, true, ℕ, ◌%◌, ◌+◌, ◌∷◌, ◌<◌, ◌^◌, ◌∙◌, ◌≡◌, ◌≤◌}
+use Rattle.std.proofs.Common.{set, slice_index, sym, true, ℕ, ◌%◌, ◌+◌, ◌<◌, ◌^◌, ◌∙◌, ◌≡◌, ◌≤◌}
+use Rattle.std.proofs.Common.{◌∷◌}
 use Rattle.std.proofs.Math.Nat.{mod-add-mod, mod-eq_of_lt}
 use Rattle.std.proofs.lemmas.Bool.{lt-ltb}
 use Rattle.std.proofs.lemmas.Bool.Decides.{eqb_tells}
-use Rattle.std.proofs.lemmas.List.{get_or-set_other, get_or-set_same, length-set}
-use Rattle.std.proofs.lemmas.List.{length-replicate}
+use Rattle.std.proofs.lemmas.List.{get_or-set_other, get_or-set_same, length-set, length-replicate}
 use Rattle.std.proofs.lemmas.Nat.{pow_pos}
 use Rattle.lk_locks.specs.Change.{Change, plus_one}
 use Rattle.lk_locks.specs.Entries.{move_entries}
@@ -23,8 +23,8 @@ use Rattle.lk_locks.proofs.invariants.HolderLists.{flag_some, holders_announce, 
 use Rattle.lk_locks.proofs.invariants.HolderLists.{holders_frame, holders_join, holders_leave}
 use Rattle.lk_locks.proofs.invariants.HolderLists.{holders_unwrite, holders_write, length_joined}
 use Rattle.lk_locks.proofs.invariants.HolderLists.{length_left, no_holders, no_writer}
-use Rattle.lk_locks.proofs.invariants.HolderLists.{no_writer_beside}
-use Rattle.lk_locks.proofs.invariants.HolderLists.{none_announced, not_same, readers_few}
+use Rattle.lk_locks.proofs.invariants.HolderLists.{no_writer_beside, none_announced, not_same}
+use Rattle.lk_locks.proofs.invariants.HolderLists.{readers_few}
 use Rattle.lk_locks.proofs.Requests.{eqb-same}
 use Rattle.lk_locks.proofs.Words.{no_round, plus_one-lt, plus_one_plus}
 use Rattle.lk_locks.specs.declared.kinds.Family.TheVariants.{FifoReadWrite}

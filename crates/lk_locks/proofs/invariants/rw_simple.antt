@@ -1,13 +1,12 @@
 -- The room of the simple read-write lock: each section goes on with its call, and each move keeps
 -- the count and the flag.
-use Rattle.std.proofs.Common.{List, None, [], ◌∷◌, ap, arith, false, inl, inr, length, refl}
-use Rattle.std.proofs.Common.{rules, set, slice_index, sym, true, unwrap_or, ℕ, ◌%◌, ◌&&◌, ◌+◌, ◌-◌}
-use Rattle.std.proofs.Common.{◌<◌, ◌==◌, ◌^◌, ◌∙◌, ◌≡◌, ◌≤◌}
+use Rattle.std.proofs.Common.{List, None, [], ◌∷◌, ap, arith, false, inl, inr, length, refl, rules}
+use Rattle.std.proofs.Common.{set, slice_index, sym, true, unwrap_or, ℕ, ◌%◌, ◌&&◌, ◌+◌, ◌-◌, ◌<◌}
+use Rattle.std.proofs.Common.{◌==◌, ◌^◌, ◌∙◌, ◌≡◌, ◌≤◌}
 use Rattle.std.proofs.Math.Nat.{add-mod_right, mod-eq_of_lt}
 use Rattle.std.proofs.lemmas.Bool.{lt-ltb}
 use Rattle.std.proofs.lemmas.Bool.Decides.{eqb_tells}
-use Rattle.std.proofs.lemmas.List.{get_or-set_other, get_or-set_same, length-set}
-use Rattle.std.proofs.lemmas.List.{length-replicate}
+use Rattle.std.proofs.lemmas.List.{get_or-set_other, get_or-set_same, length-set, length-replicate}
 use Rattle.lk_locks.specs.Change.{Change, less_one, plus_one}
 use Rattle.lk_locks.specs.Entries.{move_entries}
 use Rattle.lk_locks.specs.Sequential.{nobody, Sequential, after_entry, has, is_allowed, left_by}

@@ -1,8 +1,8 @@
 -- The room of the ticket lock: each step goes on with its call, and each move keeps the queue of
 -- the tickets.
-use Rattle.std.proofs.Common.{List, None, Some, [], ap, arith, drop, eqb, false, inl, inr}
-use Rattle.std.proofs.Common.{length, refl, rules, set, slice_index, sym, true, unwrap_or, ℕ, ◌<◌}
-use Rattle.std.proofs.Common.{◌==◌, ◌∙◌, ◌∷◌, ◌≡◌, ◌≤◌, ◌^◌, ◌%◌, ◌+◌}
+use Rattle.std.proofs.Common.{List, None, Some, [], ap, arith, drop, eqb, false, inl, inr, length}
+use Rattle.std.proofs.Common.{refl, rules, set, slice_index, sym, true, unwrap_or, ℕ, ◌<◌, ◌==◌}
+use Rattle.std.proofs.Common.{◌∙◌, ◌∷◌, ◌≡◌, ◌≤◌, ◌^◌, ◌%◌, ◌+◌}
 use Rattle.std.proofs.Math.Nat.{mod-eq_of_lt}
 use Rattle.std.proofs.lemmas.Nat.{pow_pos}
 use Rattle.std.proofs.lemmas.Bool.{false≢true}
@@ -12,7 +12,7 @@ use Rattle.lk_locks.specs.Change.{Change}
 use Rattle.lk_locks.specs.Entries.{move_entries}
 use Rattle.lk_locks.specs.Sequential.{nobody, Sequential, has, is_allowed}
 use Rattle.lk_locks.specs.State.{phase_at, start}
-use Rattle.lk_locks.specs.Rooms.{after_call}
+use Rattle.lk_locks.specs.Rooms.{after_call, family_of}
 use Rattle.lk_locks.specs.Steps.{has_op, move_change, refusal_in}
 use Rattle.lk_locks.specs.invariants.Rooms.{AgreeAs, AreLinks, IsPhaseOf}
 use Rattle.lk_locks.specs.invariants.ticket.{IsQueue, owed, ticket_of}
@@ -35,7 +35,6 @@ use Rattle.lk_locks.specs.declared.kinds.Phase.TheVariants.{AwaitTurn, Idle, Pas
 use Rattle.lk_locks.specs.declared.kinds.Phase.TheVariants.{TakeTicket, TicketInside}
 use Rattle.lk_locks.specs.declared.kinds.Entry.TheVariants.{Acted}
 use Rattle.lk_locks.proofs.Requests.{allows_acquire, allows_release}
-use Rattle.lk_locks.specs.Rooms.{family_of}
 
 -- each step adds the next entries of the pending call
 goes_on : (bits t : ℕ) (ws : List ℕ) (p : Phase) → GoesOn Ticket t p (step bits ws p)

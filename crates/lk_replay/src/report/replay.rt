@@ -129,27 +129,6 @@ impl<'a> Replay<'a> {
         Some(self.status.write(place, at))
     }
 
-    /// Prints the next lines into a place, as many as have room whatever their length, and answers
-    /// where they end: at 0 only if no move is left, or the next is refused. A line has at most 64
-    /// bytes that tell of the move, and 384 that show who holds and who waits.
-    pub fn fill(&mut self, place: &mut [u8]) -> usize
-        requires { 448 ≤ length place.old }
-        ensures lines { self.old.lines ≡ take result place.new ++ self.new.lines }
-        ensures fits { result ≤ length place.new }
-        ensures fewer { 0 < result → self.new.left < self.old.left }
-        ensures none { result ≡ 0 → (self.new.lines ≡ []) × (self.new.left ≡ 0) }
-        ensures last { self.new.last ≡ self.old.last }
-    {
-        let mut len = 0;
-        while place.len() - len >= LEAST_PLACE {
-            let Some(more) = self.next(&mut place[len..]) else {
-                return len;
-            };
-            len += more;
-        }
-        len
-    }
-
     /// The last line: the refusal of the next move, or the end where there is none.
     pub fn closing(&self) -> Closing
         requires { self.now.left ≡ 0 }
@@ -167,7 +146,17 @@ impl<'a> Source for Replay<'a> {
 
     ghost last = { λ r. r.last };
 
+    /// As many lines as have room whatever their length. None is left after the last move, or
+    /// before a refused one. A line has at most 64 bytes that tell of the move, and 384 that show
+    /// who holds and who waits.
     fn fill(&mut self, place: &mut [u8]) -> usize {
-        Replay::fill(self, place)
+        let mut len = 0;
+        while place.len() - len >= LEAST_PLACE {
+            let Some(more) = self.next(&mut place[len..]) else {
+                return len;
+            };
+            len += more;
+        }
+        len
     }
 }
