@@ -2,7 +2,7 @@
 use Rattle.std.proofs.Common.{◌≡◌, ◌-◌, ◌++◌, ◌∙◌, List, ℕ, ap, append_assoc, arith, drop}
 use Rattle.std.proofs.Common.{length, length-drop, length-take-le, sym, take}
 use Rattle.lk_replay.proofs.Texts.{written_behind}
-use Rattle.lk_replay.proofs.report.replay.Replay.fill.Goals as goal
+use Rattle.lk_replay.proofs.report.replay.ReplaySource.fill.Goals as goal
 use borrow.Rule.Slice.PartMut.{mid_of, post_of, put_mid, same_len_mid}
 
 pub loop-place-preserved : goal.loop-place-preserved

@@ -1,10 +1,9 @@
 -- A line of a thread's log is the thread's own.
 use Rattle.std.proofs.Common.{◌≡◌, ℕ, List, [], ◌∷◌, Option, Some, None, IfSome, refl}
 use Rattle.lk_locks.specs.declared.kinds.Move.{Move}
-use Rattle.lk_trace.specs.Lines.{log_line_of, move_with, with_action, with_seen, seen_of}
+use Rattle.lk_trace.specs.Lines.{move_with, with_action, with_seen, seen_of}
 use Rattle.lk_trace.specs.declared.line.Seen.{Seen}
 use Rattle.lk_trace.specs.declared.line.TraceLine.{TraceLine}
-use Rattle.lk_replay.specs.Lines.{words_of}
 use Rattle.lk_replay.specs.Vocabulary.{move_named}
 
 abbrev IsOwn : ℕ → Option TraceLine → Type 0
@@ -20,10 +19,6 @@ action_own : (thread : ℕ) (action : Option Move) (rest : List (List ℕ))
 action_own thread (Some action) rest = seen_own thread action (seen_of thread action rest)
 action_own thread None rest = tt
 
-words_own : (thread : ℕ) (words : List (List ℕ)) → IsOwn thread (move_with thread words)
+pub words_own : (thread : ℕ) (words : List (List ℕ)) → IsOwn thread (move_with thread words)
 words_own thread (word ∷ rest) = action_own thread (move_named word) rest
 words_own thread [] = tt
-
-pub line_own : (thread : ℕ) (line : List ℕ) → IsOwn thread (log_line_of thread line)
-unfolding log_line_of
-line_own thread line = words_own thread (words_of line)
