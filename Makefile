@@ -133,6 +133,7 @@ test-traces: $(TRACER) $(PROGRAM) $(LIBRARY) tools
 	tests/recording.py $(TRACER) $(PROGRAM)
 	tests/recording_rust.py $(TRACER)
 	tests/recording_modes.py $(LIBRARY)
+	tests/conform.py $(LIBRARY)
 
 .PHONY: test-planted conform
 
@@ -141,13 +142,11 @@ test-planted: $(TRACER) $(LIBRARY) tools
 	tests/planted.py $(TRACER) $(LIBRARY) $(addprefix --tours ,$(TOURS))
 
 LOCK    :=
-THREADS := 2
+THREADS := 3
 ROUNDS  := 1
-TOUR    :=
-## conform LOCK=NAME [THREADS=2] [ROUNDS=1] | a recorded lock follows all schedules of a tour
-conform: $(TRACER) $(LIBRARY) tools
-	$(if $(LOCK),,$(error which lock? make conform LOCK=mcs))
-	examples/recording/conform.sh $(TRACER) $(LIBRARY) $(LOCK) $(THREADS) $(ROUNDS) $(TOUR)
+## conform [LOCK=NAME] [THREADS=3] [ROUNDS=1] | recorded locks follow schedules that take every transition
+conform: $(LIBRARY) tools
+	tests/conform.py $(LIBRARY) $(LOCK) --threads $(THREADS) --rounds $(ROUNDS)
 
 ## mutants CRATE=NAME [MISTAKE=NAME] | a crate's mutants are refused, their right twins proved
 mutants: tools
