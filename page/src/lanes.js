@@ -77,7 +77,7 @@ function unlinkedLine(layout, span, y) {
 }
 
 function unlinkedLines(view, layout, thread, middle) {
-  const y = middle + Math.min(35, layout.laneHeight / 2 - 3);
+  const y = middle + Math.min(35, layout.laneHeight / 2 - 7);
   return unlinkedSpans(view.run, thread, layout.first, layout.last)
     .map((span) => unlinkedLine(layout, span, y));
 }

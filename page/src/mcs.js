@@ -66,7 +66,7 @@ const named = (value) => Number(value) - 1;
 
 const OWN_VARIABLE = { SetLocked: 'pred', LinkTo: 'pred', Grant: 'succ' };
 const RECORD = {
-  narrowest: 126, widest: 156, height: 108, gap: 52, wideGap: 60, top: 86, row: 184, left: 19,
+  narrowest: 123, widest: 156, height: 108, gap: 52, wideGap: 60, top: 86, row: 184, left: 19,
   edge: 14,
 };
 // Up to so many records stay in one row, even where a picture of two rows would be larger.
@@ -75,7 +75,7 @@ const MOST_NAMED = 8;
 // Records and the tail's box grow for names that threads were given, up to so much.
 const WIDEST = 240;
 const HEAD = { left: 14, right: 13, between: 9 };
-const FIELD = { left: 76, right: 12 };
+const FIELD = { left: 71, right: 11 };
 const TAIL_BOX = { left: 70, width: 86, widest: 170 };
 
 // Between records there is room for "no link".

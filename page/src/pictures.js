@@ -120,13 +120,17 @@ function laneInView(from, height, view, { lanes, laneHeight }) {
 // The picture as large as fits; one that fits at no scale is folded or scrolled.
 const SCALES = [1.3, 1.2, 1.1, 1, 0.9, 0.8, 0.7, 0.65];
 const NARROWEST = 300;
+// Of more threads than these the picture is folded at once, at one scale.
+const MANY_THREADS = 12;
+const SCALE_OF_MANY = 0.8;
 
 function scaledPicture(size, lock, view, state) {
   const width = Math.max(NARROWEST, size.width);
+  const many = view.run.threads > MANY_THREADS;
   const scales = looks.hall ? SCALES.filter((scale) => scale >= 1) : SCALES;
-  const last = scales[scales.length - 1];
+  const last = many && !looks.hall ? SCALE_OF_MANY : scales[scales.length - 1];
   const room = (scale) => ({ width: width / scale, height: size.height / scale, scale });
-  for (const scale of scales) {
+  for (const scale of many ? [] : scales) {
     const given = { ...view, ...room(scale) };
     if (scale > last && given.width < lock.leastWidth(given, state)) continue;
     const picture = lock.draw(given, state);
