@@ -79,7 +79,7 @@ check:
 endif
 
 # The built program, and the rows by themselves, side by side. Nothing is proved here.
-TRIED := rows oracle process refusals writes short_memory memory documents documents_fail layout fuzz
+TRIED := rows oracle process refusals writes short_memory memory documents documents_fail layout spaces fuzz
 .PHONY: tried $(addprefix tried-,$(TRIED))
 tried: $(PROGRAM) $(TRACER) tools
 	$(MAKE) --no-print-directory --jobs=$(shell nproc) --output-sync=target $(addprefix tried-,$(TRIED)) \
@@ -95,9 +95,12 @@ tried-layout:
 	tests/packages_list.py
 	tests/wanted_cases.py
 	tests/mutant_cases.py
+tried-spaces:
+	tests/search_counts.py
+	tests/search_sketches.py
 tried-fuzz:
 	fuzz/fuzz.py $(PROGRAM) --seconds $(FUZZ_SECONDS)
-$(addprefix tried-,$(filter-out oracle layout fuzz,$(TRIED))): tried-%:
+$(addprefix tried-,$(filter-out oracle layout spaces fuzz,$(TRIED))): tried-%:
 	tests/$*.py $(PROGRAM)
 
 .PHONY: page test-page
@@ -128,7 +131,9 @@ test-traces: $(TRACER) $(PROGRAM) $(LIBRARY) tools
 	tests/trace_values.py $(TRACER)
 	tests/order_search.py $(TRACER)
 	tests/recording.py $(TRACER) $(PROGRAM)
+	tests/recording_rust.py $(TRACER)
 	tests/recording_modes.py $(LIBRARY)
+	tests/conform.py $(LIBRARY)
 
 .PHONY: test-planted conform
 
@@ -137,13 +142,11 @@ test-planted: $(TRACER) $(LIBRARY) tools
 	tests/planted.py $(TRACER) $(LIBRARY) $(addprefix --tours ,$(TOURS))
 
 LOCK    :=
-THREADS := 2
+THREADS := 3
 ROUNDS  := 1
-TOUR    :=
-## conform LOCK=NAME [THREADS=2] [ROUNDS=1] | a recorded lock follows all schedules of a tour
-conform: $(TRACER) $(LIBRARY) tools
-	$(if $(LOCK),,$(error which lock? make conform LOCK=mcs))
-	examples/recording/conform.sh $(TRACER) $(LIBRARY) $(LOCK) $(THREADS) $(ROUNDS) $(TOUR)
+## conform [LOCK=NAME] [THREADS=3] [ROUNDS=1] | recorded locks follow schedules that take every transition
+conform: $(LIBRARY) tools
+	tests/conform.py $(LIBRARY) $(LOCK) --threads $(THREADS) --rounds $(ROUNDS)
 
 ## mutants CRATE=NAME [MISTAKE=NAME] | a crate's mutants are refused, their right twins proved
 mutants: tools
@@ -162,6 +165,13 @@ library: $(LIBRARY)
 bench: $(PROGRAM) tools
 	bench/run.py $(PROGRAM)
 	bench/batch.py $(PROGRAM)
+
+.PHONY: bench-search
+
+## bench-search | counts the states of the locks' schedules with SPIN, beside the worked rows
+bench-search: tools
+	tests/wanted.sh bench-search
+	bench/count.py
 
 ## soak [SOAK_SECONDS=3600] | each long run once, then the fuzzer for the rest of the time
 soak: $(PROGRAM) tools

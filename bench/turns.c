@@ -4,8 +4,8 @@
 
    Two threads hand one turn to and fro. A condition variable wakes whoever waits for it under a
    mutex; a semaphore and a futex wake one thread; spinning needs a core for each thread, and is
-   left out on one core; coroutines are on one thread, and cannot be used if a lock blocks or asks
-   which thread it runs on. */
+   left out on one core; coroutines are on one thread, and cannot be used if a lock blocks or
+   asks which thread it runs on. */
 #define _GNU_SOURCE
 #include <linux/futex.h>
 #include <pthread.h>

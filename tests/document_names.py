@@ -10,9 +10,9 @@ import re
 
 from document_blocks import without_blocks
 
-SKIPPED = {".git", "out", "node_modules", "__pycache__"}
-TEXTS = (".rt", ".antt", ".py", ".js", ".mjs", ".c", ".h", ".sh", ".html", ".css", ".schedule",
-         ".report", ".txt", ".edit", "Makefile")
+SKIPPED = {".git", "out", "target", "node_modules", "__pycache__"}
+TEXTS = (".rt", ".rs", ".antt", ".py", ".js", ".mjs", ".c", ".h", ".sh", ".html", ".css",
+         ".schedule", ".report", ".txt", ".edit", "Makefile")
 FILE = re.compile(r"[\w./*-]+\.(md|py|rt|antt|sh|c|h|js|mjs|html|schedule|report|txt|edit|patch|"
                   r"png|log|trace)")
 # What defines a name, in Rattle, in its definitions, and in the other languages.
@@ -85,7 +85,7 @@ class Names:
         self.words.update(re.findall(r"[\w-]+", text))
         for pattern in DEFINED:
             self.defined.update(pattern.findall(text))
-        if path.endswith(".rt"):
+        if path.endswith((".rt", ".rs")):
             self.public.update(PUBLIC.findall(text))
             for block in INSIDE.findall(text):
                 self.public.update(name for found in INNER.findall(block) for name in found if name)

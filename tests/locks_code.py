@@ -5,7 +5,8 @@ Each line names a phase and the kind of step that is due in it. The definitions 
 `after_call` of crates/lk_locks/specs say the same of every phase of a queue lock. The calls of the
 read-write locks are in a file that they share; which phases each of these has, its own `step`
 tells, and each of them takes a section. Both must name the same phases with the same kinds, and the
-same calls. Prints `N passed, M failed`, and ends with 1 where one failed.
+same calls. Each model of bench/spin has a label for each phase, and no other. Prints `N passed, M
+failed`, and ends with 1 where one failed.
 """
 import pathlib
 import re
@@ -15,6 +16,7 @@ from tally import Tally
 
 TOP = pathlib.Path(__file__).resolve().parent.parent
 SPECS = TOP / "crates" / "lk_locks" / "specs"
+MODELS = TOP / "bench" / "spin"
 sys.path.append(str(TOP / "fuzz"))
 from locks import LOCKS
 
@@ -24,6 +26,7 @@ CALLS = {"Acquire": "acquire", "Release": "release", "ReadLock": "rlock", "ReadU
 KINDS = {"Read": "read", "Write": "write", "Swap": "swap", "CompareAndSwap": "cas",
          "FetchAndAdd": "add"}
 LINE = re.compile(r"-- (\w+) (\w+)(?: looks at .*)?$", re.MULTILINE)
+LABEL = re.compile(r"^(\w+):", re.MULTILINE)
 STEP = re.compile(r"^step .*?\(?\b([A-Z]\w+)[^=]*=", re.MULTILINE)
 
 
@@ -48,10 +51,17 @@ def in_definitions(lock):
             | {("inside", phase) for phase in inside if phase != "Idle"})
 
 
+def labels(lock):
+    """The labels of a lock's model."""
+    return set(LABEL.findall((MODELS / f"{lock.replace('-', '_')}.pml").read_text()))
+
+
 def main():
     tally = Tally()
     for lock in LOCKS:
         written, defined = in_document(lock), in_definitions(lock)
+        phases = {phase for kind, phase in written if kind != "call"}
+        tally.check(f"{lock}: labels of the model", labels(lock), phases | {"end_Idle"})
         for place in sorted(written | defined):
             tally.fault(f"{lock}: {' '.join(place)}",
                         "" if place in written and place in defined else

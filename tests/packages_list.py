@@ -21,7 +21,7 @@ LIST = "packages.txt"
 INSTALLER = "tests/wanted.sh"
 CODE = {".sh", ".py", ".mk", ".mjs", ".c", ".h"}
 # How a group is asked for, in a shell or in `make`, and in Python.
-IN_SHELL = re.compile(r'^[^#\n]*\bwanted\.sh"?((?: [a-z]+)+)', re.MULTILINE)
+IN_SHELL = re.compile(r'^[^#\n]*\bwanted\.sh"?((?: [a-z][a-z-]*)+)', re.MULTILINE)
 IN_PYTHON = re.compile(r"\bwanted\.install\(([^)]*)\)")
 INSTALLS = re.compile(r"\b(apt-get|aptitude|apt +install|dpkg +(-i|--install))\b")
 Line = namedtuple("Line", "group package use")

@@ -19,13 +19,14 @@ import subprocess
 import sys
 
 TOP = pathlib.Path(__file__).resolve().parent.parent
-KINDS = {".rt", ".antt", ".py", ".js", ".mjs", ".c", ".h", ".sh", ".md"}
+KINDS = {".rt", ".rs", ".antt", ".py", ".js", ".mjs", ".c", ".h", ".pml", ".sh", ".md"}
 COLUMNS, LINES, BODY = 100, 400, 40
 
 # What a file of each kind opens with, behind a line `#!`.
 HEADS = {
     ".rt": ("//!", "//"), ".antt": ("--",), ".py": ('"""',), ".sh": ("#",), ".md": ("# ",),
     ".js": ("//", "/*"), ".mjs": ("//", "/*"), ".c": ("/*", "//"), ".h": ("/*", "//"),
+    ".pml": ("/*",), ".rs": ("//!",),
 }
 NAMED_BY_PLACE = ["*/Lib.antt", "*/Answers.antt", "*/Invariants.antt", "*/Proof.antt"]
 # How a function begins: its indent is the first group.
@@ -36,6 +37,7 @@ FUNCTION = {
     ".sh": re.compile(r"()(\w+)\(\) \{$"),
 }
 FUNCTION[".mjs"], FUNCTION[".h"] = FUNCTION[".js"], FUNCTION[".c"]
+FUNCTION[".rs"] = FUNCTION[".rt"]
 NO_FUNCTION = {"if", "for", "while", "switch", "catch"}
 
 

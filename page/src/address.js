@@ -4,8 +4,10 @@
 import { allKept, keep, kept, newName } from './kept.js';
 import { askedLanguage, language } from './language.js';
 import { FIRST_LESSON } from './lessons.js';
+import { readLooks } from './looks.js';
 import { endOf, fragmentOf, readFragment } from './link.js';
 import { byId, write } from './markup.js';
+import { showTheme } from './theme.js';
 import { tell, toClipboard } from './telling.js';
 import { texts } from './texts.js';
 
@@ -39,6 +41,8 @@ export class Address {
   // Opens what the address names. False where it names nothing.
   open() {
     if ((askedLanguage(location.hash) ?? language) !== language) location.reload();
+    readLooks(location.hash);
+    showTheme();
     const asked = readFragment(location.hash);
     if (!asked) return false;
     const wrong = asked.wrong ?? this.openAsked(asked);

@@ -40,6 +40,12 @@ function wasMade(line, made) {
   return line.phase !== undefined && line.phase === made.phase && line.kind !== 'inside';
 }
 
+// The lines of the move that is shown.
+export function linesMade(view, state, lines) {
+  const made = madeLine(view, state);
+  return lines.filter((line) => wasMade(line, made));
+}
+
 // Where a phase has several lines, its threads stand at the first.
 function codeLine(view, line, here, threads) {
   const phase = line.phase !== undefined && html`data-phase="${PHASES[line.phase]}"`;

@@ -3,8 +3,9 @@
 
 import { commonMoves, firstDifference, onOtherLock, otherLock } from './compare.js';
 import { lanesPicture, numbersPicture } from './lanes.js';
-import { lanesOf, layOutLanes } from './layout.js';
+import { layOutLanes } from './layout.js';
 import { LOCKS } from './locks.js';
+import { looks } from './looks.js';
 import { byId, html, show } from './markup.js';
 import { lastLine, reportLine } from './report.js';
 import { tell } from './telling.js';
@@ -75,15 +76,16 @@ export class Comparing {
     const { session, at, first, title } = this.other();
     const { place } = page.session;
     session.go(at(place));
-    const view = { ...session.view({ hidden: page.hides }), different: first && at(first) };
-    const lanes = lanesOf(session.run, false);
+    const { future } = looks;
+    const wanted = { hidden: page.hides, future, different: first && at(first) };
+    const view = session.view(wanted);
     const room = { width, height: Math.max(LEAST, innerHeight * SHARE) };
-    const layout = layOutLanes(view, lanes, room, page.zoomed);
+    const layout = layOutLanes(view, false, room, page.zoomed);
     const differs = first && place >= first;
     return html`<h2>${T.title(title)} ${first ? html`<button type="button" data-move="${first}"
         >${T.first(first)}</button>` : html`<span>${T.same}</span>`}</h2>
       ${numbersPicture(view, layout)}
-      <div class="other-lanes">${lanesPicture(view, layout, 0, lanes.length - 1)}</div>
+      <div class="other-lanes">${lanesPicture(view, layout, 0, layout.lanes.length - 1)}</div>
       <p class="compared ${differs && 'differs'}"><code>${T.there} ${lineAt(session)}</code>
       <code>${T.here} ${lineAt(page.session)}</code></p>`;
   }

@@ -6,6 +6,12 @@ import { lockOptions } from './play.js';
 import { drawPaper, toggleTheme } from './screen.js';
 import { texts } from './texts.js';
 
+// The tools that have no room otherwise.
+function toggleMenu() {
+  const open = document.body.classList.toggle('menu');
+  byId('menu').setAttribute('aria-expanded', open);
+}
+
 function clicks(page) {
   const { address, comparing, editing, modes, playing, stepping } = page;
   const does = {
@@ -13,8 +19,9 @@ function clicks(page) {
     last: () => stepping.end(), run: () => stepping.toggleRunning(),
     'mode-lessons': () => page.chooseLesson(), 'mode-own': () => modes.toggle('own'),
     'mode-play': () => modes.toggle('play'), 'mode-quiz': () => modes.toggleQuiz(),
-    compare: () => comparing.toggle(),
-    link: () => address.copy(), print: () => window.print(), theme: () => toggleTheme(),
+    compare: () => comparing.toggle(), 'mode-hall': () => page.toggleHall(),
+    leave: () => page.toggleHall(), 'show-view': () => page.showView(), menu: () => toggleMenu(),
+    link: () => address.copy(), print: () => page.showSheets(), theme: () => toggleTheme(),
     'show-keys': () => page.showKeys(), 'show-about': () => page.showAbout(),
     'show-take': () => page.showTake(), undo: () => playing.undo(),
     'undo-own': () => playing.undo(), save: () => editing.save(),
@@ -83,11 +90,9 @@ export function listen(page) {
   byId('speed').addEventListener('change', () => page.stepping.setSpeed(byId('speed').value));
   byId('every').addEventListener('change', () => page.playing.toggleEvery());
   byId('slider').addEventListener('input', (event) => page.go(Number(event.target.value)));
-  for (const id of ['lanes', 'memory-picture']) {
-    byId(id).addEventListener('scroll', () => page.draw());
-  }
+  byId('lanes').addEventListener('scroll', () => page.draw());
   addEventListener('resize', () => page.draw());
   addEventListener('popstate', () => page.address.open());
   addEventListener('pagehide', () => page.address.flush());
-  addEventListener('beforeprint', () => drawPaper(page));
+  addEventListener('beforeprint', () => drawPaper(page, page.sheet));
 }

@@ -1,107 +1,38 @@
-// Puts what is shown into the page's parts.
+// Puts what is said of the move into the page's parts.
 
 import { OUTCOMES } from './codes.js';
-import { codeView } from './code_view.js';
-import { lanesPicture, numbersPicture } from './lanes.js';
-import { columnX, lanesOf, layOutLanes } from './layout.js';
-import { legend } from './legend.js';
-import { lockOf } from './locks.js';
-import { byId, html, show, write } from './markup.js';
-import { nowView, spokenText, whoRows } from './now.js';
-import { quizForm, resultView, scoreView } from './quiz.js';
+import { codeView, linesMade } from './code_view.js';
 import { commonMoves } from './compare.js';
+import { lockOf } from './locks.js';
+import { looks } from './looks.js';
+import { byId, html, show, write } from './markup.js';
+import { nowView, questionView, spokenText, whoRows } from './now.js';
+import { quizForm, resultView, scoreView } from './quiz.js';
 import { refusalFacts } from './refusal.js';
 import { refusedView } from './refused.js';
-import { sliderPicture } from './slider.js';
+import { covers } from './remarks.js';
+import { moveText } from './report.js';
 import { texts } from './texts.js';
 
-const LANES_SHARE = 0.29;
-const LANES_LEAST = 120;
-
-// The sizes of the parts, read before anything is written, so that a step lays the page out once.
-export function measured() {
-  const size = (id) => {
-    const { clientWidth: width, clientHeight: height, scrollTop: scrolled } = byId(id);
-    return { width, height, scrolled };
-  };
-  const height = Math.max(LANES_LEAST, innerHeight * LANES_SHARE);
-  return {
-    lanes: { ...size('lanes'), height },
-    memory: size('memory-picture'),
-    slider: size('slider-picture'),
-  };
+export function drawTexts(page, view, state) {
+  const lines = page.session.lines[view.run.kind];
+  drawCaption(view, state);
+  show(byId('code-lines'), codeView(view, state, lines));
+  drawNow(page, view, state);
+  show(byId('current'), html`${(looks.hall || looks.embed) && currentView(view, state, lines)}`);
 }
 
-export function drawTime(page, view, room) {
-  const box = byId('lanes');
-  const lanes = lanesOf(view.run, page.mode === 'play');
-  const layout = layOutLanes(view, lanes, room, page.zoomed);
-  box.style.height = `${Math.min(layout.height, room.height)}px`;
-  if (page.moved) revealLane(box, view, layout);
-  page.moved = false;
-  const top = Math.max(0, Math.floor(box.scrollTop / layout.laneHeight) - 1);
-  const below = Math.ceil((box.scrollTop + room.height) / layout.laneHeight);
-  const bottom = Math.min(lanes.length - 1, below);
-  show(byId('numbers'), numbersPicture(view, layout));
-  show(box, lanesPicture(view, layout, top, bottom));
-  show(byId('legend'), legend(view.run));
-  const resting = view.run.threads - lanes.filter((one) => one < view.run.threads).length;
-  write(byId('resting'), resting > 0 ? texts.resting(texts.threads(resting)) : '');
-  page.layout = { ...layout, x: (move) => columnX(layout, move) };
-}
-
-// Scrolls so that the lane of the current move is in view.
-function revealLane(box, view, layout) {
-  const { run, move, refused } = view;
-  const thread = refused ? run.refusal.thread : move && run.records.thread(move);
-  const index = view.place ? layout.lanes.indexOf(thread) : 0;
-  const top = index * layout.laneHeight;
-  if (top < box.scrollTop) box.scrollTop = top;
-  else if (top + layout.laneHeight > box.scrollTop + box.clientHeight) {
-    box.scrollTop = top + layout.laneHeight - box.clientHeight;
-  }
-}
-
-// The picture as large as fits; one that fits at no scale is scrolled. Many threads make it small
-// at once.
-const SCALES = [1.3, 1.2, 1.1, 1, 0.9];
-const LAST_SCALE = 0.8;
-const SMALLEST = 0.6;
-const NARROWEST = 340;
-const MANY_THREADS = 12;
-
-function scaledPicture(size, lock, view, state) {
-  const width = Math.max(NARROWEST, size.width);
-  const least = lock.leastWidth(view, state);
-  const many = view.run.threads > MANY_THREADS;
-  const last = Math.max(SMALLEST, Math.min(LAST_SCALE, width / least));
-  const scales = many ? [] : SCALES.filter((scale) => width / scale >= least);
-  const from = size.scrolled / last;
-  const shown = { from, to: from + size.height / last };
-  for (const scale of scales) {
-    const picture = lock.draw({ ...view, width: width / scale, scale, shown }, state);
-    if (picture.height <= size.height) return picture;
-  }
-  return lock.draw({ ...view, width: width / last, scale: last, shown }, state);
-}
-
-export function drawMemory(view, state, size) {
+function drawCaption(view, state) {
   const lock = lockOf(view.run);
   const caption = lock.caption(view, state);
-  const resting = lock.restingNote?.({ ...view, width: size.width }, state) ?? '';
   write(byId('memory-title'), lock.memory);
-  const missing = caption.missing && 'missing';
-  show(byId('memory-caption'), html`<span class="${missing}">${caption.text}</span>
-    ${resting && html`<span class="soft">${resting}</span>`}`);
-  show(byId('memory-picture'), scaledPicture(size, lock, view, state));
+  const covered = covers(view);
+  const missing = caption.missing && !covered && 'missing';
+  const text = covered ? texts.covered : caption.text;
+  show(byId('memory-says'), html`<span class="${missing}">${text}</span>`);
 }
 
-export function drawCode(session, view, state) {
-  const box = byId('code-lines');
-  show(box, codeView(view, state, session.lines[view.run.kind]));
-}
-
-export function drawNow(page, view, state) {
+function drawNow(page, view, state) {
   const { quiz, session } = page;
   const question = quiz.asks(session) && quiz.question(session);
   const facts = view.refused && refusalFacts(session);
@@ -118,22 +49,15 @@ export function drawNow(page, view, state) {
   write(byId('spoken'), checked + (refused || said));
 }
 
-// Called last, since it asks where things were laid out.
-export function revealCode() {
-  const box = byId('code-lines');
-  if (box.scrollHeight <= box.clientHeight) return;
-  box.querySelector('.here')?.scrollIntoView({ block: 'nearest' });
-}
-
-export function drawSlider(view, width) {
-  show(byId('slider-picture'), sliderPicture(view, width));
-  const input = byId('slider');
-  input.max = view.run.last;
-  input.value = view.place;
-  const { refused, run: { count }, move } = view;
-  const { refused: { refused: word }, spoken, position } = texts;
-  input.setAttribute('aria-valuetext', refused ? word : spoken.move(move, count));
-  write(byId('position'), refused ? word : position(move, count));
+// In a hall and in a frame: the move, its line of code, and its question.
+function currentView(view, state, lines) {
+  const { run, move, names, refused } = view;
+  const [thread, word] = refused ? [run.refusal.thread, run.refusal.word]
+    : move ? moveText(run, move).split(' ') : [];
+  const code = linesMade(view, state, lines).map((line) => line.code.trim()).join('; ');
+  return html`<p><b>${refused ? '✕' : move}</b> ${word ? html`${names.of(Number(thread))},
+    <span class="mono">${word}</span>` : texts.before} ${refused && texts.refused.refused}
+    <code translate="no">${code}</code></p>${questionView(view)}`;
 }
 
 function lockText(run) {

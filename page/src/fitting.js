@@ -1,5 +1,7 @@
 // Texts of pictures that fit their room: measured as they are drawn, and cut where the room ends.
 
+import { looks } from './looks.js';
+
 const MEASURED = 5000;
 const LONGEST = 200;
 // The fonts of `style`, by what is written in them.
@@ -8,19 +10,21 @@ const FONTS = {
   name: ['660 15px', '--letters'],
   small: ['600 13px', '--letters'],
   word: ['560 14.5px', '--mono'],
+  wants: ['400 14.5px', '--letters'],
 };
+const IN_A_HALL = { small: ['600 14.5px', '--letters'] };
 
 // Made when it is first used, since the build reads this file without a browser.
 let pen = null;
 const widths = new Map();
 
 function fontOf(kind) {
-  const [size, family] = FONTS[kind];
+  const [size, family] = (looks.hall && IN_A_HALL[kind]) || FONTS[kind];
   return `${size} ${getComputedStyle(document.documentElement).getPropertyValue(family)}`;
 }
 
 export function widthOf(text, kind) {
-  const key = `${kind} ${text}`;
+  const key = `${looks.hall} ${kind} ${text}`;
   if (!widths.has(key)) {
     if (widths.size === MEASURED) widths.clear();
     pen ??= document.createElement('canvas').getContext('2d');
@@ -29,6 +33,10 @@ export function widthOf(text, kind) {
   }
   return widths.get(key);
 }
+
+// The first of some texts that fits the room, else as much of the last as does.
+export const firstFitting = (all, room, kind) => all.find((text) => widthOf(text, kind) <= room)
+  ?? fitted(all[all.length - 1], room, kind);
 
 // The whole text if it fits the room, else as much of its beginning as fits, and `…`.
 export function fitted(text, room, kind) {

@@ -1,6 +1,8 @@
 // The sentences of the page in German, by the names of the English ones. The words of schedules
 // and reports stay as they are.
 
+import { germanLocks } from './german_locks.js';
+
 export const german = {
   page: {
     thread: (number) => `Thread ${number}`,
@@ -11,6 +13,7 @@ export const german = {
     branchOf: (title, move) => `${title}: anders nach Zug ${move}`,
     modes: {
       lessons: 'Lektionen', own: 'Eigener', play: 'Spielen', quiz: 'Quiz', compare: 'Vergleich',
+      hall: 'Saal', view: 'Ansicht',
     },
     compare: {
       label: 'Der Ablauf, mit dem verglichen wird', title: (title) => `Verglichen mit: ${title}`,
@@ -23,7 +26,25 @@ export const german = {
       first: 'Erster Zug', back: 'Ein Zug zurück', forward: 'Ein Zug vor', last: 'Letzter Zug',
       run: 'Die Züge nacheinander abspielen', pause: 'Anhalten', slider: 'Zug',
       close: 'Schließen', wider: 'Breitere Spalten', narrower: 'Schmalere Spalten',
-      take: 'Mitnehmen', speed: 'Tempo, in dem die Züge abgespielt werden',
+      take: 'Mitnehmen', more: 'Mehr', leave: 'Saal verlassen',
+      speed: 'Tempo, in dem die Züge abgespielt werden',
+    },
+    view: {
+      title: 'Ansicht', hint: 'Im Saal sind es zwei Teile.',
+      parts: { time: 'Threads', memory: 'Speicher', code: 'Code', now: 'Dieser Zug' },
+      future: 'Was kommt, blass zeichnen', hall: 'Saal: große Schrift',
+    },
+    sheets: {
+      title: 'Drucken', worked: 'Mit Antworten', exercise: 'Übungsblatt mit Lücken',
+      hint: 'Höchstens zwölf Blätter: die Züge um den, der gezeigt wird.',
+    },
+    signs: {
+      key: 'Zeichen', read: 'von diesem Zug gelesen', changed: 'von diesem Zug geschrieben',
+      own: 'eigene Variable eines Threads, kein Wort des Speichers',
+      link: 'ein Link', missing: 'in der Schlange, aber ohne Link',
+      ask: 'eine Frage bei diesem Zug', enters: 'auf dem Regler: ein Thread ist drin',
+      fails: 'auf dem Regler: ein cas scheitert, oder abgelehnt',
+      fold: 'so viele Threads sind eingeklappt',
     },
     take: {
       title: 'Zum Mitnehmen', svg: 'Dieser Zustand als Bild (SVG)',
@@ -63,7 +84,12 @@ export const german = {
     noSchedule: 'In der Zwischenablage ist kein Ablauf. Füge ihn in den Text ein (Taste E).',
     time: 'Threads im Lauf der Zeit',
     noMoves: 'Noch kein Zug. Wähle einen Schritt eines Threads.',
-    resting: (threads) => `${threads} ohne Zug`,
+    resting: (threads) => `${threads} eingeklappt: ohne Zug in dieser Zeit`,
+    away: (count) => `${count} Zeilen darüber oder darunter`,
+    folded: (count) => `${count} weitere`,
+    covered: 'Was das Bild dazu sagt, kommt mit der Antwort (A).',
+    showStory: 'Worum es geht',
+    wrote: (word, left, found) => `${word} = ${left} (war ${found})`,
     legend: {
       call: 'called', vain: 'waits: vergebens', enters: 'entered', leaves: 'left',
       fails: 'cas scheitert', inCall: 'in einem Aufruf', line: 'in der Schlange', holds: 'hält',
@@ -79,9 +105,12 @@ export const german = {
       holds: 'hält', reads: 'liest', writes: 'schreibt', line: 'wartet', call: 'im Aufruf',
       rest: 'ruht',
     },
+    variable: 'eigene Variable',
     ownVariable: (name) => `eigene Variable von ${name}`,
+    bits: (bits) => `${bits} Bit`,
     wheel: (bits, places) => `${bits} Bit: ${places} Zahlen, dann von vorn`,
     code: 'Code: dieser Zug, und der nächste Schritt jedes Threads',
+    codeLabel: 'Zeilen des Codes',
     now: 'Dieser Zug',
     position: (move, count) => `${move} von ${count}`,
     start: 'Alle Wörter sind 0, und die Schlange ist leer.',
@@ -183,6 +212,7 @@ export const german = {
     notStored: 'In diesem Browser lassen sich nur die Lektionen zeigen.',
     couldNotRead: 'Die Datei war nicht zu lesen.',
     print: {
+      code: 'Code', after: (move) => (move ? `nach Zug ${move}` : 'vor dem ersten Zug'),
       questions: 'Fragen', table: 'Züge', move: 'Zug', thread: 'Thread',
       what: 'Aufruf oder Schritt', outcome: 'Ausgang', says: 'Was er tat', holds: 'Hält',
       line: 'Schlange', part: (from, to, count) => `Züge ${from} bis ${to} von ${count}`,
@@ -221,8 +251,9 @@ export const german = {
         ['Bild ab, Bild auf', 'zehn Züge vor, zehn zurück'],
         ['] [', 'desselben Threads nächster, voriger Zug'],
         ['N', 'die nächste Frage'],
-        ['A', 'die Antwort zeigen'],
+        ['A', 'die Antwort zeigen; vor dem ersten Zug, worum es geht'],
         ['Leertaste', 'abspielen, anhalten'],
+        ['↑ ↓ Enter', 'auf den Threads: einen wählen, zu seinem nächsten Zug'],
         ['O', 'Lektionen'],
         ['E', 'eigener Ablauf; Escape verlässt den Text'],
         ['G', 'spielen: wählen, wer zieht'],
@@ -232,7 +263,10 @@ export const german = {
         ['Q', 'Quiz'],
         ['C', 'vergleichen: mit dem Original, oder mit der anderen Schreib-Lese-Sperre'],
         ['L', 'Link zu diesem Zug kopieren'],
-        ['P', 'drucken'],
+        ['P', 'drucken: mit Antworten, oder ein Übungsblatt'],
+        ['H', 'Saal: große Schrift, zwei Teile'],
+        ['V', 'Ansicht: welche Teile gezeigt werden'],
+        ['F', 'was kommt, blass zeichnen'],
         ['T', 'mitnehmen: Bild, Bericht, Ablauf, ein Rahmen für eine Folie'],
         [', .', 'langsamer, schneller'],
         ['D', 'dunkel oder hell'],
@@ -275,125 +309,5 @@ export const german = {
         + 'Wort.',
       ownMoves: 'Die Züge dieser Sperre sind {moves}.',
     },
-  },
-  ticket: {
-    title: 'Ticket-Sperre', memory: 'Speicher: wer welches Ticket hat',
-    next: 'nächstes', strip: 'Die vergebenen Tickets in der Reihenfolge der Schlange, und das '
-      + 'nächste',
-    says: {
-      TakeTicket: {
-        moved: '{who} zieht Ticket {found} und ist von hier an in der Schlange. next_ticket ist '
-          + 'nun {left}.',
-      },
-      AwaitTurn: {
-        waits: '{who} fragt und wartet: now_serving ist {found}, das eigene Ticket {number}.',
-        entered: '{who} findet das eigene Ticket, {found}, in now_serving und tritt ein.',
-      },
-      ReadServing: { moved: '{who} liest now_serving, um es weiterzugeben: Es ist {found}.' },
-      PassOn: { left: '{who} schreibt {left} in now_serving und hat die Sperre verlassen.' },
-      wraps: 'Nach {found} kommt {left}: Die Zahlen sind einmal herum.',
-    },
-    captions: {
-      nobody: 'Kein Ticket ist vergeben: Das nächste ist {next}.',
-      line: 'Bedient wird {serving}; das nächste Ticket ist {next}.',
-      wraps: 'Die Tickets sind einmal herum: {first} kommt vor {last} dran.',
-    },
-  },
-  mcs: {
-    title: 'MCS-Sperre', memory: 'Speicher, in der Reihenfolge der Schlange',
-    noLink: 'kein Link', atRest: (who) => `In Ruhe: ${who}`,
-    says: {
-      ClearNext: { moved: '{who} schreibt nil in das eigene next.' },
-      SwapTail: {
-        moved: '{who} tauscht tail aus und findet {foundName}. Von hier an ist {who} in der '
-          + 'Schlange, doch kein Wort im Eintrag von {foundName} sagt es.',
-        entered: '{who} tauscht tail gegen den eigenen Eintrag. Es war nil: {who} tritt ein.',
-      },
-      SetLocked: { moved: '{who} setzt das eigene locked auf 1.' },
-      LinkTo: { moved: '{who} schreibt den Link: next von {other} zeigt jetzt auf {whom}.' },
-      AwaitGrant: {
-        waits: '{who} fragt das eigene locked ab und wartet: Es ist noch {found}.',
-        entered: '{who} findet {found} im eigenen locked und tritt ein.',
-      },
-      ReadNext: {
-        moved: '{who} sucht einen Nachfolger und findet {foundName}.',
-        nil: '{who} sucht einen Nachfolger: Das eigene next ist nil.',
-      },
-      CasTail: {
-        moved: 'Das compare-and-swap scheitert: tail ist {foundName}, nicht {whom}. Jemand kommt '
-          + 'nach {whom}, und {whom} sieht nicht, wer.',
-        left: 'tail ist noch {whom}: Das compare-and-swap setzt es auf nil, und {whom} hat die '
-          + 'Sperre verlassen.',
-      },
-      AwaitLink: {
-        waits: '{who} fragt: Das eigene next ist noch nil. {who} muss auf den Link warten.',
-        moved: 'Der Link ist da: {who} findet {foundName}.',
-      },
-      Grant: {
-        left: '{who} löscht locked von {other} und hat die Sperre verlassen. {other} ist der '
-          + 'nächste und tritt mit der nächsten Abfrage ein.',
-      },
-    },
-    captions: {
-      nobody: 'Die Schlange ist leer.', alone: '{first} ist allein in der Schlange.',
-      linked: 'Jeder Link der Schlange ist geschrieben.',
-      missing: 'Nach {before} kommt {after}, und nur {after} weiß es.',
-    },
-  },
-  readWrite: {
-    memory: 'Speicher: wer wo ist', inside: 'drinnen', nobody: 'niemand',
-    atMonitor: 'am Monitor', pollFailed: 'vergebens',
-    wants: {
-      TryRead: 'möchte lesen', LeaveRead: 'möchte aufhören zu lesen', TryWrite: 'möchte schreiben',
-      AwaitReaders: 'angekündigt, wartet auf die Leser', LeaveWrite: 'möchte aufhören zu schreiben',
-      TryDowngrade: 'möchte als Leser weitermachen',
-    },
-    captions: {
-      readers: '{readers} drinnen, {words}.', writer: '{writer} schreibt, {words}.',
-      nobody: 'Niemand ist drinnen, {words}.',
-    },
-    sections: {
-      TryRead: {
-        waits: '{who} fragt und wartet: Das flag ist gesetzt.',
-        entered: '{who} findet das flag frei und zählt sich: {coming} ist nun {left}.',
-      },
-      LeaveRead: {
-        left: '{who} zählt sich aus: {going} ist nun {left}. {who} hat die Sperre verlassen.',
-      },
-      LeaveWrite: { left: '{who} löscht das flag und hat die Sperre verlassen.' },
-      TryDowngrade: {
-        entered: '{who} wird in einem Abschnitt zum Leser: {coming} ist nun {left}, und das flag '
-          + 'ist frei.',
-      },
-    },
-  },
-  rwSimple: {
-    title: 'Einfache Schreib-Lese-Sperre',
-    says: {
-      TryWrite: {
-        waits: '{who} fragt und wartet: readers ist {readers}, und das flag ist {flag}. Beide '
-          + 'müssen 0 sein.',
-        entered: '{who} findet keinen Leser und das flag frei, setzt das flag und schreibt.',
-      },
-    },
-  },
-  rwFifo: {
-    title: 'FIFO-Schreib-Lese-Sperre',
-    announced: '{writer} ist angekündigt: kein Leser darf vorbei.',
-    says: {
-      TryWrite: {
-        waits: '{who} fragt und wartet: Das flag ist gesetzt. {who} ist nicht in der Schlange.',
-        moved: '{who} setzt das flag und ist damit angekündigt: Kein Leser kommt mehr herein. Die '
-          + 'Zähler sind {acquires} und {releases}, also wartet {who} auf die Leser.',
-        entered: '{who} setzt das flag, findet die Zähler gleich und schreibt.',
-      },
-      AwaitReaders: {
-        waits: '{who} fragt und wartet: Die Zähler sind {acquires} und {releases}, es sind also '
-          + 'Leser drinnen.',
-        entered: '{who} findet die Zähler gleich, {acquires} und {releases}: Kein Leser ist '
-          + 'drinnen, und {who} schreibt.',
-      },
-      wraps: 'Nach {found} kommt {left}: Der Zähler ist einmal herum.',
-    },
-  },
+  },  ...germanLocks,
 };

@@ -1,5 +1,6 @@
 // Keys for everything. A key that a field or a button needs for itself is left to it.
 
+import { signList } from './legend.js';
 import { byId, html, show } from './markup.js';
 import { toggleTheme, zoom } from './screen.js';
 import { texts } from './texts.js';
@@ -22,11 +23,18 @@ function actions(page) {
     w: () => page.mode === 'play' && playing.toggleEvery(),
     c: () => comparing.toggle(), u: () => playing.undo(), l: () => address.copy(),
     t: () => page.showTake(),
-    p: () => window.print(), d: () => toggleTheme(), '?': () => page.showKeys(),
+    h: () => page.toggleHall(), v: () => page.showView(), f: () => page.toggleFuture(),
+    p: () => page.showSheets(), d: () => toggleTheme(), '?': () => page.showKeys(),
     '.': () => stepping.faster(1), ',': () => stepping.faster(-1),
     '+': () => zoom(page, WIDER), '=': () => zoom(page, WIDER), '-': () => zoom(page, 1 / WIDER),
   };
 }
+
+// Keys on the lanes.
+const onLanes = ({ stepping }) => ({
+  ArrowDown: () => stepping.chooseLane(1), ArrowUp: () => stepping.chooseLane(-1),
+  Enter: () => stepping.laneMove(),
+});
 
 // Keys that a focused control uses itself.
 function isTheirs(key, target) {
@@ -38,6 +46,7 @@ function isTheirs(key, target) {
 
 export function listenForKeys(page) {
   const does = actions(page);
+  const lanes = onLanes(page);
   addEventListener('keydown', (event) => {
     const undoes = (event.ctrlKey || event.metaKey) && event.key === 'z'
       && !event.target.closest(IN_FIELDS);
@@ -46,7 +55,9 @@ export function listenForKeys(page) {
     if (event.key === 'Escape' && event.target.closest(IN_FIELDS)) event.target.blur();
     if (document.querySelector('dialog[open]') || isTheirs(event.key, event.target)) return;
     const key = event.key.length === 1 ? event.key.toLowerCase() : event.key;
-    const act = /^[0-9]$/.test(key) ? () => page.playing.chooseFor(Number(key)) : does[key];
+    const onLane = event.target.id === 'lanes' && lanes[key];
+    const digit = /^[0-9]$/.test(key) && (() => page.playing.chooseFor(Number(key)));
+    const act = onLane || digit || does[key];
     if (!act) return;
     event.preventDefault();
     act();
@@ -60,6 +71,7 @@ export function keysDialog() {
     const rows = texts.keys.list
       .map(([key, does]) => html`<dt><kbd>${key}</kbd></dt><dd>${does}</dd>`);
     show(byId('key-list'), html`${rows}`);
+    show(byId('sign-list'), signList());
     dialog.showModal();
   };
 }

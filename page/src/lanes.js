@@ -1,12 +1,12 @@
 // One lane a thread: its calls and steps, and what it was doing between them.
 
-import { ACTION, CAS, OUTCOME, wordOf } from './codes.js';
+import { ACTION, CAS, OUTCOME, OUTCOMES, wordOf } from './codes.js';
 import { arrowsBetween } from './arrows.js';
 import { fitted } from './fitting.js';
 import { columnX, laneMiddle, LOW_LANE, NAME_EDGES } from './layout.js';
 import { lockOf } from './locks.js';
 import { html } from './markup.js';
-import { fillOf } from './shapes.js';
+import { fillOf, standingOf } from './shapes.js';
 import { spansOf, unlinkedSpans } from './spans.js';
 import { placeAfter } from './run.js';
 import { texts } from './texts.js';
@@ -18,6 +18,8 @@ const ROOM_FOR_UNLINKED = 170;
 const NARROW = 34;
 // How far the value below a mark may reach over its column.
 const FOUND_ROOM = 1.15;
+// Letters above a mark stay within the picture.
+const HIGHEST = 14;
 const LOOKS = ['read', 'swap', 'add', 'section'];
 
 const rounded = (number) => Math.round(number * 10) / 10;
@@ -50,7 +52,7 @@ function spanText(view, layout, thread, span, middle) {
 }
 
 function spanBar(view, layout, thread, span, middle) {
-  const thick = THICK[span.kind];
+  const thick = Math.min(THICK[span.kind], layout.laneHeight * 0.8);
   const fill = fillOf(span.kind);
   const bars = parts(layout, span).map(({ x, width, style }) => html`<rect x="${x}"
     y="${middle - thick / 2}" width="${width}" height="${thick}" rx="3"
@@ -118,7 +120,7 @@ function label(view, layout, move, at, tall) {
   const call = records.action(move) === ACTION.call;
   const word = wordOf(records.action(move), records.code(move));
   return html`<text class="word-label ${call && 'call'} ${here && 'here'}" x="${at.x}"
-    y="${at.y - (tall ? 20 : 13)}" text-anchor="middle">${word}</text>`;
+    y="${Math.max(HIGHEST, at.y - (tall ? 20 : 13))}" text-anchor="middle">${word}</text>`;
 }
 
 function found(view, layout, move, at) {
@@ -133,6 +135,10 @@ function moveMark(view, layout, move, middle) {
   const at = { x: rounded(columnX(layout, move)), y: middle };
   const tall = layout.laneHeight >= LOW_LANE && layout.column > NARROW;
   const word = label(view, layout, move, at, tall);
+  if (view.blank) {
+    return html`<g data-move="${move}" class="move"><circle class="step waits" cx="${at.x}"
+      cy="${middle}" r="7.5"/>${word}</g>`;
+  }
   if (view.hidden && move > layout.now) {
     return html`<g data-move="${move}" class="move"><text class="asked" x="${at.x}"
       y="${middle + 5}" text-anchor="middle">?</text>${word}</g>`;
@@ -144,9 +150,16 @@ function moveMark(view, layout, move, middle) {
     ${tall && found(view, layout, move, at)}</g>`;
 }
 
+// The last move that is drawn: those that come are, faintly, where the reader wants it.
+function lastDrawn(view, layout) {
+  if (view.blank) return layout.first - 1;
+  return view.hidden || !view.future ? Math.min(layout.now, layout.last) : layout.last;
+}
+
 function laneMoves(view, layout, thread, middle) {
   const moves = view.run.movesOf.get(thread) ?? [];
-  const last = view.hidden ? Math.min(layout.last, layout.now + 1) : layout.last;
+  const next = view.hidden ? Math.min(layout.last, layout.now + 1) : lastDrawn(view, layout);
+  const last = view.blank ? layout.last : next;
   return moves.slice(placeAfter(moves, layout.first - 1), placeAfter(moves, last))
     .map((move) => moveMark(view, layout, move, middle));
 }
@@ -155,7 +168,7 @@ function laneMoves(view, layout, thread, middle) {
 function refusedMark(view, layout, thread, middle) {
   const { refusal, last } = view.run;
   const shown = refusal?.thread === thread && layout.last >= last;
-  if (!shown || (view.hidden && !view.refused)) return null;
+  if (!shown || (lastDrawn(view, layout) < last && !view.refused && !view.blank)) return null;
   const x = rounded(columnX(layout, last));
   const tall = layout.laneHeight >= LOW_LANE;
   return html`<g data-move="${last}" data-refused class="move ${future(layout, last)}">
@@ -172,18 +185,36 @@ function refusedMark(view, layout, thread, middle) {
 function lane(view, layout, index) {
   const thread = layout.lanes[index];
   const middle = rounded(laneMiddle(layout, index));
-  const shown = view.hidden ? { ...layout, last: layout.now } : layout;
+  const shown = { ...layout, last: lastDrawn(view, layout) };
   const missing = thread >= view.run.threads;
   const two = (missing || view.names.has(thread)) && layout.laneHeight >= LOW_LANE;
   const whole = view.names.of(thread);
   const name = fitted(whole, layout.gutter - NAME_EDGES.left - NAME_EDGES.right, 'lane');
-  return html`<text class="lane-name" x="${NAME_EDGES.left}"
+  const drawn = html`<text class="lane-name" x="${NAME_EDGES.left}"
       y="${middle + (two ? 0 : 5)}"><title>${whole}</title>${name}</text>
     ${two && html`<text class="note" x="${NAME_EDGES.left}"
       y="${middle + 18}">${missing ? texts.refused.noSuch : texts.thread(thread)}</text>`}
     <path class="lane-line" d="M${layout.gutter - 4} ${middle}H${layout.width - 12}"/>
     ${spanBars(view, shown, thread, middle)}${unlinkedLines(view, shown, thread, middle)}
     ${laneMoves(view, layout, thread, middle)}${refusedMark(view, layout, thread, middle)}`;
+  return layout.chosen === undefined ? drawn : laneOption(view, layout, index, drawn);
+}
+
+// A lane that can be chosen by key, with its moves in words.
+function laneOption(view, layout, index, drawn) {
+  const thread = layout.lanes[index];
+  const { records } = view.run;
+  const moves = (view.run.movesOf.get(thread) ?? [])
+    .filter((move) => move >= layout.first && move <= Math.min(layout.now, view.run.count))
+    .map((move) => `${move} ${wordOf(records.action(move), records.code(move))} ${
+      texts.outcomes[OUTCOMES[records.outcome(move)]]}`);
+  const chosen = thread === layout.chosen;
+  const standing = texts.standing[standingOf(view.run, view.move, thread)];
+  const label = `${view.names.of(thread)}, ${standing}. ${moves.join(', ')}`;
+  return html`<g role="option" id="lane-${thread}" aria-selected="${chosen}"
+    aria-label="${label}">${chosen && html`<rect class="chosen" x="3"
+    y="${layout.laneHeight * index + 3}" width="${layout.width - 6}"
+    height="${layout.laneHeight - 4}" rx="7"/>`}${drawn}</g>`;
 }
 
 // An arrow from the write to the step that it let go on: down or up first, then along.
@@ -199,9 +230,12 @@ function arrowPath(layout, arrow, threadOf) {
 }
 
 function arrows(view, layout) {
-  const last = view.hidden ? layout.now : layout.last;
+  const last = lastDrawn(view, layout);
   const threadOf = (move) => view.run.records.thread(move);
-  return arrowsBetween(view.arrows, view.arrowEnds, layout.first, last).map((arrow) => {
+  const inLanes = ({ from, to }) => [from, to]
+    .every((move) => layout.lanes.includes(threadOf(move)));
+  const all = arrowsBetween(view.arrows, view.arrowEnds, layout.first, last);
+  return all.filter(inLanes).map((arrow) => {
     const path = arrowPath(layout, arrow, threadOf);
     const style = future(layout, arrow.to);
     return html`<path class="arrow halo ${style}" d="${path}"/>
@@ -232,7 +266,8 @@ const sized = (width, height) => html`width="${width}" height="${height}"
 // The lanes from index `top` to `bottom`; the picture is as tall as all of them.
 export function lanesPicture(view, layout, top, bottom) {
   const indexes = Array.from({ length: bottom - top + 1 }, (_, i) => top + i);
-  return html`<svg ${sized(layout.width, layout.height)} role="img" aria-label="${texts.time}">
+  const role = layout.chosen === undefined ? 'img' : 'group';
+  return html`<svg ${sized(layout.width, layout.height)} role="${role}" aria-label="${texts.time}">
     ${hereColumn(layout, -20, layout.height + 20)}${differentColumn(view, layout)}
     ${indexes.map((index) => lane(view, layout, index))}${arrows(view, layout)}</svg>`;
 }

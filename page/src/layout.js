@@ -3,13 +3,14 @@
 
 import { widthOf } from './fitting.js';
 import { lockOf } from './locks.js';
+import { standingAfter } from './spans.js';
 
 // Where the names of threads stand: how wide, which share of the lanes at most, and what stands
 // beside a name there.
 const GUTTER = { least: 122, share: 0.16 };
 export const NAME_EDGES = { left: 20, right: 10 };
 const COLUMN = { narrowest: 16, least: 44, most: 66, widest: 120 };
-const LANE = { tallest: 85, lowest: 38 };
+const LANE = { tallest: 85, lowest: 38, foot: 6 };
 // Of more threads than these only those that move are drawn.
 const MANY_THREADS = 8;
 // How far along the view the current move stands in a long schedule.
@@ -47,16 +48,30 @@ export function gutterOf(names, width) {
   return Math.max(GUTTER.least, Math.min(wanted, Math.floor(GUTTER.share * width)));
 }
 
-// `room` has the width and the height that the lanes may take.
-export function layOutLanes({ run, place, names }, lanes, room, zoom) {
+// Of many threads those that move in view, or that are in a call or hold the lock.
+function busyLanes({ run, move }, lanes, first, last) {
+  if (lanes.length <= MANY_THREADS) return lanes;
+  const busy = lanes.filter((thread) => thread >= run.threads
+    || run.lastMoveOf(thread, last) >= first
+    || standingAfter(run, run.lastMoveOf(thread, move)) !== 'rest');
+  return busy.length ? busy : lanes.slice(0, MANY_THREADS);
+}
+
+// `room` has the width and the height that the lanes may take; `all` asks for every thread.
+export function layOutLanes(view, all, room, zoom) {
+  const { run, place, names } = view;
   const gutter = gutterOf(names, room.width);
   const column = columnWidth(run, room.width - gutter - 12, zoom);
   const visible = Math.max(1, Math.floor((room.width - gutter - 8) / column));
   const first = firstMove(run, place, visible);
-  const laneHeight = Math.min(LANE.tallest, Math.max(LANE.lowest, room.height / lanes.length));
+  const last = Math.min(run.last, first + visible - 1);
+  const asked = lanesOf(run, all);
+  const lanes = all ? asked : busyLanes(view, asked, first, last);
+  const laneHeight = Math.min(LANE.tallest, Math.max(LANE.lowest,
+    (room.height - LANE.foot) / lanes.length));
   return {
-    gutter, column, first, last: Math.min(run.last, first + visible - 1), laneHeight,
-    width: room.width, now: place, lanes, height: laneHeight * lanes.length,
+    gutter, column, first, last, laneHeight,
+    width: room.width, now: place, lanes, height: laneHeight * lanes.length + LANE.foot,
   };
 }
 

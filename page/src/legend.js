@@ -36,3 +36,21 @@ export function legend(run) {
     ? sign(20, SHAPES[name], T[name]) : sign(32, STRETCHES[name], T[name])));
   return html`${signs}`;
 }
+
+// The signs of memory, of questions and of the slider.
+const OTHERS = {
+  read: html`<rect class="word read" x="1" y="2" width="28" height="14" rx="4"/>`,
+  changed: html`<rect class="word changed" x="1.5" y="2" width="27" height="14" rx="4"/>`,
+  own: html`<rect class="own" x="1" y="2" width="28" height="14" rx="4"/>`,
+  link: html`<path class="link" d="M1 9h26"/>`,
+  missing: html`<path class="link missing" d="M1 9h26"/>`,
+  fold: html`<rect class="own" x="1" y="1" width="28" height="16" rx="4"/>
+    <text x="15" y="13" text-anchor="middle">+9</text>`,
+  ask: html`<path class="tick ask" d="M8 3h12l-6 10z"/>`,
+  enters: html`<rect class="tick enters" x="12" y="3" width="5" height="12"/>`,
+  fails: html`<path class="tick fails" d="M10 5l8 8m0 -8l-8 8"/>`,
+};
+
+export const signList = () => html`${[...Object.keys(SHAPES), ...Object.keys(STRETCHES)]
+  .map((name) => sign(32, SHAPES[name] ?? STRETCHES[name], T[name]))}${Object.keys(OTHERS)
+  .map((name) => sign(32, OTHERS[name], texts.signs[name]))}`;

@@ -3,14 +3,16 @@
 
 import { fromLink, toLink } from './bytes.js';
 import { askedLanguage } from './language.js';
+import { isLooksAlone, looksText } from './looks.js';
 import { texts } from './texts.js';
 
 const MOST_IN_LINK = 24000;
 
-// What comes after the schedule: the move, and the language if the address asked for one.
+// What comes after the schedule: the move, the language if the address asked for one, and what the
+// reader wants to see.
 export function endOf(place) {
   const asked = askedLanguage(location.hash);
-  return `&move=${place}${asked ? `&lang=${asked}` : ''}`;
+  return `&move=${place}${asked ? `&lang=${asked}` : ''}${looksText()}`;
 }
 
 // Null for a schedule that is too long.
@@ -24,8 +26,8 @@ export function fragmentOf(session) {
 export function readFragment(fragment) {
   const parts = new URLSearchParams(fragment.replace(/^#/, ''));
   const move = Number(parts.get('move') ?? 0);
-  // A language alone names no schedule, and needs none.
-  if (fragment.length < 2 || [...parts.keys()].join() === 'lang') return null;
+  // A language or a look alone names no schedule, and needs none.
+  if (fragment.length < 2 || isLooksAlone([...parts.keys()])) return null;
   for (const what of ['lesson', 'kept']) {
     if (parts.has(what)) return { [what]: parts.get(what), move };
   }

@@ -3,6 +3,7 @@
 import { fromBase64 } from './bytes.js';
 import { listen } from './controls.js';
 import { differences, language, LANGUAGES, sources } from './language.js';
+import { looks } from './looks.js';
 import { Machine } from './machine.js';
 import { byId } from './markup.js';
 import { Page } from './page.js';
@@ -48,10 +49,11 @@ export function start(data) {
   byId('banner').hidden = !machine.stored;
   document.body.classList.toggle('stored', Boolean(machine.stored));
   page.address.begin();
+  if (looks.sheet) page.showSheets(looks.sheet);
   // For tests: the report that the page would show of a text, and what it would print.
   window.lockreplay = {
     page, report: (text) => reportOf(new Run(machine, text)), fromBase64,
-    drawPaper: () => drawPaper(page), pictureOf, pngOf, frameOf,
+    drawPaper: (sheet) => drawPaper(page, sheet), pictureOf, pngOf, frameOf,
     untranslated: () => differences(sources, LANGUAGES.de),
   };
 }

@@ -3,10 +3,13 @@
 // is missing is drawn as missing.
 
 import { PHASE, PHASES } from './codes.js';
-import { fitted, widthOf } from './fitting.js';
+import { firstFitting, fitted, widthOf } from './fitting.js';
+import { folding, movingThread } from './folding.js';
 import { translated } from './language.js';
+import { looks } from './looks.js';
 import { html } from './markup.js';
-import { BOX_EDGES, picture, standingOf, useOf, wordBox } from './shapes.js';
+import { covers } from './remarks.js';
+import { BOX_EDGES, movingMark, picture, standingOf, useOf, wordBox } from './shapes.js';
 import { say, texts } from './texts.js';
 
 const T = translated('mcs', {
@@ -62,7 +65,10 @@ const ownerOf = (word) => (word - 1) >> 1;
 const named = (value) => Number(value) - 1;
 
 const OWN_VARIABLE = { SetLocked: 'pred', LinkTo: 'pred', Grant: 'succ' };
-const RECORD = { narrowest: 130, widest: 156, height: 108, gap: 52, top: 96, row: 184, left: 19 };
+const RECORD = {
+  narrowest: 126, widest: 156, height: 108, gap: 52, wideGap: 60, top: 86, row: 184, left: 19,
+  edge: 14,
+};
 // Up to so many records stay in one row, even where a picture of two rows would be larger.
 const BESIDE = 4;
 const MOST_NAMED = 8;
@@ -71,6 +77,9 @@ const WIDEST = 240;
 const HEAD = { left: 14, right: 13, between: 9 };
 const FIELD = { left: 76, right: 12 };
 const TAIL_BOX = { left: 70, width: 86, widest: 170 };
+
+// Between records there is room for "no link".
+const gapNow = () => (looks.hall ? RECORD.wideGap : RECORD.gap);
 
 function valueText(word, value, names) {
   if (isLocked(word)) return String(value);
@@ -110,18 +119,27 @@ function widestRecord(names) {
   return Math.min(WIDEST, Math.max(RECORD.widest, wanted));
 }
 
+// Of more records than have room some are folded: `places` has for each thread where it is.
 function layOut(view, state) {
   const room = view.width - 2 * RECORD.left;
-  const most = Math.max(1, Math.floor((room + RECORD.gap) / (RECORD.narrowest + RECORD.gap)));
+  const most = Math.max(1, Math.floor((room + gapNow()) / (RECORD.narrowest + gapNow())));
   const { shown, hidden } = order(view, state, most);
-  const inRow = Math.min(most, Math.max(1, shown.length));
-  const width = Math.min(widestRecord(view.names), (room - (inRow - 1) * RECORD.gap) / inRow);
-  const gap = inRow > 1 ? Math.min(88, (room - inRow * width) / (inRow - 1)) : RECORD.gap;
-  const places = new Map(shown.map((thread, i) => [thread, {
-    x: RECORD.left + (i % inRow) * (width + gap), row: Math.floor(i / inRow),
-    y: RECORD.top + Math.floor(i / inRow) * RECORD.row,
-  }]));
-  return { places, hidden, width, rows: Math.max(1, Math.ceil(shown.length / inRow)) };
+  const fitting = Math.max(1, Math.floor((view.height - RECORD.top + RECORD.edge) / RECORD.row));
+  const moving = movingThread(view);
+  const all = folding(shown, (one) => one === moving, view.tight ? most * fitting : Infinity);
+  const inRow = Math.min(most, Math.max(1, all.length));
+  const width = Math.min(widestRecord(view.names), (room - (inRow - 1) * gapNow()) / inRow);
+  const gap = inRow > 1 ? Math.min(88, (room - inRow * width) / (inRow - 1)) : gapNow();
+  const places = new Map();
+  const entries = all.map(({ one, folded }, i) => {
+    const row = Math.floor(i / inRow);
+    const place = {
+      x: RECORD.left + (i % inRow) * (width + gap), y: RECORD.top + row * RECORD.row, row,
+    };
+    (folded ?? [one]).forEach((thread) => places.set(thread, place));
+    return { one, folded, place };
+  });
+  return { places, entries, hidden, width, rows: Math.max(1, Math.ceil(all.length / inRow)) };
 }
 
 function recordField(view, y, label, word, state, width) {
@@ -142,7 +160,8 @@ function ownVariable(view, state, thread, width) {
     <text class="mono value" x="${width / 2}" y="19"
       text-anchor="middle">${fitted(held, width - BOX_EDGES, 'word')}</text>
     <text class="note" x="${width / 2}" y="45"
-      text-anchor="middle">${fitted(whose, width + RECORD.gap - BOX_EDGES, 'small')}</text>
+      text-anchor="middle">${
+  firstFitting([whose, texts.variable], width + gapNow() - BOX_EDGES, 'small')}</text>
   </g>`;
 }
 
@@ -156,7 +175,8 @@ function record(view, state, thread, place, width) {
   const standing = standingOf(view.run, view.move, thread);
   const label = texts.standing[standing];
   const name = headName(view.names, thread, standing, width);
-  return html`<g class="record ${standing}" transform="translate(${place.x},${place.y})">
+  return html`<g class="record ${standing}" ${movingMark(view, thread)} data-record="${thread}"
+    transform="translate(${place.x},${place.y})">
     <title>${view.names.of(thread)}</title>
     <rect class="frame" width="${width}" height="${RECORD.height}" rx="10"/>
     <path class="head" d="M0 10a10 10 0 0 1 10 -10h${width - 20}a10 10 0 0 1 10 10v22h-${width}z"/>
@@ -190,8 +210,17 @@ function links(view, state, layout) {
   return state.queue.slice(1).map((after, i) => {
     const before = state.queue[i];
     const [from, to] = [before, after].map((thread) => layout.places.get(thread));
-    return inView(view, from) && link(from, to, layout.width, isLinked(state, before, after));
+    return from !== to && link(from, to, layout.width, isLinked(state, before, after));
   });
+}
+
+// Records that are folded.
+function foldedRecords(view, { folded, place }, width) {
+  return html`<g class="fold" transform="translate(${place.x},${place.y})">
+    <title>${view.names.list(folded)}</title>
+    <rect class="own" width="${width}" height="${RECORD.height}" rx="10"/>
+    <text class="name" x="${width / 2}" y="58" text-anchor="middle">${
+  texts.folded(folded.length)}</text></g>`;
 }
 
 // Straight down to a record below the box, else along and down.
@@ -206,7 +235,7 @@ function tail(view, state, layout) {
   const path = place && tailPath(left + wide, place.x + layout.width / 2, place.y - 4);
   return html`<text class="mono word-name strong" x="24" y="43">tail</text>
     ${wordBox(left, 24, wide, value, useOf(view.run, view.marked, TAIL))}
-    ${path && html`<path class="link" d="${path}"/>`}`;
+    ${path && !covers(view) && html`<path class="link" d="${path}"/>`}`;
 }
 
 function caption(view, state) {
@@ -221,30 +250,28 @@ function caption(view, state) {
     : captions.nobody };
 }
 
-// Only the rows in view are drawn, where the picture is taller than its box.
-function inView(view, place) {
-  const { from, to } = view.shown;
-  return place.y + RECORD.row >= from && place.y <= to;
-}
-
 function draw(view, state) {
   const layout = layOut(view, state);
-  const places = [...layout.places].filter(([, place]) => inView(view, place));
-  const height = RECORD.top + layout.rows * RECORD.row - 14;
-  const { text } = caption(view, state);
-  return picture(view, height, text, html`${tail(view, state, layout)}
-    ${places.map(([thread, place]) => record(view, state, thread, place, layout.width))}
-    ${links(view, state, layout)}`);
+  const { width } = layout;
+  const height = RECORD.top + layout.rows * RECORD.row - RECORD.edge;
+  const text = covers(view) ? T.memory : caption(view, state).text;
+  const drawn = picture(view, height, text, html`${tail(view, state, layout)}
+    ${layout.entries.map((entry) => (entry.folded ? foldedRecords(view, entry, width)
+    : record(view, state, entry.one, entry.place, width)))}
+    ${!covers(view) && links(view, state, layout)}`);
+  return Object.assign(drawn, { note: restingNote(view, layout.hidden) });
 }
 
 function leastWidth(view, state) {
   const busy = Math.max(state.queue.length, Math.min(view.run.threads, BESIDE));
   const beside = Math.min(BESIDE, busy);
-  return 2 * RECORD.left + beside * RECORD.narrowest + (beside - 1) * RECORD.gap;
+  const { names } = view;
+  const record = names.given.size ? widestRecord(names) : RECORD.narrowest;
+  return 2 * RECORD.left + beside * record + (beside - 1) * gapNow();
 }
 
-function restingNote(view, state) {
-  const { hidden } = layOut(view, state);
+// Who is at rest and has no record.
+function restingNote(view, hidden) {
   if (hidden.length > MOST_NAMED) return atRest(texts.threads(hidden.length));
   const named = hidden.map((thread) => view.names.short(thread)).join(', ');
   return named && atRest(named);
@@ -274,5 +301,5 @@ export const mcs = {
   name: 'mcs', title: T.title, lesson: 'mcs', memory: T.memory,
   signs: ['fails', 'inCall', 'line', 'holds', 'unlinked', 'ended'],
   says, mark, variant, values,
-  wordName, valueText, draw, caption, restingNote, leastWidth,
+  wordName, valueText, draw, caption, leastWidth,
 };

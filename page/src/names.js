@@ -2,6 +2,8 @@
 
 import { texts } from './texts.js';
 
+const FEW = 4;
+
 export class Names {
   constructor(given = new Map()) {
     this.given = given;
@@ -18,5 +20,11 @@ export class Names {
     return alike.length === 1 ? first(name) : String(thread);
   }
   short(thread) { return this.given.get(thread) ?? texts.shortThread(thread); }
+  // Of many only the first few, and how many more.
+  few(threads) {
+    const more = threads.length - FEW;
+    if (more < 2) return this.list(threads);
+    return `${this.list(threads.slice(0, FEW))}, ${texts.folded(more)}`;
+  }
   list(threads) { return threads.map((thread) => this.of(thread)).join(', '); }
 }

@@ -2,6 +2,7 @@
 // in line, and the report's own line.
 
 import { OUTCOMES, wordOf } from './codes.js';
+import { folding, movingThread } from './folding.js';
 import { casFails } from './lanes.js';
 import { html } from './markup.js';
 import { reportLine } from './report.js';
@@ -16,13 +17,26 @@ function pill(view, thread) {
     data-thread="${thread}">${view.names.of(thread)}</span>`;
 }
 
+// So many threads are listed; of more some are folded.
+const MOST_LISTED = 9;
+
+// The threads of a list, each with what is between it and the one before.
+function listed(view, threads, between) {
+  const moving = movingThread(view);
+  return folding(threads, (one) => one === moving, MOST_LISTED).map(({ one, folded }, i) => {
+    const what = folded ? html`<span class="folded" title="${view.names.list(folded)}">${
+      texts.folded(folded.length)}</span>` : pill(view, one);
+    return html`${i > 0 && between(folded ? folded[0] : one)}${what}`;
+  });
+}
+
 const dash = html`<span class="soft">${texts.nobody}</span>`;
 const MODES = ['', '', texts.asReader, texts.asWriter];
 
 function holdersList(view, state) {
   if (!state.holders.length) return dash;
   const mode = MODES[state.holderKind];
-  return html`${state.holders.map((thread) => pill(view, thread))}
+  return html`${listed(view, state.holders, () => ' ')}
     ${mode && html`<span class="soft">${mode}</span>`}`;
 }
 
@@ -32,10 +46,8 @@ const GAP = html`<span class="gap missing" title="${texts.notLinked}">⇢</span>
 // Between two in line: an arrow, or a gap where the link is not written yet.
 function queueList(view, state) {
   if (!state.queue.length) return dash;
-  return state.queue.map((thread, i) => {
-    const open = i > 0 && unlinkedAfter(view.run, view.run.lastMoveOf(thread, view.move));
-    return html`${i > 0 && (open ? GAP : LINK)}${pill(view, thread)}`;
-  });
+  return listed(view, state.queue, (thread) => (
+    unlinkedAfter(view.run, view.run.lastMoveOf(thread, view.move)) ? GAP : LINK));
 }
 
 function outcomePill(records, move) {
@@ -52,10 +64,10 @@ function plainWords(records, move) {
   return texts.plain[casFails(records, move) ? 'fails' : name];
 }
 
-function questions(view) {
+export function questionView(view) {
   const question = view.remarks.ask.get(view.move);
   const answer = view.remarks.answer.get(view.move);
-  if (!question) return null;
+  if (!question || view.refused) return null;
   return html`<div class="question"><p><b>${texts.question}</b> ${question}</p>
     ${answer && html`<details ${view.answered && 'open'}>
       <summary>${texts.showAnswer}<kbd>A</kbd></summary><p>${answer}</p></details>`}</div>`;
@@ -75,12 +87,18 @@ export function whoRows(view, state) {
 const withCode = (text) => text.split('`')
   .map((part, i) => (i % 2 ? html`<code>${part}</code>` : part));
 
+// What the schedule is about. It says what comes, so it is opened when it is asked for.
+function storyView({ remarks: { about }, answered }) {
+  if (!about) return null;
+  return html`<details class="story" ${answered && 'open'}><summary>${texts.showStory}<kbd>A</kbd>
+    </summary><p class="about">${withCode(about)}</p></details>`;
+}
+
 function startView(view, state) {
-  const { about } = view.remarks;
   return html`<div class="head"><b>0</b><span>${texts.before}</span></div>
-    <p class="${about ? 'about' : 'say'}">${withCode(about || texts.start)}</p>
+    <p class="say">${texts.start}</p>${storyView(view)}
     <p class="hint">${texts.startHint}</p>
-    ${factList(view, state, '')}${questions(view)}`;
+    ${questionView(view)}${factList(view, state, '')}`;
 }
 
 export function nowView(view, state) {
@@ -89,12 +107,12 @@ export function nowView(view, state) {
   const { records } = run;
   const word = wordOf(records.action(move), records.code(move));
   const wrote = writtenWords(view, move, useOf).join(', ');
-  const rows = html`<dt>${texts.facts.wrote}</dt>
-    <dd class="mono">${wrote || html`<span class="soft">${texts.noWord}</span>`}</dd>`;
+  const rows = html`<dt class="wrote">${texts.facts.wrote}</dt>
+    <dd class="mono wrote">${wrote || html`<span class="soft">${texts.noWord}</span>`}</dd>`;
   return html`<div class="head"><b>${move}</b><span>${names.of(records.thread(move))},
       <span class="mono">${word}</span></span>${outcomePill(records, move)}</div>
     <p class="plain">${plainWords(records, move)}</p>
-    <p class="say">${sentence(view, move)}</p>${factList(view, state, rows)}${questions(view)}
+    <p class="say">${sentence(view, move)}</p>${questionView(view)}${factList(view, state, rows)}
     <p class="report-line" title="${texts.facts.report}"><code>${reportLine(run, move)}</code></p>`;
 }
 
@@ -107,8 +125,8 @@ function spokenMove({ run: { records }, names }, move) {
 // The same as a text, for a screen reader.
 export function spokenText(view, state) {
   const { run, move, names } = view;
-  const holds = state.holders.length ? names.list(state.holders) : texts.nobody;
-  const line = state.queue.length ? names.list(state.queue) : texts.nobody;
+  const holds = state.holders.length ? names.few(state.holders) : texts.nobody;
+  const line = state.queue.length ? names.few(state.queue) : texts.nobody;
   const question = view.remarks.ask.get(move);
   const parts = [move ? texts.spoken.move(move, run.count) : texts.spoken.start(run.count)];
   if (move) parts.push(spokenMove(view, move), sentence(view, move));

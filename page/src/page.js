@@ -10,9 +10,11 @@ import { lessonsDialog } from './lessons.js';
 import { Modes } from './modes.js';
 import { Playing } from './playing.js';
 import { Quiz } from './quiz.js';
+import { looks, toggleHall } from './looks.js';
 import { drawPage } from './screen.js';
 import { Stepping } from './stepping.js';
 import { takeDialog } from './take.js';
+import { sheetsDialog, viewDialog } from './view.js';
 
 export class Page {
   constructor(session, lessons) {
@@ -20,6 +22,8 @@ export class Page {
     this.lessons = lessons;
     this.quiz = new Quiz();
     this.zoomed = 1;
+    // The thread whose lane is chosen.
+    this.lane = null;
     this.address = new Address(this);
     this.comparing = new Comparing(this);
     this.editing = new Editing(this);
@@ -32,12 +36,31 @@ export class Page {
     this.showKeys = keysDialog();
     this.showAbout = aboutDialog((name) => this.address.inLanguage(name));
     this.showTake = takeDialog(this);
+    this.showView = viewDialog(this);
+    this.sheet = 'worked';
+    this.showSheets = sheetsDialog((sheet) => this.print(sheet));
   }
 
   get mode() { return this.modes.mode; }
 
   // Whether the moves to come are hidden, since they are asked for.
   get hides() { return this.quiz.hides(this.session); }
+
+  toggleHall() {
+    toggleHall();
+    this.show();
+  }
+
+  toggleFuture() {
+    looks.future = !looks.future;
+    this.draw();
+  }
+
+  print(sheet) {
+    this.sheet = sheet;
+    window.print();
+    this.sheet = 'worked';
+  }
 
   chooseLesson() { this.openLessons(this.session.lesson, this.address.keptNow()); }
 

@@ -1,6 +1,7 @@
 // Choosing who moves: for each thread its due step, or the calls that the machine would accept.
 
 import { ACTION, CALLS, MOST_BYTES, MOST_MOVES, STEPS } from './codes.js';
+import { movingThread } from './folding.js';
 import { ownWords } from './locks_code.js';
 import { LOCKS } from './locks.js';
 import { html } from './markup.js';
@@ -28,7 +29,8 @@ function threadRow(view, thread, choices) {
   const buttons = choices.map(({ word, action }) => html`<button type="button"
     class="mono ${LOOKS[action]}" data-thread="${thread}"
     data-word="${word}" aria-label="${name}: ${word}">${word}</button>`);
-  return html`<li><span class="disc ${standing}">${view.names.mark(thread)}</span>
+  const here = thread === movingThread(view) && 'data-here';
+  return html`<li ${here}><span class="disc ${standing}">${view.names.mark(thread)}</span>
     <span class="who">${name}</span><span class="choices">${buttons}</span></li>`;
 }
 

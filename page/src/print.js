@@ -1,77 +1,105 @@
-// On paper: strips of moves, then the table of moves.
+// On paper: strips of moves, memory and code at the move that is shown, the questions, and the
+// table of moves. With answers, or with blanks as an exercise.
 
+import { codeView } from './code_view.js';
 import { OUTCOMES, wordOf } from './codes.js';
 import { lanesPicture, numbersPicture } from './lanes.js';
-import { gutterOf, lanesOf } from './layout.js';
 import { legend } from './legend.js';
+import { lockOf } from './locks.js';
 import { html } from './markup.js';
 import { holdersText, queueText } from './report.js';
 import { sentence } from './sentences.js';
+import { sheetPlan } from './sheets.js';
 import { texts } from './texts.js';
 
 const T = texts.print;
-const STRIP = { width: 1040, column: 56, lane: 78 };
-// These fit on some twenty sheets. Of more moves only those around the current one are printed.
-const MOST_PRINTED = 400;
+const MEMORY = { width: 640, height: 420, scale: 1 };
+// A longer list of threads is cut, with their number.
+const LONGEST = 24;
 
-export function printedMoves(run, move) {
-  if (run.count <= MOST_PRINTED) return { from: 1, to: run.count };
-  const from = Math.min(Math.max(1, move - MOST_PRINTED / 2), run.count - MOST_PRINTED + 1);
-  return { from, to: from + MOST_PRINTED - 1 };
-}
-
-function strip(view, lanes, gutter, first, last) {
+function stripPicture(view, { strip, lanes }, first, last) {
   const layout = {
-    gutter, column: STRIP.column, width: STRIP.width, laneHeight: STRIP.lane,
-    height: STRIP.lane * lanes.length, now: Infinity, first, last, lanes,
+    ...strip, height: strip.laneHeight * lanes.length, now: Infinity, first, last, lanes,
   };
   const drawn = lanesPicture(view, layout, 0, lanes.length - 1);
-  return html`<div class="strip">${numbersPicture(view, layout)}${drawn}</div>`;
+  return html`<div class="strip ${strip.name}">${numbersPicture(view, layout)}${drawn}</div>`;
+}
+
+function strips(view, plan) {
+  const { from, to, strip: { inStrip } } = plan;
+  const { run } = view;
+  // A refused move has a column of its own.
+  const end = to === run.count ? run.last : to;
+  const found = [];
+  for (let first = from; first <= end; first += inStrip) {
+    found.push(stripPicture(view, plan, first, Math.min(end, first + inStrip - 1)));
+  }
+  return found;
+}
+
+// Memory and code; on an exercise sheet as they are before the first move that is printed.
+function figure(view, lines, move) {
+  const lock = lockOf(view.run);
+  const at = { ...view, ...MEMORY, move, marked: view.blank ? 0 : view.marked, whole: true };
+  const state = view.run.state(move);
+  const picture = lock.draw(at, state);
+  const drawn = picture.height > MEMORY.height ? lock.draw({ ...at, tight: true }, state) : picture;
+  return html`<div class="figure"><div><h3>${lock.memory}: ${T.after(move)}</h3>${drawn}
+    <p>${lock.caption(at, state).text}</p></div>
+    <div class="code"><h3>${T.code}</h3>${codeView(at, state, lines)}</div></div>`;
+}
+
+const short = (text) => (text.length <= LONGEST ? text
+  : html`${text.slice(0, LONGEST - 8).replace(/,[^,]*$/, '')},… (${text.split(',').length})`);
+
+const threadName = (names, thread) => (names.has(thread)
+  ? `${names.of(thread)} (${thread})` : names.of(thread));
+
+function answers(view, move) {
+  const state = view.run.state(move);
+  return [OUTCOMES[view.run.records.outcome(move)], sentence({ ...view, move }, move),
+    html`<code>${short(holdersText(state))}</code>`, html`<code>${short(queueText(state))}</code>`];
 }
 
 function row(view, move) {
-  const { run, names } = view;
-  const { records } = run;
-  const state = run.state(move);
+  const { run: { records }, names, blank } = view;
   const cells = [
-    move, names.of(records.thread(move)),
+    move, threadName(names, records.thread(move)),
     html`<code>${wordOf(records.action(move), records.code(move))}</code>`,
-    OUTCOMES[records.outcome(move)], sentence({ ...view, move }, move),
-    html`<code>${holdersText(state)}</code>`, html`<code>${queueText(state)}</code>`,
+    ...(blank ? ['', '', '', ''] : answers(view, move)),
   ];
   return html`<tr>${cells.map((cell) => html`<td>${cell}</td>`)}</tr>`;
 }
 
-// The questions, for the class to answer on the sheet.
+// The questions, for the class to answer on the sheet, or with their answers.
 function questions(view) {
-  const asked = [...view.remarks.ask].filter(([move]) => move <= view.run.count)
+  const { remarks: { ask, answer }, run, blank } = view;
+  const asked = [...ask].filter(([move]) => move <= run.count)
     .sort(([one], [other]) => one - other);
   if (!asked.length) return null;
-  return html`<h3>${T.questions}</h3>
-    <dl>${asked.map(([move, text]) => html`<dt>${move}</dt><dd>${text}</dd>`)}</dl>`;
+  const line = blank ? html`<p class="blank"></p>` : null;
+  return html`<div class="asked"><h3>${T.questions}</h3>
+    <dl>${asked.map(([move, text]) => html`<dt>${move}</dt><dd>${text}${line}${!blank
+    && answer.has(move) && html`<p class="answer">${answer.get(move)}</p>`}</dd>`)}</dl></div>`;
 }
 
 function table(view, from, to) {
   const heads = [T.move, T.thread, T.what, T.outcome, T.says, T.holds, T.line];
   const rows = Array.from({ length: to - from + 1 }, (_, i) => row(view, from + i));
-  return html`<table><caption>${T.table}</caption>
+  return html`<table class="${view.blank && 'blanks'}"><caption>${T.table}</caption>
     <thead><tr>${heads.map((head) => html`<th>${head}</th>`)}</tr></thead>
     <tbody>${rows}</tbody></table>`;
 }
 
-export function paper(view) {
+// `sheet` is 'worked' or 'exercise'.
+export function paper(whole, lines, sheet) {
+  const view = { ...whole, blank: sheet === 'exercise' };
   const { run } = view;
-  const { from, to } = printedMoves(run, view.move);
-  const lanes = lanesOf(run, false);
-  const gutter = gutterOf(view.names, STRIP.width);
-  const inStrip = Math.floor((STRIP.width - gutter - 20) / STRIP.column);
-  const strips = [];
-  // A refused move has a column of its own.
-  const end = to === run.count ? run.last : to;
-  for (let first = from; first <= end; first += inStrip) {
-    strips.push(strip(view, lanes, gutter, first, Math.min(end, first + inStrip - 1)));
-  }
+  const plan = sheetPlan(view);
+  const { from, to } = plan;
   const part = to - from + 1 < run.count && html`<p>${T.part(from, to, run.count)}</p>`;
-  return html`${part}${strips}<div class="legend"><span>${legend(run)}</span></div>
+  return html`${part}${strips(view, plan)}
+    <div class="legend"><span>${legend(run)}</span></div>
+    ${figure(view, lines, view.blank ? from - 1 : view.move)}
     ${questions(view)}${run.count > 0 && table(view, from, to)}`;
 }

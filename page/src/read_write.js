@@ -4,7 +4,9 @@
 import { OUTCOME, PHASES } from './codes.js';
 import { translated } from './language.js';
 import { html } from './markup.js';
-import { standingOf, token } from './shapes.js';
+import { fitted } from './fitting.js';
+import { folding, movingThread } from './folding.js';
+import { foldedToken, standingOf, token, tokensAt } from './shapes.js';
 import { say, texts } from './texts.js';
 
 const T = translated('readWrite', {
@@ -12,7 +14,7 @@ const T = translated('readWrite', {
   atMonitor: 'at the monitor', pollFailed: 'failed poll',
   wants: {
     TryRead: 'wants to read', LeaveRead: 'wants to stop reading', TryWrite: 'wants to write',
-    AwaitReaders: 'announced, waits for the readers', LeaveWrite: 'wants to stop writing',
+    AwaitReaders: 'announced, awaits the readers', LeaveWrite: 'wants to stop writing',
     TryDowngrade: 'wants to go on as a reader',
   },
   captions: {
@@ -37,17 +39,27 @@ const { wants, captions } = T;
 const WRITER = 3;
 const MONITOR_ROW = 34;
 
+const SPACE = 32;
+const inRoomRow = (width) => Math.max(1, Math.floor((width - 20) / SPACE));
+const ROOM_ROWS = 2;
+
+// How tall a room of this width is; of many readers some are folded where space is short.
+export function roomHeight(view, state, width) {
+  const rows = Math.max(1, Math.ceil(state.holders.length / inRoomRow(width)));
+  return 44 + SPACE * (view.tight ? Math.min(ROOM_ROWS, rows) : rows);
+}
+
 // The threads inside, in a room of its own.
 export function room(view, state, x, y, width) {
-  const inRow = Math.max(1, Math.floor((width - 20) / 32));
-  const rows = Math.max(1, Math.ceil(state.holders.length / inRow));
-  const tokens = state.holders.map((thread, i) => token(
-    x + 24 + 32 * (i % inRow), y + 50 + 32 * Math.floor(i / inRow), view, thread));
+  const inRow = inRoomRow(width);
+  const most = view.tight ? ROOM_ROWS * inRow : Infinity;
+  const tokens = tokensAt(view, state.holders, most, (i) => (
+    { x: x + 24 + SPACE * (i % inRow), y: y + 50 + SPACE * Math.floor(i / inRow) }));
   const standing = state.holders.length ? standingOf(view.run, view.move, state.holders[0]) : '';
   const label = standing ? `${T.inside}: ${texts.standing[standing]}` : T.inside;
   const nobody = html`<text class="note" x="${x + 14}" y="${y + 54}">${T.nobody}</text>`;
   return html`<rect class="room" x="${x}" y="${y}" width="${width}"
-      height="${44 + 32 * rows}" rx="12"/>
+      height="${roomHeight(view, state, width)}" rx="12"/>
     <text class="room-name" x="${x + 14}" y="${y + 23}">${label}</text>
     ${tokens.length ? tokens : nobody}`;
 }
@@ -63,21 +75,38 @@ function pollFailed(view, thread) {
   return last > 0 && view.run.records.outcome(last) === OUTCOME.waits;
 }
 
+// A caller's row: what it wants, and below it whether its poll failed.
+function callerRow(view, state, thread, x, at) {
+  const wanted = wants[PHASES[state.phase(thread)]];
+  const failed = pollFailed(view, thread);
+  return html`${token(x + 13, at, view, thread)}
+    <text class="wants" x="${x + 36}" y="${at + (failed ? -1 : 5)}"><title>${wanted}</title>${
+  fitted(wanted, view.width - x - 44, 'wants')}</text>
+    ${failed && html`<text class="note" x="${x + 36}" y="${at + 14}">${T.pollFailed}</text>`}`;
+}
+
+// As many callers as have room from `y` on, where space is short.
+function callersShown(view, state, y) {
+  const most = Math.max(2, Math.floor((view.height - y - 22) / MONITOR_ROW));
+  const moving = movingThread(view);
+  return folding(callers(view, state), (one) => one === moving, view.tight ? most : Infinity);
+}
+
 export function monitor(view, state, x, y) {
-  const rows = callers(view, state).map((thread, i) => {
+  const rows = callersShown(view, state, y).map(({ one, folded }, i) => {
     const at = y + 40 + MONITOR_ROW * i;
-    const wanted = wants[PHASES[state.phase(thread)]];
-    const vain = pollFailed(view, thread) ? `; ${T.pollFailed}` : '';
-    return html`${token(x + 13, at, view, thread)}
-      <text class="wants" x="${x + 36}" y="${at + 5}">${wanted}${vain}</text>`;
+    if (!folded) return callerRow(view, state, one, x, at);
+    return html`${foldedToken(x + 13, at, view, folded)}
+      <text class="wants" x="${x + 36}" y="${at + 5}">${texts.folded(folded.length)}</text>`;
   });
   const nobody = html`<text class="note" x="${x}" y="${y + 44}">${T.nobody}</text>`;
   return html`<text class="room-name" x="${x}" y="${y + 14}">${T.atMonitor}</text>
     ${rows.length ? rows : nobody}`;
 }
 
-export function monitorHeight(view, state) {
-  return 60 + MONITOR_ROW * Math.max(1, callers(view, state).length);
+// Where the monitor ends that begins at `y`.
+export function monitorEnd(view, state, y) {
+  return y + 28 + MONITOR_ROW * Math.max(1, callersShown(view, state, y).length);
 }
 
 const wordsText = (names, state) => names.map((name, word) => `${name} ${state.word(word)}`)
@@ -96,7 +125,7 @@ export function readersCaption(names) {
   return (view, state) => {
     const words = wordsText(names, state);
     if (!state.holders.length) return { text: say(captions.nobody, { words }) };
-    const inside = view.names.list(state.holders);
+    const inside = view.names.few(state.holders);
     const text = state.holderKind === WRITER ? captions.writer : captions.readers;
     return { text: say(text, { readers: inside, writer: inside, words }) };
   };

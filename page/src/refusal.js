@@ -31,7 +31,7 @@ function possibleMoves(state, thread) {
 // One sentence on who holds the lock.
 function holdsText(state, names) {
   if (!state.holders.length) return T.nobodyHolds;
-  const list = names.list(state.holders);
+  const list = names.few(state.holders);
   return fill(state.holders.length > 1 ? T.holdTogether : T.holds, {
     list, mode: T.modes[state.holderKind],
   });

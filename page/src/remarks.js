@@ -39,3 +39,7 @@ export function remarksOf(text) {
   remarks.about = plain.map((line) => line.replace(/^#+ ?/, '')).join(' ').trim();
   return remarks;
 }
+
+// Whether an answer is due: until it is shown, nothing beside its question says it.
+export const covers = ({ remarks, move, answered, refused, whole }) => !answered && !refused
+  && !whole && remarks.ask.has(move) && remarks.answer.has(move);

@@ -4,7 +4,7 @@
 import { translated } from './language.js';
 import { html } from './markup.js';
 import {
-  monitor, monitorHeight, readersCaption, readWrite, room, sectionMark, sectionsSay,
+  monitor, monitorEnd, readersCaption, readWrite, room, roomHeight, sectionMark, sectionsSay,
 } from './read_write.js';
 import { picture, useOf, wordBox } from './shapes.js';
 import { say } from './texts.js';
@@ -36,26 +36,40 @@ const ACQUIRES = 0;
 const RELEASES = 1;
 const FLAG = 2;
 
+// What the hands are: beside the words, or below the wheel where the picture is narrow.
+const LEGEND_BESIDE = 640;
+const legendAt = ({ width }) => (width >= LEGEND_BESIDE ? [400, 46] : [36, 250]);
+
+const wheelHeight = ({ width }) => (width >= LEGEND_BESIDE ? 246 : 280);
+
 function counts(view, state) {
-  const wheel = wheelPlaced(view.run.bits, 116, 182, 58);
+  const [x, y] = legendAt(view);
+  const wheel = wheelPlaced(view.run.bits, 104, 160, 58);
   const hands = [{ value: state.word(RELEASES), style: HANDS.inner },
     { value: state.word(ACQUIRES), style: HANDS.outer }];
   return html`${wheelOf(wheel, hands, [])}
-    ${handLegend(36, 282, 'outer', WORDS[ACQUIRES])}
-    ${handLegend(36, 304, 'inner', WORDS[RELEASES])}`;
+    ${handLegend(x, y, 'outer', WORDS[ACQUIRES])}
+    ${handLegend(x, y + 20, 'inner', WORDS[RELEASES])}`;
 }
+
+// The widths of the room, and of the callers, which are beside it or below it.
+const ROOM = 250;
+const CALLERS = 280;
+const GAP = 24;
 
 function draw(view, state) {
   const box = (word, x, width) => wordBox(x, 40, width, String(state.word(word)),
     useOf(view.run, view.marked, word), WORDS[word]);
   const wheel = hasWheel(view.run.bits);
-  const left = wheel ? 232 : 24;
-  const roomHeight = 44 + 32 * Math.max(1, Math.ceil(state.holders.length / 7));
-  const height = Math.max(wheel ? 330 : 230, 128 + roomHeight + monitorHeight(view, state));
+  const left = wheel ? 214 : 24;
+  const below = 104 + roomHeight(view, state, ROOM);
+  const beside = view.width >= left + ROOM + GAP + CALLERS;
+  const [x, y] = beside ? [left + ROOM + GAP, 92] : [left + 4, below];
+  const height = Math.max(wheel ? wheelHeight(view) : 180, below, monitorEnd(view, state, y));
   return picture(view, height, caption(view, state).text,
     html`${box(ACQUIRES, 24, 116)}${box(RELEASES, 156, 116)}${box(FLAG, 288, 70)}
-      ${wheel && counts(view, state)}${room(view, state, left, 92, 256)}
-      ${monitor(view, state, left + 4, 112 + roomHeight)}`);
+      ${wheel && counts(view, state)}${room(view, state, left, 92, ROOM)}
+      ${monitor(view, state, x, y)}`);
 }
 
 const plain = readersCaption(WORDS);
@@ -72,7 +86,7 @@ function values(view, move) {
   return { acquires: state.word(ACQUIRES), releases: state.word(RELEASES) };
 }
 
-const leastWidth = (view) => (hasWheel(view.run.bits) ? 512 : 400);
+const leastWidth = (view) => (hasWheel(view.run.bits) ? 494 : 380);
 
 export const rwFifo = {
   ...readWrite, name: 'rw-fifo', title: T.title, lesson: 'fifo',

@@ -4,7 +4,7 @@
 import { translated } from './language.js';
 import { html } from './markup.js';
 import {
-  monitor, monitorHeight, readersCaption, readWrite, room, sectionMark, sectionsSay,
+  monitor, monitorEnd, readersCaption, readWrite, room, roomHeight, sectionMark, sectionsSay,
 } from './read_write.js';
 import { picture, useOf, wordBox } from './shapes.js';
 
@@ -24,14 +24,19 @@ const WORDS = ['readers', 'flag'];
 const READERS = 0;
 const FLAG = 1;
 
+const BESIDE = 600;
+
+// The monitor is beside the room, or below it where the picture is narrow.
 function draw(view, state) {
   const box = (word, x) => wordBox(x, 40, 108, String(state.word(word)),
     useOf(view.run, view.marked, word), WORDS[word]);
-  const roomWidth = Math.min(272, view.width * 0.44);
-  const inside = 190 + 32 * state.holders.length / 6;
-  const height = Math.max(250, 40 + monitorHeight(view, state), inside);
+  const beside = view.width >= BESIDE;
+  const roomWidth = Math.min(272, beside ? view.width * 0.44 : view.width - 48);
+  const inside = 104 + roomHeight(view, state, roomWidth);
+  const [x, y] = beside ? [roomWidth + 64, 24] : [24, inside + 12];
+  const height = Math.max(inside + 12, monitorEnd(view, state, y));
   return picture(view, height, caption(view, state).text, html`${box(READERS, 24)}${box(FLAG, 152)}
-    ${room(view, state, 24, 104, roomWidth)}${monitor(view, state, roomWidth + 64, 24)}`);
+    ${room(view, state, 24, 104, roomWidth)}${monitor(view, state, x, y)}`);
 }
 
 const caption = readersCaption(WORDS);
@@ -41,7 +46,7 @@ function values(view, move) {
   return { readers: state.word(READERS), flag: state.word(FLAG) };
 }
 
-const leastWidth = () => 600;
+const leastWidth = () => 420;
 
 export const rwSimple = {
   ...readWrite, name: 'rw-simple', title: T.title, lesson: 'simple',

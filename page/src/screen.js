@@ -1,10 +1,11 @@
 // Draws the whole page from what is shown.
 
-import {
-  drawCode, drawHead, drawMemory, drawNow, drawSlider, drawTime, measured, revealCode,
-} from './drawing.js';
+import { arrange } from './arrange.js';
+import { drawHead, drawTexts } from './drawing.js';
+import { looks } from './looks.js';
 import { byId, html, show } from './markup.js';
 import { adviceOf, nothingView, verdictView } from './own.js';
+import { drawPictures, measured } from './pictures.js';
 import { playView } from './play.js';
 import { paper } from './print.js';
 import { texts } from './texts.js';
@@ -17,26 +18,20 @@ export function drawPage(page) {
   const { session } = page;
   const { run } = session;
   drawSide(page);
-  for (const part of ['time', 'low']) byId(part).hidden = !run.hasLock;
-  byId('nothing').hidden = run.hasLock;
+  arrange(page);
+  // Read before anything is written, so that a step lays the page out once.
   const sizes = measured();
   drawHead(session);
-  page.comparing.draw(sizes.lanes.width);
+  const { hides, answered } = page;
   const different = page.comparing.first;
-  const view = session.view({ answered: page.answered, hidden: page.hides, different });
-  if (run.hasLock) drawLock(page, view, sizes);
-  drawSlider(view, sizes.slider.width);
-  revealCode();
-}
-
-function drawLock(page, view, sizes) {
-  const state = view.run.state(view.move);
-  drawTime(page, view, sizes.lanes);
-  drawMemory(view, state, sizes.memory);
-  drawCode(page.session, view, state);
-  drawNow(page, view, state);
-  if (page.mode !== 'play') return;
-  show(byId('choices'), playView(page.session, state, page.playing.every));
+  const { future } = looks;
+  const view = session.view({ answered, hidden: hides, future, different });
+  const state = run.hasLock && run.state(view.move);
+  if (run.hasLock) drawTexts(page, view, state);
+  if (run.hasLock && page.mode === 'play') {
+    show(byId('choices'), playView(session, state, page.playing.every));
+  }
+  drawPictures(page, view, state, sizes);
 }
 
 function drawSide(page) {
@@ -47,6 +42,7 @@ function drawSide(page) {
   byId('mode-own').setAttribute('aria-pressed', mode === 'own');
   byId('mode-play').setAttribute('aria-pressed', mode === 'play');
   byId('mode-quiz').setAttribute('aria-pressed', page.quiz.on);
+  byId('mode-hall').setAttribute('aria-pressed', looks.hall);
   if (!session.run.hasLock) show(byId('choices'), playView(session, null));
   for (const id of ['undo', 'undo-own']) byId(id).disabled = !page.playing.undone.length;
   const advice = adviceOf(session);
@@ -63,9 +59,10 @@ function drawText({ session, editing }, advice) {
   editing.editor.mark({ here: run.hasLock ? session.line() : 0, fault: advice?.line ?? 0 });
 }
 
-export function drawPaper({ session }) {
+export function drawPaper({ session }, sheet) {
   const { run } = session;
-  const moves = run.hasLock && run.last > 0 && paper(session.view({ hidden: false }));
+  const moves = run.hasLock && run.last > 0
+    && paper(session.view({ hidden: false, future: true }), session.lines[run.kind], sheet);
   show(byId('paper'), html`${wrongOnPaper(session)}${moves}`);
 }
 

@@ -24,17 +24,16 @@ export function sentence(view, move) {
   return round ? `${text} ${say(lock.says.wraps, values)}` : text;
 }
 
-// What the move wrote, as `word = value`; a section may write two.
+// What the move wrote, as `word = value`, and what was there; a section may write two.
 export function writtenWords(view, move, useOf) {
   const { run, names } = view;
   const { records } = run;
   const lock = lockOf(run);
   const words = [
-    [records.touched(move), records.left(move)],
-    [records.alsoChanged(move), records.alsoLeft(move)],
+    [records.touched(move), records.left(move), records.found(move)],
+    [records.alsoChanged(move), records.alsoLeft(move), records.alsoFound(move)],
   ];
-  const wrote = (word, value) => texts.wordBecomes(
-    lock.wordName(word, names), lock.valueText(word, value, names));
   return words.filter(([word]) => word !== NO_WORD && useOf(run, move, word) === 'changed')
-    .map(([word, value]) => wrote(word, value));
+    .map(([word, left, found]) => texts.wrote(lock.wordName(word, names),
+      ...[left, found].map((value) => lock.valueText(word, value, names))));
 }

@@ -2,7 +2,9 @@
 
 import { STEPS } from './codes.js';
 import { fitted } from './fitting.js';
+import { folding, movingThread } from './folding.js';
 import { html } from './markup.js';
+import { texts } from './texts.js';
 import { standingAfter } from './spans.js';
 
 // How a picture shows a thread's standing: by a class, and always also by a word or a pattern.
@@ -11,13 +13,31 @@ export const standingOf = (run, move, thread) => standingAfter(run, run.lastMove
 const HATCHED = { line: 'hatch', reads: 'ruled' };
 export const fillOf = (standing) => (HATCHED[standing] ? `url(#${HATCHED[standing]})` : '');
 
+// A sign for what has to be in view: the thread of the move that is shown.
+export const movingMark = (view, thread) => thread === movingThread(view) && 'data-moving';
+
 // A thread as a disc with its mark.
 export function token(x, y, view, thread, radius = 13) {
   const standing = standingOf(view.run, view.move, thread);
-  return html`<g class="token ${standing}"><title>${view.names.of(thread)}</title>
+  return html`<g class="token ${standing}"
+      ${movingMark(view, thread)}><title>${view.names.of(thread)}</title>
     <circle cx="${x}" cy="${y}" r="${radius}"/>
     <text x="${x}" y="${y + 4.5}" text-anchor="middle">${view.names.mark(thread)}</text></g>`;
 }
+
+// Threads at places: of more than `most` some are folded.
+export function tokensAt(view, threads, most, placeOf) {
+  const moving = movingThread(view);
+  return folding(threads, (one) => one === moving, most).map(({ one, folded }, i) => {
+    const { x, y } = placeOf(i);
+    return folded ? foldedToken(x, y, view, folded) : token(x, y, view, one);
+  });
+}
+
+export const foldedToken = (x, y, view, folded) => html`<g class="fold">
+  <title>${view.names.list(folded)}</title><rect class="own" x="${x - 15}" y="${y - 13}"
+    width="30" height="26" rx="6"/><text class="note" x="${x}" y="${y + 4.5}"
+    text-anchor="middle">+${folded.length}</text></g>`;
 
 // What a word's box has beside its value.
 export const BOX_EDGES = 12;

@@ -45,6 +45,23 @@ export class Stepping {
     return this.page.go(moves[moves.indexOf(move) + way] ?? move);
   }
 
+  // Another lane is chosen, by one up or down.
+  chooseLane(by) {
+    const { page } = this;
+    const { lanes } = page.layout;
+    const at = lanes.indexOf(page.lane);
+    page.lane = lanes[Math.min(lanes.length - 1, Math.max(0, at + by))];
+    page.draw();
+    byId(`lane-${page.lane}`)?.scrollIntoView({ block: 'nearest' });
+  }
+
+  // The next move of the lane that is chosen.
+  laneMove() {
+    const { session: { run, place }, lane } = this.page;
+    const next = run.movesOf.get(lane)?.find((move) => move > place);
+    if (next) this.page.go(next);
+  }
+
   nextQuestion() {
     const { remarks, move, run } = this.page.session;
     const asked = [...remarks.ask.keys()].sort((a, b) => a - b);

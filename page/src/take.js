@@ -1,5 +1,6 @@
 // To take away: the state as a picture, the report, the schedule, and a frame for a slide.
 
+import { withoutLooks } from './looks.js';
 import { byId } from './markup.js';
 import { saveAs } from './own.js';
 import { reportOf } from './report.js';
@@ -57,7 +58,7 @@ async function png({ width, height, text }) {
 export const pngOf = () => png(pictureOf());
 
 export function frameOf(address) {
-  const source = address.replaceAll('&', '&amp;').replaceAll('"', '&quot;');
+  const source = withoutLooks(address).replaceAll('&', '&amp;').replaceAll('"', '&quot;');
   return `<iframe src="${source}&amp;embed&amp;show=memory,code" width="${FRAME.width}" `
     + `height="${FRAME.height}"></iframe>`;
 }

@@ -13,7 +13,27 @@ const english = {
   untitled: 'Your own schedule',
   branchOf: (title, move) => `${title}: another way after move ${move}`,
 
-  modes: { lessons: 'Lessons', own: 'Your own', play: 'Play', quiz: 'Quiz', compare: 'Compare' },
+  modes: {
+    lessons: 'Lessons', own: 'Your own', play: 'Play', quiz: 'Quiz', compare: 'Compare',
+    hall: 'Hall', view: 'View',
+  },
+  view: {
+    title: 'View', hint: 'In a hall these are two parts.',
+    parts: { time: 'Threads', memory: 'Memory', code: 'Code', now: 'This move' },
+    future: 'Draw what comes, faintly', hall: 'Hall: large letters',
+  },
+  sheets: {
+    title: 'Print', worked: 'With answers', exercise: 'Exercise sheet with blanks',
+    hint: 'At most twelve sheets: the moves around the one that is shown.',
+  },
+  signs: {
+    key: 'Marks', read: 'read by this move', changed: 'written by this move',
+    own: 'a thread’s own variable, no word of memory',
+    link: 'a link', missing: 'in the queue, but not linked',
+    ask: 'a question at this move', enters: 'on the slider: a thread enters',
+    fails: 'on the slider: a cas fails, or a move is refused',
+    fold: 'so many threads are folded',
+  },
   compare: {
     label: 'The schedule that is compared', title: (title) => `Compared with: ${title}`,
     first: (move) => `First difference: move ${move}`, same: 'No difference',
@@ -25,7 +45,7 @@ const english = {
     first: 'First move', back: 'One move back', forward: 'One move forward', last: 'Last move',
     run: 'Play the moves one after another', pause: 'Pause', slider: 'Move', close: 'Close',
     wider: 'Wider columns', narrower: 'Narrower columns', take: 'Take away',
-    speed: 'Speed at which the moves are played',
+    more: 'More', leave: 'Leave the hall', speed: 'Speed at which the moves are played',
   },
   take: {
     title: 'To take away', svg: 'This state as a picture (SVG)',
@@ -62,7 +82,12 @@ const english = {
 
   time: 'Threads over time',
   noMoves: 'No move has been made. Choose a step of a thread.',
-  resting: (threads) => `${threads} without a move`,
+  resting: (threads) => `${threads} folded: no move at this time`,
+  away: (count) => `${count} lanes above or below`,
+  folded: (count) => `${count} more`,
+  covered: 'What the picture says of it comes with the answer (A).',
+  showStory: 'What this is about',
+  wrote: (word, left, found) => `${word} = ${left} (was ${found})`,
   legend: {
     call: 'called', vain: 'waits: failed poll', enters: 'entered', leaves: 'left',
     fails: 'cas fails', inCall: 'in a call', line: 'in the queue', holds: 'holds',
@@ -80,9 +105,12 @@ const english = {
     rest: 'at rest',
   },
   ownVariable: (name) => `${name}’s own variable`,
+  variable: 'own variable',
+  bits: (bits) => `${bits} bits`,
   wheel: (bits, places) => `${bits} bits: ${places} numbers, then round`,
 
   code: 'Code: this move, and each thread’s next step',
+  codeLabel: 'Lines of code',
   now: 'This move',
   position: (move, count) => `${move} of ${count}`,
   start: 'All words are 0, and the queue is empty.',
@@ -210,8 +238,9 @@ const english = {
       ['Page Down, Page Up', 'ten moves on, ten back'],
       ['] [', 'the same thread’s next, its move before'],
       ['N', 'the next question'],
-      ['A', 'show the answer'],
+      ['A', 'show the answer; before the first move what this is about'],
       ['Space', 'play the moves, pause'],
+      ['↑ ↓ Enter', 'on the threads: choose one, go to its next move'],
       ['O', 'lessons'],
       ['E', 'your own schedule; Escape leaves the text'],
       ['G', 'play: choose who moves'],
@@ -221,7 +250,10 @@ const english = {
       ['Q', 'quiz'],
       ['C', 'compare with what this was branched off from, or with the other read-write lock'],
       ['L', 'copy a link to this move'],
-      ['P', 'print'],
+      ['P', 'print: with answers, or an exercise sheet'],
+      ['H', 'hall: large letters, two parts'],
+      ['V', 'view: which parts are shown'],
+      ['F', 'draw what comes, faintly'],
       ['T', 'take away: picture, report, schedule, a frame for a slide'],
       [', .', 'slower, faster'],
       ['D', 'dark or light'],
@@ -238,7 +270,9 @@ const english = {
   couldNotRead: 'The file could not be read.',
 
   print: {
-    questions: 'Questions', table: 'Moves', move: 'Move', thread: 'Thread',
+    questions: 'Questions', code: 'Code', table: 'Moves',
+    after: (move) => (move ? `after move ${move}` : 'before the first move'),
+    move: 'Move', thread: 'Thread',
     what: 'Call or step', outcome: 'Outcome', says: 'What it did', holds: 'Holds',
     line: 'Queue',
     part: (from, to, count) => `Moves ${from} to ${to} of ${count}`,

@@ -3,8 +3,10 @@
 
 import { PHASES } from './codes.js';
 import { translated } from './language.js';
+import { firstFitting } from './fitting.js';
 import { html } from './markup.js';
-import { picture, token, useOf, wordBox } from './shapes.js';
+import { folding, movingThread } from './folding.js';
+import { foldedToken, picture, token, useOf, wordBox } from './shapes.js';
 import { say, texts } from './texts.js';
 import { handLegend, HANDS, hasWheel, wheelOf, wheelPlaced } from './wheel.js';
 
@@ -17,6 +19,7 @@ const OWN_VARIABLE = {
 const T = translated('ticket', {
   title: 'Ticket lock', memory: 'Memory: who has which ticket', next: 'next',
   strip: 'The tickets that are out, in the order of the queue, and the next one',
+  stripShort: 'Tickets in the order of the queue',
   says: {
     TakeTicket: {
       moved: '{who} draws ticket {found}, and is in the queue from here on. next_ticket is now '
@@ -49,10 +52,17 @@ const holdersOfTickets = (state) => state.queue.map((thread) => ({
   thread, number: state.phaseNumber(thread), name: OWN_VARIABLE[PHASES[state.phase(thread)]],
 }));
 
-function words(view, state, x) {
-  const box = (word, at) => wordBox(at, 40, 112, String(state.word(word)),
+// Both words, beside each other or one below the other.
+function words(view, state, x, beside) {
+  const box = (word, at, y) => wordBox(at, y, 112, String(state.word(word)),
     useOf(view.run, view.marked, word), WORDS[word]);
-  return html`${box(NEXT_TICKET, x)}${box(NOW_SERVING, x + 128)}`;
+  return html`${box(NEXT_TICKET, x, 40)}${box(NOW_SERVING, ...(beside ? [x + 128, 40] : [x, 96]))}`;
+}
+
+// The tickets, of which those between are folded where there are more than have room.
+function tickets(view, state, most) {
+  const moving = movingThread(view);
+  return folding(holdersOfTickets(state), ({ thread }) => thread === moving, most);
 }
 
 // A thread's own variable, which is no word of memory.
@@ -60,11 +70,14 @@ const ownBox = (x, y, width, text) => html`<rect class="own" x="${x}" y="${y}" w
     height="28" rx="8"/>
   <text class="mono value" x="${x + width / 2}" y="${y + 19}" text-anchor="middle">${text}</text>`;
 
-function ownVariables(view, state, x, top) {
-  return holdersOfTickets(state).map(({ thread, number, name }, i) => {
-    const y = top + 34 * i;
-    return html`${token(x + 13, y + 14, view, thread)}
-      ${ownBox(x + 36, y, 112, `${name} = ${number}`)}`;
+const OWN_ROW = 34;
+
+function ownVariables(view, all, x, top) {
+  return all.map(({ one, folded }, i) => {
+    const y = top + OWN_ROW * i;
+    if (folded) return foldedToken(x + 13, y + 14, view, folded.map(({ thread }) => thread));
+    return html`${token(x + 13, y + 14, view, one.thread)}
+      ${ownBox(x + 36, y, 112, `${one.name} = ${one.number}`)}`;
   });
 }
 
@@ -73,21 +86,32 @@ function legend(x, y) {
     ${handLegend(x, y + 24, 'inner', WORDS[NOW_SERVING])}`;
 }
 
+// From which widths on the words are beside each other, and what the hands are beside the tickets.
+const BESIDE = 576;
+const LEGEND_BESIDE = 640;
+
 function narrow(view, state) {
-  const radius = 84;
   const middle = 150;
-  const wheel = wheelPlaced(view.run.bits, middle, 140, radius);
+  const wheel = wheelPlaced(view.run.bits, middle, 132, 76);
   const hands = [{ value: state.word(NOW_SERVING), style: HANDS.inner },
     { value: state.word(NEXT_TICKET), style: HANDS.outer }];
-  const tokens = holdersOfTickets(state).map(({ thread, number }) => ({
+  const beside = view.width >= BESIDE;
+  const top = beside ? 116 : 156;
+  const most = view.tight ? Math.max(3, Math.floor((view.height - top) / OWN_ROW)) : Infinity;
+  const all = tickets(view, state, most);
+  const tokens = all.filter(({ one }) => one).map(({ one: { thread, number } }) => ({
     place: Number(number), draw: (x, y) => token(x, y, view, thread),
   }));
   const x = 2 * middle + 10;
-  const height = Math.max(306, 130 + 34 * state.queue.length);
+  const legendBeside = view.width >= LEGEND_BESIDE;
+  const height = Math.max(legendBeside ? 258 : 292, top + 14 + OWN_ROW * all.length);
   return picture(view, height, caption(view, state).text, html`${wheelOf(wheel, hands, tokens)}
-    ${legend(middle - 62, 272)}${words(view, state, x)}
-    <text class="note" x="${x}" y="94">${texts.wheel(view.run.bits, wheel.places)}</text>
-    ${ownVariables(view, state, x, 116)}`);
+    ${legendBeside ? legend(x + 172, top + 14) : legend(middle - 62, 258)}
+    ${words(view, state, x, beside)}
+    <text class="note" x="${x}" y="${top - 14}">${
+  firstFitting([texts.wheel(view.run.bits, wheel.places), texts.bits(view.run.bits)],
+    view.width - x - 8, 'small')}</text>
+    ${ownVariables(view, all, x, top)}`);
 }
 
 // Wide words: the tickets that are out, one cell each, up to the next one.
@@ -104,11 +128,21 @@ function cell(view, { thread, number }, x, y) {
       text-anchor="middle">${number}</text>${below}`;
 }
 
+// A place for tickets that are folded.
+const foldedCell = (view, folded, x, y) => html`
+  ${foldedToken(x + (CELL - 8) / 2, y + 17, view, folded.map(({ thread }) => thread))}
+  <text class="note" x="${x + (CELL - 8) / 2}" y="${y + 52}"
+    text-anchor="middle">${texts.folded(folded.length)}</text>`;
+
 function strip(view, state, top) {
   const inRow = Math.max(1, Math.floor((view.width - 48) / CELL));
-  const cells = [...holdersOfTickets(state), { number: state.word(NEXT_TICKET) }];
-  const drawn = cells.map((one, i) => cell(view, one, 24 + CELL * (i % inRow),
-    top + CELL_ROW * Math.floor(i / inRow)));
+  const rows = Math.max(1, Math.floor((view.height - top - 24) / CELL_ROW));
+  const all = tickets(view, state, view.tight ? Math.max(3, inRow * rows - 1) : Infinity);
+  const cells = [...all, { one: { number: state.word(NEXT_TICKET) } }];
+  const drawn = cells.map(({ one, folded }, i) => {
+    const at = [24 + CELL * (i % inRow), top + CELL_ROW * Math.floor(i / inRow)];
+    return folded ? foldedCell(view, folded, ...at) : cell(view, one, ...at);
+  });
   return { drawn, height: CELL_ROW * Math.ceil(cells.length / inRow) };
 }
 
@@ -126,7 +160,9 @@ function wide(view, state) {
   const { drawn, height } = strip(view, state, 116);
   return picture(view, 140 + height, caption(view, state).text,
     html`${box(NOW_SERVING, 24)}${box(NEXT_TICKET, 160)}
-      <text class="note" x="24" y="104">${T.strip}</text>${drawn}${served(view, state)}`);
+      <text class="note" x="24" y="104">${
+  firstFitting([T.strip, T.stripShort], view.width - 32, 'small')}</text>
+      ${drawn}${served(view, state)}`);
 }
 
 const draw = (view, state) => (hasWheel(view.run.bits) ? narrow(view, state) : wide(view, state));
@@ -135,9 +171,9 @@ function caption(view, state) {
   const next = state.word(NEXT_TICKET);
   const serving = state.word(NOW_SERVING);
   if (!state.queue.length) return { text: say(captions.nobody, { next }) };
-  const tickets = holdersOfTickets(state);
-  const first = tickets[0].number;
-  const last = tickets[tickets.length - 1].number;
+  const all = holdersOfTickets(state);
+  const first = all[0].number;
+  const last = all[all.length - 1].number;
   const text = say(captions.line, { serving, next });
   const wraps = last < first && say(captions.wraps, { first, last });
   return { text: wraps ? `${text} ${wraps}` : text };
@@ -146,7 +182,7 @@ function caption(view, state) {
 const mark = (run, move) => String(run.records.found(move));
 const values = (view, move) => ({ number: view.run.phaseNumberBefore(move) });
 
-const leastWidth = (view) => (hasWheel(view.run.bits) ? 576 : 420);
+const leastWidth = (view) => (hasWheel(view.run.bits) ? 466 : 446);
 
 export const ticket = {
   name: 'ticket', title: T.title, lesson: 'ticket', memory: T.memory,

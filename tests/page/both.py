@@ -20,6 +20,16 @@ class InChromium:
     def open(self, fragment=""):
         chromium_browser.open_page(self.driver, fragment)
 
+    def resize(self, width, height):
+        self.driver.execute_cdp_cmd(
+            "Emulation.setDeviceMetricsOverride",
+            {"width": width, "height": height, "deviceScaleFactor": 1, "mobile": False},
+        )
+
+    def load(self, query, fragment):
+        """Loads the page as from a link, once for each query."""
+        self.driver.get(f"{PAGE.as_uri()}?{query}{fragment}")
+
     def reload(self):
         self.driver.refresh()
         self.until(WAITED)
@@ -41,6 +51,26 @@ class InFirefox:
 
     def open(self, fragment=""):
         self.tab.open(PAGE.as_uri() + fragment)
+
+    def resize(self, width, height):
+        self.tab.ask(
+            "browsingContext.setViewport",
+            {
+                "context": self.tab.context,
+                "viewport": {"width": width, "height": height},
+            },
+        )
+
+    def load(self, query, fragment):
+        """Loads the page as from a link, once for each query."""
+        self.tab.ask(
+            "browsingContext.navigate",
+            {
+                "context": self.tab.context,
+                "url": f"{PAGE.as_uri()}?{query}{fragment}",
+                "wait": "complete",
+            },
+        )
 
     def reload(self):
         self.tab.ask(
@@ -70,4 +100,5 @@ def opened(name):
             yield InChromium(driver)
 
 
-KEYS = {name: getattr(Keys, name) for name in ("END", "HOME", "ARROW_RIGHT", "ARROW_LEFT", "TAB")}
+NAMES = "END HOME ENTER ARROW_RIGHT ARROW_LEFT ARROW_UP ARROW_DOWN TAB".split()
+KEYS = {name: getattr(Keys, name) for name in NAMES}

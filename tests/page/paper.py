@@ -1,5 +1,7 @@
-"""Print: strips of moves, then the table, in light colours whatever the theme."""
+"""Print: strips of moves, memory and code, and the table, in light colours whatever the theme; with
+answers or with blanks, and never on more than twelve sheets."""
 import base64
+import re
 
 from browser import TOP, open_page, run
 from reports import moves_of
@@ -49,17 +51,102 @@ def only_paper_is_printed(driver, _):
     assert shown == [True, False, "rgb(255, 255, 255)", "rgb(0, 0, 0)"], shown
 
 
+OPEN = """
+const { page } = window.lockreplay;
+page.openOwn(new TextEncoder().encode(arguments[0]));
+page.go(arguments[1]);
+window.lockreplay.drawPaper(arguments[2]);
+"""
+MOST_SHEETS = 12
+
+
+def sheets(data):
+    """How many pages a PDF has."""
+    return len(re.findall(rb"/Type\s*/Page[^s]", data))
+
+
+def turns(threads, count):
+    """The ticket lock: all draw a ticket, then all poll in turn."""
+    lines = [f"lock ticket threads {threads}"]
+    for thread in range(threads):
+        lines += [f"{thread} acquire", f"{thread} add"]
+    lines += [f"{1 + at % (threads - 1)} read" for at in range(count - len(lines) + 1)]
+    return "\n".join(lines) + "\n"
+
+
 def a_long_schedule(driver, _):
-    """Of a long schedule the moves around the current one."""
-    text = "lock ticket threads 2\\n0 acquire\\n0 add\\n1 acquire\\n1 add\\n" + "1 read\\n" * 1500
+    """Of a long schedule as many moves around the current one as twelve sheets have room for."""
+    for threads, count in [(2, 1500), (8, 60), (12, 60), (64, 381), (64, 65536)]:
+        open_page(driver)
+        run(driver, OPEN, turns(threads, count), count // 2, "worked")
+        rows = [int(row[0]) for row in run(driver, ROWS)]
+        assert len(rows) >= 60 and rows[0] <= count // 2 <= rows[-1], (threads, count, rows)
+        number = sheets(printed(driver))
+        assert 2 <= number <= MOST_SHEETS, (threads, count, number)
+
+
+def forty_moves_in_one_row(driver, _):
     open_page(driver)
-    run(
+    run(driver, OPEN, turns(8, 40), 40, "worked")
+    strips = run(
         driver,
-        f"const {{ page }} = window.lockreplay; page.openOwn(new TextEncoder().encode('{text}'));"
-        "page.go(1000); window.lockreplay.drawPaper()",
+        "return [...document.querySelectorAll('#paper .strip')]"
+        ".map((one) => one.querySelectorAll('.move').length)",
     )
-    rows = run(driver, ROWS)
-    assert len(rows) == 400 and rows[0][0] == "800" and rows[-1][0] == "1199", (len(rows), rows[0])
+    assert strips == [40], strips
 
 
-CHECKS = [a_lesson, only_paper_is_printed, a_long_schedule]
+def memory_and_code(driver, _):
+    open_page(driver, "#lesson=mcs-late-link&move=9")
+    run(driver, "window.lockreplay.drawPaper()")
+    words = run(driver, "return document.querySelector('#paper .figure').textContent")
+    for part in ["after move 9", "tail", "no link", "cas(tail, me, nil), or else:", "pred = Ann"]:
+        assert part in words, part
+    assert run(driver, "return document.querySelector('#paper td:nth-child(2)').textContent") == (
+        "Ann (0)"
+    )
+
+
+EXERCISE = """
+window.lockreplay.drawPaper('exercise');
+const paper = document.getElementById('paper');
+return {
+  rows: [...paper.querySelectorAll('tbody tr')].map((row) => [...row.cells].map((cell) => (
+    cell.textContent))),
+  spans: paper.querySelectorAll('.strip .span, .strip .found, .strip .arrow').length,
+  blanks: paper.querySelectorAll('.asked .blank').length,
+  said: paper.textContent,
+};
+"""
+
+
+def an_exercise_sheet(driver, _):
+    """What a thread called is there; what came of it, and the answers, are blanks."""
+    open_page(driver, "#lesson=mcs-late-link&move=9")
+    shown = run(driver, EXERCISE)
+    assert len(shown["rows"]) == 16 and shown["rows"][8] == ["9", "Ann (0)", "cas", "", "", "", ""]
+    assert shown["spans"] == 0 and shown["blanks"] == 5, shown
+    assert "record that nobody reads" not in shown["said"] and "no link" not in shown["said"]
+    run(driver, "window.lockreplay.drawPaper('worked')")
+    said = run(driver, "return document.getElementById('paper').textContent")
+    assert "record that nobody reads" in said
+
+
+def which_sheet(driver, _):
+    """A link asks for the exercise sheet, and Enter prints it."""
+    open_page(driver, "#lesson=mcs-late-link&move=9&sheet=exercise")
+    run(driver, "window.print = () => { window.printed = window.lockreplay.page.sheet; }")
+    assert run(driver, "return document.activeElement.dataset.sheet") == "exercise"
+    run(driver, "document.activeElement.click()")
+    assert run(driver, "return window.printed") == "exercise"
+
+
+CHECKS = [
+    a_lesson,
+    only_paper_is_printed,
+    a_long_schedule,
+    forty_moves_in_one_row,
+    memory_and_code,
+    an_exercise_sheet,
+    which_sheet,
+]

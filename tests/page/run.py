@@ -29,7 +29,18 @@ IN_CHROMIUM = [
     "paper",
 ]
 # The same checks in both browsers.
-IN_BOTH = ["refused", "branches", "keeping", "quizzing", "taking", "languages"]
+IN_BOTH = [
+    "draws",
+    "hall",
+    "many",
+    "access",
+    "refused",
+    "branches",
+    "keeping",
+    "quizzing",
+    "taking",
+    "languages",
+]
 # Measured, so by itself.
 ALONE = ["large"]
 AT_ONCE = 3

@@ -8,8 +8,11 @@ PNG = b"\x89PNG\r\n\x1a\n"
 
 
 def the_picture(browser):
-    """It is well formed, and has the moves and the words of memory of the state."""
+    """It is well formed, and has the moves and the words of memory of the state. What answers a
+    question is in it once the answer is shown."""
     browser.open("#lesson=mcs-late-link&move=9")
+    assert "no link" not in browser.run("return window.lockreplay.pictureOf().text")
+    browser.press("a")
     text = browser.run("return window.lockreplay.pictureOf().text")
     tree = xml.etree.ElementTree.fromstring(text)
     words = " ".join(tree.itertext())

@@ -1,6 +1,7 @@
 -- What the rooms prove of each step of their lock, and how a choice inside a step is taken apart.
 use Rattle.std.proofs.Common.{Bool, List, [], false, if◌then◌else◌, length, set, slice_index, true}
-use Rattle.std.proofs.Common.{unwrap_or, ℕ, ◌++◌, ◌∷◌, ◌≡◌, ◌<◌, ◌≤◌, ◌^◌, None}
+use Rattle.std.proofs.Common.{unwrap_or, ℕ, ◌++◌, ◌∷◌, ◌≡◌, ◌<◌, ◌≤◌, ◌^◌, None, sym}
+use Rattle.std.proofs.lemmas.List.{set-get_or}
 use Rattle.std.specs.List.{AllByRecursion}
 use Rattle.lk_locks.specs.Change.{Change}
 use Rattle.lk_locks.specs.Entries.{move_entries}
@@ -67,6 +68,16 @@ pub record IsAgreed (kind : LockKind) (agree : Sequential → Type 0) (q : Seque
   pub allowed : AreEnabled q es
   pub kind_is : (after_entries q es).kind ≡ kind
   pub agrees : agree (after_entries q es)
+
+-- a thread that waits changes nothing
+pub waits : (kind : LockKind) (agree : List Phase → Sequential → Type 0) (ps : List Phase)
+    (q : Sequential) (t : ℕ) (p : Phase) → phase_at ps t ≡ p → q.kind ≡ kind → agree ps q
+    → IsAgreed kind (agree (set ps t p)) q []
+waits kind agree ps q t p e k a = record {
+  allowed = tt;
+  kind_is = k;
+  agrees = rw (sym e) (rw set-get_or a);
+}
 
 -- What each room proves of its lock. `EachRoom` says which lock has which room.
 pub record IsRoom (kind : LockKind) : Type 0 where

@@ -1,15 +1,13 @@
 -- Each step of a queue lock that is accepted is one operation, of the kind that the move names.
-use Rattle.std.proofs.Common.{arith, length, ◌<◌, ◌≤◌}
-use Rattle.std.proofs.Common.{List, None, Option, Some, ap, refl, sym, ℕ, ◌∙◌, ◌≡◌, ◌==◌}
-use Rattle.std.proofs.Common.{if◌then◌else◌}
+use Rattle.std.proofs.Common.{arith, length, ◌<◌, ◌≤◌, List, None, Option, Some, ap, refl, sym, ℕ}
+use Rattle.std.proofs.Common.{◌∙◌, ◌≡◌, ◌==◌, if◌then◌else◌, false, option_map, true}
 use Rattle.lk_words.specs.Operations.{performed, word_of}
 use Rattle.lk_words.specs.declared.operation.Answer.{Answer}
 use Rattle.lk_words.specs.declared.operation.Answer.TheVariants.{Found, Swapped}
-use Rattle.std.proofs.Common.{false, option_map, true}
 use Rattle.lk_words.specs.declared.operation.Operation.{Operation}
 use Rattle.lk_locks.specs.Change.{Change, kind_of, step_by}
 use Rattle.lk_locks.specs.OneOperation.{IsMade, IsOneOperation, IsStepOf}
-use Rattle.lk_locks.specs.Rooms.{family_of, operation_of, step_of, word_count}
+use Rattle.lk_locks.specs.Rooms.{operation_of, step_of, word_count}
 use Rattle.lk_locks.specs.invariants.Rooms.{IsPhaseOf}
 use Rattle.lk_locks.specs.invariants.WellFormed.{WellFormed}
 use Rattle.lk_locks.specs.State.{State, phase_at}
@@ -25,7 +23,6 @@ use Rattle.lk_locks.specs.declared.kinds.Phase.TheVariants.{AwaitGrant, AwaitLin
 use Rattle.lk_locks.specs.declared.kinds.Phase.TheVariants.{CasTail, ClearNext, Grant, LinkTo}
 use Rattle.lk_locks.specs.declared.kinds.Phase.TheVariants.{PassOn, ReadNext, ReadServing}
 use Rattle.lk_locks.specs.declared.kinds.Phase.TheVariants.{SetLocked, SwapTail, TakeTicket}
-use Rattle.lk_locks.specs.declared.kinds.Refusal.{Refusal}
 use Rattle.lk_locks.specs.declared.kinds.Refusal.TheVariants.{WrongStep}
 use Rattle.lk_locks.specs.declared.kinds.StepKind.{StepKind}
 use Rattle.lk_locks.specs.declared.kinds.StepKind.TheVariants.{Add, Cas, Read, Section, Swap, Write}

@@ -1,6 +1,16 @@
 //! A lock with its sequential object and its history: the machine steps, and what it does is
 //! recorded and is legal.
 
+ghost use Rattle.lk_locks.specs.Play.{RecordedLock, after_play, IsPlayAnswer};
+ghost use Rattle.lk_locks.specs.invariants.Kept.{IsRecorded};
+ghost use Rattle.std.specs.Prelude.{◌≡◌, ℕ, ◌<◌, ◌≤◌, ◌^◌, length, slice_index, OnOk, OnErr, []};
+ghost use Rattle.lk_locks.specs.State.{start, phase_at};
+ghost use Rattle.lk_locks.specs.Steps.{refusal_of, change_of};
+ghost use Rattle.lk_locks.specs.Rooms.{step_due, word_count};
+ghost use Rattle.lk_locks.specs.Sequential.{nobody};
+ghost use Rattle.lk_locks.specs.MainTheorem.{IsAsPromised};
+ghost use Rattle.lk_locks.specs.Holding.{holding, holding_of, waiting_of, IsListed};
+
 use crate::entries::Added;
 use crate::{Entry, History, Holders, LockKind, Move, Outcome, PlayFault, StepKind, Tracker};
 use arrayvec::ArrayVec;
@@ -17,11 +27,7 @@ pub struct Keeper<W: Words> {
 }
 
 impl<W: Words> Model for Keeper<W> {
-    ghost use Rattle.lk_locks.specs.Play.{RecordedLock};
-
     ghost Value = { RecordedLock };
-
-    ghost use Rattle.lk_locks.specs.invariants.Kept.{IsRecorded};
 
     ghost view = { λ a. record {
       state = a.lock.state;
@@ -33,16 +39,6 @@ impl<W: Words> Model for Keeper<W> {
 }
 
 impl<W: Words> Keeper<W> {
-    ghost use Rattle.std.specs.Prelude.{◌≡◌, ℕ, ◌<◌, ◌≤◌, ◌^◌, length, slice_index, OnOk, OnErr};
-    ghost use Rattle.std.specs.Prelude.{[]};
-    ghost use Rattle.lk_locks.specs.State.{start, phase_at};
-    ghost use Rattle.lk_locks.specs.Steps.{refusal_of, change_of};
-    ghost use Rattle.lk_locks.specs.Rooms.{step_due, word_count};
-    ghost use Rattle.lk_locks.specs.Sequential.{nobody};
-    ghost use Rattle.lk_locks.specs.MainTheorem.{IsAsPromised};
-    ghost use Rattle.lk_locks.specs.Play.{after_play, IsPlayAnswer};
-    ghost use Rattle.lk_locks.specs.Holding.{holding, holding_of, waiting_of, IsListed};
-
     /// A new lock with 1 to 64 threads, fewer than 2^B for words of B bits, which are all 0. It
     /// keeps the allocator and takes no memory yet.
     pub fn new(alloc: Global, kind: LockKind, threads: u8, words: W) -> Keeper<W>

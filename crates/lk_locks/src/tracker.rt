@@ -1,8 +1,15 @@
 //! A lock with its sequential object: after each move it is known who holds and who is queued. It
 //! keeps no history and takes no memory; `Keeper` adds the history. This project's own.
 
-ghost use Rattle.std.specs.Prelude.{◌≡◌};
-ghost use Rattle.lk_locks.specs.Holding.{holder_after};
+ghost use Rattle.std.specs.Prelude.{◌≡◌, ℕ, ◌<◌, ◌≤◌, ◌^◌, length, slice_index, [], None};
+ghost use Rattle.lk_locks.specs.Holding.{holder_after, holding, IsListed};
+ghost use Rattle.lk_locks.specs.Tracked.{Tracked, tracked, followed, after_tracked, holding_in};
+ghost use Rattle.lk_locks.specs.Tracked.{waiting_in};
+ghost use Rattle.lk_locks.specs.invariants.Tracking.{IsTracked};
+ghost use Rattle.lk_locks.specs.State.{start};
+ghost use Rattle.lk_locks.specs.Rooms.{word_count};
+ghost use Rattle.lk_locks.specs.Steps.{answer_to, change_of, next_state, refusal_of};
+ghost use Rattle.lk_locks.specs.Entries.{entries_of};
 
 use crate::entries::Added;
 use crate::holders::{alone, copy_of};
@@ -22,11 +29,7 @@ pub struct Tracker<W: Words> {
 }
 
 impl<W: Words> Model for Tracker<W> {
-    ghost use Rattle.lk_locks.specs.Tracked.{Tracked};
-
     ghost Value = { Tracked };
-
-    ghost use Rattle.lk_locks.specs.invariants.Tracking.{IsTracked};
 
     ghost view = { λ a. record {
       state = a.machine;
@@ -39,15 +42,6 @@ impl<W: Words> Model for Tracker<W> {
 }
 
 impl<W: Words> Tracker<W> {
-    ghost use Rattle.std.specs.Prelude.{◌≡◌, ℕ, ◌<◌, ◌≤◌, ◌^◌, length, slice_index, [], None};
-    ghost use Rattle.lk_locks.specs.State.{start};
-    ghost use Rattle.lk_locks.specs.Rooms.{word_count};
-    ghost use Rattle.lk_locks.specs.Steps.{answer_to, change_of, next_state, refusal_of};
-    ghost use Rattle.lk_locks.specs.Entries.{entries_of};
-    ghost use Rattle.lk_locks.specs.Holding.{holding, IsListed};
-    ghost use Rattle.lk_locks.specs.Tracked.{tracked, followed, after_tracked, holding_in};
-    ghost use Rattle.lk_locks.specs.Tracked.{waiting_in};
-
     /// A new lock with 1 to 64 threads, fewer than 2^B for words of B bits, which are all 0.
     pub fn new(kind: LockKind, threads: u8, words: W) -> Tracker<W>
         requires some { 0 < threads }

@@ -1,4 +1,3 @@
-mod Own
 mod LastSpace
 mod Placing
 mod Quiet

@@ -1,15 +1,14 @@
 -- Definitions. The log of one thread, and how it is read line by line. This project's own.
 use Rattle.std.specs.Prelude.{◌≡◌, ◌<◌, ◌≤◌, ◌^◌, ◌+◌, ◌==◌, ◌++◌, ◌∷◌, [], ℕ, List, length, drop}
-use Rattle.std.specs.Prelude.{Bool}
-use Rattle.std.specs.Prelude.{Option, Some, None, Result, Ok, Err, is_some, nat_eq, nat_lt, codes}
-use Rattle.std.specs.Prelude.{if◌then◌else◌}
+use Rattle.std.specs.Prelude.{Bool, Option, Some, None, Result, Ok, Err, is_some, nat_eq, nat_lt}
+use Rattle.std.specs.Prelude.{codes, if◌then◌else◌}
 use Rattle.std.specs.List.{All, starts_with}
 use Rattle.std.specs.Str.{bytes_eq}
 use Rattle.lk_locks.specs.declared.kinds.LockKind.{LockKind}
 use Rattle.lk_replay.specs.Lines.{is_skipped}
 use Rattle.lk_replay.specs.Vocabulary.{number_of}
 use Rattle.lk_replay.specs.declared.header.Header.{Header}
-use Rattle.lk_trace.specs.Lines.{log_line_of, whole_number}
+use Rattle.lk_trace.specs.Lines.{short_log_line_of, whole_number}
 use Rattle.lk_trace.specs.Traces.{read_header_of}
 use Rattle.lk_trace.specs.declared.line.TraceLine.{TraceLine}
 use Rattle.lk_trace.specs.declared.trace.TextFault.{TextFault}
@@ -77,10 +76,6 @@ abbrev pub dropped_of : List ℕ → Option ℕ
 dropped_of line =
     if starts_with nat_eq line (codes "dropped ") then whole_number (drop 8 line) else None
 
--- the move that a line of at most 96 bytes is
-abbrev pub short_line_of : ℕ → List ℕ → Option TraceLine
-short_line_of thread line = if nat_lt 96 (length line) then None else log_line_of thread line
-
 -- a log without moves
 abbrev pub empty_log : Header → ℕ → ThreadLog
 empty_log header thread = record {
@@ -103,7 +98,7 @@ with_move log number None = Err BadMove
 abbrev pub with_dropped : ThreadLog → ℕ → Bool → List ℕ → Option ℕ → Result ThreadLog LogFault
 with_dropped log number ended line (Some count) = Ok (record log { dropped = Some count })
 with_dropped log number ended line None =
-    if ended then with_move log number (short_line_of log.thread line) else Ok log
+    if ended then with_move log number (short_log_line_of log.thread line) else Ok log
 
 abbrev pub behind_header : ThreadLog → ℕ → Bool → List ℕ → Result ThreadLog LogFault
 behind_header log number ended line =

@@ -3,8 +3,10 @@
 use Rattle.std.specs.Prelude.{◌≡◌, ℕ, ◌+◌, ◌<◌, ◌≤◌, ◌↔◌, IsTrue, Some, List, length, map}
 use Rattle.std.specs.Prelude.{slice_index_or}
 use Rattle.std.specs.List.{All, slice_get}
+use Rattle.lk_locks.specs.declared.kinds.LockKind.{LockKind}
 use Rattle.lk_locks.specs.declared.kinds.Move.TheVariants.{Step}
 use Rattle.lk_locks.specs.declared.kinds.StepKind.TheVariants.{Read}
+use Rattle.lk_trace.specs.Checks.{Checked}
 use Rattle.lk_trace.specs.declared.line.Seen.TheVariants.{Nothing}
 use Rattle.lk_trace.specs.declared.line.TraceLine.{TraceLine}
 use Rattle.lk_order.specs.Logs.{ThreadLog}
@@ -21,6 +23,17 @@ line_at logs place = slice_index_or (moves_of logs place.thread) place.at no_lin
 
 abbrev pub picked : List ThreadLog → List Place → List TraceLine
 picked logs places = map (line_at logs) places
+
+-- the order whose steps are at these places
+abbrev pub ordered_of : LockKind → ℕ → ℕ → List ThreadLog → List Place → Checked → Ordered
+ordered_of kind threads bits logs places lock = record {
+  kind = kind;
+  threads = threads;
+  bits = bits;
+  logs = logs;
+  trace = picked logs places;
+  lock = lock;
+}
 
 abbrev pub IsInside : List ThreadLog → Place → Type 0
 IsInside logs place = place.at < length (moves_of logs place.thread)

@@ -1,7 +1,6 @@
 -- Definitions. The logs of one run: one of each thread, in the order of the threads, and all of one
 -- header. This project's own.
-use Rattle.std.specs.Prelude.{◌≡◌, ℕ, List, length, map, Some, IsSomeAnd}
-use Rattle.std.specs.Prelude.{slice_index_or, []}
+use Rattle.std.specs.Prelude.{◌≡◌, ℕ, List, length, map, Some, IsSomeAnd, slice_index_or, []}
 use Rattle.std.specs.List.{All, slice_get}
 use Rattle.lk_locks.specs.declared.kinds.LockKind.{LockKind}
 use Rattle.lk_trace.specs.declared.line.TraceLine.{TraceLine}

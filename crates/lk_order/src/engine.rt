@@ -39,34 +39,19 @@ enum Round {
     CutOff,
     /// A swap that finds nobody, after which no other swap does.
     Endless,
-    /// The thread's log ends.
-    Never,
 }
 
-// What is known of the next step of a thread.
+// The next step of a thread, and what is known of it.
 #[derive(Clone, Copy)]
 struct Next {
+    line: TraceLine,
+    // of its thread, before it
+    phase: Phase,
+    // the word that it is on
+    word: Option<usize>,
     round: Round,
     asleep: bool,
-    // the word that it is on, and what it found there
-    word: Option<usize>,
-    found: Option<u64>,
-    // of a section
-    count: Option<u64>,
-    // the thread whose record it links itself to
-    link_to: Option<u8>,
-    kind: Option<StepKind>,
 }
-
-const ENDED: Next = Next {
-    round: Round::Never,
-    asleep: true,
-    word: None,
-    found: None,
-    count: None,
-    link_to: None,
-    kind: None,
-};
 
 // What a line gives as found.
 fn found_of(line: TraceLine) -> Option<u64> {
@@ -97,34 +82,29 @@ const ROUNDS: [Round; 5] = [
     Round::Endless,
 ];
 
-// What is known of the next step of a thread of this lock.
-fn next_of(order: &Order, kind: LockKind, t: u8) -> Next {
-    let Some(line) = order.next(t) else {
-        return ENDED;
-    };
-    let phase = order.checker().phase(t).unwrap_or(Phase::Idle);
-    let (step, word) = match line.action {
-        Move::Call(_) => (None, None),
+// The next step of a thread. None where its log ends.
+fn next_of(order: &Order, t: u8) -> Option<Next> {
+    let line = order.next(t)?;
+    let phase = order.checker().phase(t)?;
+    let word = match line.action {
+        Move::Call(_) => None,
         // which word it is does not depend on the bits
-        Move::Step(step) => (
-            Some(step),
-            operation_of(kind, 64, t, phase).map(|operation| operation.word()),
-        ),
+        Move::Step(_) => {
+            operation_of(order.kind(), 64, t, phase).map(|operation| operation.word())
+        }
     };
-    Next {
-        round: round_of(kind, line, phase),
-        asleep: false,
+    Some(Next {
+        line,
+        phase,
         word,
-        found: found_of(line),
-        count: count_of(line),
-        link_to: mcs::link_of(phase),
-        kind: step,
-    }
+        round: round_of(order.kind(), line, phase),
+        asleep: false,
+    })
 }
 
 // Whether a word of the lock has another value than a step found.
 fn has_other_value(order: &Order, next: &Next) -> bool {
-    let (Some(place), Some(found)) = (next.word, next.found) else {
+    let (Some(place), Some(found)) = (next.word, found_of(next.line)) else {
         return false;
     };
     let words = order.checker().lock().machine().words();
@@ -134,9 +114,8 @@ fn has_other_value(order: &Order, next: &Next) -> bool {
 /// What is known of a run, and how far its steps are placed.
 #[derive(Drop)]
 pub struct Engine {
-    kind: LockKind,
     threads: usize,
-    next: [Next; 64],
+    next: [Option<Next>; 64],
     // the thread that is asked first
     from: usize,
     acquires: Acquires,
@@ -146,14 +125,12 @@ pub struct Engine {
 impl Engine {
     /// Nothing is placed yet.
     pub fn new(alloc: Global, order: &Order) -> Result<Engine, AllocError> {
-        let kind = order.kind();
         let threads = order.logs().len().min(MOST_THREADS);
-        let mut next = [ENDED; 64];
+        let mut next = [None; 64];
         for t in 0..threads {
-            next[t] = next_of(order, kind, t as u8);
+            next[t] = next_of(order, t as u8);
         }
         Ok(Engine {
-            kind,
             threads,
             next,
             from: 0,
@@ -164,45 +141,41 @@ impl Engine {
 
     // Whether another thread's step has to come before this one.
     fn waits(&self, order: &Order, t: usize, next: &Next) -> bool {
-        match next.kind {
-            Some(StepKind::Swap) => self.acquires.swap_waits(t, next.found),
-            Some(StepKind::Add) => self.tickets.wait(t),
-            Some(StepKind::Section) => match lowest_section(&self.next) {
-                Some(lowest) => next.count.is_some() && lowest != t,
-                None => false,
-            },
-            Some(StepKind::Write) => match next.link_to {
-                Some(before) => self.acquires.link_waits(order, before),
-                None => false,
-            },
+        match (next.line.action, next.phase) {
+            (Move::Step(StepKind::Swap), _) => self.acquires.swap_waits(t, found_of(next.line)),
+            (Move::Step(StepKind::Add), _) => self.tickets.wait(t),
+            (Move::Step(StepKind::Section), _) => {
+                count_of(next.line).is_some() && lowest_section(&self.next) != Some(t)
+            }
+            (Move::Step(StepKind::Write), Phase::LinkTo(before)) => {
+                self.acquires.link_waits(order, before)
+            }
             _ => false,
         }
     }
 
     // A thread that may make its step in this round. Those that may not are put to sleep.
     fn choose_in(&mut self, order: &Order, round: Round) -> Option<u8> {
-        for i in 0..self.threads {
-            let at = self.from.saturating_add(i);
-            let t = if at < self.threads {
-                at
-            } else {
-                at - self.threads
+        let (from, threads) = (self.from, self.threads);
+        for i in 0..threads {
+            let t = from.saturating_add(i) % threads;
+            let Some(Some(next)) = self.next.get_mut(t) else {
+                continue;
             };
-            if t >= MOST_THREADS || self.next[t].asleep || self.next[t].round != round {
+            if next.asleep || next.round != round {
                 continue;
             }
-            let next = self.next[t];
-            if round == Round::Last && next.kind == Some(StepKind::Swap) {
-                let last = self.acquires.round_of_swap(t);
-                if last != round {
-                    self.next[t].round = last;
+            if round == Round::Last && next.line.action == Move::Step(StepKind::Swap) {
+                next.round = self.acquires.round_of_swap(t);
+                if next.round != round {
                     continue;
                 }
             }
+            let next = *next;
             if !has_other_value(order, &next) && !self.waits(order, t, &next) {
                 return Some(t as u8);
             }
-            self.next[t].asleep = true;
+            self.put_asleep(t, true);
         }
         None
     }
@@ -217,36 +190,36 @@ impl Engine {
         None
     }
 
+    fn put_asleep(&mut self, t: usize, asleep: bool) {
+        if let Some(Some(next)) = self.next.get_mut(t) {
+            next.asleep = asleep;
+        }
+    }
+
     /// The step that was proposed differs from the lock, as it is.
     pub fn failed(&mut self, t: u8) {
-        if (t as usize) < MOST_THREADS {
-            self.next[t as usize].asleep = true;
-        }
+        self.put_asleep(t as usize, true);
     }
 
     // Wakes the threads whose step is on this word.
     fn wake_on(&mut self, word: usize) {
         for next in self.next.iter_mut() {
-            if next.word == Some(word) {
-                next.asleep = false;
-            }
-        }
-    }
-
-    // Wakes the thread whose section comes next.
-    fn wake_section(&mut self) {
-        if let Some(t) = lowest_section(&self.next) {
-            if t < MOST_THREADS {
-                self.next[t].asleep = false;
+            match next {
+                Some(next) if next.word == Some(word) => next.asleep = false,
+                _ => {}
             }
         }
     }
 
     // Wakes who may have waited for the step of thread t that was placed.
     fn wake(&mut self, order: &Order, t: u8, made: &Next) {
-        match (made.kind, made.word) {
-            (Some(StepKind::Section), _) => self.wake_section(),
-            (Some(StepKind::Read) | None, _) => {}
+        match (made.line.action, made.word) {
+            (Move::Step(StepKind::Section), _) => {
+                if let Some(lowest) = lowest_section(&self.next) {
+                    self.put_asleep(lowest, false);
+                }
+            }
+            (Move::Call(_) | Move::Step(StepKind::Read), _) => {}
             (_, Some(word)) => self.wake_on(word),
             _ => {}
         }
@@ -258,16 +231,16 @@ impl Engine {
     /// The step that was proposed is placed.
     pub fn placed(&mut self, order: &Order, t: u8) {
         let thread = t as usize;
-        if thread >= MOST_THREADS {
+        let Some(Some(next)) = self.next.get_mut(thread) else {
             return;
-        }
-        let made = self.next[thread];
-        match made.kind {
-            Some(StepKind::Swap) => self.acquires.begin(thread),
-            Some(StepKind::Add) => self.tickets.take(),
+        };
+        let made = *next;
+        match made.line.action {
+            Move::Step(StepKind::Swap) => self.acquires.begin(thread),
+            Move::Step(StepKind::Add) => self.tickets.take(),
             _ => {}
         }
-        self.next[thread] = next_of(order, self.kind, t);
+        self.next[thread] = next_of(order, t);
         self.from = thread;
         self.wake(order, t, &made);
     }

@@ -6,8 +6,7 @@
 //!
 //! ```text
 //! let mut reader = LogReader::new(alloc);
-//! reader.line(line)?;                              // each line that ends, without its line feed
-//! reader.rest(line)?;                              // what stands behind the last line feed
+//! reader.line(line, ended)?;                       // each line, and whether it has a line feed
 //! let log = reader.log()?;
 //! let mut shelf = Shelf::new(alloc)?;
 //! shelf.put(log)?;                                 // each log
@@ -34,4 +33,4 @@ pub use find::{Ending, Found, Stuck, find_order};
 pub use log::{Log, LogFault, LogReader};
 pub use order::{Order, Placed};
 pub use pieces::{MOST_MOVES, Piece, Pieces};
-pub use shelf::{Missing, Shelf, Unfit};
+pub use shelf::{Shelf, Unfit};

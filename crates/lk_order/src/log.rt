@@ -1,6 +1,8 @@
 //! A log: what one thread of a run wrote down by itself, read.
 
-ghost use Rattle.std.specs.Prelude.{◌≡◌};
+ghost use Rattle.std.specs.Prelude.{◌≡◌, ◌≢◌, ◌<◌, ◌≤◌, ◌^◌, MatchBool, Some};
+ghost use Rattle.lk_order.specs.Logs.{ThreadLog, IsSound};
+ghost use Rattle.std.specs.List.{All, slice_get};
 
 mod reader;
 
@@ -23,11 +25,7 @@ pub struct Log {
 }
 
 impl Model for Log {
-    ghost use Rattle.lk_order.specs.Logs.{ThreadLog};
-
     ghost Value = { ThreadLog };
-
-    ghost use Rattle.lk_order.specs.Logs.{IsSound};
 
     ghost view = { λ a. record {
       kind = a.kind;
@@ -43,9 +41,6 @@ impl Model for Log {
 }
 
 impl Log {
-    ghost use Rattle.std.specs.Prelude.{◌≡◌, ◌≢◌, ◌<◌, ◌≤◌, ◌^◌, MatchBool, Some};
-    ghost use Rattle.std.specs.List.{All, slice_get};
-
     /// The lock.
     pub fn kind(&self) -> LockKind
         ensures { result ≡ self.now.kind }

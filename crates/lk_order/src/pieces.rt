@@ -3,7 +3,7 @@
 
 ghost use Rattle.std.specs.Prelude.{◌≡◌, ◌+◌, ◌-◌, ◌<◌, ◌≤◌, IfSome, MatchOption, length};
 ghost use Rattle.lk_order.specs.Orders.{IsQuiet};
-ghost use Rattle.lk_order.specs.Cuts.{IsBusy, IsEnd, IsNextPiece, IsPieceEnd};
+ghost use Rattle.lk_order.specs.Cuts.{IsBusy, IsEnd, IsNextPiece, IsPieceEnd, Cut};
 
 use crate::Order;
 use std::marker::Model;
@@ -30,9 +30,6 @@ pub struct Pieces<'a> {
 }
 
 impl<'a> Model for Pieces<'a> {
-    ghost use Rattle.std.specs.Prelude.{◌≤◌, length};
-    ghost use Rattle.lk_order.specs.Cuts.{Cut};
-
     ghost Value = { Cut };
 
     ghost view = { λ a. record { order = a.order.now; at = a.at; given = a.given } };

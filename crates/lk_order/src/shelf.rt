@@ -1,6 +1,8 @@
 //! The logs of a run, taken in any order and given in the order of their threads.
 
-ghost use Rattle.std.specs.Prelude.{◌≡◌};
+ghost use Rattle.std.specs.Prelude.{◌≡◌, length, IfErr, IfOk, MatchOption, OnErr, OnOk};
+ghost use Rattle.lk_order.specs.Shelves.{Shelved, HaveLogs, IsFirstWithout, IsTaken, IsUnfit};
+ghost use Rattle.lk_order.specs.Shelves.{empty_shelf, logs_of, threads_of};
 
 use crate::Log;
 use lk_locks::LockKind;
@@ -21,12 +23,6 @@ pub enum Unfit {
     SecondLog,
 }
 
-/// The first thread that has no log. Of no logs at all it is thread 0.
-#[derive(Clone, Copy, PartialEq, Eq, Debug)]
-pub struct Missing {
-    pub thread: u8,
-}
-
 /// The logs of a run that were taken so far.
 #[derive(Drop)]
 pub struct Shelf {
@@ -37,9 +33,6 @@ pub struct Shelf {
 }
 
 impl Model for Shelf {
-    ghost use Rattle.std.specs.Prelude.{◌≡◌, length};
-    ghost use Rattle.lk_order.specs.Shelves.{Shelved};
-
     ghost Value = { Shelved };
 
     ghost view = { λ a. record { lock = a.lock; places = a.places.items } };
@@ -48,10 +41,6 @@ impl Model for Shelf {
 }
 
 impl Shelf {
-    ghost use Rattle.std.specs.Prelude.{◌≡◌, IfErr, IfOk, MatchOption, OnErr, OnOk};
-    ghost use Rattle.lk_order.specs.Shelves.{HaveLogs, IsFirstWithout, IsTaken, IsUnfit};
-    ghost use Rattle.lk_order.specs.Shelves.{empty_shelf, logs_of, threads_of};
-
     /// No log was taken yet.
     ///
     /// # Errors
@@ -93,10 +82,10 @@ impl Shelf {
         Ok(())
     }
 
-    /// The first thread that has no log, where one has none.
-    pub fn missing(&self) -> Option<Missing>
+    /// The first thread that has no log, if one has none. Of no logs at all it is thread 0.
+    pub fn missing(&self) -> Option<u8>
         ensures { MatchOption result (HaveLogs self.now (threads_of self.now.lock))
-            (λ missing. IsFirstWithout self.now missing.thread) }
+            (IsFirstWithout self.now) }
     {
         let threads = match self.lock {
             Some((_, threads, _)) => threads,
@@ -104,7 +93,7 @@ impl Shelf {
         };
         for thread in 0..threads {
             if let Some(None) | None = self.places.get(thread as usize) {
-                return Some(Missing { thread });
+                return Some(thread);
             }
         }
         None

@@ -5,8 +5,6 @@ use Rattle.std.specs.Prelude.{codes, decimal}
 use Rattle.std.specs.List.{flat_map}
 use Rattle.lk_locks.specs.Holding.{Holding, Free, HeldBy, ReadBy, WrittenBy, holding_of, waiting_of}
 use Rattle.lk_locks.specs.declared.kinds.LockKind.{LockKind}
-use Rattle.lk_locks.specs.declared.kinds.Outcome.{Outcome}
-use Rattle.lk_locks.specs.declared.kinds.Outcome.TheVariants.{Called, Moved, Waits, Entered, Left}
 use Rattle.lk_locks.specs.declared.kinds.Entry.{Entry}
 use Rattle.lk_locks.specs.declared.kinds.Refusal.{Refusal}
 use Rattle.lk_locks.specs.declared.kinds.Refusal.TheVariants.{NoSuchThread, WrongLock, Busy}
@@ -14,7 +12,7 @@ use Rattle.lk_locks.specs.declared.kinds.Refusal.TheVariants.{NotHolder, Already
 use Rattle.lk_locks.specs.declared.kinds.Refusal.TheVariants.{WrongStep}
 use Rattle.lk_replay.specs.Faults.{Fault, TooLong, NoHeader, BadHeader, BadThreads, BadLine}
 use Rattle.lk_replay.specs.Faults.{TooManyMoves, WordsTooNarrow}
-use Rattle.lk_replay.specs.Vocabulary.{move_word, step_word}
+use Rattle.lk_replay.specs.Vocabulary.{move_word, outcome_word, step_word}
 use Rattle.lk_replay.specs.Schedule.{Plan, plan_of}
 use Rattle.lk_replay.specs.Replay.{Made, Replay, replay_of}
 use Rattle.lk_replay.specs.declared.played.Accepted.{Accepted}
@@ -48,13 +46,6 @@ shown_text holding waiting =
 -- of who holds and who waits after these entries
 unfoldable pub state_text : LockKind → List Entry → List ℕ
 state_text kind es = shown_text (holding_of kind es) (waiting_of kind es)
-
-abbrev pub outcome_word : Outcome → List ℕ
-outcome_word Called = codes "called"
-outcome_word Moved = codes "moved"
-outcome_word Waits = codes "waits"
-outcome_word Entered = codes "entered"
-outcome_word Left = codes "left"
 
 -- `K T WORD OUTCOME hold `
 unfoldable pub move_text : ℕ → Accepted → List ℕ

@@ -11,6 +11,8 @@ use Rattle.lk_locks.specs.declared.kinds.Op.TheVariants.{Acquire, Release, ReadL
 use Rattle.lk_locks.specs.declared.kinds.Op.TheVariants.{WriteLock, WriteUnlock, Downgrade}
 use Rattle.lk_locks.specs.declared.kinds.StepKind.{StepKind}
 use Rattle.lk_locks.specs.declared.kinds.StepKind.TheVariants.{Read, Write, Swap, Cas, Add, Section}
+use Rattle.lk_locks.specs.declared.kinds.Outcome.{Outcome}
+use Rattle.lk_locks.specs.declared.kinds.Outcome.TheVariants.{Called, Moved, Waits, Entered, Left}
 use Rattle.lk_locks.specs.declared.kinds.Move.{Move}
 use Rattle.lk_locks.specs.declared.kinds.Move.TheVariants.{Call, Step}
 
@@ -75,3 +77,15 @@ every_move =
 -- the move of that word
 unfoldable pub move_named : List ℕ → Option Move
 move_named word = find (λ m. bytes_eq word (move_word m)) every_move
+
+abbrev pub outcome_word : Outcome → List ℕ
+outcome_word Called = codes "called"
+outcome_word Moved = codes "moved"
+outcome_word Waits = codes "waits"
+outcome_word Entered = codes "entered"
+outcome_word Left = codes "left"
+
+-- the outcome of a step that has this word
+unfoldable pub outcome_named : List ℕ → Option Outcome
+outcome_named word =
+    find (λ o. bytes_eq word (outcome_word o)) (Moved ∷ Waits ∷ Entered ∷ Left ∷ [])

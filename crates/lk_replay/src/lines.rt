@@ -1,8 +1,9 @@
 //! Where a text is cut: at each line feed into lines, at each space into words. Nothing is copied.
 
 ghost use Rattle.std.specs.Prelude.{◌≡◌, [], ◌==◌, ◌∷◌, ◌+◌, ◌<◌, MatchOption, IfSome, length};
+ghost use Rattle.std.specs.Prelude.{◌^◌, IfNone, false};
 ghost use Rattle.std.specs.List.{slice_split};
-ghost use Rattle.lk_replay.specs.Lines.{lines_of, words_of, is_skipped};
+ghost use Rattle.lk_replay.specs.Lines.{lines_of, words_of, is_skipped, Numbered, SkipsTo};
 
 use std::marker::Model;
 
@@ -60,9 +61,6 @@ pub struct Lines<'a> {
 }
 
 impl<'a> Model for Lines<'a> {
-    ghost use Rattle.std.specs.Prelude.{◌+◌, ◌<◌, ◌^◌, length};
-    ghost use Rattle.lk_replay.specs.Lines.{Numbered, lines_of};
-
     ghost Value = { Numbered };
 
     ghost view = { λ a. record { number = a.number; lines = lines_of a.rest.now } };
@@ -71,9 +69,6 @@ impl<'a> Model for Lines<'a> {
 }
 
 impl<'a> Lines<'a> {
-    ghost use Rattle.std.specs.Prelude.{◌≡◌, ◌+◌, ◌<◌, ◌^◌, ◌∷◌, [], IfNone, IfSome, false, length};
-    ghost use Rattle.lk_replay.specs.Lines.{SkipsTo, is_skipped, lines_of};
-
     /// Those of a whole text.
     pub fn new(text: &'a [u8]) -> Lines<'a>
         requires { 1 + length text.now < 2 ^ 32 }

@@ -49,8 +49,6 @@ pub struct OutputBuffer {
 }
 
 impl Model for OutputBuffer {
-    ghost use Rattle.std.specs.Prelude.{ℕ, ◌≡◌, ◌≤◌, List, length, take};
-
     ghost Value = { List ℕ };
 
     ghost view = { λ a. take a.len a.bytes.items };

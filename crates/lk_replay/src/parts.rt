@@ -4,4 +4,6 @@
 pub use crate::header::{Header, header_of};
 pub use crate::lines::{Lines, cut_line, cut_word, is_skipped};
 pub use crate::unreadable::{Expected, Unreadable, unreadable_header, unreadable_move};
-pub use crate::vocabulary::{lock_named, move_named, number_of};
+pub use crate::vocabulary::{
+    lock_named, lock_text, move_named, move_text, number_of, outcome_named, outcome_text,
+};

@@ -1,10 +1,12 @@
 //! The replay of a schedule: its moves, played in order up to the first refused one.
 
-ghost use Rattle.std.specs.Prelude.{◌≡◌, IfOk, replicate};
+ghost use Rattle.std.specs.Prelude.{◌≡◌, IfOk, replicate, ◌≤◌, length};
 ghost use Rattle.lk_locks.specs.Runs.{new_lock};
 ghost use Rattle.lk_locks.specs.Rooms.{word_count};
-ghost use Rattle.lk_replay.specs.Replay.{replayed_of};
+ghost use Rattle.lk_replay.specs.Replay.{replayed_of, Replayed};
 ghost use Rattle.lk_replay.specs.Whole.{IsHistoryOf};
+ghost use Rattle.std.specs.List.{sum};
+ghost use Rattle.lk_locks.specs.MainTheorem.{IsAsPromised};
 
 use crate::Schedule;
 use lk_locks::{Entry, Keeper, LockKind, Move, Outcome, PlayFault, Refusal, words_needed};
@@ -33,10 +35,6 @@ pub struct Played {
 }
 
 impl Model for Played {
-    ghost use Rattle.std.specs.Prelude.{◌≡◌, ◌≤◌, length};
-    ghost use Rattle.std.specs.List.{sum};
-    ghost use Rattle.lk_replay.specs.Replay.{Replayed};
-
     ghost Value = { Replayed };
 
     ghost view = { λ a. record {
@@ -54,10 +52,6 @@ impl Model for Played {
 }
 
 impl Played {
-    ghost use Rattle.std.specs.Prelude.{◌≡◌, ◌≤◌, length};
-    ghost use Rattle.std.specs.List.{sum};
-    ghost use Rattle.lk_locks.specs.MainTheorem.{IsAsPromised};
-
     /// The accepted moves, in order.
     pub fn accepted(&self) -> &[Accepted]
         ensures accepted { result.now ≡ self.now.accepted }

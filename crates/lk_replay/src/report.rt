@@ -15,6 +15,7 @@ mod status;
 mod text;
 mod words;
 
+use crate::output_buffer::Source;
 use crate::{ReadFault, Schedule, read_schedule};
 use closings::{Closing, fault_text};
 pub use replay::Replay;

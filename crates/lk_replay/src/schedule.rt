@@ -3,7 +3,7 @@
 ghost use Rattle.std.specs.Prelude.{◌≡◌, ◌<◌, ◌≤◌, ◌^◌, length, IfErr, IfOk, Ok};
 ghost use Rattle.lk_replay.specs.Reads.{Fails, Gives};
 ghost use Rattle.lk_replay.specs.Reading.{IsOfText};
-ghost use Rattle.lk_replay.specs.Schedule.{move_of, moves_from, plan_of, with_header};
+ghost use Rattle.lk_replay.specs.Schedule.{move_of, moves_from, plan_of, with_header, Plan};
 
 mod reader;
 
@@ -73,9 +73,6 @@ pub struct Schedule {
 }
 
 impl Model for Schedule {
-    ghost use Rattle.std.specs.Prelude.{length, ◌<◌, ◌≤◌, ◌^◌};
-    ghost use Rattle.lk_replay.specs.Schedule.{Plan};
-
     ghost Value = { Plan };
 
     ghost view = { λ a.
@@ -86,8 +83,6 @@ impl Model for Schedule {
 }
 
 impl Schedule {
-    ghost use Rattle.std.specs.Prelude.{◌≡◌, ◌<◌, ◌≤◌, ◌^◌, length};
-
     /// The lock.
     pub fn kind(&self) -> LockKind
         ensures { result ≡ self.now.kind }

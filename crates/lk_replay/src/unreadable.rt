@@ -45,9 +45,6 @@ pub struct Unreadable {
 }
 
 impl Expected {
-    ghost use Rattle.std.specs.Prelude.{◌≡◌};
-    ghost use Rattle.lk_replay.specs.Unreadable.{after_word, may_end};
-
     /// What may come after this word, or none where it may not be here.
     #[tactic(auto, unfolding(crate::specs::Unreadable::after_word))]
     pub fn after(self, word: &[u8]) -> Option<Expected>

@@ -1,9 +1,71 @@
-//! What a word of a schedule text stands for: a number, a lock, a call or a step.
+//! What a word of a text stands for: a number, a lock, a call, a step or an outcome. Each word is
+//! written once, in a table that is read both ways.
 
 ghost use Rattle.std.specs.Prelude.{◌≡◌, ◌≤◌, IfSome};
-ghost use Rattle.lk_replay.specs.Vocabulary.{number_of, move_named, lock_named};
+ghost use Rattle.lk_replay.specs.Vocabulary.{lock_name, lock_named, move_named, move_word};
+ghost use Rattle.lk_replay.specs.Vocabulary.{number_of, outcome_named, outcome_word};
 
-use lk_locks::{LockKind, Move, Op, StepKind};
+use lk_locks::{LockKind, Move, Op, Outcome, StepKind};
+
+// The words of the locks.
+macro_rules! lock_words {
+    ($rule:ident, $given:expr) => {
+        $rule!($given;
+            [LockKind::Ticket] "ticket",
+            [LockKind::Mcs] "mcs",
+            [LockKind::RwSimple] "rw-simple",
+            [LockKind::RwFifo] "rw-fifo",
+        )
+    };
+}
+
+// The words of the moves. The steps are tried first, and of these the most common.
+macro_rules! move_words {
+    ($rule:ident, $given:expr) => {
+        $rule!($given;
+            [Move::Step(StepKind::Read)] "read",
+            [Move::Step(StepKind::Section)] "section",
+            [Move::Step(StepKind::Write)] "write",
+            [Move::Step(StepKind::Swap)] "swap",
+            [Move::Step(StepKind::Cas)] "cas",
+            [Move::Step(StepKind::Add)] "add",
+            [Move::Call(Op::Acquire)] "acquire",
+            [Move::Call(Op::Release)] "release",
+            [Move::Call(Op::ReadLock)] "rlock",
+            [Move::Call(Op::ReadUnlock)] "runlock",
+            [Move::Call(Op::WriteLock)] "wlock",
+            [Move::Call(Op::WriteUnlock)] "wunlock",
+            [Move::Call(Op::Downgrade)] "downgrade",
+        )
+    };
+}
+
+// The words of the outcomes of steps, behind that of a call where it is given.
+macro_rules! outcome_words {
+    ($rule:ident, $given:expr $(, $($call:tt)+)?) => {
+        $rule!($given;
+            $($($call)+)?
+            [Outcome::Moved] "moved",
+            [Outcome::Waits] "waits",
+            [Outcome::Entered] "entered",
+            [Outcome::Left] "left",
+        )
+    };
+}
+
+// What a word stands for, by such a table.
+macro_rules! named {
+    ($word:expr; $([$($value:tt)+] $text:literal,)+) => {
+        $(if $word == $text.as_bytes() { Some($($value)+) } else)+ { None }
+    };
+}
+
+// The word of a value, by such a table.
+macro_rules! text {
+    ($value:expr; $([$($pattern:tt)+] $text:literal,)+) => {
+        match $value { $($($pattern)+ => $text,)+ }
+    };
+}
 
 /// The number from `least` to `most` that the text is, without leading zeros.
 #[tactic(auto, unfolding(crate::specs::Vocabulary::number_of))]
@@ -36,51 +98,42 @@ pub fn number_of(text: &[u8], least: u8, most: u8) -> Option<u8>
 pub fn lock_named(name: &[u8]) -> Option<LockKind>
     ensures { result ≡ lock_named name.now }
 {
-    if name == b"ticket".as_slice() {
-        Some(LockKind::Ticket)
-    } else if name == b"mcs".as_slice() {
-        Some(LockKind::Mcs)
-    } else if name == b"rw-simple".as_slice() {
-        Some(LockKind::RwSimple)
-    } else if name == b"rw-fifo".as_slice() {
-        Some(LockKind::RwFifo)
-    } else {
-        None
-    }
+    lock_words!(named, name)
 }
 
-/// The move of that word. The steps are tried first, and of these the most common.
+/// The name of a lock.
+pub fn lock_text(kind: LockKind) -> &'static str
+    ensures { result.now ≡ lock_name kind }
+{
+    lock_words!(text, kind)
+}
+
+/// The move of that word.
 #[tactic(auto, unfolding(crate::specs::Vocabulary::move_named))]
 pub fn move_named(word: &[u8]) -> Option<Move>
     ensures { result ≡ move_named word.now }
 {
-    if word == b"read".as_slice() {
-        Some(Move::Step(StepKind::Read))
-    } else if word == b"section".as_slice() {
-        Some(Move::Step(StepKind::Section))
-    } else if word == b"write".as_slice() {
-        Some(Move::Step(StepKind::Write))
-    } else if word == b"swap".as_slice() {
-        Some(Move::Step(StepKind::Swap))
-    } else if word == b"cas".as_slice() {
-        Some(Move::Step(StepKind::Cas))
-    } else if word == b"add".as_slice() {
-        Some(Move::Step(StepKind::Add))
-    } else if word == b"acquire".as_slice() {
-        Some(Move::Call(Op::Acquire))
-    } else if word == b"release".as_slice() {
-        Some(Move::Call(Op::Release))
-    } else if word == b"rlock".as_slice() {
-        Some(Move::Call(Op::ReadLock))
-    } else if word == b"runlock".as_slice() {
-        Some(Move::Call(Op::ReadUnlock))
-    } else if word == b"wlock".as_slice() {
-        Some(Move::Call(Op::WriteLock))
-    } else if word == b"wunlock".as_slice() {
-        Some(Move::Call(Op::WriteUnlock))
-    } else if word == b"downgrade".as_slice() {
-        Some(Move::Call(Op::Downgrade))
-    } else {
-        None
-    }
+    move_words!(named, word)
+}
+
+/// The word of a move.
+pub fn move_text(action: Move) -> &'static str
+    ensures { result.now ≡ move_word action }
+{
+    move_words!(text, action)
+}
+
+/// The outcome of a step that has this word.
+#[tactic(auto, unfolding(crate::specs::Vocabulary::outcome_named))]
+pub fn outcome_named(word: &[u8]) -> Option<Outcome>
+    ensures { result ≡ outcome_named word.now }
+{
+    outcome_words!(named, word)
+}
+
+/// The word of an outcome.
+pub fn outcome_text(outcome: Outcome) -> &'static str
+    ensures { result.now ≡ outcome_word outcome }
+{
+    outcome_words!(text, outcome, [Outcome::Called] "called",)
 }

@@ -1,5 +1,7 @@
 -- A line has no difference exactly where it agrees part by part.
 use Rattle.std.proofs.Common.{List, option_map, replicate, arith, ltb-true, lt-ltb, nat_lt, ◌<◌}
+use Rattle.std.proofs.Common.{◌≡◌, ℕ, ◌==◌, Option, Some, None, Bool, true, false, IfSome}
+use Rattle.std.proofs.Common.{if◌then◌else◌, refl, sym, ap, subst, length, not, ◌∙◌, ◌↔◌}
 use Rattle.std.proofs.lemmas.List.{get_or-replicate, length-replicate}
 use Rattle.lk_words.specs.Operations.{effect_on}
 use Rattle.lk_words.specs.declared.operation.Operation.{Operation}
@@ -15,29 +17,23 @@ use Rattle.lk_locks.specs.declared.kinds.Move.TheVariants.{Call, Step}
 use Rattle.lk_locks.specs.declared.kinds.Outcome.{Outcome}
 use Rattle.lk_locks.specs.declared.kinds.Outcome.TheVariants.{Called, Moved, Waits, Entered, Left}
 use Rattle.lk_locks.specs.declared.kinds.Refusal.{Refusal}
-use Rattle.lk_trace.specs.Agreement.{Agrees}
+use Rattle.lk_trace.specs.Agreement.{Agrees, AgreesOn, AgreesOnWord}
 use Rattle.lk_trace.specs.Checks.{checked, count_other, difference_of, new_lock, outcome_other}
-use Rattle.lk_trace.specs.Checks.{refused, same_outcome}
+use Rattle.lk_trace.specs.Checks.{refused, same_outcome, Checked, or_then, is_word, other_word}
+use Rattle.lk_trace.specs.Checks.{found_other, left_other, same_answer, wrote_other, values_other}
+use Rattle.lk_trace.specs.Checks.{seen_other, effect_of, effect_other, name_of, will_stand}
 use Rattle.lk_trace.specs.declared.line.Seen.{Seen}
-use Rattle.lk_trace.specs.declared.line.Seen.TheVariants.{InSection, Nothing}
+use Rattle.lk_trace.specs.declared.line.Seen.TheVariants.{InSection, Nothing, OnWord}
 use Rattle.lk_trace.specs.declared.line.TraceLine.{TraceLine}
-use Rattle.std.proofs.Common.{◌≡◌, ℕ, ◌<◌, ◌==◌, Option, Some, None, Bool, true, false, IfSome}
-use Rattle.std.proofs.Common.{if◌then◌else◌, refl, sym, ap, subst, length, not, ◌∙◌, ◌↔◌}
 use Rattle.std.proofs.lemmas.Bool.{eqb-true, eq-eqb, cond-true}
 use Rattle.lk_locks.specs.declared.kinds.Move.{Move}
 use Rattle.lk_trace.specs.Names.{name_at, same_word}
-use Rattle.lk_trace.specs.Checks.{Checked, or_then, is_word, other_word, found_other}
-use Rattle.lk_trace.specs.Checks.{left_other, same_answer, wrote_other}
-use Rattle.lk_trace.specs.Checks.{values_other, seen_other}
-use Rattle.lk_trace.specs.Checks.{effect_of, effect_other, name_of, will_stand}
-use Rattle.lk_trace.specs.Agreement.{AgreesOn, AgreesOnWord}
 use Rattle.lk_trace.proofs.Naming.{stands_as}
 use Rattle.lk_words.specs.declared.operation.Effect.{Effect}
 use Rattle.lk_trace.specs.declared.names.WordName.{WordName}
 use Rattle.lk_trace.specs.declared.names.WordName.TheVariants.{NextTicket, NowServing, Tail, Next}
 use Rattle.lk_trace.specs.declared.names.WordName.TheVariants.{Locked, Readers, Flag, ReadAcquires}
 use Rattle.lk_trace.specs.declared.names.WordName.TheVariants.{ReadReleases}
-use Rattle.lk_trace.specs.declared.line.Seen.TheVariants.{OnWord}
 use Rattle.lk_trace.specs.declared.difference.Difference.{Difference}
 
 -- of two checks, one after the other, neither finds a difference

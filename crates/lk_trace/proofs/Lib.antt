@@ -1,4 +1,5 @@
 mod Large
+mod Own
 mod HeaderFaults
 mod Naming
 pub mod Agreeing

@@ -1,7 +1,6 @@
 -- A word's name leads back to its place, and the words of a name stand as its step's effect says.
-use Rattle.std.proofs.Common.{List, None, Option, Some, ap, arith, inl, inr, length}
-use Rattle.std.proofs.Common.{option_map, refl, slice_index, subst, sym, ℕ, ◌∙◌}
-use Rattle.std.proofs.Common.{◌%◌, ◌<◌, ◌≡◌, nat_lt}
+use Rattle.std.proofs.Common.{List, None, Option, Some, ap, arith, inl, inr, length, option_map}
+use Rattle.std.proofs.Common.{refl, slice_index, subst, sym, ℕ, ◌∙◌, ◌%◌, ◌<◌, ◌≡◌, nat_lt}
 use Rattle.std.proofs.lemmas.Bool.Decides.{eqb_tells}
 use Rattle.std.proofs.lemmas.List.{get_or-set_same}
 use Rattle.lk_words.proofs.Operations.{one_word}

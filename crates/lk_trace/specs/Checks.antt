@@ -123,14 +123,17 @@ effect_other kind (Some effect) word found left wrote =
     or_then (other_word (name_at kind effect.word) word)
     (values_other word effect.found effect.left found left wrote)
 
+abbrev pub section_other : ℕ → Outcome → Option ℕ → Option Outcome → Option Difference
+section_other last outcome count given =
+    or_then (count_other last count) (outcome_other outcome given)
+
 -- what an accepted move differs in
 abbrev pub seen_other : Checked → ℕ → Move → Seen → Option Difference
 seen_other c t m Nothing = None
 seen_other c t m (OnWord word found left wrote) =
     effect_other c.lock.state.kind (effect_of c.lock.state t m) word found left wrote
 seen_other c t m (InSection count outcome) =
-    or_then (count_other c.sections count)
-    (outcome_other (change_of c.lock.state t m).outcome outcome)
+    section_other c.sections (change_of c.lock.state t m).outcome count outcome
 
 -- where a line of a trace differs from the machine first
 abbrev pub difference_of : Checked → TraceLine → Option Difference

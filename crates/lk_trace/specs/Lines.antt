@@ -1,7 +1,7 @@
 -- Definitions. A line of a trace, and a line of a log: a move, and what its thread saw. This
 -- project's own.
 use Rattle.std.specs.Prelude.{ℕ, List, [], ◌∷◌, Option, Some, None, Bool, true, false}
-use Rattle.std.specs.Prelude.{if◌then◌else◌, ◌&&◌, nat_le, codes, option_map}
+use Rattle.std.specs.Prelude.{if◌then◌else◌, ◌&&◌, nat_le, nat_lt, codes, length, option_map}
 use Rattle.std.specs.Str.{bytes_eq}
 use Rattle.std.specs.Borrow.{Bor}
 use Rattle.lk_locks.specs.declared.kinds.Move.{Move}
@@ -9,13 +9,9 @@ use Rattle.lk_locks.specs.declared.kinds.Move.TheVariants.{Call, Step}
 use Rattle.lk_locks.specs.declared.kinds.StepKind.{StepKind}
 use Rattle.lk_locks.specs.declared.kinds.StepKind.TheVariants.{Cas, Section}
 use Rattle.lk_locks.specs.declared.kinds.Outcome.{Outcome}
-use Rattle.lk_locks.specs.declared.kinds.Outcome.TheVariants.{Called, Moved, Waits, Entered, Left}
-use Rattle.lk_locks.specs.declared.kinds.Refusal.{Refusal}
-use Rattle.lk_locks.specs.declared.kinds.Refusal.TheVariants.{NoSuchThread, WrongLock, Busy}
-use Rattle.lk_locks.specs.declared.kinds.Refusal.TheVariants.{NotHolder, AlreadyHolds, NoCall}
-use Rattle.lk_locks.specs.declared.kinds.Refusal.TheVariants.{WrongStep}
 use Rattle.lk_replay.specs.Lines.{words_of}
 use Rattle.lk_replay.specs.Vocabulary.{is_plain_number, value_from, number_of, move_named}
+use Rattle.lk_replay.specs.Vocabulary.{outcome_named}
 use Rattle.lk_trace.specs.declared.names.WordName.{WordName}
 use Rattle.lk_trace.specs.declared.names.WordName.TheVariants.{NextTicket, NowServing, Tail, Next}
 use Rattle.lk_trace.specs.declared.names.WordName.TheVariants.{Locked}
@@ -31,22 +27,6 @@ unfoldable pub whole_number : List ℕ → Option ℕ
 whole_number text =
     if is_plain_number text && nat_le
     (value_from 0 text) 18446744073709551615 then Some (value_from 0 text) else None
-
-abbrev pub outcome_word : Outcome → List ℕ
-outcome_word Called = codes "called"
-outcome_word Moved = codes "moved"
-outcome_word Waits = codes "waits"
-outcome_word Entered = codes "entered"
-outcome_word Left = codes "left"
-
-abbrev pub refusal_name : Refusal → List ℕ
-refusal_name NoSuchThread = codes "NoSuchThread"
-refusal_name WrongLock = codes "WrongLock"
-refusal_name Busy = codes "Busy"
-refusal_name NotHolder = codes "NotHolder"
-refusal_name AlreadyHolds = codes "AlreadyHolds"
-refusal_name NoCall = codes "NoCall"
-refusal_name (WrongStep next) = codes "WrongStep"
 
 -- a part that was read, and the words behind it
 abbrev pub Read : Type 0 → Type 0
@@ -118,13 +98,6 @@ with_word kind None = None
 abbrev pub values_of : ℕ → StepKind → Words → Option Seen
 values_of thread kind words = with_word kind (place_in thread words)
 
-abbrev pub outcome_named : List ℕ → Option Outcome
-outcome_named word =
-    if bytes_eq word (codes "moved") then Some Moved
-    else (if bytes_eq word (codes "waits") then Some Waits
-    else (if bytes_eq word (codes "entered") then Some Entered
-    else (if bytes_eq word (codes "left") then Some Left else None)))
-
 abbrev pub with_outcome : Option ℕ → Option Outcome → Option Seen
 with_outcome count (Some outcome) = Some (InSection count (Some outcome))
 with_outcome count None = None
@@ -183,6 +156,13 @@ trace_line_of line = line_of_words (words_of line)
 -- the move that a line of this thread's log is
 unfoldable pub log_line_of : ℕ → List ℕ → Option TraceLine
 log_line_of thread line = move_with thread (words_of line)
+
+-- the same of a line of at most 96 bytes
+abbrev pub short_line_of : List ℕ → Option TraceLine
+short_line_of line = if nat_lt 96 (length line) then None else trace_line_of line
+
+abbrev pub short_log_line_of : ℕ → List ℕ → Option TraceLine
+short_log_line_of thread line = if nat_lt 96 (length line) then None else log_line_of thread line
 
 -- the words of what is left of a line
 abbrev pub words_left : Option (Bor (List ℕ)) → Words

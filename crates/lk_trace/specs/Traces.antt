@@ -9,7 +9,7 @@ use Rattle.lk_replay.specs.Faults as of_text
 use Rattle.lk_replay.specs.declared.schedule.ReadFault.{ReadFault}
 use Rattle.lk_replay.specs.declared.schedule.ReadFault.TheVariants as reading
 use Rattle.lk_replay.specs.declared.header.Header.{Header}
-use Rattle.lk_trace.specs.Lines.{trace_line_of}
+use Rattle.lk_trace.specs.Lines.{short_line_of}
 use Rattle.lk_trace.specs.Checks.{Checked, new_lock, answer_to, after_line}
 use Rattle.lk_trace.specs.declared.checker.Made.{Made as MadeMove}
 use Rattle.lk_trace.specs.declared.line.TraceLine.{TraceLine}
@@ -42,10 +42,6 @@ header_read (Err fault) = Err (fault_of fault)
 abbrev pub read_header_of : List ℕ → Result Header TextFault
 read_header_of line =
     if nat_lt 96 (length line) then Err BadHeader else header_read (text.header_of 0 line)
-
--- the move that a line of at most 96 bytes is
-abbrev pub short_line_of : List ℕ → Option TraceLine
-short_line_of line = if nat_lt 96 (length line) then None else trace_line_of line
 
 -- the lock of a header, on which nothing was done
 abbrev pub new_checked : Header → Checked

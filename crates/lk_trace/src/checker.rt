@@ -1,15 +1,14 @@
 //! The check of a run, move by move: each is made on the lock's machine, and what its thread saw is
 //! compared with the machine's words.
 
-ghost use Rattle.std.specs.Prelude.{◌≡◌, ◌<◌, ◌≤◌, ◌^◌, ◌↔◌, None, length, IsOk, OnOk};
-ghost use Rattle.std.specs.Prelude.{IfSome, SomeIff};
+ghost use Rattle.std.specs.Prelude.{◌≡◌, ◌<◌, ◌≤◌, ◌^◌, ◌↔◌, None, length, IsOk, OnOk, IfSome};
+ghost use Rattle.std.specs.Prelude.{SomeIff};
 ghost use Rattle.lk_locks.specs.State.{phase_at};
 ghost use Rattle.lk_locks.specs.Steps.{refusal_of};
 ghost use Rattle.lk_trace.specs.Agreement.{Agrees, AgreesOn, IsCounted, count_in};
-ghost use Rattle.lk_trace.specs.Checks.{after_line, answer_to, count_given, count_other};
-ghost use Rattle.lk_trace.specs.Checks.{difference_of, effect_of, effect_other, found_other};
-ghost use Rattle.lk_trace.specs.Checks.{left_other, new_lock, other_word, outcome_other};
-ghost use Rattle.lk_trace.specs.Checks.{seen_other, wrote_other};
+ghost use Rattle.lk_trace.specs.Checks.{after_line, answer_to, count_given, difference_of};
+ghost use Rattle.lk_trace.specs.Checks.{effect_of, effect_other, new_lock, section_other};
+ghost use Rattle.lk_trace.specs.Checks.{seen_other, Checked};
 
 use crate::names::{name_at, same_word};
 use crate::{Difference, Seen, TraceLine, WordName};
@@ -36,86 +35,57 @@ pub struct Checker {
 }
 
 impl Model for Checker {
-    ghost use Rattle.lk_trace.specs.Checks.{Checked};
-
     ghost Value = { Checked };
 
     ghost view = { λ a. record { lock = a.lock; sections = a.sections } };
-}
-
-fn other_word(word: Option<WordName>, given: WordName) -> Option<Difference>
-    ensures { result ≡ other_word word given }
-{
-    match word {
-        Some(word) if same_word(word, given) => None,
-        _ => Some(Difference::OtherWord { word, given }),
-    }
-}
-
-fn found_other(word: WordName, found: u64, given: Option<u64>) -> Option<Difference>
-    ensures { result ≡ found_other word found given }
-{
-    match given {
-        Some(given) if found != given => Some(Difference::FoundOther { word, found, given }),
-        _ => None,
-    }
-}
-
-fn left_other(word: WordName, left: u64, given: Option<u64>) -> Option<Difference>
-    ensures { result ≡ left_other word left given }
-{
-    match given {
-        Some(given) if left != given => Some(Difference::LeftOther { word, left, given }),
-        _ => None,
-    }
-}
-
-fn wrote_other(wrote: bool, given: Option<bool>) -> Option<Difference>
-    ensures { result ≡ wrote_other wrote given }
-{
-    match given {
-        Some(given) if wrote != given => Some(Difference::WroteOther { wrote }),
-        _ => None,
-    }
 }
 
 // What a move that does this differs in from what is given of its word.
 fn effect_other(
     kind: LockKind,
     effect: Option<Effect>,
-    word: WordName,
-    found: Option<u64>,
-    left: Option<u64>,
-    wrote: Option<bool>,
+    given: WordName,
+    given_found: Option<u64>,
+    given_left: Option<u64>,
+    given_wrote: Option<bool>,
 ) -> Option<Difference>
-    ensures { result ≡ effect_other kind effect word found left wrote }
+    ensures { result ≡ effect_other kind effect given given_found given_left given_wrote }
 {
     let Some(effect) = effect else {
-        return Some(Difference::OtherWord {
-            word: None,
-            given: word,
-        });
+        return Some(Difference::OtherWord { word: None, given });
     };
-    other_word(name_at(kind, effect.word), word)
-        .or_else(|| found_other(word, effect.found, found))
-        .or_else(|| left_other(word, effect.left, left))
-        .or_else(|| wrote_other(effect.found != effect.left, wrote))
-}
-
-fn count_other(last: u64, given: Option<u64>) -> Option<Difference>
-    ensures { result ≡ count_other last given }
-{
-    match given {
-        Some(given) if given <= last => Some(Difference::CountNotAbove { last, given }),
+    let own = name_at(kind, effect.word);
+    let word = match own {
+        Some(word) if same_word(word, given) => word,
+        _ => return Some(Difference::OtherWord { word: own, given }),
+    };
+    let (found, left, wrote) = (effect.found, effect.left, effect.found != effect.left);
+    match given_found {
+        Some(given) if found != given => return Some(Difference::FoundOther { word, found, given }),
+        _ => {}
+    }
+    match given_left {
+        Some(given) if left != given => return Some(Difference::LeftOther { word, left, given }),
+        _ => {}
+    }
+    match given_wrote {
+        Some(given) if wrote != given => Some(Difference::WroteOther { wrote }),
         _ => None,
     }
 }
 
-fn outcome_other(outcome: Outcome, given: Option<Outcome>) -> Option<Difference>
-    ensures { result ≡ outcome_other outcome given }
+// What a section with this outcome, behind one of this count, differs in from what is given of it.
+fn section_other(
+    last: u64,
+    outcome: Outcome,
+    count: Option<u64>,
+    given: Option<Outcome>,
+) -> Option<Difference>
+    ensures { result ≡ section_other last outcome count given }
 {
-    match given {
-        Some(given) if outcome != given => Some(Difference::OtherOutcome { outcome, given }),
+    match (count, given) {
+        (Some(given), _) if given <= last => Some(Difference::CountNotAbove { last, given }),
+        (_, Some(given)) if outcome != given => Some(Difference::OtherOutcome { outcome, given }),
         _ => None,
     }
 }
@@ -206,10 +176,14 @@ impl Checker {
                 left,
                 wrote,
             ),
-            Seen::InSection { count, outcome } => match count_other(self.sections, count) {
-                Some(other) => Some(other),
-                None => outcome_other(self.lock.machine().outcome(t, m), outcome),
-            },
+            Seen::InSection { count, outcome } => {
+                section_other(
+                    self.sections,
+                    self.lock.machine().outcome(t, m),
+                    count,
+                    outcome,
+                )
+            }
         }
     }
 

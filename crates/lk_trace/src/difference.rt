@@ -1,7 +1,8 @@
 //! Where a run and the machine differ.
 
-use crate::{WordName, outcome_text};
+use crate::WordName;
 use lk_locks::{Outcome, Refusal};
+use lk_replay::parts::outcome_text;
 use std::fmt;
 use thiserror::Error;
 

@@ -1,17 +1,19 @@
 //! A line of a trace or of a log, read: a move, and what its thread saw.
 
-ghost use Rattle.std.specs.Prelude.{◌≡◌, MatchOption, None, Some};
+ghost use Rattle.std.specs.Prelude.{◌≡◌, [], ◌∷◌, IfSome, MatchOption, None, Some};
 ghost use Rattle.lk_replay.specs.Lines.{words_of};
-ghost use Rattle.lk_trace.specs.Lines.{counted, counted_and, log_line_of, move_with, outcome_named};
-ghost use Rattle.lk_trace.specs.Lines.{owner_of, place_in, result_alone, result_of, seen_of};
-ghost use Rattle.lk_trace.specs.Lines.{section_of, tagged, trace_line_of, values_of, whole_number};
-ghost use Rattle.lk_trace.specs.Lines.{words_left};
+ghost use Rattle.lk_trace.specs.Lines.{counted, counted_and, move_with, owner_of};
+ghost use Rattle.lk_trace.specs.Lines.{place_in, result_alone, result_of, section_of, seen_of};
+ghost use Rattle.lk_trace.specs.Lines.{short_line_of, short_log_line_of, tagged, values_of};
+ghost use Rattle.lk_trace.specs.Lines.{whole_number, words_left};
 
 use crate::WordName;
 use crate::numbers::whole_number;
-use crate::parts::first_word;
 use lk_locks::{Move, Outcome, StepKind};
-use lk_replay::parts::{move_named, number_of};
+use lk_replay::parts::{cut_word, move_named, number_of, outcome_named};
+
+/// The most bytes of a header and of a move.
+pub const MOST_OF_A_LINE: usize = 96;
 
 /// What a line says of its step besides its kind. A part that is left out is not checked.
 #[derive(Clone, Copy, PartialEq, Eq, Debug)]
@@ -42,6 +44,18 @@ pub struct TraceLine {
 
 /// What is left of a line behind a part of it.
 type Rest<'a> = Option<&'a [u8]>;
+
+// The first word of what is left of a line, and what is left behind it.
+fn first_word(rest: Rest<'_>) -> Option<(&[u8], Rest<'_>)>
+    ensures { MatchOption result (words_left rest.entry ≡ [])
+        (λ cut. words_left rest.entry ≡ cut.0.now ∷ words_left cut.1) }
+{
+    let line = rest?;
+    match cut_word(line) {
+        Some((word, after)) => Some((word, Some(after))),
+        None => Some((line, None)),
+    }
+}
 
 // The word that a step of this thread was on, by its name.
 fn place_in(rest: Rest<'_>, thread: u8) -> Option<(WordName, Rest<'_>)>
@@ -146,22 +160,6 @@ fn values_of(rest: Rest<'_>, thread: u8, kind: StepKind) -> Option<Seen>
     })
 }
 
-fn outcome_named(word: &[u8]) -> Option<Outcome>
-    ensures { result ≡ outcome_named word.now }
-{
-    if word == b"moved".as_slice() {
-        Some(Outcome::Moved)
-    } else if word == b"waits".as_slice() {
-        Some(Outcome::Waits)
-    } else if word == b"entered".as_slice() {
-        Some(Outcome::Entered)
-    } else if word == b"left".as_slice() {
-        Some(Outcome::Left)
-    } else {
-        None
-    }
-}
-
 // The count of a section, or else its outcome.
 fn counted(word: &[u8]) -> Option<Seen>
     ensures { result ≡ counted (whole_number word.now) word.now }
@@ -233,12 +231,15 @@ fn move_with(rest: Rest<'_>, thread: u8) -> Option<TraceLine>
     })
 }
 
-/// The move that a line of a trace is: a thread's number, a word of a schedule, and what the thread
-/// saw.
+/// The move that a line of a trace of at most 96 bytes is: a thread's number, a word of a schedule,
+/// and what the thread saw.
 #[tactic(auto, unfolding(crate::specs::Lines::trace_line_of))]
 pub fn read_line(line: &[u8]) -> Option<TraceLine>
-    ensures { result ≡ trace_line_of line.now }
+    ensures { result ≡ short_line_of line.now }
 {
+    if line.len() > MOST_OF_A_LINE {
+        return None;
+    }
     let (number, rest) = first_word(Some(line))?;
     let thread = number_of(number, 0, 255)?;
     move_with(rest, thread)
@@ -247,7 +248,11 @@ pub fn read_line(line: &[u8]) -> Option<TraceLine>
 /// The move that a line of this thread's log is: a line of a trace without the thread's number.
 #[tactic(auto, unfolding(crate::specs::Lines::log_line_of))]
 pub fn read_log_line(line: &[u8], thread: u8) -> Option<TraceLine>
-    ensures { result ≡ log_line_of thread line.now }
+    ensures line { result ≡ short_log_line_of thread line.now }
+    ensures own { IfSome result (λ line. line.thread ≡ thread) }
 {
+    if line.len() > MOST_OF_A_LINE {
+        return None;
+    }
     move_with(Some(line), thread)
 }

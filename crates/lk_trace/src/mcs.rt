@@ -1,20 +1,9 @@
 //! The words of the MCS lock by name: the tail, and two words in the record of each thread.
 
 ghost use Rattle.std.specs.Prelude.{◌≡◌};
-ghost use Rattle.lk_trace.specs.mcs.{name_at, place_of};
+ghost use Rattle.lk_trace.specs.mcs.{name_at};
 
 use crate::WordName;
-
-/// Which word it is, counted from 0.
-pub fn place_of(word: WordName) -> usize
-    ensures { result ≡ place_of word }
-{
-    match word {
-        WordName::Next(thread) => 1 + 2 * thread as usize,
-        WordName::Locked(thread) => 2 + 2 * thread as usize,
-        _ => 0,
-    }
-}
 
 /// The name of the word at this place. There are at most 64 threads.
 pub fn name_at(place: usize) -> Option<WordName>

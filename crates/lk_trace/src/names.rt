@@ -1,7 +1,7 @@
 //! The words of the locks by name. Each lock has a module of its own.
 
 ghost use Rattle.std.specs.Prelude.{◌≡◌};
-ghost use Rattle.lk_trace.specs.Names.{name_at, place_of, same_word};
+ghost use Rattle.lk_trace.specs.Names.{name_at, same_word};
 
 use crate::{mcs, rw_fifo, rw_simple, ticket};
 use lk_locks::LockKind;
@@ -34,18 +34,6 @@ impl fmt::Display for WordName {
             WordName::ReadAcquires => f.write_str("readAcquires"),
             WordName::ReadReleases => f.write_str("readReleases"),
         }
-    }
-}
-
-/// Which of the lock's words it is, counted from 0. A word of another lock is counted as 0.
-pub fn place_of(kind: LockKind, word: WordName) -> usize
-    ensures { result ≡ place_of kind word }
-{
-    match kind {
-        LockKind::Ticket => ticket::place_of(word),
-        LockKind::Mcs => mcs::place_of(word),
-        LockKind::RwSimple => rw_simple::place_of(word),
-        LockKind::RwFifo => rw_fifo::place_of(word),
     }
 }
 

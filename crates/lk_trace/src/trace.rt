@@ -1,17 +1,15 @@
 //! A trace, read line by line: the header, and then the moves, each checked on the header's lock.
 
-ghost use Rattle.std.specs.Prelude.{◌≡◌, ◌<◌, ◌≤◌, ◌^◌, IfOk, None, option_map};
+ghost use Rattle.std.specs.Prelude.{◌≡◌, ◌<◌, ◌≤◌, ◌^◌, IfOk, None, option_map, Option};
 ghost use Rattle.lk_trace.specs.Traces.{after_text_line, event_of, fault_named, read_header_of};
-ghost use Rattle.lk_trace.specs.Traces.{short_line_of};
+ghost use Rattle.lk_trace.specs.Checks.{Checked};
 
+use crate::line::MOST_OF_A_LINE;
 use crate::{Checker, Difference, Made, TraceLine, read_line};
 use lk_replay::ReadFault;
 use lk_replay::parts::{Header, header_of, is_skipped};
 use std::marker::Model;
 use thiserror::Error;
-
-/// The most bytes of a header and of a move.
-pub const MOST_OF_A_LINE: usize = 96;
 
 /// Why a text is no trace. They are a schedule's faults, but for its limits.
 #[derive(Clone, Copy, PartialEq, Eq, Debug, Error)]
@@ -55,9 +53,6 @@ pub struct TraceReader {
 }
 
 impl Model for TraceReader {
-    ghost use Rattle.std.specs.Prelude.{Option};
-    ghost use Rattle.lk_trace.specs.Checks.{Checked};
-
     ghost Value = { Option Checked };
 
     ghost view = { λ a. a.checker };
@@ -96,16 +91,6 @@ pub fn read_header(line: &[u8]) -> Result<Header, TextFault>
     }
 }
 
-// The move that a line of at most 96 bytes is.
-fn short_line(line: &[u8]) -> Option<TraceLine>
-    ensures { result ≡ short_line_of line.now }
-{
-    if line.len() > MOST_OF_A_LINE {
-        return None;
-    }
-    read_line(line)
-}
-
 impl TraceReader {
     /// No line was read yet.
     pub fn new() -> TraceReader
@@ -138,7 +123,7 @@ impl TraceReader {
                 Err(fault) => Event::Fault(fault),
             };
         };
-        let Some(line) = short_line(line) else {
+        let Some(line) = read_line(line) else {
             return Event::Fault(TextFault::BadLine);
         };
         match checker.step(line) {

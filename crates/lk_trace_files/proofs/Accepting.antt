@@ -9,7 +9,8 @@ use Rattle.lk_replay.specs.declared.header.Header.{Header}
 use Rattle.lk_trace.proofs.Agreeing.{agreed, agrees, new_is_well, stays_well}
 use Rattle.lk_trace.specs.Checks.{Checked, answer_unless, checked, difference_of, made_of}
 use Rattle.lk_trace.specs.Checks.{unless_other}
-use Rattle.lk_trace.specs.Traces.{event_of, after_text_line, read_header_of, short_line_of}
+use Rattle.lk_trace.specs.Lines.{short_line_of}
+use Rattle.lk_trace.specs.Traces.{event_of, after_text_line, read_header_of}
 use Rattle.lk_trace.specs.Traces.{header_event, move_event, answer_event, after_header}
 use Rattle.lk_trace.specs.Traces.{after_move_line, new_checked}
 use Rattle.lk_trace.specs.declared.difference.Difference.{Difference}

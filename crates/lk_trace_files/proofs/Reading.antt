@@ -8,7 +8,8 @@ use Rattle.std.proofs.lemmas.List.{take_all}
 use Rattle.std.proofs.lemmas.Bool.{cond-true, lt-ltb, cases_lt, eqb-true, false_from_ne_true}
 use Rattle.lk_replay.specs.Lines.{lines_of, is_skipped}
 use Rattle.lk_trace.specs.Checks.{Checked}
-use Rattle.lk_trace.specs.Traces.{event_of, after_text_line, read_header_of, short_line_of}
+use Rattle.lk_trace.specs.Lines.{short_line_of}
+use Rattle.lk_trace.specs.Traces.{event_of, after_text_line, read_header_of}
 use Rattle.lk_trace.specs.Traces.{header_event, move_event, unskipped_event, after_unskipped}
 use Rattle.lk_trace.specs.Traces.{after_header, after_move_line}
 use Rattle.lk_trace.specs.declared.trace.Event.{Event}

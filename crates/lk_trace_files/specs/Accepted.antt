@@ -5,7 +5,8 @@ use Rattle.lk_replay.specs.Lines.{is_skipped}
 use Rattle.lk_replay.specs.declared.header.Header.{Header}
 use Rattle.lk_trace.specs.Agreement.{Agrees}
 use Rattle.lk_trace.specs.Checks.{Checked, checked}
-use Rattle.lk_trace.specs.Traces.{new_checked, read_header_of, short_line_of}
+use Rattle.lk_trace.specs.Lines.{short_line_of}
+use Rattle.lk_trace.specs.Traces.{new_checked, read_header_of}
 use Rattle.lk_trace.specs.declared.line.TraceLine.{TraceLine}
 
 -- the line is a move that the machine accepts and of which each part that is given is the machine's

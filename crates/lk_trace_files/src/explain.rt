@@ -11,11 +11,9 @@ use crate::sentences::sentence;
 use crate::texts::{Called, Lock, Standing, Wrong};
 use faulty::put_fault;
 use grammar::MOVES;
-use lk_locks::Machine;
-use lk_replay::parts::move_named;
-use lk_trace::{
-    Event, Made, TextFault, TraceLine, TraceReader, move_text, name_at, outcome_text, step_text,
-};
+use lk_locks::{Machine, Move};
+use lk_replay::parts::{move_named, move_text, outcome_text};
+use lk_trace::{Event, Made, TextFault, TraceLine, TraceReader, name_at};
 use lk_words::{Effect, WordArray};
 use std::alloc::{AllocError, Global};
 use std::fmt::Write as _;
@@ -82,7 +80,7 @@ fn put_due(text: &mut String, machine: &Machine<WordArray>, thread: u8) -> Resul
         return writeln!(text, "  the lock has {threads} threads, from 0 on");
     }
     if let Some(next) = machine.next_step(thread) {
-        let next = step_text(next);
+        let next = move_text(Move::Step(next));
         return writeln!(text, "  due: {thread} {next}");
     }
     write!(text, "  accepted would be:")?;

@@ -4,8 +4,8 @@
 use crate::check::Ending;
 use crate::failures::Failure;
 use crate::rewriting::{Rewriter, Stopped, rewrite};
-use lk_replay::parts::is_skipped;
-use lk_trace::{MOST_OF_A_LINE, TextFault, move_text, read_header, read_line};
+use lk_replay::parts::{is_skipped, move_text};
+use lk_trace::{TextFault, read_header, read_line};
 use std::alloc::{AllocError, Global};
 use std::fmt::Write as _;
 use std::io::{Error, Read, Write};
@@ -61,12 +61,12 @@ impl Rewriter for Shortener {
             return Ok(None);
         }
         match read_line(line) {
-            Some(read) if line.len() <= MOST_OF_A_LINE => {
+            Some(read) => {
                 let (thread, word) = (read.thread, move_text(read.action));
                 writeln!(text, "{thread} {word}")?;
                 Ok(None)
             }
-            _ => Ok(Some(TextFault::BadLine)),
+            None => Ok(Some(TextFault::BadLine)),
         }
     }
 }

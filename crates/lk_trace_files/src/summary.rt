@@ -3,7 +3,7 @@
 
 use crate::texts::Lock;
 use lk_locks::{LockKind, Move, Outcome, Phase, StepKind};
-use lk_trace::{Made, TraceLine, WordName, place_of};
+use lk_trace::{Made, TraceLine};
 use std::alloc::AllocError;
 use std::fmt;
 use std::fmt::Write;
@@ -22,11 +22,10 @@ pub struct Summary {
     counter: u64,
 }
 
-// The word that counts without end, where the lock has one.
-fn counter_of(kind: LockKind) -> Option<WordName> {
-    match kind {
-        LockKind::Ticket => Some(WordName::NextTicket),
-        LockKind::RwFifo => Some(WordName::ReadAcquires),
+// The word that counts without end, where the lock has one: `next_ticket`, or `readAcquires`.
+fn counter_of(lock: &Lock) -> Option<u64> {
+    match lock.kind() {
+        LockKind::Ticket | LockKind::RwFifo => lock.machine().words().as_slice().first().copied(),
         LockKind::Mcs | LockKind::RwSimple => None,
     }
 }
@@ -52,9 +51,7 @@ impl Summary {
     // Counts a step that may have changed who is in the queue, and the lock's counter.
     fn note_lock(&mut self, lock: &Lock) {
         self.longest = self.longest.max(lock.queue().len());
-        if let Some(word) = counter_of(lock.kind()) {
-            let words = lock.machine().words().as_slice();
-            let now = words.get(place_of(lock.kind(), word)).copied().unwrap_or(0);
+        if let Some(now) = counter_of(lock) {
             if now < self.counter {
                 self.rounds = self.rounds.saturating_add(1);
             }

@@ -1,9 +1,8 @@
 //! What is said of a line that differs from the machine, and of who holds and who waits.
 
-use lk_locks::{Holders, LockKind, Refusal, Tracker};
-use lk_trace::{
-    Difference, Seen, TraceLine, WordName, lock_text, move_text, outcome_text, step_text,
-};
+use lk_locks::{Holders, LockKind, Move, Refusal, Tracker};
+use lk_replay::parts::{lock_text, move_text, outcome_text};
+use lk_trace::{Difference, Seen, TraceLine, WordName};
 use lk_words::WordArray;
 use std::alloc::AllocError;
 use std::fmt;
@@ -153,7 +152,7 @@ impl<'a> Wrong<'a> {
             Refusal::AlreadyHolds => write!(f, "{called} holds the lock already (AlreadyHolds)"),
             Refusal::NoCall => write!(f, "{called} has no pending call (NoCall)"),
             Refusal::WrongStep { next } => {
-                let next = step_text(next);
+                let next = move_text(Move::Step(next));
                 write!(f, "{called}'s next step is '{next}' (WrongStep)")
             }
         }

@@ -9,7 +9,7 @@ use std::alloc::Global;
 fn log_of(alloc: Global, lines: &[&[u8]]) -> Option<Log> {
     let mut reader = LogReader::new(alloc);
     for line in lines {
-        if reader.line(*line).is_err() {
+        if reader.line(*line, true).is_err() {
             return None;
         }
     }
@@ -170,5 +170,5 @@ fn a_second_log_is_unfit(rt: HostRuntime) {
     if let Some(other) = log_of(alloc, &other) {
         assert_eq!(rt; shelf.put(other), Err(Unfit::OtherLock));
     }
-    assert_eq!(rt; shelf.missing().map(|missing| missing.thread), Some(0));
+    assert_eq!(rt; shelf.missing(), Some(0));
 }

@@ -3,7 +3,7 @@
 use lk_locks::{LockKind, Machine, Move, Op, Outcome, Phase, Refusal, StepKind, operation_of};
 use lk_trace::{
     Checker, Difference, Event, Made, Seen, TextFault, TraceLine, TraceReader, WordName, name_at,
-    place_of, read_line, read_log_line, whole_number,
+    read_line, read_log_line, whole_number,
 };
 use lk_words::{Operation, WordArray};
 use std::process::Abort;
@@ -120,8 +120,8 @@ fn lines_of_a_log(rt: HostRuntime) {
 // The words of an MCS lock of three threads, by name.
 #[test]
 fn words_have_names(rt: HostRuntime) {
-    assert_eq!(rt; place_of(LockKind::Mcs, WordName::Next(2)), 5);
-    assert_eq!(rt; place_of(LockKind::Mcs, WordName::Locked(2)), 6);
+    assert_eq!(rt; name_at(LockKind::Mcs, 1), Some(WordName::Next(0)));
+    assert_eq!(rt; name_at(LockKind::Mcs, 2), Some(WordName::Locked(0)));
     assert_eq!(rt; name_at(LockKind::Mcs, 0), Some(WordName::Tail));
     assert_eq!(rt; name_at(LockKind::Mcs, 5), Some(WordName::Next(2)));
     assert_eq!(rt; name_at(LockKind::Mcs, 6), Some(WordName::Locked(2)));

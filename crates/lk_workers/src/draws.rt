@@ -9,6 +9,7 @@ ghost use Rattle.std.specs.Prelude.{IfOk};
 ghost use Rattle.lk_workers.specs.Counting.{IsEachBelow};
 ghost use Rattle.lk_workers.specs.Drawing.{Drawer, drawer, Counter, IsSeatOf, hand};
 ghost use Rattle.lk_workers.specs.DrawLaw.{EachNumberOnce, IsEnd};
+ghost use Rattle.lk_workers.specs.invariants.DrawRule.{Drawn, DrawTells, CountTells};
 
 use crate::amount::Amount;
 use atomic_table::{Join, Play, Seat, Shared, Split, Table, TableRule};
@@ -27,10 +28,6 @@ pub struct Hand {
 pub struct DrawnOnce;
 
 impl TableRule<(), Hand, u64> for DrawnOnce {
-    ghost use Rattle.lk_workers.specs.invariants.DrawRule.{Drawn};
-    ghost use Rattle.lk_workers.specs.Drawing.{hand};
-    ghost use Rattle.std.specs.Prelude.{[]};
-
     ghost holds = { Drawn };
 
     ghost first = { λ draws. hand [] draws draws };
@@ -39,8 +36,6 @@ impl TableRule<(), Hand, u64> for DrawnOnce {
 struct Draw;
 
 impl Play<(), Hand> for Draw {
-    ghost use Rattle.lk_workers.specs.invariants.DrawRule.{DrawTells};
-
     ghost then = { DrawTells };
 }
 
@@ -48,8 +43,6 @@ impl Play<(), Hand> for Draw {
 struct Count;
 
 impl Play<(), Hand> for Count {
-    ghost use Rattle.lk_workers.specs.invariants.DrawRule.{CountTells};
-
     ghost then = { CountTells };
 }
 
@@ -80,9 +73,6 @@ pub struct Draws {
 }
 
 impl Model for Draws {
-    ghost use Rattle.std.specs.Prelude.{◌≡◌};
-    ghost use Rattle.lk_workers.specs.Drawing.{Counter};
-
     ghost Value = { Counter };
 
     ghost view = { λ d. record { table = d.table.shared.table_id; draws = d.table.shared.key } };
@@ -99,9 +89,6 @@ pub struct DrawSeat {
 }
 
 impl Model for DrawSeat {
-    ghost use Rattle.std.specs.Prelude.{◌≡◌, []};
-    ghost use Rattle.lk_workers.specs.Drawing.{Drawer};
-
     ghost Value = { Drawer };
 
     ghost view = { λ s. record {

@@ -8,11 +8,11 @@
 //! makes and `join` takes away. A waiting seat that is dropped keeps its ticket: no later one is
 //! served.
 
-ghost use Rattle.std.specs.Prelude.{◌≡◌, ℕ, ◌+◌, ◌-◌, ◌%◌, ◌^◌, ◌<◌, ◌≤◌, ◌==◌, max, if◌then◌else◌};
-ghost use Rattle.std.specs.Prelude.{[], ◌∷◌, ◌++◌, Option, IfOk};
+ghost use Rattle.std.specs.Prelude.{◌≡◌, ℕ, ◌+◌, ◌-◌, ◌%◌, ◌^◌, ◌<◌, ◌≤◌, ◌==◌, max};
+ghost use Rattle.std.specs.Prelude.{if◌then◌else◌, [], ◌∷◌, ◌++◌, Option, IfOk};
 ghost use Rattle.lk_locks.specs.declared.kinds.Outcome.TheVariants.{Moved, Waits, Entered, Left};
-ghost use Rattle.lk_workers.specs.TicketEvents.{event, take_event, look_event};
-ghost use Rattle.lk_workers.specs.TicketEvents.{read_event, pass_event};
+ghost use Rattle.lk_workers.specs.TicketEvents.{event, take_event, look_event, read_event};
+ghost use Rattle.lk_workers.specs.TicketEvents.{pass_event};
 ghost use Rattle.lk_workers.specs.declared.live.LivePhase.TheVariants.{Idle, Waiting, Inside};
 ghost use Rattle.lk_workers.specs.declared.live.LivePhase.TheVariants.{Leaving};
 ghost use Rattle.lk_workers.specs.Seats.{Live, seat_state, operation, ticket_in, thread_of};
@@ -20,6 +20,8 @@ ghost use Rattle.lk_workers.specs.Seats.{with_seen, AreApart};
 ghost use Rattle.lk_workers.specs.LockState.{IsEnd};
 ghost use Rattle.lk_workers.specs.SeatSteps.{take_step, look_step, read_step, pass_step, moved};
 ghost use Rattle.lk_workers.specs.SeatSteps.{joined, rest_of, share_of, cut_left, cut_right};
+ghost use Rattle.atomic_table.specs.Seated.{TableId};
+ghost use Rattle.lk_workers.specs.invariants.Running.{loads_of, made_of};
 
 pub mod laws;
 mod rule;
@@ -52,9 +54,6 @@ pub struct LiveTicket {
 }
 
 impl Model for LiveTicket {
-    ghost use Rattle.std.specs.Prelude.{◌≡◌};
-    ghost use Rattle.atomic_table.specs.Seated.{TableId};
-
     ghost Value = { TableId };
 
     ghost view = { λ t. t.table.shared.table_id };
@@ -75,10 +74,6 @@ pub struct LiveSeat {
 }
 
 impl Model for LiveSeat {
-    ghost use Rattle.std.specs.Prelude.{◌≡◌, ◌<◌, ◌^◌, [], ◌∷◌};
-    ghost use Rattle.lk_workers.specs.Seats.{Live, seat_state};
-    ghost use Rattle.lk_workers.specs.invariants.Running.{loads_of, made_of};
-
     ghost Value = { Live };
 
     ghost view = { λ s. record {

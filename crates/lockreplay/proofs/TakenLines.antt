@@ -5,7 +5,7 @@ use Rattle.std.proofs.Common.{le-leb}
 use Rattle.std.specs.List.{list_all}
 use Rattle.clap.specs.Words.{Row, Shape, Text, built, takes}
 use Rattle.clap.specs.Lexer.{usize_max}
-use Rattle.clap.specs.Simple.{names_of, entered}
+use Rattle.clap.specs.Simple.{names_of, entered, filled}
 use Rattle.clap.specs.Takes.{walk_passes, turn_passes, level_passes, entered_passes, values_pass}
 use Rattle.clap.specs.Takes.{value_passes, settle_passes, default_passes, is_valid}
 use Rattle.clap.specs.Walk.{Names, Walk, walk, walked, walk_from, nothing_held, finished}
@@ -13,7 +13,6 @@ use Rattle.clap.proofs.WalkLemmas.{both}
 use Rattle.clap.proofs.OnLiterals.{clap_on_literals}
 use Rattle.lockreplay.specs.Commands.{batch_rows, digit, files_rule, program_app, workers_row}
 use Rattle.lockreplay.specs.Commands.{workers_rule}
-use Rattle.clap.specs.Simple.{filled}
 use Rattle.lockreplay.specs.CommandLines.{batch_line, is_plain, replay_line}
 use Rattle.lockreplay.proofs.PlainLines.{batch_ends, batch_rules, batch_shape, batch_walk}
 use Rattle.lockreplay.proofs.PlainLines.{files_after, has_digit, meets_digit, meets_file}

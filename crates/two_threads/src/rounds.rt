@@ -72,7 +72,7 @@ fn round(
 fn log_of(alloc: Global, text: &str) -> Option<Log> {
     let mut reader = LogReader::new(alloc);
     for line in text.lines() {
-        reader.line(line.as_bytes()).ok()?;
+        reader.line(line.as_bytes(), true).ok()?;
     }
     reader.log().ok()
 }

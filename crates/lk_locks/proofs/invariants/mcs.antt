@@ -1,11 +1,10 @@
 -- The room of the MCS queue lock: each step goes on with its call, and each move keeps the queue of
 -- the swaps.
-use Rattle.std.proofs.Common.{List, [], ap, arith, false, inl, inr, length, refl}
-use Rattle.std.proofs.Common.{set, slice_index, sym, true, ℕ, ◌*◌, ◌++◌, ◌+◌, ◌-◌, ◌<◌}
-use Rattle.std.proofs.Common.{◌∙◌, ◌∷◌, ◌≡◌, ◌≢◌, ◌≤◌, ◌^◌}
+use Rattle.std.proofs.Common.{List, [], ap, arith, false, inl, inr, length, refl, set, slice_index}
+use Rattle.std.proofs.Common.{sym, true, ℕ, ◌*◌, ◌++◌, ◌+◌, ◌-◌, ◌<◌, ◌∙◌, ◌∷◌, ◌≡◌, ◌≢◌, ◌≤◌, ◌^◌}
 use Rattle.std.proofs.lemmas.Bool.{eq-eqb, false≢true}
 use Rattle.std.proofs.lemmas.Bool.Decides.{eqb_tells}
-use Rattle.std.proofs.lemmas.List.{get_or-set_same, set-get_or}
+use Rattle.std.proofs.lemmas.List.{get_or-set_same}
 use Rattle.lk_locks.specs.Change.{Change}
 use Rattle.lk_locks.specs.Entries.{move_entries}
 use Rattle.lk_locks.specs.Sequential.{nobody, Sequential, has, is_allowed, is_head}
@@ -13,10 +12,10 @@ use Rattle.lk_locks.specs.State.{phase_at, start}
 use Rattle.lk_locks.specs.Steps.{move_change}
 use Rattle.lk_locks.specs.invariants.Rooms.{AgreeAs}
 use Rattle.lk_locks.specs.invariants.Threads.{EachOnce}
-use Rattle.lk_locks.specs.invariants.mcs.{IsBehind, IsFirst, IsOutside, IsQueue}
-use Rattle.lk_locks.specs.invariants.mcs.{last_of, locked_of, next_of, tail_of}
+use Rattle.lk_locks.specs.invariants.mcs.{IsBehind, IsFirst, IsOutside, IsQueue, last_of, locked_of}
+use Rattle.lk_locks.specs.invariants.mcs.{next_of, tail_of}
 use Rattle.lk_locks.specs.mcs.{locked, next}
-use Rattle.lk_locks.proofs.Cases.{IsAgreed, IsRoom, IsTaken}
+use Rattle.lk_locks.proofs.Cases.{IsAgreed, IsRoom, IsTaken, waits}
 use Rattle.lk_locks.proofs.Threads.{all_idle}
 use Rattle.lk_locks.proofs.invariants.McsLine.{IsHeadOf, first_frame, head_of, last_member}
 use Rattle.lk_locks.proofs.invariants.McsLine.{locked_after_locked, locked_after_next, member_of}
@@ -250,12 +249,7 @@ keeps bits ws ps q t AwaitGrant (Step s) given =
                 let g : IsBehind ws i.1.0 t AwaitGrant = rw e at i.1.1 in absurd (omega
                 (arith, g.1, d.1))
           ])
-      | inr d ↦ rw d.0 (record {
-        allowed = tt;
-        kind_is = given.kind_is;
-        agrees = rw (sym e)
-            (rw set-get_or a);
-      })
+      | inr d ↦ rw d.0 (waits Mcs (λ x r. IsQueue ws x r.queue) ps q t AwaitGrant e given.kind_is a)
     ]
 keeps bits ws ps q t ReadNext (Step s) given =
     let h : t < length ps = given.thread in
@@ -317,12 +311,7 @@ keeps bits ws ps q t AwaitLink (Step s) given =
     let i : IsHeadOf ws ps q.queue t =
     first_of_head ws ps q.queue t AwaitLink e (λ x. x) (λ v x. x) a in
     elim (eqb_tells (next_of ws t) 0) [
-      | inl d ↦ rw d.0 (record {
-        allowed = tt;
-        kind_is = given.kind_is;
-        agrees = rw (sym e)
-            (rw set-get_or a);
-      })
+      | inl d ↦ rw d.0 (waits Mcs (λ x r. IsQueue ws x r.queue) ps q t AwaitLink e given.kind_is a)
       | inr d ↦
           rw d.0
           (record {

@@ -2,11 +2,11 @@
 -- counts and the flag.
 use Rattle.std.proofs.Common.{List, None, Some, [], ap, arith, eqb, false, inl, inr, length, refl}
 use Rattle.std.proofs.Common.{set, slice_index, sym, true, ℕ, ◌%◌, ◌+◌, ◌<◌, ◌^◌, ◌∙◌, ◌≡◌, ◌≤◌}
+use Rattle.std.proofs.Common.{◌∷◌}
 use Rattle.std.proofs.Math.Nat.{mod-add-mod, mod-eq_of_lt}
 use Rattle.std.proofs.lemmas.Bool.{lt-ltb}
 use Rattle.std.proofs.lemmas.Bool.Decides.{eqb_tells}
-use Rattle.std.proofs.lemmas.List.{get_or-set_other, get_or-set_same, length-set, set-get_or}
-use Rattle.std.proofs.lemmas.List.{length-replicate}
+use Rattle.std.proofs.lemmas.List.{get_or-set_other, get_or-set_same, length-set, length-replicate}
 use Rattle.std.proofs.lemmas.Nat.{pow_pos}
 use Rattle.lk_locks.specs.Change.{Change, plus_one}
 use Rattle.lk_locks.specs.Entries.{move_entries}
@@ -17,20 +17,21 @@ use Rattle.lk_locks.specs.invariants.Threads.{is_this}
 use Rattle.lk_locks.specs.invariants.Rooms.{AgreeAs}
 use Rattle.lk_locks.specs.invariants.read_write.{AreHolders, is_announced, is_reading, is_writing}
 use Rattle.lk_locks.specs.invariants.rw_fifo.{AgreesWith}
-use Rattle.lk_locks.proofs.Cases.{IsAgreed, IsRoom, IsTaken}
+use Rattle.lk_locks.proofs.Cases.{IsAgreed, IsRoom, IsTaken, waits}
 use Rattle.lk_locks.proofs.invariants.HolderLists.{announced_is, empty_of_length, flag_none}
 use Rattle.lk_locks.proofs.invariants.HolderLists.{flag_some, holders_announce, holders_downgrade}
 use Rattle.lk_locks.proofs.invariants.HolderLists.{holders_frame, holders_join, holders_leave}
 use Rattle.lk_locks.proofs.invariants.HolderLists.{holders_unwrite, holders_write, length_joined}
 use Rattle.lk_locks.proofs.invariants.HolderLists.{length_left, no_holders, no_writer}
-use Rattle.lk_locks.proofs.invariants.HolderLists.{no_writer_beside}
-use Rattle.lk_locks.proofs.invariants.HolderLists.{none_announced, not_same, readers_few}
+use Rattle.lk_locks.proofs.invariants.HolderLists.{no_writer_beside, none_announced, not_same}
+use Rattle.lk_locks.proofs.invariants.HolderLists.{readers_few}
 use Rattle.lk_locks.proofs.Requests.{eqb-same}
 use Rattle.lk_locks.proofs.Words.{no_round, plus_one-lt, plus_one_plus}
 use Rattle.lk_locks.specs.declared.kinds.Family.TheVariants.{FifoReadWrite}
 use Rattle.lk_locks.specs.declared.kinds.LockKind.TheVariants.{RwFifo}
 use Rattle.lk_locks.specs.declared.kinds.Move.{Move}
 use Rattle.lk_locks.specs.declared.kinds.Move.TheVariants.{Call, Step}
+use Rattle.lk_locks.specs.declared.kinds.Op.{Op}
 use Rattle.lk_locks.specs.declared.kinds.Op.TheVariants.{Downgrade, ReadLock, ReadUnlock, WriteLock}
 use Rattle.lk_locks.specs.declared.kinds.Op.TheVariants.{WriteUnlock}
 use Rattle.lk_locks.specs.declared.kinds.Phase.{Phase}
@@ -38,7 +39,7 @@ use Rattle.lk_locks.specs.declared.kinds.Phase.TheVariants.{AwaitReaders, Idle, 
 use Rattle.lk_locks.specs.declared.kinds.Phase.TheVariants.{LeaveWrite, Reading, TryDowngrade}
 use Rattle.lk_locks.specs.declared.kinds.Phase.TheVariants.{TryRead, TryWrite, Writing}
 use Rattle.lk_locks.proofs.invariants.read_write.{few_entries}
-use Rattle.lk_locks.specs.declared.kinds.Entry.TheVariants.{Acted, Announced}
+use Rattle.lk_locks.specs.declared.kinds.Entry.TheVariants.{Acted, Announced, Called}
 use Rattle.lk_locks.proofs.invariants.FifoSteps.{begins, call_fits, goes_on, keeps_length}
 use Rattle.lk_locks.proofs.invariants.FifoSteps.{owed_is_own, step_fits}
 
@@ -75,6 +76,17 @@ written : (ps : List Phase) (q : Sequential) (t : ℕ)
     → AreHolders (set ps t Writing) (after_entry (after_entry q (Announced t)) (Acted t WriteLock))
 written ps q t a = a
 
+-- so is each call
+called : (bits : ℕ) (ws : List ℕ) (ps : List Phase) (q : Sequential) (t : ℕ) (p r : Phase) (op : Op)
+    → IsTaken RwFifo bits ws ps q t p (Call op) → is_reading r ≡ is_reading p
+    → is_writing r ≡ is_writing p → is_announced r ≡ is_announced p
+    → IsAgreed RwFifo (λ s. AgreesWith bits ws (set ps t r) s) q (Called t op ∷ [])
+called bits ws ps q t p r op given x y z = record {
+  allowed = (tt, tt);
+  kind_is = given.kind_is;
+  agrees = still bits ws ps q t p r given.thread given.phase_is x y z given.agrees;
+}
+
 -- each move keeps the words and the holders, and its entries may come
 keeps : (bits : ℕ) (ws : List ℕ) (ps : List Phase) (q : Sequential) (t : ℕ) (p : Phase)
     (m : Move) → IsTaken RwFifo bits ws ps q t p m
@@ -82,50 +94,15 @@ keeps : (bits : ℕ) (ws : List ℕ) (ps : List Phase) (q : Sequential) (t : ℕ
     move_change RwFifo bits ws t p m in IsAgreed RwFifo (λ r. AgreesWith bits c.words
     (set ps t c.phase) r) q (move_entries RwFifo t p m c.outcome)
 keeps bits ws ps q t Idle (Call ReadLock) given =
-    let h : t < length ps = given.thread in
-    let e : phase_at ps t ≡ Idle = given.phase_is in
-    let a : AgreesWith bits ws ps q = given.agrees in
-    record {
-      allowed = (tt, tt);
-      kind_is = given.kind_is;
-      agrees = still bits ws ps q t Idle TryRead h e refl refl refl a;
-    }
+    called bits ws ps q t Idle TryRead ReadLock given refl refl refl
 keeps bits ws ps q t Idle (Call WriteLock) given =
-    let h : t < length ps = given.thread in
-    let e : phase_at ps t ≡ Idle = given.phase_is in
-    let a : AgreesWith bits ws ps q = given.agrees in
-    record {
-      allowed = (tt, tt);
-      kind_is = given.kind_is;
-      agrees = still bits ws ps q t Idle TryWrite h e refl refl refl a;
-    }
+    called bits ws ps q t Idle TryWrite WriteLock given refl refl refl
 keeps bits ws ps q t Reading (Call ReadUnlock) given =
-    let h : t < length ps = given.thread in
-    let e : phase_at ps t ≡ Reading = given.phase_is in
-    let a : AgreesWith bits ws ps q = given.agrees in
-    record {
-      allowed = (tt, tt);
-      kind_is = given.kind_is;
-      agrees = still bits ws ps q t Reading LeaveRead h e refl refl refl a;
-    }
+    called bits ws ps q t Reading LeaveRead ReadUnlock given refl refl refl
 keeps bits ws ps q t Writing (Call WriteUnlock) given =
-    let h : t < length ps = given.thread in
-    let e : phase_at ps t ≡ Writing = given.phase_is in
-    let a : AgreesWith bits ws ps q = given.agrees in
-    record {
-      allowed = (tt, tt);
-      kind_is = given.kind_is;
-      agrees = still bits ws ps q t Writing LeaveWrite h e refl refl refl a;
-    }
+    called bits ws ps q t Writing LeaveWrite WriteUnlock given refl refl refl
 keeps bits ws ps q t Writing (Call Downgrade) given =
-    let h : t < length ps = given.thread in
-    let e : phase_at ps t ≡ Writing = given.phase_is in
-    let a : AgreesWith bits ws ps q = given.agrees in
-    record {
-      allowed = (tt, tt);
-      kind_is = given.kind_is;
-      agrees = still bits ws ps q t Writing TryDowngrade h e refl refl refl a;
-    }
+    called bits ws ps q t Writing TryDowngrade Downgrade given refl refl refl
 keeps bits ws ps q t TryRead (Step s) given =
     let h : t < length ps = given.thread in
     let n : length ps ≤ 64 = given.few in
@@ -158,12 +135,7 @@ keeps bits ws ps q t TryRead (Step s) given =
                 a.holders;
           } in
           rw d.0 (record { allowed = (y, (tt, tt)); kind_is = given.kind_is; agrees = g })
-      | inr d ↦ rw d.0 (record {
-        allowed = tt;
-        kind_is = given.kind_is;
-        agrees = rw (sym e)
-            (rw set-get_or a);
-      })
+      | inr d ↦ rw d.0 (waits RwFifo (AgreesWith bits ws) ps q t TryRead e given.kind_is a)
     ]
 keeps bits ws ps q t LeaveRead (Step s) given =
     let h : t < length ps = given.thread in
@@ -202,12 +174,7 @@ keeps bits ws ps q t TryWrite (Step s) given =
     let e : phase_at ps t ≡ TryWrite = given.phase_is in
     let a : AgreesWith bits ws ps q = given.agrees in
     elim (eqb_tells (slice_index ws 2) 0) [
-      | inr d ↦ rw d.0 (record {
-        allowed = tt;
-        kind_is = given.kind_is;
-        agrees = rw (sym e)
-            (rw set-get_or a);
-      })
+      | inr d ↦ rw d.0 (waits RwFifo (AgreesWith bits ws) ps q t TryWrite e given.kind_is a)
       | inl d ↦
           let o : (q.writer ≡ None) × (q.announced ≡ None) =
           flag_none q.writer q.announced (sym a.flag_is ∙ d.1) in
@@ -256,12 +223,7 @@ keeps bits ws ps q t AwaitReaders (Step s) given =
     let e : phase_at ps t ≡ AwaitReaders = given.phase_is in
     let a : AgreesWith bits ws ps q = given.agrees in
     elim (eqb_tells (slice_index ws 0) (slice_index ws 1)) [
-      | inr c ↦ rw c.0 (record {
-        allowed = tt;
-        kind_is = given.kind_is;
-        agrees = rw (sym e)
-            (rw set-get_or a);
-      })
+      | inr c ↦ rw c.0 (waits RwFifo (AgreesWith bits ws) ps q t AwaitReaders e given.kind_is a)
       | inl c ↦
           let i : is_this q.announced t ≡ true = a.holders.awaiting t ∙ ap is_announced e in
           let x : q.readers ≡ [] = none_read bits ws ps q a c.1 in

@@ -1,13 +1,12 @@
 -- The room of the simple read-write lock: each section goes on with its call, and each move keeps
 -- the count and the flag.
-use Rattle.std.proofs.Common.{List, None, [], ap, arith, false, inl, inr, length, refl}
-use Rattle.std.proofs.Common.{rules, set, slice_index, sym, true, unwrap_or, ℕ, ◌%◌, ◌&&◌, ◌+◌, ◌-◌}
-use Rattle.std.proofs.Common.{◌<◌, ◌==◌, ◌^◌, ◌∙◌, ◌≡◌, ◌≤◌}
+use Rattle.std.proofs.Common.{List, None, [], ◌∷◌, ap, arith, false, inl, inr, length, refl, rules}
+use Rattle.std.proofs.Common.{set, slice_index, sym, true, unwrap_or, ℕ, ◌%◌, ◌&&◌, ◌+◌, ◌-◌, ◌<◌}
+use Rattle.std.proofs.Common.{◌==◌, ◌^◌, ◌∙◌, ◌≡◌, ◌≤◌}
 use Rattle.std.proofs.Math.Nat.{add-mod_right, mod-eq_of_lt}
 use Rattle.std.proofs.lemmas.Bool.{lt-ltb}
 use Rattle.std.proofs.lemmas.Bool.Decides.{eqb_tells}
-use Rattle.std.proofs.lemmas.List.{get_or-set_other, get_or-set_same, length-set, set-get_or}
-use Rattle.std.proofs.lemmas.List.{length-replicate}
+use Rattle.std.proofs.lemmas.List.{get_or-set_other, get_or-set_same, length-set, length-replicate}
 use Rattle.lk_locks.specs.Change.{Change, less_one, plus_one}
 use Rattle.lk_locks.specs.Entries.{move_entries}
 use Rattle.lk_locks.specs.Sequential.{nobody, Sequential, after_entry, has, is_allowed, left_by}
@@ -20,7 +19,7 @@ use Rattle.lk_locks.specs.invariants.read_write.{is_announced, is_reading, is_wr
 use Rattle.lk_locks.specs.invariants.rw_simple.{AgreesWith, owed}
 use Rattle.lk_locks.specs.rw_simple.{step}
 use Rattle.lk_locks.proofs.Cases.{AreOf, Begins, Fits, GoesOn, IsAgreed, IsRoom, IsTaken}
-use Rattle.lk_locks.proofs.Cases.{KeepsLength, either_way}
+use Rattle.lk_locks.proofs.Cases.{KeepsLength, either_way, waits}
 use Rattle.lk_locks.proofs.invariants.HolderLists.{empty_of_length, flag_none, holders_downgrade}
 use Rattle.lk_locks.proofs.invariants.HolderLists.{holders_frame, holders_join, holders_leave}
 use Rattle.lk_locks.proofs.invariants.HolderLists.{holders_unwrite, holders_write, length_joined}
@@ -38,7 +37,7 @@ use Rattle.lk_locks.specs.declared.kinds.Phase.TheVariants.{Idle, LeaveRead, Lea
 use Rattle.lk_locks.specs.declared.kinds.Phase.TheVariants.{TryDowngrade, TryRead, TryWrite}
 use Rattle.lk_locks.specs.declared.kinds.Phase.TheVariants.{Writing}
 use Rattle.lk_locks.proofs.invariants.read_write.{few_entries}
-use Rattle.lk_locks.specs.declared.kinds.Entry.TheVariants.{Acted}
+use Rattle.lk_locks.specs.declared.kinds.Entry.TheVariants.{Acted, Called}
 
 -- each section adds the next entries of the pending call
 goes_on : (bits t : ℕ) (ws : List ℕ) (p : Phase) → GoesOn RwSimple t p (step bits ws p)
@@ -114,6 +113,17 @@ still bits ws ps q t p r h e x y z a = record {
       (z ∙ ap is_announced (sym e)) a.holders;
 }
 
+-- so is each call
+called : (bits : ℕ) (ws : List ℕ) (ps : List Phase) (q : Sequential) (t : ℕ) (p r : Phase) (op : Op)
+    → IsTaken RwSimple bits ws ps q t p (Call op) → is_reading r ≡ is_reading p
+    → is_writing r ≡ is_writing p → is_announced r ≡ is_announced p
+    → IsAgreed RwSimple (λ s. AgreesWith bits ws (set ps t r) s) q (Called t op ∷ [])
+called bits ws ps q t p r op given x y z = record {
+  allowed = (tt, tt);
+  kind_is = given.kind_is;
+  agrees = still bits ws ps q t p r given.thread given.phase_is x y z given.agrees;
+}
+
 -- each move keeps the words and the holders, and its entries may come
 keeps : (bits : ℕ) (ws : List ℕ) (ps : List Phase) (q : Sequential) (t : ℕ) (p : Phase)
     (m : Move) → IsTaken RwSimple bits ws ps q t p m
@@ -121,50 +131,15 @@ keeps : (bits : ℕ) (ws : List ℕ) (ps : List Phase) (q : Sequential) (t : ℕ
     move_change RwSimple bits ws t p m in IsAgreed RwSimple (λ r. AgreesWith bits c.words
     (set ps t c.phase) r) q (move_entries RwSimple t p m c.outcome)
 keeps bits ws ps q t Idle (Call ReadLock) given =
-    let h : t < length ps = given.thread in
-    let e : phase_at ps t ≡ Idle = given.phase_is in
-    let a : AgreesWith bits ws ps q = given.agrees in
-    record {
-      allowed = (tt, tt);
-      kind_is = given.kind_is;
-      agrees = still bits ws ps q t Idle TryRead h e refl refl refl a;
-    }
+    called bits ws ps q t Idle TryRead ReadLock given refl refl refl
 keeps bits ws ps q t Idle (Call WriteLock) given =
-    let h : t < length ps = given.thread in
-    let e : phase_at ps t ≡ Idle = given.phase_is in
-    let a : AgreesWith bits ws ps q = given.agrees in
-    record {
-      allowed = (tt, tt);
-      kind_is = given.kind_is;
-      agrees = still bits ws ps q t Idle TryWrite h e refl refl refl a;
-    }
+    called bits ws ps q t Idle TryWrite WriteLock given refl refl refl
 keeps bits ws ps q t Reading (Call ReadUnlock) given =
-    let h : t < length ps = given.thread in
-    let e : phase_at ps t ≡ Reading = given.phase_is in
-    let a : AgreesWith bits ws ps q = given.agrees in
-    record {
-      allowed = (tt, tt);
-      kind_is = given.kind_is;
-      agrees = still bits ws ps q t Reading LeaveRead h e refl refl refl a;
-    }
+    called bits ws ps q t Reading LeaveRead ReadUnlock given refl refl refl
 keeps bits ws ps q t Writing (Call WriteUnlock) given =
-    let h : t < length ps = given.thread in
-    let e : phase_at ps t ≡ Writing = given.phase_is in
-    let a : AgreesWith bits ws ps q = given.agrees in
-    record {
-      allowed = (tt, tt);
-      kind_is = given.kind_is;
-      agrees = still bits ws ps q t Writing LeaveWrite h e refl refl refl a;
-    }
+    called bits ws ps q t Writing LeaveWrite WriteUnlock given refl refl refl
 keeps bits ws ps q t Writing (Call Downgrade) given =
-    let h : t < length ps = given.thread in
-    let e : phase_at ps t ≡ Writing = given.phase_is in
-    let a : AgreesWith bits ws ps q = given.agrees in
-    record {
-      allowed = (tt, tt);
-      kind_is = given.kind_is;
-      agrees = still bits ws ps q t Writing TryDowngrade h e refl refl refl a;
-    }
+    called bits ws ps q t Writing TryDowngrade Downgrade given refl refl refl
 keeps bits ws ps q t TryRead (Step s) given =
     let h : t < length ps = given.thread in
     let n : length ps ≤ 64 = given.few in
@@ -195,12 +170,7 @@ keeps bits ws ps q t TryRead (Step s) given =
                 a.holders;
           } in
           rw d.0 (record { allowed = (y, (tt, tt)); kind_is = given.kind_is; agrees = g })
-      | inr d ↦ rw d.0 (record {
-        allowed = tt;
-        kind_is = given.kind_is;
-        agrees = rw (sym e)
-            (rw set-get_or a);
-      })
+      | inr d ↦ rw d.0 (waits RwSimple (AgreesWith bits ws) ps q t TryRead e given.kind_is a)
     ]
 keeps bits ws ps q t LeaveRead (Step s) given =
     let h : t < length ps = given.thread in
@@ -236,20 +206,10 @@ keeps bits ws ps q t TryWrite (Step s) given =
     let e : phase_at ps t ≡ TryWrite = given.phase_is in
     let a : AgreesWith bits ws ps q = given.agrees in
     elim (eqb_tells (slice_index ws 0) 0) [
-      | inr c ↦ rw c.0 (record {
-        allowed = tt;
-        kind_is = given.kind_is;
-        agrees = rw (sym e)
-            (rw set-get_or a);
-      })
+      | inr c ↦ rw c.0 (waits RwSimple (AgreesWith bits ws) ps q t TryWrite e given.kind_is a)
       | inl c ↦ elim (eqb_tells (slice_index ws 1) 0) [
         | inr d ↦
-            rw (c.0, d.0) (record {
-              allowed = tt;
-              kind_is = given.kind_is;
-              agrees = rw (sym e)
-                  (rw set-get_or a);
-            })
+            rw (c.0, d.0) (waits RwSimple (AgreesWith bits ws) ps q t TryWrite e given.kind_is a)
         | inl d ↦
             let o : (q.writer ≡ None) × (q.announced ≡ None) =
             flag_none q.writer q.announced (sym a.flag_is ∙ d.1) in

@@ -1,24 +1,24 @@
 -- The room of the ticket lock: each step goes on with its call, and each move keeps the queue of
 -- the tickets.
-use Rattle.std.proofs.Common.{List, None, Some, [], ap, arith, drop, eqb, false, inl, inr}
-use Rattle.std.proofs.Common.{length, refl, rules, set, slice_index, sym, true, unwrap_or, ℕ, ◌<◌}
-use Rattle.std.proofs.Common.{◌==◌, ◌∙◌, ◌∷◌, ◌≡◌, ◌≤◌, ◌^◌, ◌%◌, ◌+◌}
+use Rattle.std.proofs.Common.{List, None, Some, [], ap, arith, drop, eqb, false, inl, inr, length}
+use Rattle.std.proofs.Common.{refl, rules, set, slice_index, sym, true, unwrap_or, ℕ, ◌<◌, ◌==◌}
+use Rattle.std.proofs.Common.{◌∙◌, ◌∷◌, ◌≡◌, ◌≤◌, ◌^◌, ◌%◌, ◌+◌}
 use Rattle.std.proofs.Math.Nat.{mod-eq_of_lt}
 use Rattle.std.proofs.lemmas.Nat.{pow_pos}
 use Rattle.std.proofs.lemmas.Bool.{false≢true}
 use Rattle.std.proofs.lemmas.Bool.Decides.{eqb_tells}
-use Rattle.std.proofs.lemmas.List.{length-replicate, length-set, set-get_or}
+use Rattle.std.proofs.lemmas.List.{length-replicate, length-set}
 use Rattle.lk_locks.specs.Change.{Change}
 use Rattle.lk_locks.specs.Entries.{move_entries}
 use Rattle.lk_locks.specs.Sequential.{nobody, Sequential, has, is_allowed}
 use Rattle.lk_locks.specs.State.{phase_at, start}
-use Rattle.lk_locks.specs.Rooms.{after_call}
+use Rattle.lk_locks.specs.Rooms.{after_call, family_of}
 use Rattle.lk_locks.specs.Steps.{has_op, move_change, refusal_in}
 use Rattle.lk_locks.specs.invariants.Rooms.{AgreeAs, AreLinks, IsPhaseOf}
 use Rattle.lk_locks.specs.invariants.ticket.{IsQueue, owed, ticket_of}
 use Rattle.lk_locks.specs.ticket.{entries, now_serving, step}
 use Rattle.lk_locks.proofs.Cases.{AreOf, Begins, Fits, GoesOn, IsAgreed, IsRoom, IsTaken}
-use Rattle.lk_locks.proofs.Cases.{KeepsLength, either_way}
+use Rattle.lk_locks.proofs.Cases.{KeepsLength, either_way, waits}
 use Rattle.lk_locks.proofs.Threads.{all_idle, bool_tells}
 use Rattle.lk_locks.proofs.invariants.TicketLine.{IsHead, inside_is_head, no_member, queue_frame}
 use Rattle.lk_locks.proofs.invariants.TicketLine.{queue_pass, queue_take, served_is_head}
@@ -35,7 +35,6 @@ use Rattle.lk_locks.specs.declared.kinds.Phase.TheVariants.{AwaitTurn, Idle, Pas
 use Rattle.lk_locks.specs.declared.kinds.Phase.TheVariants.{TakeTicket, TicketInside}
 use Rattle.lk_locks.specs.declared.kinds.Entry.TheVariants.{Acted}
 use Rattle.lk_locks.proofs.Requests.{allows_acquire, allows_release}
-use Rattle.lk_locks.specs.Rooms.{family_of}
 
 -- each step adds the next entries of the pending call
 goes_on : (bits t : ℕ) (ws : List ℕ) (p : Phase) → GoesOn Ticket t p (step bits ws p)
@@ -154,11 +153,10 @@ keeps bits ws ps q t (AwaitTurn x) (Step s) given =
                 queue_frame bits ws ps q.queue t (TicketInside x) h (sym
                 (ap ticket_of e)) i.alone a;
           })
-      | inr d ↦ rw d.0 (record {
-        allowed = tt;
-        kind_is = given.kind_is;
-        agrees = rw (sym e) (rw set-get_or a);
-      })
+      | inr d ↦
+          rw d.0
+          (waits Ticket (λ y r. IsQueue bits ws y r.queue) ps q t (AwaitTurn x) e
+          given.kind_is a)
     ]
 keeps bits ws ps q t (ReadServing x) (Step s) given =
     let h : t < length ps = given.thread in

@@ -6,42 +6,23 @@
 mod chains;
 mod instances;
 
-use super::{MOST_THREADS, Round, found_of};
+use super::{MOST_THREADS, Round};
 use crate::Order;
 use chains::{Chains, End};
 use instances::{Instance, Neighbor, instances_of};
-use lk_locks::{LockKind, Phase, StepKind};
-use lk_trace::{Seen, TraceLine, WordName, place_of};
+use lk_locks::{LockKind, Phase, StepKind, operation_of};
+use lk_trace::{Seen, TraceLine};
 use std::alloc::{AllocError, Global};
-
-// Whether a compare-and-swap changed nothing, as the line gives it.
-fn has_failed(line: TraceLine) -> bool {
-    matches!(
-        line.seen,
-        Seen::OnWord {
-            wrote: Some(false),
-            ..
-        }
-    )
-}
 
 /// When a step is proposed that a thread makes in this phase. Nobody else can find the record that
 /// it sets up before its swap.
 pub fn round_of(line: TraceLine, step: StepKind, phase: Phase) -> Round {
-    match (step, phase) {
-        (StepKind::Read, _) => Round::Look,
-        (StepKind::Write, Phase::ClearNext | Phase::SetLocked(_)) => Round::Look,
-        (StepKind::Cas, _) if has_failed(line) => Round::Look,
-        (StepKind::Swap, _) if found_of(line) == Some(0) => Round::Last,
+    match (step, line.seen, phase) {
+        (StepKind::Read, ..) => Round::Look,
+        (StepKind::Write, _, Phase::ClearNext | Phase::SetLocked(_)) => Round::Look,
+        (StepKind::Cas, Seen::OnWord { wrote, .. }, _) if wrote == Some(false) => Round::Look,
+        (StepKind::Swap, Seen::OnWord { found, .. }, _) if found == Some(0) => Round::Last,
         _ => Round::Change,
-    }
-}
-
-/// The thread to whose record a step in this phase is linked.
-pub fn link_of(phase: Phase) -> Option<u8> {
-    match phase {
-        Phase::LinkTo(before) => Some(before),
-        _ => None,
     }
 }
 
@@ -75,10 +56,8 @@ impl Acquires {
 
     // The acquire that a thread is in.
     fn instance(&self, t: usize) -> Option<&Instance> {
-        if t >= MOST_THREADS || self.begun[t] == 0 {
-            return None;
-        }
-        self.instances.get(t)?.get(self.begun[t] - 1)
+        let last = self.begun.get(t)?.checked_sub(1)?;
+        self.instances.get(t)?.get(last)
     }
 
     // Whether the acquire that a thread is in has another successor, or none.
@@ -117,10 +96,11 @@ impl Acquires {
 
     /// When a swap that finds nobody is proposed.
     pub fn round_of_swap(&self, t: usize) -> Round {
-        if t >= MOST_THREADS {
-            return Round::Last;
-        }
-        match self.chains.end(t, self.begun[t]) {
+        match self
+            .begun
+            .get(t)
+            .and_then(|begun| self.chains.end(t, *begun))
+        {
             Some(End::CutOff) => Round::CutOff,
             Some(End::Never) => Round::Endless,
             Some(End::Seen) | None => Round::Last,
@@ -129,8 +109,8 @@ impl Acquires {
 
     /// A swap of the thread is placed.
     pub fn begin(&mut self, t: usize) {
-        if t < MOST_THREADS {
-            self.begun[t] = self.begun[t].saturating_add(1);
+        if let Some(begun) = self.begun.get_mut(t) {
+            *begun = begun.saturating_add(1);
         }
     }
 
@@ -141,6 +121,6 @@ impl Acquires {
         if unlinked == 0 || order.placed(t) != unlinked {
             return None;
         }
-        Some(place_of(LockKind::Mcs, WordName::Next(t)))
+        operation_of(LockKind::Mcs, 64, t, Phase::AwaitLink).map(|look| look.word())
     }
 }

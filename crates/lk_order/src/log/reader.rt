@@ -1,10 +1,9 @@
 //! A log, read line by line: the header, the moves, and how many were dropped.
 
-ghost use Rattle.std.specs.Prelude.{◌≡◌, ◌<◌, ◌≤◌, ◌^◌, ◌++◌, ◌∷◌, [], None, true, false};
-ghost use Rattle.std.specs.Prelude.{MatchOption, IfOk, IfSome, OnOk, OnErr, IfErr, Ok, Err};
-ghost use Rattle.lk_order.specs.Logs.{behind_header, cut_last, dropped_of, empty_log};
-ghost use Rattle.lk_order.specs.Logs.{IsFaultOf, line_read, log_header_of, log_read};
-ghost use Rattle.lk_order.specs.Logs.{short_line_of};
+ghost use Rattle.std.specs.Prelude.{◌≡◌, ◌<◌, ◌≤◌, ◌^◌, ◌++◌, ◌∷◌, [], None, MatchOption, IfOk};
+ghost use Rattle.std.specs.Prelude.{IfSome, OnOk, OnErr, IfErr, Ok, Err};
+ghost use Rattle.lk_order.specs.Logs.{behind_header, cut_last, dropped_of, empty_log, IsFaultOf};
+ghost use Rattle.lk_order.specs.Logs.{line_read, log_header_of, log_read, Reading};
 
 use super::Log;
 use lk_replay::parts::{Header, is_skipped, number_of};
@@ -44,8 +43,6 @@ pub struct LogReader {
 }
 
 impl Model for LogReader {
-    ghost use Rattle.lk_order.specs.Logs.{Reading};
-
     ghost Value = { Reading };
 
     ghost view = { λ a. record { log = a.log; number = a.number } };
@@ -93,17 +90,6 @@ fn dropped_of(line: &[u8]) -> Option<u64>
 {
     let number = line.strip_prefix(b"dropped ".as_slice())?;
     whole_number(number)
-}
-
-// The move of this thread that a line of at most 96 bytes is.
-fn short_line(line: &[u8], thread: u8) -> Option<TraceLine>
-    ensures line { result ≡ short_line_of thread line.now }
-    ensures own { IfSome result (λ line. line.thread ≡ thread) }
-{
-    if line.len() > MOST_OF_A_LINE {
-        return None;
-    }
-    read_log_line(line, thread)
 }
 
 impl Log {
@@ -164,7 +150,7 @@ impl Log {
         if !ended {
             return Ok(());
         }
-        match short_line(line, self.owner) {
+        match read_log_line(line, self.owner) {
             Some(line) => self.note(line, number),
             None => Err(LogFault::BadMove),
         }
@@ -190,8 +176,14 @@ impl LogReader {
         self.number
     }
 
-    // Reads the next line.
-    fn take(&mut self, line: &[u8], ended: bool) -> Result<(), LogFault>
+    /// Reads the next line, without its line feed. What is behind the last one has not `ended`, and
+    /// may be nothing: a move there was cut off while it was written, and is not looked at.
+    ///
+    /// # Errors
+    ///
+    /// Every fault but `NoHeader`. Then nothing has changed, and the fault is in line
+    /// `number() + 1`.
+    pub fn line(&mut self, line: &[u8], ended: bool) -> Result<(), LogFault>
         ensures ok { OnOk result (line_read self.old ended line.now ≡ Ok self.new) }
         ensures err { IfErr result (IsFaultOf (line_read self.old ended line.now)) }
         ensures same { OnErr result (self.new ≡ self.old) }
@@ -212,34 +204,6 @@ impl LogReader {
         }
         self.number = number + 1;
         Ok(())
-    }
-
-    /// Reads the next line, without its line feed.
-    ///
-    /// # Errors
-    ///
-    /// Every fault but `NoHeader`. Then nothing has changed, and the fault is in line
-    /// `number() + 1`.
-    pub fn line(&mut self, line: &[u8]) -> Result<(), LogFault>
-        ensures ok { OnOk result (line_read self.old true line.now ≡ Ok self.new) }
-        ensures err { IfErr result (IsFaultOf (line_read self.old true line.now)) }
-        ensures same { OnErr result (self.new ≡ self.old) }
-    {
-        self.take(line, true)
-    }
-
-    /// Reads what stands behind the last line feed, which may be nothing. A move there was cut off
-    /// while it was written, and is not looked at.
-    ///
-    /// # Errors
-    ///
-    /// Those of `line` but `BadMove`.
-    pub fn rest(&mut self, line: &[u8]) -> Result<(), LogFault>
-        ensures ok { OnOk result (line_read self.old false line.now ≡ Ok self.new) }
-        ensures err { IfErr result (IsFaultOf (line_read self.old false line.now)) }
-        ensures same { OnErr result (self.new ≡ self.old) }
-    {
-        self.take(line, false)
     }
 
     /// The log.

@@ -2,7 +2,8 @@
 //! count that grows by one: a line has two or three numbers of threads, each of at most three
 //! digits, and takes them as blocks of a fixed size, as a whole and with no call.
 
-ghost use Rattle.std.specs.Prelude.{◌≡◌, ◌+◌, ◌≤◌, ◌++◌, ◌∷◌, [], decimal, length, take};
+ghost use Rattle.std.specs.Prelude.{◌≡◌, ◌+◌, ◌≤◌, ◌++◌, ◌∷◌, [], decimal, length, take, ◌<◌, ℕ};
+ghost use Rattle.std.specs.Prelude.{◌^◌};
 
 use itoa::Buffer;
 use std::marker::Model;
@@ -19,8 +20,6 @@ pub struct Numeral {
 }
 
 impl Model for Numeral {
-    ghost use Rattle.std.specs.Prelude.{◌≡◌, ◌<◌, ◌≤◌, ℕ, decimal, take};
-
     ghost Value = { ℕ };
 
     ghost view = { λ a. a.number };
@@ -30,8 +29,6 @@ impl Model for Numeral {
 }
 
 impl Numeral {
-    ghost use Rattle.std.specs.Prelude.{◌≡◌, ◌+◌, ◌≤◌, ◌<◌, ◌^◌, decimal, length, take};
-
     /// Prints the number.
     pub fn of(number: u32) -> Numeral
         ensures { result ≡ number }

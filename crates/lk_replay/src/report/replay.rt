@@ -1,12 +1,14 @@
 //! The lines of a report, one after another: a move is played where its line is printed. No line
 //! asks for memory.
 
-ghost use Rattle.std.specs.Prelude.{◌≡◌, ◌≤◌, length, take};
+ghost use Rattle.std.specs.Prelude.{◌≡◌, ◌≤◌, length, take, ◌+◌, ◌++◌, [], IfSome, MatchOption};
+ghost use Rattle.std.specs.Prelude.{None, ◌<◌};
 ghost use Rattle.lk_locks.specs.Sequential.{nobody};
 ghost use Rattle.lk_locks.specs.invariants.Tracking.{IsTracked};
-ghost use Rattle.lk_replay.specs.Printing.{next_refused};
-ghost use Rattle.lk_replay.specs.Replay.{start_of};
-ghost use Rattle.lk_replay.specs.Report.{move_text};
+ghost use Rattle.lk_replay.specs.Printing.{next_refused, IsPrinting, Printing, printing};
+ghost use Rattle.lk_replay.specs.Replay.{start_of, replay_from, replay_of};
+ghost use Rattle.lk_replay.specs.Report.{move_text, replay_text};
+ghost use Rattle.lk_replay.specs.Ending.{ending_of};
 
 use crate::output_buffer::{LEAST_PLACE, Source};
 use crate::played::Accepted;
@@ -31,9 +33,6 @@ pub struct Replay<'a> {
 }
 
 impl<'a> Model for Replay<'a> {
-    ghost use Rattle.lk_replay.specs.Printing.{IsPrinting, Printing, printing};
-    ghost use Rattle.lk_replay.specs.Replay.{replay_from};
-
     ghost Value = { Printing };
 
     ghost view = { λ a. printing a.status a.count (replay_from a.machine a.moves.now) };
@@ -80,12 +79,6 @@ fn next_refused(machine: &Machine<WordArray>, moves: &[Line]) -> Option<(u32, Re
 }
 
 impl<'a> Replay<'a> {
-    ghost use Rattle.std.specs.Prelude.{◌≡◌, ◌+◌, ◌≤◌, ◌++◌, [], length, take, IfSome, MatchOption};
-    ghost use Rattle.std.specs.Prelude.{None, ◌<◌};
-    ghost use Rattle.lk_replay.specs.Ending.{ending_of};
-    ghost use Rattle.lk_replay.specs.Replay.{replay_of};
-    ghost use Rattle.lk_replay.specs.Report.{replay_text};
-
     /// The replay of a schedule, at its start.
     pub fn new(schedule: &'a Schedule) -> Replay<'a>
         ensures text { result.lines ++ result.last ≡ replay_text schedule.now.kind
@@ -136,27 +129,6 @@ impl<'a> Replay<'a> {
         Some(self.status.write(place, at))
     }
 
-    /// Prints the next lines into a place, as many as have room whatever their length, and answers
-    /// where they end: at 0 only if no move is left, or the next is refused. A line has at most 64
-    /// bytes that tell of the move, and 384 that show who holds and who waits.
-    pub fn fill(&mut self, place: &mut [u8]) -> usize
-        requires { 448 ≤ length place.old }
-        ensures lines { self.old.lines ≡ take result place.new ++ self.new.lines }
-        ensures fits { result ≤ length place.new }
-        ensures fewer { 0 < result → self.new.left < self.old.left }
-        ensures none { result ≡ 0 → (self.new.lines ≡ []) × (self.new.left ≡ 0) }
-        ensures last { self.new.last ≡ self.old.last }
-    {
-        let mut len = 0;
-        while place.len() - len >= LEAST_PLACE {
-            let Some(more) = self.next(&mut place[len..]) else {
-                return len;
-            };
-            len += more;
-        }
-        len
-    }
-
     /// The last line: the refusal of the next move, or the end where there is none.
     pub fn closing(&self) -> Closing
         requires { self.now.left ≡ 0 }
@@ -174,7 +146,17 @@ impl<'a> Source for Replay<'a> {
 
     ghost last = { λ r. r.last };
 
+    /// As many lines as have room whatever their length. None is left after the last move, or
+    /// before a refused one. A line has at most 64 bytes that tell of the move, and 384 that show
+    /// who holds and who waits.
     fn fill(&mut self, place: &mut [u8]) -> usize {
-        Replay::fill(self, place)
+        let mut len = 0;
+        while place.len() - len >= LEAST_PLACE {
+            let Some(more) = self.next(&mut place[len..]) else {
+                return len;
+            };
+            len += more;
+        }
+        len
     }
 }

@@ -7,9 +7,11 @@
 ghost use Rattle.std.specs.Prelude.{◌≡◌, ◌+◌, ◌++◌, ◌∷◌, ◌<◌, ◌≤◌, [], IsTrue, drop, length, take};
 ghost use Rattle.std.specs.List.{AllByRecursion};
 ghost use Rattle.lk_locks.specs.Sequential.{IsAscending, has, is_head, joined, left_by};
-ghost use Rattle.lk_replay.specs.Following.{up_to};
-ghost use Rattle.lk_locks.specs.Holding.{held_by_one, one_or_none};
+ghost use Rattle.lk_replay.specs.Following.{up_to, Following, AreListed, followed_by};
+ghost use Rattle.lk_replay.specs.Following.{followed_text, following};
+ghost use Rattle.lk_locks.specs.Holding.{held_by_one, one_or_none, shared_by};
 ghost use Rattle.lk_replay.specs.Report.{holding_text, later_numbers, queue_text};
+ghost use Rattle.lk_locks.specs.Legal.{AreEnabled, IsEnabled};
 
 use crate::report::numerals::{number_block, thread_block, width};
 use crate::report::text::{Text, put_block};
@@ -29,8 +31,6 @@ pub struct StatusText {
 }
 
 impl Model for StatusText {
-    ghost use Rattle.lk_replay.specs.Following.{Following, AreListed};
-
     ghost Value = { Following };
 
     ghost view = { λ a. record { kind = a.kind; sequential = a.sequential; holder = a.holder } };
@@ -115,12 +115,6 @@ fn write_one(line: &mut [u8], at: usize, thread: Option<u8>) -> usize
 }
 
 impl StatusText {
-    ghost use Rattle.std.specs.Prelude.{◌≡◌, ◌+◌, ◌≤◌, ◌++◌, [], ◌∷◌, length, take};
-    ghost use Rattle.lk_locks.specs.Holding.{shared_by};
-    ghost use Rattle.lk_locks.specs.Legal.{AreEnabled, IsEnabled};
-    ghost use Rattle.lk_replay.specs.Following.{followed_by, followed_text, following};
-    ghost use Rattle.lk_replay.specs.Report.{holding_text, queue_text};
-
     /// Of a lock with no history yet.
     pub fn new(kind: LockKind) -> StatusText
         ensures { result ≡ following kind [] }

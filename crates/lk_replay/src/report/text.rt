@@ -4,7 +4,8 @@
 //! the text's end, and the bytes after a short text are read with it. So neither copy depends on a
 //! length, while an `ArrayVec` gives and takes its bytes up to its length alone.
 
-ghost use Rattle.std.specs.Prelude.{◌≡◌, ◌+◌, ◌≤◌, ◌++◌, length, take};
+ghost use Rattle.std.specs.Prelude.{◌≡◌, ◌+◌, ◌≤◌, ◌++◌, length, take, ℕ, List, ◌<◌, ◌↔◌, []};
+ghost use Rattle.std.specs.Prelude.{IsTrue, drop};
 
 use std::marker::Model;
 
@@ -37,8 +38,6 @@ pub struct Text {
 }
 
 impl Model for Text {
-    ghost use Rattle.std.specs.Prelude.{ℕ, ◌≤◌, List, take};
-
     ghost Value = { List ℕ };
 
     ghost view = { λ a. take a.len a.bytes };
@@ -47,9 +46,6 @@ impl Model for Text {
 }
 
 impl Text {
-    ghost use Rattle.std.specs.Prelude.{◌≡◌, ◌+◌, ◌<◌, ◌≤◌, ◌↔◌, ◌++◌, [], IsTrue, drop, length};
-    ghost use Rattle.std.specs.Prelude.{take};
-
     /// An empty text.
     pub fn new() -> Text
         ensures { result ≡ [] }

@@ -1,8 +1,7 @@
 //! The words of a report's line, each at the front of a block.
 
 ghost use Rattle.std.specs.Prelude.{◌≡◌, ◌≤◌, ◌++◌, codes, length, take};
-ghost use Rattle.lk_replay.specs.Report.{outcome_word};
-ghost use Rattle.lk_replay.specs.Vocabulary.{move_word, step_word};
+ghost use Rattle.lk_replay.specs.Vocabulary.{move_word, outcome_word, step_word};
 
 use lk_locks::{Move, Op, Outcome, StepKind};
 

@@ -2,10 +2,10 @@
 //! project's own: the text is gone through once before its first move, so that each fault is known
 //! by then, and its moves are read again as they are asked for.
 
-ghost use Rattle.std.specs.Prelude.{◌≡◌, ◌<◌, ◌≤◌, ◌^◌, length, IfOk, IfErr};
+ghost use Rattle.std.specs.Prelude.{◌≡◌, ◌<◌, ◌≤◌, ◌^◌, length, IfOk, IfErr, ◌+◌, Ok, drop};
 ghost use Rattle.lk_replay.specs.Reads.{Gives};
-ghost use Rattle.lk_replay.specs.Reading.{IsOfText, counted};
-ghost use Rattle.lk_replay.specs.Schedule.{moves_from};
+ghost use Rattle.lk_replay.specs.Reading.{IsOfText, counted, moves_in, first_of};
+ghost use Rattle.lk_replay.specs.Schedule.{moves_from, Plan, plan_of};
 
 use super::{Line, MOST_MOVES, ReadFault, move_of, read_header};
 use crate::lines::Lines;
@@ -26,10 +26,6 @@ pub struct ScheduleReader<'a> {
 }
 
 impl<'a> Model for ScheduleReader<'a> {
-    ghost use Rattle.std.specs.Prelude.{◌≡◌, ◌+◌, ◌<◌, ◌≤◌, ◌^◌, length, Ok};
-    ghost use Rattle.lk_replay.specs.Reading.{moves_in};
-    ghost use Rattle.lk_replay.specs.Schedule.{Plan, moves_from};
-
     ghost Value = { Plan };
 
     ghost view = { λ a. record {
@@ -48,11 +44,6 @@ impl<'a> Model for ScheduleReader<'a> {
 }
 
 impl<'a> ScheduleReader<'a> {
-    ghost use Rattle.std.specs.Prelude.{◌≡◌, ◌<◌, ◌≤◌, ◌^◌, length, drop, IfErr};
-    ghost use Rattle.lk_replay.specs.Reads.{Gives};
-    ghost use Rattle.lk_replay.specs.Reading.{IsOfText, first_of};
-    ghost use Rattle.lk_replay.specs.Schedule.{plan_of};
-
     /// Begins to read a schedule text, or answers its fault, as `read_schedule` does.
     ///
     /// # Errors

@@ -1,7 +1,8 @@
 //! A line that is not a trace's: the column, what stands there, what could stand there, and the
 //! nearest word.
 
-use crate::explain::grammar::{WrongPlace, wrong_in_header, wrong_in_move};
+use crate::explain::grammar::{Due, wrong_in_header, wrong_in_move};
+use lk_replay::parts::cut_word;
 use lk_trace::{MOST_OF_A_LINE, TextFault};
 use std::alloc::{AllocError, Global};
 use std::fmt::Write;
@@ -30,13 +31,19 @@ fn nearest(
     Ok(best.map(|(_, known)| known))
 }
 
-// Writes what stands at a place, and what could.
-fn put_wrong(text: &mut String, alloc: Global, wrong: WrongPlace<'_>) -> Result<(), AllocError> {
-    let (column, due) = (wrong.column, wrong.due);
+// Writes what is at a column, and what could be.
+fn put_wrong(
+    text: &mut String,
+    alloc: Global,
+    line: &[u8],
+    column: usize,
+    due: Due,
+) -> Result<(), AllocError> {
     write!(text, "  column {column}: ")?;
-    let Some(word) = wrong.word else {
+    let Some(rest) = line.get(column.saturating_sub(1)..) else {
         return writeln!(text, "the end of the line, expected {due}");
     };
+    let word = cut_word(rest).map_or(rest, |(word, _)| word);
     let Ok(word) = str::from_utf8(word) else {
         return writeln!(text, "bytes that are no text, expected {due}");
     };
@@ -64,7 +71,7 @@ pub fn put_fault(
         _ => wrong_in_header(line),
     };
     match wrong {
-        Some(wrong) => put_wrong(text, alloc, wrong),
+        Some((column, due)) => put_wrong(text, alloc, line, column, due),
         None => {
             writeln!(
                 text,

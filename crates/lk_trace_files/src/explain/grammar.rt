@@ -46,6 +46,8 @@ const LOCKS: [&str; 4] = ["ticket", "mcs", "rw-simple", "rw-fifo"];
 
 const OUTCOMES: [&str; 4] = ["moved", "waits", "entered", "left"];
 
+const OUTCOME: &str = "moved, waits, entered or left";
+
 const PLACES: [&str; 5] = ["next_ticket", "now_serving", "tail", "next", "locked"];
 
 // What may follow a word of the lock, in this order. The last two are a compare-and-swap's.
@@ -55,14 +57,6 @@ const END: Due = Due::OfSchedule(Expected::End);
 
 fn place_among(words: &[&str], word: &[u8]) -> Option<usize> {
     words.iter().position(|known| known.as_bytes() == word)
-}
-
-// What is expected after a word of the lock.
-fn after_place(kind: StepKind, word: &[u8]) -> Option<Due> {
-    match place_among(&PLACES, word)? {
-        0..3 => Some(Due::Part(kind, 1)),
-        _ => Some(Due::Part(kind, 0)),
-    }
 }
 
 impl Due {
@@ -83,7 +77,11 @@ impl Due {
             Due::OfSchedule(_) => None,
             Due::Section if whole_number(word).is_some() => Some(Due::Outcome),
             Due::Section | Due::Outcome => place_among(&OUTCOMES, word).map(|_| END),
-            Due::Place(kind) => after_place(kind, word),
+            // the last two are in a record, and its owner may follow
+            Due::Place(kind) => match place_among(&PLACES, word)? {
+                0..3 => Some(Due::Part(kind, 1)),
+                _ => Some(Due::Part(kind, 0)),
+            },
             Due::Owner(kind) => number_of(word, 0, 255).map(|_| Due::Part(kind, 1)),
             Due::Value(kind, next) => whole_number(word).map(|_| Due::Part(kind, next)),
             Due::Part(kind, first) => {
@@ -126,10 +124,8 @@ impl fmt::Display for Due {
     fn fmt<W: fmt::Write>(&self, f: &mut fmt::Formatter<W>) -> fmt::Result {
         match self {
             Due::OfSchedule(expected) => write!(f, "{expected}"),
-            Due::Section => {
-                f.write_str("the end, the section's count, or moved, waits, entered or left")
-            }
-            Due::Outcome => f.write_str("the end, or moved, waits, entered or left"),
+            Due::Section => write!(f, "the end, the section's count, or {OUTCOME}"),
+            Due::Outcome => write!(f, "the end, or {OUTCOME}"),
             Due::Place(_) => f.write_str(
                 "the end, or a word: next_ticket, now_serving, tail, next or locked",
             ),
@@ -153,28 +149,15 @@ impl fmt::Display for Due {
     }
 }
 
-/// A place of a line at which something else is expected: a word, or the end.
-#[derive(Clone, Copy)]
-pub struct WrongPlace<'a> {
-    /// Counted from 1.
-    pub column: usize,
-    pub word: Option<&'a [u8]>,
-    pub due: Due,
-}
-
-fn wrong(column: usize, word: Option<&[u8]>, due: Due) -> Option<WrongPlace<'_>> {
-    Some(WrongPlace { column, word, due })
-}
-
-// The first such place from a column on.
-fn wrong_from(line: &[u8], column: usize, due: Due) -> Option<WrongPlace<'_>> {
-    let Some(rest) = line.get(column.saturating_sub(1)..) else {
-        return wrong(column, None, due);
+// The first column from this one on at which something else is expected, and what.
+fn wrong_from(line: &[u8], first: usize, due: Due) -> Option<(usize, Due)> {
+    let (mut column, mut due) = (first, due);
+    let Some(rest) = line.get(first.saturating_sub(1)..) else {
+        return Some((column, due));
     };
-    let (mut column, mut due) = (column, due);
     for word in rest.split(|b| *b == b' ') {
         let Some(next) = due.after(word) else {
-            return wrong(column, Some(word), due);
+            return Some((column, due));
         };
         column = column.saturating_add(word.len()).saturating_add(1);
         due = next;
@@ -182,18 +165,18 @@ fn wrong_from(line: &[u8], column: usize, due: Due) -> Option<WrongPlace<'_>> {
     if due.may_end() {
         None
     } else {
-        wrong(column, None, due)
+        Some((column, due))
     }
 }
 
-/// The first place of a header at which something else is expected.
-pub fn wrong_in_header(line: &[u8]) -> Option<WrongPlace<'_>> {
+/// The first column of a header at which something else is expected, and what.
+pub fn wrong_in_header(line: &[u8]) -> Option<(usize, Due)> {
     let place = unreadable_header(line)?;
     wrong_from(line, place.column, Due::OfSchedule(place.expected))
 }
 
-/// The first place of a move at which something else is expected.
-pub fn wrong_in_move(line: &[u8]) -> Option<WrongPlace<'_>> {
+/// The first column of a move at which something else is expected, and what.
+pub fn wrong_in_move(line: &[u8]) -> Option<(usize, Due)> {
     let place = unreadable_move(line)?;
     let due = match place.expected {
         Expected::End => Due::after_move(line)?,

@@ -44,11 +44,7 @@ fn read_log<R: Read + Drop>(alloc: Global, input: R) -> Result<Log, Unread> {
         if !lines.next_line(&mut line)? {
             return reader.log().map_err(|fault| fault_at(number, fault));
         }
-        let read = if line.is_whole() {
-            reader.line(line.bytes())
-        } else {
-            reader.rest(line.bytes())
-        };
+        let read = reader.line(line.bytes(), line.is_whole());
         read.map_err(|fault| fault_at(number, fault))?;
     }
     Err(Unread::Input(Error::from(ErrorKind::FileTooLarge)))
@@ -130,8 +126,7 @@ pub fn take_logs<'a, R: Files>(
         return Ok(Err(worst));
     }
     let Run { shelf, names } = run;
-    if let Some(missing) = shelf.missing() {
-        let thread = missing.thread;
+    if let Some(thread) = shelf.missing() {
         writeln!(errors, "locktrace: no log of thread {thread}")?;
         return Ok(Err(Ending::Faulty));
     }

@@ -2,7 +2,7 @@
 
 use crate::texts::{Standing, Wrong};
 use lk_order::{Order, Stuck};
-use lk_trace::move_text;
+use lk_replay::parts::move_text;
 use std::alloc::AllocError;
 use std::fmt::Write;
 

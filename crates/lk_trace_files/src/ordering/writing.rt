@@ -4,7 +4,7 @@
 use crate::failures::Failure;
 use crate::texts::put_line;
 use lk_order::{Order, Piece, Pieces};
-use lk_trace::{lock_text, move_text};
+use lk_replay::parts::{lock_text, move_text};
 use std::alloc::{AllocError, Global};
 use std::fmt::Write as _;
 use std::fs;

@@ -3,7 +3,13 @@
 //! A view is a list of what is known of seats, one as a rule. Nothing of it is kept when the lock
 //! runs.
 
-ghost use Rattle.std.specs.Prelude.{ℕ};
+ghost use Rattle.std.specs.Prelude.{ℕ, [], ◌∷◌};
+ghost use Rattle.lk_workers.specs.declared.live.LivePhase.TheVariants.{Idle};
+ghost use Rattle.lk_workers.specs.Seats.{seat_state};
+ghost use Rattle.lk_workers.specs.invariants.Running.{Running, OfOne, TakeTells, LookTells};
+ghost use Rattle.lk_workers.specs.invariants.Running.{ReadTells, PassTells, Counts, Compares};
+ghost use Rattle.lk_workers.specs.SeatSteps.{take_step, look_step, read_step, pass_step, cut_left};
+ghost use Rattle.lk_workers.specs.SeatSteps.{cut_right, glued, paired, first_of, second_of};
 
 use super::LivePhase;
 use crate::amount::Amount;
@@ -38,11 +44,6 @@ pub type LiveWords = Shared<(), View, u64, TicketRule>;
 pub struct TicketRule;
 
 impl TableRule<(), View, u64> for TicketRule {
-    ghost use Rattle.std.specs.Prelude.{[], ◌∷◌};
-    ghost use Rattle.lk_workers.specs.declared.live.LivePhase.TheVariants.{Idle};
-    ghost use Rattle.lk_workers.specs.Seats.{seat_state};
-    ghost use Rattle.lk_workers.specs.invariants.Running.{Running};
-
     ghost holds = { Running };
 
     ghost first = { λ takes. seat_state Idle 0 takes 0 0 0 [] ∷ [] };
@@ -52,9 +53,6 @@ impl TableRule<(), View, u64> for TicketRule {
 pub struct Take;
 
 impl Play<(), View> for Take {
-    ghost use Rattle.lk_workers.specs.SeatSteps.{take_step};
-    ghost use Rattle.lk_workers.specs.invariants.Running.{OfOne, TakeTells};
-
     ghost then = { OfOne take_step TakeTells };
 }
 
@@ -62,9 +60,6 @@ impl Play<(), View> for Take {
 pub struct Look;
 
 impl Play<(), View> for Look {
-    ghost use Rattle.lk_workers.specs.SeatSteps.{look_step};
-    ghost use Rattle.lk_workers.specs.invariants.Running.{OfOne, LookTells};
-
     ghost then = { OfOne look_step LookTells };
 }
 
@@ -72,9 +67,6 @@ impl Play<(), View> for Look {
 pub struct ReadServing;
 
 impl Play<(), View> for ReadServing {
-    ghost use Rattle.lk_workers.specs.SeatSteps.{read_step};
-    ghost use Rattle.lk_workers.specs.invariants.Running.{OfOne, ReadTells};
-
     ghost then = { OfOne read_step ReadTells };
 }
 
@@ -82,9 +74,6 @@ impl Play<(), View> for ReadServing {
 pub struct Pass;
 
 impl Play<(), View> for Pass {
-    ghost use Rattle.lk_workers.specs.SeatSteps.{pass_step};
-    ghost use Rattle.lk_workers.specs.invariants.Running.{OfOne, PassTells};
-
     ghost then = { OfOne pass_step PassTells };
 }
 
@@ -93,8 +82,6 @@ impl Play<(), View> for Pass {
 pub struct Count;
 
 impl Play<(), View> for Count {
-    ghost use Rattle.lk_workers.specs.invariants.Running.{Counts};
-
     ghost then = { Counts };
 }
 
@@ -103,8 +90,6 @@ impl Play<(), View> for Count {
 pub struct Compare;
 
 impl Play<(), View> for Compare {
-    ghost use Rattle.lk_workers.specs.invariants.Running.{Compares};
-
     ghost then = { Compares };
 }
 
@@ -114,8 +99,6 @@ pub struct Cut<A> {
 }
 
 impl<A: Amount> Split<View> for Cut<A> {
-    ghost use Rattle.lk_workers.specs.SeatSteps.{cut_left, cut_right};
-
     ghost left = { cut_left A.amount };
 
     ghost right = { cut_right A.amount };
@@ -125,9 +108,6 @@ impl<A: Amount> Split<View> for Cut<A> {
 pub struct Glue;
 
 impl Join<View> for Glue {
-    ghost use Rattle.std.specs.Prelude.{[]};
-    ghost use Rattle.lk_workers.specs.SeatSteps.{glued};
-
     ghost both = { glued };
 
     ghost spent = { [] };
@@ -137,17 +117,12 @@ impl Join<View> for Glue {
 pub struct Pair;
 
 impl Join<View> for Pair {
-    ghost use Rattle.std.specs.Prelude.{[]};
-    ghost use Rattle.lk_workers.specs.SeatSteps.{paired};
-
     ghost both = { paired };
 
     ghost spent = { [] };
 }
 
 impl Split<View> for Pair {
-    ghost use Rattle.lk_workers.specs.SeatSteps.{first_of, second_of};
-
     ghost left = { first_of };
 
     ghost right = { second_of };

@@ -1,4 +1,4 @@
-use Rattle.std.proofs.Common.{◌+◌, ◌-◌, ◌^◌, ◌%◌, ◌∙◌, ap}
+use Rattle.std.proofs.Common.{◌+◌, ◌^◌, ◌%◌, ◌∙◌, ap}
 use Rattle.lk_locks.proofs.Words.{left_of_sum}
 use Rattle.lk_locks.proofs.arithmetic.less_one.Goals as goal
 

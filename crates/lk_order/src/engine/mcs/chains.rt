@@ -65,12 +65,9 @@ fn blank(alloc: Global, instances: &[Vec<Instance>]) -> Result<Vec<Vec<u32>>, Al
 
 // The next instance of a thread from `from` on whose successor is `thread`.
 fn next_after(row: &[Instance], from: usize, thread: u8) -> Option<usize> {
-    let later = row.get(from..)?.iter();
-    let ahead = later
-        .take_while(|instance| instance.after != Neighbor::Thread(thread))
-        .count();
-    let found = from.saturating_add(ahead);
-    if found < row.len() { Some(found) } else { None }
+    let mut later = row.get(from..)?.iter();
+    let ahead = later.position(|instance| instance.after == Neighbor::Thread(thread))?;
+    Some(from.saturating_add(ahead))
 }
 
 // Matches the instances of each thread with those of its predecessors, in order.
@@ -81,9 +78,7 @@ fn match_all(
     let mut before = blank(alloc, instances)?;
     let mut after = blank(alloc, instances)?;
     for (y, row) in instances.iter().enumerate() {
-        // how far the instances of each predecessor have been looked through for this thread
-        let mut reached = [0usize; MOST_THREADS];
-        match_thread(instances, y, row, &mut reached, &mut before, &mut after);
+        match_thread(instances, y, row, &mut before, &mut after);
     }
     Ok((before, after))
 }
@@ -92,29 +87,29 @@ fn match_thread(
     instances: &[Vec<Instance>],
     y: usize,
     row: &[Instance],
-    reached: &mut [usize; 64],
     before: &mut [Vec<u32>],
     after: &mut [Vec<u32>],
 ) {
     if y >= MOST_THREADS {
         return;
     }
+    // how far the instances of each predecessor have been looked through for this thread
+    let mut reached = [0usize; MOST_THREADS];
     for (m, instance) in row.iter().enumerate() {
-        let Neighbor::Thread(x) = instance.before else {
+        let Neighbor::Thread(predecessor) = instance.before else {
             continue;
         };
-        let x = x as usize;
-        if x >= MOST_THREADS || x >= instances.len() {
+        let x = predecessor as usize;
+        let (Some(others), Some(from)) = (instances.get(x), reached.get_mut(x)) else {
             continue;
-        }
-        let found = next_after(&instances[x], reached[x], y as u8);
-        if let Some(k) = found {
-            put(before, y, m, k.min(NONE as usize) as u32);
-            put(after, x, k, m.min(NONE as usize) as u32);
-        }
-        reached[x] = match found {
-            Some(k) => k.saturating_add(1),
-            None => instances[x].len(),
+        };
+        *from = match next_after(others, *from, y as u8) {
+            Some(k) => {
+                put(before, y, m, k.min(NONE as usize) as u32);
+                put(after, x, k, m.min(NONE as usize) as u32);
+                k.saturating_add(1)
+            }
+            None => others.len(),
         };
     }
 }
@@ -138,49 +133,37 @@ impl Chains {
         }
     }
 
-    fn set_end(&mut self, number: u32, end: End) {
-        if let Some(place) = self.ends.get_mut(number as usize) {
-            *place = end;
-        }
-    }
-
     // How a chain ends whose last thread's log has no end of it.
     fn end_of_log(&self, thread: usize) -> End {
-        if thread < MOST_THREADS && self.cut[thread] {
-            End::CutOff
-        } else {
-            End::Never
+        match self.cut.get(thread) {
+            Some(true) => End::CutOff,
+            _ => End::Never,
         }
     }
 
-    // Goes along a chain from its first instance.
+    // Goes along a chain from its first instance, and answers how it ends.
     fn follow(
         &mut self,
         instances: &[Vec<Instance>],
         after: &[Vec<u32>],
         number: u32,
-        thread: usize,
-        instance: usize,
-        budget: usize,
-    ) {
-        let mut thread = thread;
-        let mut instance = instance;
-        for _ in 0..budget {
+        first: (usize, usize),
+    ) -> End {
+        let (mut thread, mut instance) = first;
+        let total = instances
+            .iter()
+            .fold(0, |total: usize, row| total.saturating_add(row.len()));
+        for _ in 0..total {
             put(&mut self.chain, thread, instance, number);
             self.note(number, thread, instance);
-            let Some(row) = instances.get(thread) else {
-                return;
-            };
-            let successor = match row.get(instance).map(|found| found.after) {
+            let row = instances.get(thread);
+            let successor = match row
+                .and_then(|row| row.get(instance))
+                .map(|found| found.after)
+            {
                 Some(Neighbor::Thread(successor)) => successor as usize,
-                Some(Neighbor::Nobody) => {
-                    self.set_end(number, End::Seen);
-                    return;
-                }
-                Some(Neighbor::Unknown) | None => {
-                    self.set_end(number, self.end_of_log(thread));
-                    return;
-                }
+                Some(Neighbor::Nobody) => return End::Seen,
+                Some(Neighbor::Unknown) | None => return self.end_of_log(thread),
             };
             let next = at(after, thread, instance);
             if next == NONE {
@@ -188,32 +171,12 @@ impl Chains {
                 if let Some(row) = instances.get(successor) {
                     self.note(number, successor, swapped(row));
                 }
-                self.set_end(number, End::CutOff);
-                return;
+                return End::CutOff;
             }
             thread = successor;
             instance = next as usize;
         }
-    }
-
-    // Adds the chain that begins with this instance.
-    fn add(
-        &mut self,
-        instances: &[Vec<Instance>],
-        after: &[Vec<u32>],
-        thread: usize,
-        instance: usize,
-    ) -> Result<(), AllocError> {
-        let number = self.ends.len().min(NONE as usize) as u32;
-        self.ends.push(End::Never)?;
-        for _ in 0..self.threads {
-            self.first.push(NONE)?;
-        }
-        let total = instances
-            .iter()
-            .fold(0, |total: usize, row| total.saturating_add(row.len()));
-        self.follow(instances, after, number, thread, instance, total);
-        Ok(())
+        End::Never
     }
 
     // Adds the chains that begin with an instance of this thread.
@@ -226,7 +189,11 @@ impl Chains {
     ) -> Result<(), AllocError> {
         for (instance, found) in row.iter().enumerate() {
             if found.before == Neighbor::Nobody {
-                self.add(instances, after, thread, instance)?;
+                let number = self.ends.len().min(NONE as usize) as u32;
+                let room = self.first.len().saturating_add(self.threads);
+                self.first.resize(room, NONE)?;
+                let end = self.follow(instances, after, number, (thread, instance));
+                self.ends.push(end)?;
             }
         }
         Ok(())

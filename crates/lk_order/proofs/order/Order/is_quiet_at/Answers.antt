@@ -5,7 +5,7 @@ use Rattle.std.specs.List.{slice_get}
 use Rattle.std.proofs.lemmas.List.{length-map}
 use Rattle.std.proofs.lemmas.Option.{slice_get-get_or}
 use Rattle.lk_order.specs.Orders.{IsQuiet, Ordered}
-use Rattle.lk_order.specs.Picked.{line_at, picked}
+use Rattle.lk_order.specs.Picked.{line_at, ordered_of}
 use Rattle.lk_order.specs.declared.order.Place.{Place}
 use Rattle.lk_order.proofs.order.Order.is_quiet_at.Goals as goal
 
@@ -14,14 +14,8 @@ returns-else-k-eq0 c =
     let a = c.self.inside in
     let k : ℕ = c.args.k in
     let place : Place = c.index.result.now in
-    let o : Ordered = record {
-      kind = a.kind;
-      threads = a.threads;
-      bits = a.bits;
-      logs = a.logs.items;
-      trace = picked a.logs.items a.places.items;
-      lock = a.checker;
-    } in
+    let o : Ordered =
+    ordered_of a.kind a.threads a.bits a.logs.items a.places.items a.checker in
     let same : k - 1 + 1 ≡ k = omega (arith, c.if-k-eq0.false) in
     let inside : k ≤ length o.trace =
     subst (λ (x : Ordered). k ≤ length x.trace) (sym c.self.view_is) c.requires in

@@ -6,8 +6,7 @@ use Rattle.lk_replay.specs.Schedule.{Plan}
 use Rattle.lk_replay.specs.declared.schedule.Line.{Line}
 use Rattle.lk_replay.proofs.Moves.{lines_done}
 use Rattle.lk_replay.proofs.Skipped.{moves_skip}
-use Rattle.lk_replay.proofs.Reading.{move_read, move_missing, next_plan, emptied}
-use Rattle.lk_replay.proofs.Reading.{one_left}
+use Rattle.lk_replay.proofs.Reading.{move_read, move_missing, next_plan, emptied, one_left}
 use Rattle.lk_replay.proofs.schedule.reader.ScheduleReader.next_move.Goals as goal
 
 pub invariant_of-self : goal.invariant_of-self

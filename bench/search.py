@@ -1,0 +1,146 @@
+#!/usr/bin/env python3
+"""Measures how fast `locktrace space` searches spaces of schedules, beside SPIN's search of them.
+
+    search.py LOCKTRACE [--turns N] [--check]
+
+In each turn and for each space of SPACES, `LOCKTRACE space` searches it, and so does the `pan` that
+SPIN makes of the model in bench/spin, compiled with -O2; pan.py says with which other options, and
+why. They take turns, so that what else the machine does meets both. Both have to count the same
+states and transitions. Times are those of a processor, user and kernel, less what the program takes
+for one thread and one round: starting, and a table that is still empty. Printed are medians:
+
+    states       how many states the space has
+    ms           milliseconds of the program
+    SPIN's ms    the same of `pan`
+    to SPIN      the program's time over that of `pan`, by turns; below 1 it is the faster one
+    states a s   states that the program finds in a second, in thousands
+    SPIN's       the same of `pan`
+    bytes        what a state takes of the program's memory at its peak, less a byte for each word
+                 and two for each thread's phase, its name and its value
+
+With --check it ends with 1 where a limit is passed: the time of `pan`, 2 seconds for a million
+states and 0.1 for a small space, 64 bytes a state. Time is given a tenth more, as in run.py, and a
+space that is past a limit is measured again, up to three times in all.
+"""
+import argparse
+import json
+import pathlib
+import statistics
+import sys
+import tempfile
+
+import pan
+from measuring import Measure, median_processor
+
+TOP = pathlib.Path(__file__).resolve().parent.parent
+sys.path += [str(TOP / "tests"), str(TOP / "fuzz")]
+from locks import LOCKS
+from search_rows import Space
+
+SPACES = [
+    Space("mcs", 4, 1, 64),
+    Space("mcs", 4, 2, 64),
+    Space("ticket", 5, 2, 64),
+    Space("rw-simple", 5, 2, 64),
+    Space("rw-fifo", 4, 3, 64),
+]
+MOST_TO_SPIN, MOST_BYTES, LEAST_SECONDS, SECONDS_A_STATE = 1.0, 64, 0.1, 2e-6
+TOLERANCE = 1.1
+ATTEMPTS = 3
+COLUMNS = ["states", "ms", "SPIN's ms", "to SPIN", "states a s", "SPIN's", "bytes"]
+
+
+def state_bytes(space):
+    """What the words and the phases of a state take, in bytes."""
+    return len(LOCKS[space.lock].all_words(space.threads)) + 2 * space.threads
+
+
+class Bench:
+    def __init__(self, program, turns, folder):
+        self.program, self.turns = program, turns
+        self.folder = pathlib.Path(folder)
+        self.measure = Measure(folder)
+
+    def own(self, space):
+        """The command by which the program searches a space."""
+        return [self.program, "space", space.lock, str(space.threads), "--format", "json",
+                "--rounds", str(space.rounds), "--bits", str(space.bits)]
+
+    def spin(self, space):
+        """The command by which `pan` does, which is compiled for this space."""
+        folder = self.folder / str(space).replace(" ", "-")
+        folder.mkdir(exist_ok=True)
+        return pan.command(pan.build(space, folder))
+
+    def runs(self, commands):
+        """Runs the commands in turns; for each of them its runs."""
+        return zip(*[[self.measure.run(command) for command in commands]
+                     for _ in range(self.turns)])
+
+    def output(self, command):
+        self.measure.run(command)
+        return self.measure.output.read_text()
+
+    def counts(self, own, spin):
+        """States and transitions, by both commands."""
+        found = json.loads(self.output(own))
+        counted = pan.figures(self.output(spin))[:2]
+        if (found["states"], found["transitions"]) != counted:
+            raise SystemExit(f"{own}: {found}, and SPIN counts {counted}")
+        return counted
+
+    def figures(self, space):
+        """The figures of one line of the table."""
+        least = space._replace(threads=1, rounds=1)
+        commands = [self.own(space), self.spin(space), self.own(least), self.spin(least)]
+        states, _ = self.counts(*commands[:2])
+        owns, spins, starts, spin_starts = self.runs(commands)
+        start, spin_start = median_processor(starts), median_processor(spin_starts)
+        took, spin_took = median_processor(owns) - start, median_processor(spins) - spin_start
+        ratio = statistics.median((own.processor - start) / (spin.processor - spin_start)
+                                  for own, spin in zip(owns, spins))
+        peak = max(run.peak for run in owns) - min(run.peak for run in starts)
+        return dict(zip(COLUMNS, [
+            states, took * 1e3, spin_took * 1e3, ratio, states / took / 1e3,
+            states / spin_took / 1e3, peak / states - state_bytes(space)]))
+
+
+def passed_limits(figures):
+    """The names of the figures that are past their limit."""
+    most_seconds = max(LEAST_SECONDS, figures["states"] * SECONDS_A_STATE)
+    if figures["ms"] > most_seconds * 1e3 * TOLERANCE:
+        yield "ms"
+    if figures["to SPIN"] > MOST_TO_SPIN * TOLERANCE:
+        yield "to SPIN"
+    if figures["bytes"] > MOST_BYTES:
+        yield "bytes"
+
+
+def fits(bench, space, attempts):
+    """Prints the space's line; again, while a limit is passed and attempts are left."""
+    for _ in range(attempts):
+        figures = bench.figures(space)
+        beyond = list(passed_limits(figures))
+        cells = "".join(f"{figure:12.2f}" for figure in list(figures.values())[1:])
+        print(f"{str(space):38}{figures['states']:10}{cells}",
+              *(f"past the limit: {name}" for name in beyond), flush=True)
+        if not beyond:
+            return True
+    return False
+
+
+def main():
+    words = argparse.ArgumentParser(description="The head of this file says what is measured.")
+    words.add_argument("program")
+    words.add_argument("--turns", type=int, default=7)
+    words.add_argument("--check", action="store_true")
+    asked = words.parse_args()
+    with tempfile.TemporaryDirectory() as folder:
+        bench = Bench(str(pathlib.Path(asked.program).resolve()), asked.turns, folder)
+        print(f"{'space':38}{COLUMNS[0]:>10}" + "".join(f"{name:>12}" for name in COLUMNS[1:]))
+        all_fit = [fits(bench, space, ATTEMPTS if asked.check else 1) for space in SPACES]
+    return 1 if asked.check and not all(all_fit) else 0
+
+
+if __name__ == "__main__":
+    sys.exit(main())

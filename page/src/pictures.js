@@ -1,0 +1,180 @@
+// Draws the pictures into the room that they have. The room may depend on what is drawn, so it is
+// measured again afterwards, and what it no longer fits is drawn anew.
+
+import { lanesHeight } from './arrange.js';
+import { lanesPicture, numbersPicture } from './lanes.js';
+import { columnX, layOutLanes } from './layout.js';
+import { legend } from './legend.js';
+import { lockOf } from './locks.js';
+import { looks } from './looks.js';
+import { byId, show, write } from './markup.js';
+import { sliderPicture } from './slider.js';
+import { texts } from './texts.js';
+
+const ROUNDS = 4;
+
+// The sizes of the parts with pictures.
+export function measured() {
+  const size = (id) => {
+    const { clientWidth: width, clientHeight: height } = byId(id);
+    return { width, height };
+  };
+  return {
+    lanes: { width: size('lanes').width, height: lanesHeight() },
+    memory: size('memory-picture'), slider: size('slider-picture'),
+  };
+}
+
+const DRAWS = {
+  lanes: (page, view, state, size) => {
+    page.comparing.draw(size.width);
+    if (view.run.hasLock) drawTime(page, view, size);
+  },
+  memory: (page, view, state, size) => { if (state) drawMemory(view, state, size); },
+  slider: (page, view, state, size) => drawSlider(view, size.width),
+};
+
+const differs = (one, other) => one.width !== other.width || one.height !== other.height;
+
+export function drawPictures(page, view, state, sizes) {
+  const parts = Object.keys(DRAWS);
+  parts.forEach((part) => DRAWS[part](page, view, state, sizes[part]));
+  let fitted = sizes;
+  for (let round = 1; round < ROUNDS; round += 1) {
+    fitNow();
+    fitCode();
+    const now = measured();
+    const changed = parts.filter((part) => differs(now[part], fitted[part]));
+    changed.forEach((part) => DRAWS[part](page, view, state, now[part]));
+    if (!changed.length) break;
+    page.moved = true;
+    fitted = now;
+  }
+  reveal(page, view);
+  page.moved = false;
+}
+
+// The sentences on a move in smaller letters, where they do not fit otherwise.
+const EDGE = 8;
+const FITS = ['', '1', '2', '3', '4'];
+
+function fitNow() {
+  const box = byId('now');
+  if (box.dataset.fit) box.dataset.fit = '';
+  if (looks.hall) return;
+  for (const fit of FITS) {
+    if (fit) box.dataset.fit = fit;
+    if (box.scrollHeight <= box.clientHeight + 1) return;
+  }
+}
+
+// As many lines of code as have room whole.
+function fitCode() {
+  const box = byId('code-lines');
+  const line = box.firstElementChild?.offsetHeight;
+  if (!line) return;
+  const room = byId('code').clientHeight - box.offsetTop + byId('code').offsetTop - EDGE;
+  const most = `${Math.floor(room / line) * line}px`;
+  if (box.style.maxHeight !== most) box.style.maxHeight = most;
+}
+
+function drawTime(page, view, room) {
+  const box = byId('lanes');
+  const layout = layOutLanes(view, page.mode === 'play', room, page.zoomed);
+  const { lanes } = layout;
+  layout.chosen = lanes.includes(page.lane) ? page.lane : null;
+  box.setAttribute('aria-activedescendant', layout.chosen === null ? '' : `lane-${page.lane}`);
+  const height = `${Math.min(layout.height, room.height)}px`;
+  if (box.style.height !== height) box.style.height = height;
+  const at = page.moved ? laneInView(box.scrollTop, room.height, view, layout) : box.scrollTop;
+  const top = Math.max(0, Math.floor(at / layout.laneHeight) - 1);
+  const bottom = Math.min(lanes.length - 1, Math.ceil((at + room.height) / layout.laneHeight));
+  show(byId('numbers'), numbersPicture(view, layout));
+  show(box, lanesPicture(view, layout, top, bottom));
+  show(byId('legend'), legend(view.run));
+  write(byId('resting'), foldedText(view, layout, room));
+  page.layout = { ...layout, at, x: (move) => columnX(layout, move) };
+}
+
+// How many threads have no lane, and how many lanes are out of view.
+function foldedText({ run }, { lanes, laneHeight }, room) {
+  const folded = run.threads - lanes.filter((one) => one < run.threads).length;
+  const away = lanes.length - Math.floor(room.height / laneHeight + 0.01);
+  return [folded > 0 && texts.resting(texts.threads(folded)), away > 0 && texts.away(away)]
+    .filter(Boolean).join('; ');
+}
+
+// Where the lanes are scrolled to, so that the lane of the current move is in view with its
+// neighbours.
+function laneInView(from, height, view, { lanes, laneHeight }) {
+  const { run, move, refused } = view;
+  const thread = refused ? run.refusal.thread : move && run.records.thread(move);
+  const index = view.place ? lanes.indexOf(thread) : 0;
+  const beside = height >= 3 * laneHeight ? laneHeight : 0;
+  const top = Math.max(0, index * laneHeight - beside);
+  const bottom = Math.min(lanes.length * laneHeight, (index + 1) * laneHeight + beside);
+  if (top < from) return top;
+  return bottom > from + height ? bottom - height : from;
+}
+
+// The picture as large as fits; one that fits at no scale is folded or scrolled.
+const SCALES = [1.3, 1.2, 1.1, 1, 0.9, 0.8, 0.7, 0.65];
+const NARROWEST = 300;
+
+function scaledPicture(size, lock, view, state) {
+  const width = Math.max(NARROWEST, size.width);
+  const scales = looks.hall ? SCALES.filter((scale) => scale >= 1) : SCALES;
+  const last = scales[scales.length - 1];
+  const room = (scale) => ({ width: width / scale, height: size.height / scale, scale });
+  for (const scale of scales) {
+    const given = { ...view, ...room(scale) };
+    if (scale > last && given.width < lock.leastWidth(given, state)) continue;
+    const picture = lock.draw(given, state);
+    if (picture.height <= size.height + 1) return picture;
+  }
+  return lock.draw({ ...view, ...room(last), tight: true }, state);
+}
+
+function drawMemory(view, state, size) {
+  const picture = scaledPicture(size, lockOf(view.run), view, state);
+  show(byId('memory-picture'), picture);
+  write(byId('memory-note'), picture.note ?? '');
+}
+
+function drawSlider(view, width) {
+  show(byId('slider-picture'), sliderPicture(view, width));
+  const input = byId('slider');
+  input.max = view.run.last;
+  input.value = view.place;
+  const { refused, run: { count }, move } = view;
+  const { refused: { refused: word }, spoken, position } = texts;
+  input.setAttribute('aria-valuetext', refused ? word : spoken.move(move, count));
+  write(byId('position'), refused ? word : position(move, count));
+}
+
+// Scrolls a part of the page so that what counts is in view, in its middle where it was not.
+function revealIn(box, selector) {
+  const all = [...box.querySelectorAll(selector)];
+  if (box.scrollHeight <= box.clientHeight || !all.length) return;
+  const [outer, first, last] = [box, all[0], all[all.length - 1]]
+    .map((one) => one.getBoundingClientRect());
+  const scale = outer.height / box.offsetHeight;
+  const top = (first.top - outer.top) / scale + box.scrollTop;
+  const height = (last.bottom - first.top) / scale;
+  const line = (box.firstElementChild?.offsetHeight ?? 0) || 1;
+  const edge = box.id === 'code-lines' ? line : 0;
+  const { scrollTop, clientHeight } = box;
+  if (top - edge >= scrollTop && top + height + edge <= scrollTop + clientHeight) return;
+  const middle = top - Math.max(0, (clientHeight - height) / 2);
+  box.scrollTop = edge ? Math.round(middle / line) * line : middle;
+}
+
+// Called last: the lane, the line of code, and what moves in memory are in view.
+function reveal(page, view) {
+  const lanes = byId('lanes');
+  if (!view.run.hasLock || !page.moved) return;
+  if (lanes.scrollTop !== page.layout.at) lanes.scrollTop = page.layout.at;
+  revealIn(byId('code-lines'), '.here');
+  revealIn(byId('memory-picture'), '[data-moving]');
+  if (page.mode === 'play') revealIn(byId('choices'), '[data-here]');
+}

@@ -1,0 +1,43 @@
+// How many moves are printed, and how: never more than twelve sheets, each strip on one of them.
+
+import { gutterOf, lanesOf } from './layout.js';
+
+const MOST_SHEETS = 12;
+// In the units of a strip's picture, which is as wide as a sheet of 275 by 188 mm. Of more threads
+// a strip is drawn smaller.
+const FEW = { threads: 5, width: 1040, column: 56, lane: 78, name: 'few' };
+const MANY = { width: 1600, column: 35, lane: 78, lowest: 12, name: 'many' };
+const SHAPE = 188 / 275;
+const HEAD = 30;
+// What a sheet has beside strips, the first one the title.
+const BETWEEN = 30;
+const TITLE = 120;
+// Rows of the table on a sheet, of two lines each; sheets for the title, memory, code, questions.
+const ROWS = 19;
+const OTHER_SHEETS = 2;
+const MOST_MOVES = 400;
+
+function stripOf(view, lanes) {
+  const { width, column, lane, lowest, name } = lanes.length > FEW.threads ? MANY : FEW;
+  const gutter = gutterOf(view.names, width);
+  const room = width * SHAPE - HEAD - BETWEEN - TITLE;
+  const laneHeight = Math.min(lane, Math.max(lowest ?? 0, room / lanes.length));
+  const inStrip = Math.floor((width - gutter - 20) / column);
+  const perSheet = Math.floor(width * SHAPE / (HEAD + BETWEEN + lanes.length * laneHeight)) || 1;
+  return { name, width, column, gutter, laneHeight, inStrip, perSheet };
+}
+
+function sheetsOf({ inStrip, perSheet }, moves) {
+  return Math.ceil(Math.ceil(moves / inStrip) / perSheet) + Math.ceil(moves / ROWS) + OTHER_SHEETS;
+}
+
+// {from, to, strip, lanes}: of more moves than have room those around the current one.
+export function sheetPlan(view) {
+  const { run, move } = view;
+  const lanes = lanesOf(run, false);
+  const strip = stripOf(view, lanes);
+  let most = Math.min(run.count, MOST_MOVES);
+  while (most > strip.inStrip && sheetsOf(strip, most) > MOST_SHEETS) most -= 1;
+  const from = Math.min(Math.max(1, move - Math.floor(most / 2)), run.count - most + 1);
+  return { from: Math.max(1, from), to: from + most - 1, strip, lanes };
+}

@@ -1,0 +1,285 @@
+//! The log of the thread that runs, and what a lock says into it.
+//!
+//! A thread that has no log, or that unwinds, records nothing: its operations are made as they are.
+
+// clippy of Rust 1.63 takes the initial value in `thread_local!` for a constant of this module.
+#![allow(clippy::declare_interior_mutable_const)]
+
+use std::cell::RefCell;
+use std::sync::Arc;
+use std::thread;
+
+use crate::draw::Draw;
+use crate::moves::{Call, Move, Outcome, Step, Word};
+use crate::noise;
+use crate::run::Shared;
+use crate::stage::Effect;
+use crate::tape::Tape;
+
+/// The word that an atomic is, and its values in a trace.
+pub(crate) struct Name<V> {
+    word: Option<Word>,
+    value_of: fn(V) -> u64,
+}
+
+impl<V> Name<V> {
+    pub(crate) const fn none(value_of: fn(V) -> u64) -> Name<V> {
+        Name { word: None, value_of }
+    }
+
+    pub(crate) const fn of(word: Word, value_of: fn(V) -> u64) -> Name<V> {
+        Name { word: Some(word), value_of }
+    }
+
+    /// The same values, on this word.
+    pub(crate) const fn on(&self, word: Word) -> Name<V> {
+        Name::of(word, self.value_of)
+    }
+
+    pub(crate) fn word(&self) -> Option<Word> {
+        self.word
+    }
+
+    pub(crate) fn value(&self, value: V) -> u64 {
+        (self.value_of)(value)
+    }
+}
+
+/// What a thread records with.
+#[derive(Debug)]
+pub(crate) struct Recorder {
+    pub(crate) shared: Arc<Shared>,
+    pub(crate) thread: usize,
+    pub(crate) tape: Tape,
+    pub(crate) noise: Option<Draw>,
+    /// What was looked at last, if that changed nothing and is not noted.
+    pub(crate) looked_at: Option<usize>,
+    /// How many turns are taken, one inside another.
+    pub(crate) depth: usize,
+}
+
+thread_local! {
+    static CURRENT: RefCell<Option<Recorder>> = const { RefCell::new(None) };
+}
+
+/// The recorder's place, also while the thread unwinds. A thread that ends may have lost it.
+fn place<R>(look: impl FnOnce(&mut Option<Recorder>) -> R) -> Option<R> {
+    let looked = CURRENT.try_with(|current| Some(look(&mut *current.try_borrow_mut().ok()?)));
+    looked.ok().flatten()
+}
+
+/// Does something with the recorder, if this thread records.
+pub(crate) fn with<R>(record: impl FnOnce(&mut Recorder) -> R) -> Option<R> {
+    if thread::panicking() {
+        return None;
+    }
+    place(|current| current.as_mut().map(record)).flatten()
+}
+
+/// Begins to record, in the place of what recorded before.
+pub(crate) fn install(recorder: Recorder) {
+    place(|current| *current = Some(recorder));
+}
+
+/// Ends recording.
+pub(crate) fn remove() -> Option<Recorder> {
+    place(Option::take).flatten()
+}
+
+impl Recorder {
+    pub(crate) fn note(&mut self, made: Move) {
+        self.looked_at = None;
+        let added = self.tape.add(made);
+        self.shared.turns.noted(self.thread, added);
+    }
+
+    /// Something was done at an address that is not noted.
+    fn unnoted(&mut self, address: usize, changed: bool) {
+        let effect = match self.looked_at {
+            _ if changed => Effect::Step,
+            Some(last) if last == address => Effect::Again,
+            _ => Effect::Look,
+        };
+        self.looked_at = Some(address).filter(|_| !changed);
+        self.shared.turns.unnoted(self.thread, effect);
+    }
+
+    fn take_turn(&mut self) {
+        if self.depth == 0 {
+            if let Some(draw) = &mut self.noise {
+                noise::make(draw);
+            }
+            self.shared.turns.take(self.thread);
+        }
+        self.depth += 1;
+    }
+
+    fn give_turn(&mut self) {
+        self.depth -= 1;
+        if self.depth == 0 {
+            self.shared.turns.give();
+        }
+    }
+}
+
+/// An operation and its notes, between which no other thread gets its turn.
+#[derive(Debug)]
+pub(crate) struct Turn {
+    is_recorded: bool,
+}
+
+/// Lets others go first, and begins an operation.
+pub(crate) fn turn() -> Turn {
+    Turn { is_recorded: with(Recorder::take_turn).is_some() }
+}
+
+/// Lets others go first.
+pub(crate) fn pause() {
+    let _turn = turn();
+}
+
+impl Turn {
+    pub(crate) fn is_recorded(&self) -> bool {
+        self.is_recorded
+    }
+}
+
+impl Drop for Turn {
+    fn drop(&mut self) {
+        if self.is_recorded {
+            place(|current| current.as_mut().map(Recorder::give_turn));
+        }
+    }
+}
+
+/// A call of the lock, from [`call`] until this is dropped.
+#[derive(Debug)]
+#[must_use = "the call ends when this is dropped: give it a name, as `_call`"]
+pub struct InCall(());
+
+/// Says that a call of the lock begins here. It ends when the guard is dropped.
+///
+/// ```
+/// use lockreplay_record::{call, Call};
+///
+/// fn acquire() {
+///     let _call = call(Call::Acquire);
+///     // the steps of the call
+/// }
+/// # acquire();
+/// ```
+pub fn call(call: Call) -> InCall {
+    let _turn = turn();
+    with(|recorder| recorder.note(Move::Call(call)));
+    InCall(())
+}
+
+impl Drop for InCall {
+    fn drop(&mut self) {
+        switch();
+    }
+}
+
+/// Another thread may have its turn here, though no step was taken.
+pub fn switch() {
+    pause();
+}
+
+/// Something was done at an address that is not noted. What changed nothing may be a poll.
+pub(crate) fn unnoted(address: usize, changed: bool) {
+    with(|recorder| recorder.unnoted(address, changed));
+}
+
+/// Writes a step that the atomics cannot know of. It belongs right behind its operation, and both
+/// into one [`operation`].
+///
+/// ```
+/// use lockreplay_record::{note, operation, AtomicU32, Step, Word};
+/// use std::sync::atomic::Ordering::SeqCst;
+///
+/// /// Both counters are halves of one word, so one operation is two steps.
+/// fn take_ticket(both: &AtomicU32) -> (u32, u32) {
+///     operation(|| {
+///         let found = both.fetch_add(1 << 16, SeqCst);
+///         note(Step::add(Word::NextTicket, u64::from(found >> 16)));
+///         note(Step::read(Word::NowServing, u64::from(found & 0xFFFF)));
+///         (found >> 16, found & 0xFFFF)
+///     })
+/// }
+/// # assert_eq!(take_ticket(&AtomicU32::new(0x0005_0003)), (5, 3));
+/// ```
+pub fn note(step: Step) {
+    with(|recorder| recorder.note(Move::Step(step)));
+}
+
+/// One operation of several parts: no other thread gets its turn in it.
+///
+/// It must not wait for another thread.
+pub fn operation<R>(parts: impl FnOnce() -> R) -> R {
+    let _turn = turn();
+    parts()
+}
+
+/// Says that this MCS record is the thread's own from now on.
+///
+/// A pointer to it, or into it, then has the value thread + 1 in a trace, and its words are those
+/// of this thread. It may be on the stack, on the heap or in an array, and another at each call.
+pub fn own_record<T: ?Sized>(record: &T) {
+    with(|recorder| recorder.shared.records.set(recorder.thread, record));
+}
+
+/// The sections of a monitor, counted by all threads together.
+#[derive(Debug)]
+pub(crate) struct Sections(u64);
+
+impl Sections {
+    pub(crate) const fn none() -> Sections {
+        Sections(0)
+    }
+}
+
+/// Notes the end of a monitor's section.
+pub(crate) fn section(sections: &mut Sections, outcome: Outcome) {
+    sections.0 += 1;
+    let count = sections.0;
+    with(|recorder| recorder.note(Move::Section { count, outcome }));
+}
+
+/// `Seed`: waits until the thread is woken at an address.
+pub(crate) fn sleep(address: usize) {
+    with(|recorder| recorder.shared.turns.sleep(recorder.thread, address));
+}
+
+/// `Seed`: wakes the threads that wait at an address, or one of them.
+pub(crate) fn wake(address: usize, all: bool) {
+    with(|recorder| recorder.shared.turns.wake(address, all));
+}
+
+/// Whether this thread records.
+pub(crate) fn is_recorded() -> bool {
+    with(|_| ()).is_some()
+}
+
+/// Whether one thread runs at a time.
+pub(crate) fn is_seeded() -> bool {
+    with(|recorder| recorder.shared.turns.is_seeded()).unwrap_or(false)
+}
+
+/// Unwinds if the run was stopped.
+pub(crate) fn go_on() {
+    with(|recorder| recorder.shared.turns.go_on());
+}
+
+/// The thread in whose record an address is, unless it is the own one.
+pub(crate) fn other_owner_of(address: usize) -> Option<usize> {
+    let owner = with(|recorder| {
+        let found = recorder.shared.records.owner_of(address, recorder.thread);
+        Some(found).filter(|&owner| owner != recorder.thread)
+    });
+    owner.flatten()
+}
+
+/// The value of a pointer in a trace.
+pub(crate) fn value_of(address: usize) -> u64 {
+    with(|recorder| recorder.shared.records.value_of(address, recorder.thread)).unwrap_or(0)
+}

@@ -1,0 +1,104 @@
+//! What can be wrong with how the crate is used, each with a sentence.
+
+use std::error;
+use std::fmt;
+use std::io;
+use std::path::PathBuf;
+
+use crate::lock::{Lock, MOST_BITS, MOST_THREADS};
+
+/// Why a run was not opened, not entered or not saved.
+#[derive(Debug)]
+#[non_exhaustive]
+pub enum Error {
+    /// No lock has this name in a trace.
+    UnknownLock(String),
+    /// A run cannot have so many threads.
+    Threads(usize),
+    /// No counter has this width.
+    Bits(u32),
+    /// There are not fewer threads than the counter has values.
+    NarrowCounters {
+        /// The threads of the run.
+        threads: usize,
+        /// The width of its counters.
+        bits: u32,
+    },
+    /// Memory for the logs was refused.
+    OutOfMemory {
+        /// How many logs were asked for.
+        logs: usize,
+        /// How many moves each of them was to have room for.
+        room: usize,
+    },
+    /// The run has no thread of this number.
+    NoSuchThread {
+        /// The number that was asked for.
+        thread: usize,
+        /// The threads of the run.
+        threads: usize,
+    },
+    /// This thread of the run has its log already: a run is recorded once.
+    ThreadTaken(usize),
+    /// The thread that asks has a log already.
+    AlreadyRecorded,
+    /// The run was stopped before all of its threads had come.
+    Stopped,
+    /// A thread could not be started.
+    Start(io::Error),
+    /// A file could not be written.
+    Save {
+        /// The file, or the folder.
+        path: PathBuf,
+        /// The system's reason.
+        error: io::Error,
+    },
+}
+
+impl fmt::Display for Error {
+    fn fmt(&self, out: &mut fmt::Formatter<'_>) -> fmt::Result {
+        match self {
+            Error::UnknownLock(name) => {
+                let names = Lock::ALL.map(Lock::name).join(", ");
+                write!(out, "there is no lock '{name}': the locks are {names}")
+            }
+            Error::Threads(threads) => {
+                write!(out, "a run has 1 to {MOST_THREADS} threads, not {threads}")
+            }
+            Error::Bits(bits) => {
+                write!(out, "a counter has 2 to {MOST_BITS} bits, not {bits}")
+            }
+            Error::NarrowCounters { threads, bits } => write!(
+                out,
+                "{threads} threads are too many for counters of {bits} bits: \
+                 there must be fewer threads than a counter has values"
+            ),
+            Error::OutOfMemory { logs, room } => {
+                write!(out, "no memory for {logs} logs of {room} moves each")
+            }
+            Error::NoSuchThread { thread, threads } => {
+                write!(out, "there is no thread {thread}: the run has {threads}, counted from 0")
+            }
+            Error::ThreadTaken(thread) => {
+                write!(out, "thread {thread} has its log already: open a run for each recording")
+            }
+            Error::AlreadyRecorded => {
+                write!(out, "this thread has a log already: drop that before it enters a run")
+            }
+            Error::Stopped => {
+                write!(out, "the run was stopped before all of its threads had come")
+            }
+            Error::Start(error) => write!(out, "a thread was not started: {error}"),
+            Error::Save { path, error } => write!(out, "{}: {error}", path.display()),
+        }
+    }
+}
+
+impl error::Error for Error {
+    fn source(&self) -> Option<&(dyn error::Error + 'static)> {
+        match self {
+            Error::Start(error) | Error::Save { error, .. } => Some(error),
+            _ => None,
+        }
+    }
+}

@@ -1,0 +1,193 @@
+//! A monitor whose sections can be noted: a mutex and a condition variable.
+
+use std::fmt;
+use std::ops::{Deref, DerefMut};
+use std::sync::atomic::{AtomicUsize, Ordering};
+use std::sync::{self, PoisonError, TryLockError};
+use std::time::Duration;
+
+use crate::current::{self, Sections};
+use crate::moves::Outcome;
+
+/// How often a thread that waits looks whether its run was stopped.
+const LOOK: Duration = Duration::from_millis(100);
+
+/// A mutex that counts the sections of a monitor. It is not poisoned by a panic.
+///
+/// ```
+/// use lockreplay_record::{call, Call, Condvar, Mutex, Outcome};
+///
+/// struct State {
+///     readers: u64,
+///     writer: bool,
+/// }
+///
+/// static STATE: Mutex<State> = Mutex::new(State { readers: 0, writer: false });
+/// static CHANGED: Condvar = Condvar::new();
+///
+/// fn read_lock() {
+///     let _call = call(Call::ReadLock);
+///     let mut state = STATE.lock();
+///     while state.writer {
+///         state.note(Outcome::Waits);
+///         state = CHANGED.wait(state);
+///     }
+///     state.readers += 1;
+///     state.note(Outcome::Entered);
+/// }
+/// # read_lock();
+/// ```
+pub struct Mutex<T> {
+    plain: sync::Mutex<Counted<T>>,
+}
+
+struct Counted<T> {
+    data: T,
+    sections: Sections,
+}
+
+/// What a [`Mutex`] has, until this is dropped.
+#[must_use = "the section ends when this is dropped"]
+pub struct MutexGuard<'a, T> {
+    plain: sync::MutexGuard<'a, Counted<T>>,
+    mutex: &'a Mutex<T>,
+}
+
+/// A condition variable for a [`Mutex`].
+///
+/// In a seeded run a thread that waits runs again when it is notified, and not before. So a run in
+/// which a notification is missing stands still.
+#[derive(Debug, Default)]
+pub struct Condvar {
+    plain: sync::Condvar,
+    notified: AtomicUsize,
+}
+
+impl<T> Mutex<T> {
+    /// A mutex with this in it.
+    #[must_use]
+    pub const fn new(data: T) -> Mutex<T> {
+        Mutex { plain: sync::Mutex::new(Counted { data, sections: Sections::none() }) }
+    }
+
+    /// Waits until no other thread has the mutex, and takes it.
+    pub fn lock(&self) -> MutexGuard<'_, T> {
+        while current::is_seeded() {
+            let _turn = current::turn();
+            match self.plain.try_lock() {
+                Ok(plain) => return self.guard(plain),
+                Err(TryLockError::Poisoned(error)) => return self.guard(error.into_inner()),
+                Err(TryLockError::WouldBlock) => current::unnoted(self.address(), false),
+            }
+        }
+        current::pause();
+        self.guard(self.plain.lock().unwrap_or_else(PoisonError::into_inner))
+    }
+
+    fn address(&self) -> usize {
+        (self as *const Mutex<T>).cast::<u8>() as usize
+    }
+
+    fn guard<'a>(&'a self, plain: sync::MutexGuard<'a, Counted<T>>) -> MutexGuard<'a, T> {
+        MutexGuard { plain, mutex: self }
+    }
+}
+
+impl<T> MutexGuard<'_, T> {
+    /// Notes that a section of the monitor ends here, and what it did. A section is from getting
+    /// the mutex to leaving it or waiting in it.
+    pub fn note(&mut self, outcome: Outcome) {
+        current::section(&mut self.plain.sections, outcome);
+    }
+}
+
+impl Condvar {
+    /// A condition variable.
+    #[must_use]
+    pub const fn new() -> Condvar {
+        Condvar { plain: sync::Condvar::new(), notified: AtomicUsize::new(0) }
+    }
+
+    /// Leaves the mutex, waits until another thread notifies, and takes the mutex again.
+    pub fn wait<'a, T>(&self, guard: MutexGuard<'a, T>) -> MutexGuard<'a, T> {
+        let MutexGuard { plain, mutex } = guard;
+        if current::is_seeded() {
+            drop(plain);
+            current::sleep(self.address());
+            return mutex.lock();
+        }
+        if current::is_recorded() {
+            return mutex.guard(self.wait_for_real(plain));
+        }
+        mutex.guard(self.plain.wait(plain).unwrap_or_else(PoisonError::into_inner))
+    }
+
+    /// Wakes one of the threads that wait.
+    pub fn notify_one(&self) {
+        self.notified.fetch_add(1, Ordering::Relaxed);
+        current::wake(self.address(), false);
+        self.plain.notify_one();
+    }
+
+    /// Wakes the threads that wait.
+    pub fn notify_all(&self) {
+        self.notified.fetch_add(1, Ordering::Relaxed);
+        current::wake(self.address(), true);
+        self.plain.notify_all();
+    }
+
+    /// Waits, and looks now and then whether the run was stopped. A notification that comes during
+    /// a look is not lost: it was counted.
+    fn wait_for_real<'a, T>(
+        &self,
+        plain: sync::MutexGuard<'a, Counted<T>>,
+    ) -> sync::MutexGuard<'a, Counted<T>> {
+        let before = self.notified.load(Ordering::Relaxed);
+        let mut plain = plain;
+        loop {
+            let woken = self.plain.wait_timeout(plain, LOOK);
+            let (again, time) = woken.unwrap_or_else(PoisonError::into_inner);
+            plain = again;
+            if !time.timed_out() || self.notified.load(Ordering::Relaxed) != before {
+                return plain;
+            }
+            current::go_on();
+        }
+    }
+
+    fn address(&self) -> usize {
+        self as *const Condvar as usize
+    }
+}
+
+impl<T> Deref for MutexGuard<'_, T> {
+    type Target = T;
+
+    fn deref(&self) -> &T {
+        &self.plain.data
+    }
+}
+
+impl<T> DerefMut for MutexGuard<'_, T> {
+    fn deref_mut(&mut self) -> &mut T {
+        &mut self.plain.data
+    }
+}
+
+impl<T: Default> Default for Mutex<T> {
+    fn default() -> Mutex<T> {
+        Mutex::new(T::default())
+    }
+}
+
+impl<T: fmt::Debug> fmt::Debug for MutexGuard<'_, T> {
+    fn fmt(&self, out: &mut fmt::Formatter<'_>) -> fmt::Result {
+        self.plain.data.fmt(out)
+    }
+}
+
+impl<T> fmt::Debug for Mutex<T> {
+    fn fmt(&self, out: &mut fmt::Formatter<'_>) -> fmt::Result {
+        out.debug_struct("Mutex").finish_non_exhaustive()
+    }
+}

@@ -1,0 +1,231 @@
+//! A move of a thread, and its line in a log or a trace (docs/TRACE.md).
+
+use std::fmt;
+
+/// A call of a lock.
+#[derive(Clone, Copy, Debug, PartialEq, Eq)]
+pub enum Call {
+    /// Takes a ticket or MCS lock.
+    Acquire,
+    /// Gives a ticket or MCS lock back.
+    Release,
+    /// Takes a read-write lock to read.
+    ReadLock,
+    /// Gives back what [`Call::ReadLock`] or [`Call::Downgrade`] gave.
+    ReadUnlock,
+    /// Takes a read-write lock to write.
+    WriteLock,
+    /// Gives back what [`Call::WriteLock`] gave.
+    WriteUnlock,
+    /// Makes a reader of a writer.
+    Downgrade,
+}
+
+/// A shared word of a ticket or MCS lock.
+#[derive(Clone, Copy, Debug, PartialEq, Eq)]
+pub enum Word {
+    /// The ticket that the next thread takes.
+    NextTicket,
+    /// The ticket that is served.
+    NowServing,
+    /// The last record of the MCS queue.
+    Tail,
+    /// The successor of an MCS record.
+    Next,
+    /// Whether the thread of an MCS record waits.
+    Locked,
+}
+
+/// What a section of a monitor did.
+#[derive(Clone, Copy, Debug, PartialEq, Eq)]
+pub enum Outcome {
+    /// The thread is to wait.
+    Waits,
+    /// A FIFO writer has set its flag, and waits for the readers that are inside.
+    Moved,
+    /// The thread has the lock.
+    Entered,
+    /// The thread has given the lock back.
+    Left,
+}
+
+/// One operation on a word, with what it found and left there: what [`note`](crate::note) writes.
+///
+/// The atomics of this crate make their steps themselves.
+///
+/// ```
+/// use lockreplay_record::{Step, Word};
+///
+/// assert_eq!(Step::add(Word::NextTicket, 5).to_string(), "add next_ticket found 5");
+/// assert_eq!(Step::cas(Word::Tail, false).to_string(), "cas tail failed");
+/// assert_eq!(Step::write(Word::Locked, 0).of(2).to_string(), "write locked of 2 left 0");
+/// ```
+#[derive(Clone, Copy, Debug, PartialEq, Eq)]
+#[must_use = "a step is written by `note`"]
+pub struct Step {
+    operation: Operation,
+    word: Word,
+    owner: Option<usize>,
+    found: Option<u64>,
+    left: Option<u64>,
+}
+
+#[derive(Clone, Copy, Debug, PartialEq, Eq)]
+enum Operation {
+    Read,
+    Write,
+    Swap,
+    Add,
+    Cas { wrote: bool },
+}
+
+impl Step {
+    /// A load, which found this.
+    pub const fn read(word: Word, found: u64) -> Step {
+        Step::new(Operation::Read, word).with_found(found)
+    }
+
+    /// A store of this.
+    pub const fn write(word: Word, left: u64) -> Step {
+        Step::new(Operation::Write, word).with_left(left)
+    }
+
+    /// A swap, which found this.
+    pub const fn swap(word: Word, found: u64) -> Step {
+        Step::new(Operation::Swap, word).with_found(found)
+    }
+
+    /// A fetch-and-add, which found this.
+    pub const fn add(word: Word, found: u64) -> Step {
+        Step::new(Operation::Add, word).with_found(found)
+    }
+
+    /// A compare-and-swap, and whether it wrote.
+    pub const fn cas(word: Word, wrote: bool) -> Step {
+        Step::new(Operation::Cas { wrote }, word)
+    }
+
+    /// The word is in the record of this thread. Else `next` and `locked` are the own record's.
+    pub const fn of(self, thread: usize) -> Step {
+        Step { owner: Some(thread), ..self }
+    }
+
+    /// What the operation found.
+    pub const fn with_found(self, found: u64) -> Step {
+        Step { found: Some(found), ..self }
+    }
+
+    /// What the operation left.
+    pub const fn with_left(self, left: u64) -> Step {
+        Step { left: Some(left), ..self }
+    }
+
+    const fn new(operation: Operation, word: Word) -> Step {
+        Step { operation, word, owner: None, found: None, left: None }
+    }
+}
+
+/// What a thread did.
+#[cfg(feature = "record")]
+#[derive(Clone, Copy, Debug, PartialEq, Eq)]
+pub(crate) enum Move {
+    Call(Call),
+    Step(Step),
+    Section { count: u64, outcome: Outcome },
+}
+
+#[cfg(feature = "record")]
+impl Move {
+    /// Whether this is a poll that found what `last` found.
+    pub(crate) fn repeats(&self, last: &Move) -> bool {
+        match (self, last) {
+            (Move::Step(step), Move::Step(before)) => {
+                step.operation == Operation::Read && step == before
+            }
+            (Move::Section { outcome, .. }, Move::Section { outcome: before, .. }) => {
+                *outcome == Outcome::Waits && *before == Outcome::Waits
+            }
+            _ => false,
+        }
+    }
+}
+
+impl fmt::Display for Call {
+    fn fmt(&self, out: &mut fmt::Formatter<'_>) -> fmt::Result {
+        out.write_str(match self {
+            Call::Acquire => "acquire",
+            Call::Release => "release",
+            Call::ReadLock => "rlock",
+            Call::ReadUnlock => "runlock",
+            Call::WriteLock => "wlock",
+            Call::WriteUnlock => "wunlock",
+            Call::Downgrade => "downgrade",
+        })
+    }
+}
+
+impl fmt::Display for Word {
+    fn fmt(&self, out: &mut fmt::Formatter<'_>) -> fmt::Result {
+        out.write_str(match self {
+            Word::NextTicket => "next_ticket",
+            Word::NowServing => "now_serving",
+            Word::Tail => "tail",
+            Word::Next => "next",
+            Word::Locked => "locked",
+        })
+    }
+}
+
+impl fmt::Display for Outcome {
+    fn fmt(&self, out: &mut fmt::Formatter<'_>) -> fmt::Result {
+        out.write_str(match self {
+            Outcome::Waits => "waits",
+            Outcome::Moved => "moved",
+            Outcome::Entered => "entered",
+            Outcome::Left => "left",
+        })
+    }
+}
+
+impl fmt::Display for Operation {
+    fn fmt(&self, out: &mut fmt::Formatter<'_>) -> fmt::Result {
+        out.write_str(match self {
+            Operation::Read => "read",
+            Operation::Write => "write",
+            Operation::Swap => "swap",
+            Operation::Add => "add",
+            Operation::Cas { .. } => "cas",
+        })
+    }
+}
+
+impl fmt::Display for Step {
+    fn fmt(&self, out: &mut fmt::Formatter<'_>) -> fmt::Result {
+        write!(out, "{} {}", self.operation, self.word)?;
+        if let Some(owner) = self.owner {
+            write!(out, " of {owner}")?;
+        }
+        if let Some(found) = self.found {
+            write!(out, " found {found}")?;
+        }
+        if let Some(left) = self.left {
+            write!(out, " left {left}")?;
+        }
+        match self.operation {
+            Operation::Cas { wrote: true } => out.write_str(" done"),
+            Operation::Cas { wrote: false } => out.write_str(" failed"),
+            _ => Ok(()),
+        }
+    }
+}
+
+#[cfg(feature = "record")]
+impl fmt::Display for Move {
+    fn fmt(&self, out: &mut fmt::Formatter<'_>) -> fmt::Result {
+        match self {
+            Move::Call(call) => write!(out, "{call}"),
+            Move::Step(step) => write!(out, "{step}"),
+            Move::Section { count, outcome } => write!(out, "section {count} {outcome}"),
+        }
+    }
+}

@@ -1,0 +1,60 @@
+//! Whose MCS record an address is in, so that a pointer to it has a value.
+//!
+//! Nothing is read through the addresses: a record may be gone already.
+
+use std::sync::atomic::{AtomicUsize, Ordering};
+
+/// The owner of a record that no thread has named, as a wrong lock may reach: no run has so many
+/// threads.
+pub(crate) const NOBODY: usize = 255;
+
+/// The record of each thread.
+#[derive(Debug)]
+pub(crate) struct Records(Vec<Extent>);
+
+/// Where a record begins, and how long it is. It begins at 0 as long as there is none.
+#[derive(Debug, Default)]
+struct Extent {
+    first: AtomicUsize,
+    length: AtomicUsize,
+}
+
+impl Extent {
+    fn has(&self, address: usize) -> bool {
+        let first = self.first.load(Ordering::Relaxed);
+        let length = self.length.load(Ordering::Relaxed);
+        first != 0 && address.wrapping_sub(first) < length
+    }
+}
+
+impl Records {
+    pub(crate) fn of(threads: usize) -> Records {
+        Records((0..threads).map(|_| Extent::default()).collect())
+    }
+
+    /// From now on the thread's record is this.
+    pub(crate) fn set<T: ?Sized>(&self, thread: usize, record: &T) {
+        let first = (record as *const T).cast::<u8>() as usize;
+        if let Some(extent) = self.0.get(thread) {
+            if extent.first.load(Ordering::Relaxed) != first {
+                extent.length.store(std::mem::size_of_val(record).max(1), Ordering::Relaxed);
+                extent.first.store(first, Ordering::Relaxed);
+            }
+        }
+    }
+
+    /// The thread in whose record an address is; `own` is looked at first.
+    pub(crate) fn owner_of(&self, address: usize, own: usize) -> usize {
+        let is_own = self.0.get(own).map_or(false, |extent| extent.has(address));
+        let found = if is_own { Some(own) } else { self.0.iter().position(|e| e.has(address)) };
+        found.unwrap_or(NOBODY)
+    }
+
+    /// A pointer's value in a trace: 0 is nil, and j + 1 is the record of thread j.
+    pub(crate) fn value_of(&self, address: usize, own: usize) -> u64 {
+        match address {
+            0 => 0,
+            _ => self.owner_of(address, own) as u64 + 1,
+        }
+    }
+}

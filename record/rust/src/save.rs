@@ -1,0 +1,96 @@
+//! The texts of a run: a log of each thread, and the trace if the order is known.
+
+use std::fs::{self, File};
+use std::io::{self, BufWriter, Write};
+use std::path::Path;
+
+use crate::error::Error;
+use crate::lock::MOST_THREADS;
+use crate::mode::Mode;
+use crate::run::Shared;
+
+const TRACE: &str = "run.trace";
+
+fn name_of_log(thread: usize) -> String {
+    format!("thread-{thread}.log")
+}
+
+/// Writes the files of a run, and removes those that an earlier one left.
+pub(crate) fn save(run: &Shared, folder: &Path) -> Result<(), Error> {
+    let threads = run.header.threads;
+    let refused = |path: &Path, error| Error::Save { path: path.to_owned(), error };
+    fs::create_dir_all(folder).map_err(|error| refused(folder, error))?;
+    let stale = (threads..MOST_THREADS).map(name_of_log).chain([TRACE.to_owned()]);
+    for path in stale.map(|name| folder.join(name)) {
+        remove(&path).map_err(|error| refused(&path, error))?;
+    }
+    for thread in 0..threads {
+        let path = folder.join(name_of_log(thread));
+        write_file(&path, |out| write_log(run, thread, out))
+            .map_err(|error| refused(&path, error))?;
+    }
+    if !run.mode.has_order() {
+        return Ok(());
+    }
+    let path = folder.join(TRACE);
+    write_file(&path, |out| write_trace(run, out)).map_err(|error| refused(&path, error))
+}
+
+fn remove(path: &Path) -> io::Result<()> {
+    match fs::remove_file(path) {
+        Err(error) if error.kind() != io::ErrorKind::NotFound => Err(error),
+        _ => Ok(()),
+    }
+}
+
+fn write_file(
+    path: &Path,
+    write: impl FnOnce(&mut BufWriter<File>) -> io::Result<()>,
+) -> io::Result<()> {
+    let mut out = BufWriter::new(File::create(path)?);
+    write(&mut out)?;
+    out.flush()
+}
+
+/// The header, behind a comment that says how the run can be had again.
+fn write_header(run: &Shared, out: &mut impl Write) -> io::Result<()> {
+    match run.mode {
+        Mode::Seed(_) if run.is_explored => {}
+        Mode::Seed(seed) => writeln!(out, "# seed {seed}")?,
+        Mode::Noise(seed) => writeln!(out, "# noise {seed}")?,
+        Mode::Free | Mode::Ordered => {}
+    }
+    write!(out, "{}", run.header)
+}
+
+/// A thread's log. It has a last line if the thread came to its end.
+fn write_log(run: &Shared, thread: usize, out: &mut impl Write) -> io::Result<()> {
+    write_header(run, out)?;
+    writeln!(out, " thread {thread}")?;
+    let place = run.tape(thread);
+    if let Some(tape) = place.as_deref().and_then(Option::as_ref) {
+        tape.moves().iter().try_for_each(|made| writeln!(out, "{made}"))?;
+        if tape.ended {
+            writeln!(out, "dropped {}", tape.dropped())?;
+        }
+    }
+    Ok(())
+}
+
+/// The moves of all threads in their order, as far as the logs have them.
+pub(crate) fn write_trace(run: &Shared, out: &mut impl Write) -> io::Result<()> {
+    write_header(run, out)?;
+    writeln!(out)?;
+    let places: Vec<_> = (0..run.header.threads).filter_map(|thread| run.tape(thread)).collect();
+    let mut moves: Vec<_> = places
+        .iter()
+        .map(|tape| tape.as_ref().map_or(&[][..], |tape| tape.moves()).iter())
+        .collect();
+    for &thread in run.turns.stage().order() {
+        match moves.get_mut(usize::from(thread)).and_then(Iterator::next) {
+            Some(made) => writeln!(out, "{thread} {made}")?,
+            None => break,
+        }
+    }
+    Ok(())
+}

@@ -1,0 +1,245 @@
+//! What each mode does: seeds, noise, runs that stand still, and threads that were started
+//! elsewhere.
+#![cfg(feature = "record")]
+
+use std::sync::atomic::{AtomicUsize, Ordering::SeqCst};
+use std::thread;
+use std::time::{Duration, Instant};
+
+use lockreplay_record::{
+    call, operation, AtomicBool, AtomicU8, Call, Condvar, Ending, Error, Lock, Mode, Mutex, Run,
+    Word,
+};
+
+const LIMIT: Duration = Duration::from_secs(60);
+
+struct TicketLock {
+    next_ticket: AtomicU8,
+    now_serving: AtomicU8,
+}
+
+impl TicketLock {
+    fn new() -> TicketLock {
+        TicketLock {
+            next_ticket: AtomicU8::new(0).noted(Word::NextTicket),
+            now_serving: AtomicU8::new(0).noted(Word::NowServing),
+        }
+    }
+
+    fn round(&self) {
+        {
+            let _call = call(Call::Acquire);
+            let ticket = self.next_ticket.fetch_add(1, SeqCst);
+            while self.now_serving.load(SeqCst) != ticket {
+                thread::yield_now();
+            }
+        }
+        let _call = call(Call::Release);
+        self.now_serving.fetch_add(1, SeqCst);
+    }
+}
+
+fn trace_of(mode: Mode) -> Result<String, Error> {
+    let lock = TicketLock::new();
+    let run = Run::of(Lock::Ticket, 3).bits(8).mode(mode).open()?;
+    assert_eq!(run.threads(LIMIT, |_| (0..20).for_each(|_| lock.round()))?, Ending::Complete);
+    run.trace()
+}
+
+#[test]
+fn the_same_seed_gives_the_same_run() -> Result<(), Error> {
+    let moves = |seed| -> Result<String, Error> {
+        Ok(trace_of(Mode::Seed(seed))?.split_once('\n').map_or("", |(_, moves)| moves).to_owned())
+    };
+    assert_eq!(moves(5)?, moves(5)?);
+    assert_ne!(moves(5)?, moves(6)?);
+    Ok(())
+}
+
+#[test]
+fn the_order_is_that_of_the_operations() -> Result<(), Error> {
+    for mode in [Mode::Ordered, Mode::Seed(3)] {
+        let trace = trace_of(mode)?;
+        let tickets: Vec<&str> =
+            trace.lines().filter_map(|line| line.split(" add next_ticket found ").nth(1)).collect();
+        let due: Vec<String> = (0..60).map(|n| format!("{n} left {}", n + 1)).collect();
+        assert_eq!(tickets, due);
+    }
+    Ok(())
+}
+
+#[test]
+fn free_threads_have_no_trace() -> Result<(), Error> {
+    assert_eq!(trace_of(Mode::Free)?, "lock ticket threads 3 bits 8\n");
+    assert_eq!(trace_of(Mode::Noise(4))?, "# noise 4\nlock ticket threads 3 bits 8\n");
+    Ok(())
+}
+
+/// Two threads with two steps each: of the six interleavings two switch at a thread's end alone,
+/// two once more, and two at each step.
+#[test]
+fn all_runs_with_few_preemptions_are_explored() -> Result<(), Error> {
+    let orders = |preemptions| -> Result<Vec<String>, Error> {
+        let made = Run::of(Lock::Ticket, 2).explore(preemptions).map(|run| {
+            let (run, word) = (run?, AtomicU8::new(0).noted(Word::NextTicket));
+            let ending = run.threads(LIMIT, |_| {
+                word.fetch_add(1, SeqCst);
+                word.fetch_add(1, SeqCst);
+            })?;
+            assert_eq!(ending, Ending::Complete);
+            Ok(run.trace()?.lines().skip(1).map(|line| &line[..1]).collect())
+        });
+        made.collect()
+    };
+    assert_eq!(orders(0)?, ["0011", "1100"]);
+    assert_eq!(orders(1)?, ["0011", "0110", "1100", "1001"]);
+    let all = ["0011", "0110", "0101", "1100", "1001", "1010"];
+    assert_eq!(orders(2)?, all);
+    assert_eq!(orders(9)?, all);
+    Ok(())
+}
+
+/// A thread that waits is passed over until the other one has done what it waits for, and each run
+/// ends; if nobody does it, the first run stands still.
+#[test]
+fn polls_are_explored() -> Result<(), Error> {
+    for opens in [true, false] {
+        let (mut runs, mut complete) = (0, 0);
+        for run in Run::of(Lock::Ticket, 2).explore(2).take(50) {
+            let open = AtomicBool::new(false);
+            let ending = run?.threads(LIMIT, |log| match log.thread() {
+                0 => while !open.load(SeqCst) {},
+                _ => open.store(opens, SeqCst),
+            })?;
+            runs += 1;
+            complete += usize::from(ending == Ending::Complete);
+        }
+        assert_eq!(complete, if opens { runs } else { 0 });
+    }
+    Ok(())
+}
+
+#[test]
+fn atomics_without_a_name_are_switched_too() -> Result<(), Error> {
+    let lost = |seed| -> Result<bool, Error> {
+        let count = AtomicU8::new(0);
+        let run = Run::of(Lock::Ticket, 2).bits(8).mode(Mode::Seed(seed)).open()?;
+        run.threads(LIMIT, |_| count.store(count.load(SeqCst) + 1, SeqCst))?;
+        Ok(count.load(SeqCst) == 1)
+    };
+    let runs = (0..20).map(lost).collect::<Result<Vec<bool>, Error>>()?;
+    assert!(runs.contains(&true) && runs.contains(&false), "{runs:?}");
+    Ok(())
+}
+
+#[test]
+fn nobody_comes_between_the_parts_of_an_operation() -> Result<(), Error> {
+    for mode in (0..20).map(Mode::Seed).chain([Mode::Ordered]) {
+        let count = AtomicU8::new(0);
+        let run = Run::of(Lock::Ticket, 2).bits(8).mode(mode).open()?;
+        run.threads(LIMIT, |_| {
+            (0..10).for_each(|_| operation(|| count.store(count.load(SeqCst) + 1, SeqCst)));
+        })?;
+        assert_eq!(count.load(SeqCst), 20);
+    }
+    Ok(())
+}
+
+#[test]
+fn threads_that_poll_for_ever_are_stopped() -> Result<(), Error> {
+    let begun = Instant::now();
+    for mode in [Mode::Seed(1), Mode::Free, Mode::Noise(1), Mode::Ordered] {
+        let open = AtomicBool::new(false);
+        let run = Run::of(Lock::Mcs, 3).mode(mode).open()?;
+        let limit = if mode == Mode::Seed(1) { LIMIT } else { Duration::from_secs(1) };
+        let ending = run.threads(limit, |log| {
+            while log.thread() != 1 && !open.load(SeqCst) {
+                thread::yield_now();
+            }
+        })?;
+        assert_eq!(ending, Ending::Stopped(vec![0, 2]), "{mode:?}");
+    }
+    assert!(begun.elapsed() < LIMIT);
+    Ok(())
+}
+
+/// Thread 0 waits, and thread 1 says nothing: in no mode is the wait over.
+#[test]
+fn a_missing_notification_is_seen() -> Result<(), Error> {
+    for mode in [Mode::Seed(1), Mode::Seed(2), Mode::Free, Mode::Ordered] {
+        let (open, changed) = (Mutex::new(false), Condvar::new());
+        let run = Run::of(Lock::RwSimple, 2).mode(mode).open()?;
+        let limit = if matches!(mode, Mode::Seed(_)) { LIMIT } else { Duration::from_secs(1) };
+        let is_asleep = AtomicBool::new(false);
+        let ending = run.threads(limit, |log| {
+            let mut state = open.lock();
+            if log.thread() == 0 {
+                is_asleep.store(true, SeqCst);
+                while !*state {
+                    state = changed.wait(state);
+                }
+            } else if is_asleep.peek(SeqCst) {
+                *state = true;
+            }
+        })?;
+        assert_eq!(ending, Ending::Stopped(vec![0]), "{mode:?}");
+    }
+    Ok(())
+}
+
+/// Two wait, and one notification is for one of them; all are for both.
+#[test]
+fn one_or_all_are_woken() -> Result<(), Error> {
+    for seed in 0..20 {
+        for all in [false, true] {
+            let (waiting, changed) = (Mutex::new(0), Condvar::new());
+            let woken = AtomicUsize::new(0);
+            let run = Run::of(Lock::RwSimple, 3).mode(Mode::Seed(seed)).open()?;
+            run.threads(LIMIT, |log| {
+                if log.thread() < 2 {
+                    let mut state = waiting.lock();
+                    *state += 1;
+                    drop(changed.wait(state));
+                    woken.fetch_add(1, SeqCst);
+                } else {
+                    while *waiting.lock() < 2 {}
+                    if all {
+                        changed.notify_all()
+                    } else {
+                        changed.notify_one()
+                    }
+                }
+            })?;
+            assert_eq!(woken.load(SeqCst), if all { 2 } else { 1 });
+        }
+    }
+    Ok(())
+}
+
+#[test]
+fn threads_of_ones_own_enter_a_run() -> Result<(), Error> {
+    let run = Run::of(Lock::Ticket, 2).bits(8).mode(Mode::Seed(1)).open()?;
+    let other = run.clone();
+    let handle = thread::spawn(move || other.enter(1).map(|log| log.thread()));
+    let entered = run.enter(0)?;
+    assert_eq!(entered.thread(), 0);
+    drop(entered);
+    assert_eq!(handle.join().expect("it does not panic")?, 1);
+    assert_eq!(run.wait(LIMIT), vec![]);
+    Ok(())
+}
+
+#[test]
+fn a_panic_of_the_work_goes_on() -> Result<(), Error> {
+    let lock = TicketLock::new();
+    let run = Run::of(Lock::Ticket, 2).bits(8).mode(Mode::Seed(1)).open()?;
+    let caught = thread::spawn(move || {
+        let _ = run.threads(LIMIT, |log| {
+            lock.round();
+            assert_eq!(log.thread(), 0, "as it is meant to be");
+        });
+    });
+    let said = caught.join().expect_err("it panics");
+    assert!(said.downcast_ref::<String>().expect("a text").contains("as it is meant to be"));
+    Ok(())
+}

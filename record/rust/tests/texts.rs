@@ -1,0 +1,241 @@
+//! The texts of a run, and what is said where the crate is used wrongly.
+#![cfg(feature = "record")]
+
+use std::fs;
+use std::path::PathBuf;
+use std::ptr;
+use std::sync::atomic::Ordering::SeqCst;
+use std::time::Duration;
+
+use lockreplay_record::{
+    call, note, own_record, AtomicBool, AtomicPtr, AtomicU8, AtomicUsize, Call, Error, Lock, Mode,
+    Mutex, Outcome, Run, Setup, Step, Word,
+};
+
+const LIMIT: Duration = Duration::from_secs(60);
+
+/// The moves of a run of one thread that does this.
+fn moves(setup: Setup, work: impl Fn() + Sync) -> Result<Vec<String>, Error> {
+    let run = setup.mode(Mode::Ordered).open()?;
+    run.threads(LIMIT, |_| work())?;
+    let lines = run.trace()?;
+    Ok(lines.lines().skip(1).map(|line| line.strip_prefix("0 ").unwrap_or("?").into()).collect())
+}
+
+/// A folder of its own for a test.
+fn folder(name: &str) -> PathBuf {
+    let path = std::env::temp_dir().join(format!("lockreplay-{name}-{}", std::process::id()));
+    let _ = fs::remove_dir_all(&path);
+    path
+}
+
+#[test]
+fn each_operation_has_its_line() -> Result<(), Error> {
+    type Operation = fn(&AtomicUsize);
+    let rows: [(&str, Operation); 9] = [
+        ("read tail found 3", |word| assert_eq!(word.load(SeqCst), 3)),
+        ("write tail left 5", |word| word.store(5, SeqCst)),
+        ("swap tail found 3 left 5", |word| assert_eq!(word.swap(5, SeqCst), 3)),
+        ("cas tail found 3 left 5 done", |word| {
+            assert_eq!(word.compare_exchange(3, 5, SeqCst, SeqCst), Ok(3));
+        }),
+        ("cas tail found 3 failed", |word| {
+            assert_eq!(word.compare_exchange(4, 5, SeqCst, SeqCst), Err(3));
+        }),
+        ("cas tail found 3 failed", |word| {
+            assert_eq!(word.compare_exchange_weak(4, 5, SeqCst, SeqCst), Err(3));
+        }),
+        ("add tail found 3 left 5", |word| assert_eq!(word.fetch_add(2, SeqCst), 3)),
+        ("add tail found 3 left 1", |word| assert_eq!(word.fetch_sub(2, SeqCst), 3)),
+        ("", |word| assert_eq!(word.peek(SeqCst), 3)),
+    ];
+    for (due, operation) in rows {
+        let word = AtomicUsize::new(3).noted(Word::Tail);
+        let got = moves(Run::of(Lock::Mcs, 1), || operation(&word))?;
+        assert_eq!(got, Vec::from_iter((!due.is_empty()).then(|| due.to_owned())));
+    }
+    Ok(())
+}
+
+#[test]
+fn each_call_and_outcome_has_its_word() -> Result<(), Error> {
+    let rows = [
+        (Call::ReadLock, Outcome::Waits, "rlock", "section 1 waits"),
+        (Call::WriteLock, Outcome::Moved, "wlock", "section 1 moved"),
+        (Call::Downgrade, Outcome::Entered, "downgrade", "section 1 entered"),
+        (Call::ReadUnlock, Outcome::Left, "runlock", "section 1 left"),
+        (Call::WriteUnlock, Outcome::Left, "wunlock", "section 1 left"),
+    ];
+    for (made, outcome, call_due, section_due) in rows {
+        let got = moves(Run::of(Lock::RwFifo, 1), || {
+            let _call = call(made);
+            Mutex::new(()).lock().note(outcome);
+        })?;
+        assert_eq!(got, [call_due, section_due]);
+    }
+    Ok(())
+}
+
+#[test]
+fn an_increment_of_the_served_ticket_is_two_steps() -> Result<(), Error> {
+    let served = AtomicU8::new(255).noted(Word::NowServing);
+    let got = moves(Run::of(Lock::Ticket, 1), || {
+        served.fetch_add(1, SeqCst);
+    })?;
+    assert_eq!(got, ["read now_serving found 255", "write now_serving left 0"]);
+    Ok(())
+}
+
+#[test]
+fn a_poll_is_written_twice() -> Result<(), Error> {
+    let served = AtomicU8::new(7).noted(Word::NowServing);
+    let got = moves(Run::of(Lock::Ticket, 1), || {
+        (0..5).for_each(|_| assert_eq!(served.load(SeqCst), 7));
+        served.store(8, SeqCst);
+        served.load(SeqCst);
+    })?;
+    let read = "read now_serving found 7";
+    assert_eq!(got, [read, read, "write now_serving left 8", "read now_serving found 8"]);
+    let state = Mutex::new(());
+    let got = moves(Run::of(Lock::RwSimple, 1), || {
+        (0..4).for_each(|_| state.lock().note(Outcome::Waits));
+        state.lock().note(Outcome::Entered);
+    })?;
+    assert_eq!(got, ["section 1 waits", "section 2 waits", "section 5 entered"]);
+    Ok(())
+}
+
+struct Record {
+    next: AtomicPtr<Record>,
+    granted: AtomicBool,
+}
+
+impl Record {
+    fn new() -> Record {
+        Record {
+            next: AtomicPtr::new(ptr::null_mut()).noted(Word::Next),
+            granted: AtomicBool::new(true).noted_as(Word::Locked, |granted| u64::from(!granted)),
+        }
+    }
+
+    fn pointer(&self) -> *mut Record {
+        self as *const Record as *mut Record
+    }
+}
+
+/// A record on the stack of each thread: thread 1's first, as nobody's and as the own one, and then
+/// as thread 0 sees it.
+#[test]
+fn records_are_known_by_their_addresses() -> Result<(), Error> {
+    let (records, links) = ([Record::new(), Record::new()], AtomicUsize::new(0));
+    let run = Run::of(Lock::Mcs, 2).mode(Mode::Ordered).open()?;
+    run.threads(LIMIT, |log| {
+        let (own, other) = (&records[log.thread()], &records[1 - log.thread()]);
+        if log.thread() == 1 {
+            own.next.store(other.pointer(), SeqCst);
+            own_record(own);
+            own.next.store(own.pointer(), SeqCst);
+            links.store(1, SeqCst);
+        } else {
+            own_record(own);
+            while links.load(SeqCst) == 0 {}
+            other.next.store(own.pointer(), SeqCst);
+            other.granted.store(false, SeqCst);
+            own.next.load(SeqCst);
+        }
+    })?;
+    let trace = run.trace()?;
+    let (first, second): (Vec<&str>, Vec<&str>) =
+        trace.lines().skip(1).partition(|line| line.starts_with('1'));
+    // thread 0 may have named its record before or after the first store
+    let nobody = ["1 write next of 255 left 256", "1 write next of 255 left 1"];
+    assert!(nobody.contains(&first[0]), "{trace}");
+    assert_eq!(first[1..], ["1 write next left 2"]);
+    let due = ["0 write next of 1 left 1", "0 write locked of 1 left 1", "0 read next found 0"];
+    assert_eq!(second, due);
+    Ok(())
+}
+
+#[test]
+fn a_full_log_counts_what_it_drops() -> Result<(), Error> {
+    let word = AtomicU8::new(0).noted(Word::NextTicket);
+    let path = folder("full");
+    let run = Run::of(Lock::Ticket, 1).bits(8).mode(Mode::Seed(9)).room(2).open()?;
+    run.threads(LIMIT, |_| (0..5).for_each(|n| assert_eq!(word.fetch_add(1, SeqCst), n)))?;
+    run.save(&path)?;
+    let moves = "add next_ticket found 0 left 1\nadd next_ticket found 1 left 2\n";
+    let header = "# seed 9\nlock ticket threads 1 bits 8";
+    let log = fs::read_to_string(path.join("thread-0.log")).expect("it was saved");
+    assert_eq!(log, format!("{header} thread 0\n{moves}dropped 3\n"));
+    let trace = fs::read_to_string(path.join("run.trace")).expect("it was saved");
+    assert_eq!(trace, format!("{header}\n{}", moves.replace("add", "0 add")));
+    // a later run of free threads leaves nothing of this one
+    let run = Run::of(Lock::Mcs, 1).open()?;
+    run.save(&path)?;
+    let log = fs::read_to_string(path.join("thread-0.log")).expect("it was saved");
+    assert_eq!(log, "lock mcs threads 1 bits 64 thread 0\n");
+    assert!(!path.join("run.trace").exists());
+    fs::remove_dir_all(&path).expect("the folder was made");
+    Ok(())
+}
+
+#[test]
+fn nothing_is_recorded_outside_of_a_run() {
+    let word = AtomicU8::new(1).noted(Word::NextTicket);
+    let _call = call(Call::Acquire);
+    own_record(&word);
+    note(Step::read(Word::NextTicket, 1));
+    assert_eq!(word.fetch_add(1, SeqCst), 1);
+    assert_eq!(word.peek(SeqCst), 2);
+}
+
+fn refuses<T>(result: Result<T, Error>, due: &str) {
+    let said = result.map(drop).expect_err(due).to_string();
+    assert_eq!(said, due);
+}
+
+#[test]
+fn a_run_that_cannot_be_is_refused() {
+    let open = |threads, bits| Run::of(Lock::Ticket, threads).bits(bits).open();
+    refuses(open(0, 8), "a run has 1 to 64 threads, not 0");
+    refuses(open(65, 8), "a run has 1 to 64 threads, not 65");
+    refuses(open(1, 1), "a counter has 2 to 64 bits, not 1");
+    refuses(open(1, 65), "a counter has 2 to 64 bits, not 65");
+    refuses(
+        open(4, 2),
+        "4 threads are too many for counters of 2 bits: there must be fewer threads than a \
+         counter has values",
+    );
+    assert!(open(3, 2).is_ok());
+    let room = usize::MAX;
+    let due = format!("no memory for 2 logs of {room} moves each");
+    refuses(Run::of(Lock::Mcs, 2).room(room).open(), &due);
+    let due = "there is no lock 'spin': the locks are ticket, mcs, rw-simple, rw-fifo";
+    refuses("spin".parse::<Lock>(), due);
+}
+
+#[test]
+fn a_thread_that_cannot_enter_is_refused() -> Result<(), Error> {
+    let (first, second) = (Run::of(Lock::Mcs, 1).open()?, Run::of(Lock::Mcs, 1).open()?);
+    refuses(first.enter(1), "there is no thread 1: the run has 1, counted from 0");
+    let log = first.enter(0)?;
+    let due = "this thread has a log already: drop that before it enters a run";
+    refuses(second.enter(0), due);
+    drop(log);
+    let due = "thread 0 has its log already: open a run for each recording";
+    refuses(first.enter(0), due);
+    refuses(first.threads(LIMIT, |_| ()), due);
+    refuses(second.save("/dev/null/logs"), "/dev/null/logs: Not a directory (os error 20)");
+    Ok(())
+}
+
+#[test]
+fn a_run_whose_threads_do_not_come_is_stopped() -> Result<(), Error> {
+    let run = Run::of(Lock::Mcs, 2).open()?;
+    let other = run.clone();
+    let waits = std::thread::spawn(move || other.enter(0).map(drop));
+    assert_eq!(run.wait(Duration::from_millis(50)), vec![0, 1]);
+    let said = waits.join().expect("it does not panic").expect_err("it was stopped");
+    assert_eq!(said.to_string(), "the run was stopped before all of its threads had come");
+    Ok(())
+}
