@@ -1,10 +1,9 @@
 """The tables of docs/PLANTED.md, between its own texts."""
 import re
 
-from planted_locks import LOCKS, MODES
+from planted_locks import BEGIN, END, LOCKS, MODES
 
 RUNS = "60"
-BEGIN, END = "<!-- tables -->", "<!-- end of the tables -->"
 
 
 def in_all(row):
