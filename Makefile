@@ -137,9 +137,9 @@ test-traces: $(TRACER) $(PROGRAM) $(LIBRARY) tools
 
 .PHONY: test-planted conform
 
-## test-planted [TOURS=FOLDER] | planted mistakes of recorded locks are noticed as the tables say
+## test-planted | planted mistakes of recorded locks are noticed as the tables say
 test-planted: $(TRACER) $(LIBRARY) tools
-	tests/planted.py $(TRACER) $(LIBRARY) $(addprefix --tours ,$(TOURS))
+	tests/planted.py $(TRACER) $(LIBRARY)
 
 LOCK    :=
 THREADS := 3

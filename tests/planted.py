@@ -1,14 +1,13 @@
 #!/usr/bin/env python3
 """Planted mistakes in the recorded locks: in how many runs each is noticed, in each mode.
 
-    planted.py LOCKTRACE LIBRARY [--tours FOLDER] [--modes MODE,..] [--write]
+    planted.py LOCKTRACE LIBRARY [--modes MODE,..] [--only NAME,..] [--write]
 
 Each mistake of tests/planted is an edit of a lock of examples/recording. The modes are tried that
 give the same each time, and compared with the tables of docs/PLANTED.md: of a right lock nothing
 may be refused. With --write the tables are written: what the modes tried say, and of others what
-was there. FOLDER has the schedules of `locktrace tour` for three threads and one round, in a folder
-`LOCK-3` for each file of a lock; without it FOLLOW is not tried. Two processes run at a time. The
-last line counts the cases; the status is 1 if one failed.
+was there. FOLLOW takes the tours of tour.py. Two processes run at a time. The last line counts the
+cases; the status is 1 if one failed.
 """
 import argparse
 import os
@@ -20,7 +19,7 @@ from concurrent.futures import ThreadPoolExecutor
 from pathlib import Path
 
 import wanted
-from planted_locks import LOCKS, MODES, TOP, all_mistakes, build, planted, right, rows_of
+from planted_locks import EXAMPLES, LOCKS, TOP, all_mistakes, build, planted, right, rows_of
 from planted_table import document, in_all
 from tally import Tally
 
@@ -45,11 +44,19 @@ def on_cores(cores):
     os.sched_setaffinity(0, cores)
 
 
+def tour_of(lock, folder):
+    """Writes the tour of a lock's three threads with a round each."""
+    kind = re.search(r'^#define LOCK "(.*)"', (EXAMPLES / f"{lock}.c").read_text(), re.MULTILINE)
+    done = ran(TOP / "tests" / "tour.py", kind[1], "3", folder / f"tour-{lock}", "--rounds", "1")
+    if done.returncode:
+        sys.exit(done.stderr)
+
+
 class Trials:
     """Tries a lock with a mistake in each mode."""
 
-    def __init__(self, locktrace, library, tours, folder):
-        self.locktrace, self.library, self.tours = locktrace, library, tours
+    def __init__(self, locktrace, library, folder):
+        self.locktrace, self.library = locktrace, library
         self.folder, self.cores = folder, os.sched_getaffinity(0)
 
     def noticed(self, mistake, modes):
@@ -74,7 +81,7 @@ class Trials:
         if mode == "EXPLORE":
             return explored(ran(program, *EXPLORED, logs, MOST).stdout)
         if mode == "FOLLOW":
-            return followed(ran(program, self.tours / f"{mistake.lock}-3", logs).stdout)
+            return followed(ran(program, self.folder / f"tour-{mistake.lock}", logs).stdout)
         return ran(program, *(SHORT if mode == "PCT" else SEEDED), RUNS).stdout.strip()
 
     def is_noticed(self, program, seed, logs):
@@ -102,13 +109,12 @@ def followed(said):
 
 def compare(tally, found, rows):
     """What was found beside the tables, and that right locks are not blamed."""
-    tally.check("the mistakes of the tables", set(rows), set(found))
     for key, noticed in found.items():
         for mode, said in noticed.items():
             tally.check(f"{key} {mode}", said, rows.get(key, {}).get(mode))
         if key[1] == "none":
             blamed = [mode for mode, said in noticed.items()
-                      if not re.match(r"(0|none|0 of \d+)$", said)]
+                      if not re.match(r"(0|none|(0|none) of \d+)$", said)]
             tally.check(f"{key} is right", blamed, [])
     enough = sum(in_all(row) for (_, name), row in rows.items() if name != "none")
     tally.check("noticed in all runs of a mode", enough, lambda count: count >= ENOUGH)
@@ -118,19 +124,22 @@ def main():
     words = argparse.ArgumentParser(usage=__doc__)
     words.add_argument("locktrace", type=Path)
     words.add_argument("library", type=Path)
-    words.add_argument("--tours", type=Path)
     words.add_argument("--modes", default=",".join(SEARCHES))
+    words.add_argument("--only")
     words.add_argument("--write", action="store_true")
     given = words.parse_args()
     wanted.install("recording")
-    modes = [mode for mode in given.modes.split(",") if mode != "FOLLOW" or given.tours]
+    modes = given.modes.split(",")
     mistakes = [*map(right, LOCKS), *all_mistakes()]
+    names = given.only.split(",") if given.only else [mistake.name for mistake in mistakes]
+    tried = [mistake for mistake in mistakes if mistake.name in names]
     with tempfile.TemporaryDirectory() as name, ThreadPoolExecutor(2) as pool:
-        trials = Trials(given.locktrace.resolve(), given.library.resolve(),
-                        given.tours and given.tours.resolve(), Path(name))
-        noticed = pool.map(lambda mistake: trials.noticed(mistake, modes), mistakes)
+        trials = Trials(given.locktrace.resolve(), given.library.resolve(), Path(name))
+        for lock in LOCKS if "FOLLOW" in modes else ():
+            tour_of(lock, Path(name))
+        noticed = pool.map(lambda mistake: trials.noticed(mistake, modes), tried)
         found = {}
-        for mistake, row in zip(mistakes, noticed):
+        for mistake, row in zip(tried, noticed):
             found[mistake.lock, mistake.name] = row
             print(mistake.lock, mistake.name, *row.values(), sep=" | ", flush=True)
     tables = TOP / "docs" / "PLANTED.md"
@@ -138,7 +147,10 @@ def main():
         text = tables.read_text()
         tables.write_text(document(text, mistakes, found, rows_of(text)))
     tally = Tally()
-    compare(tally, found, rows_of(tables.read_text()))
+    rows = rows_of(tables.read_text())
+    tally.check("the mistakes of the tables", set(rows),
+                {(mistake.lock, mistake.name) for mistake in mistakes})
+    compare(tally, found, rows)
     return tally.end()
 
 

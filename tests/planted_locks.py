@@ -9,6 +9,7 @@ TOP = Path(__file__).resolve().parent.parent
 EDITS = TOP / "tests" / "planted"
 EXAMPLES = TOP / "examples" / "recording"
 LOCKS = ("mcs", "ticket", "rw_fifo")
+BEGIN, END = "<!-- tables -->", "<!-- end of the tables -->"  # in docs/PLANTED.md
 
 # What a lock is built with in each mode.
 MODES = {
@@ -92,7 +93,7 @@ def right(lock):
 def rows_of(document):
     """The rows of the tables in docs/PLANTED.md by lock and mistake: {column: what it says}."""
     rows, columns, lock = {}, [], ""
-    for line in document.splitlines():
+    for line in document.split(END)[0].splitlines():
         lock = re.sub(r"^## .*`(\w+)\.c`.*", r"\1", line) if line.startswith("## ") else lock
         cells = [cell.strip().strip("`") for cell in line.strip("|").split("|")]
         if line.startswith("| Mistake "):

@@ -1,10 +1,9 @@
 """The tables of docs/PLANTED.md, between its own texts."""
 import re
 
-from planted_locks import LOCKS, MODES
+from planted_locks import BEGIN, END, LOCKS, MODES
 
 RUNS = "60"
-BEGIN, END = "<!-- tables -->", "<!-- end of the tables -->"
 
 
 def in_all(row):
@@ -21,7 +20,7 @@ def table(lock, mistakes, found, before):
     yield "|---|---|" + "---|" * len(MODES)
     for mistake in mistakes:
         if mistake.lock == lock:
-            row = {**before.get((lock, mistake.name), {}), **found[lock, mistake.name]}
+            row = {**before.get((lock, mistake.name), {}), **found.get((lock, mistake.name), {})}
             cells = " | ".join(row.get(mode, "-") for mode in MODES)
             yield f"| `{mistake.name}` | {mistake.what} | {cells} |"
     yield ""
@@ -29,7 +28,7 @@ def table(lock, mistakes, found, before):
 
 def document(text, mistakes, found, before):
     """The document with new tables; what was not tried now is as it was before."""
-    before, rest = text.split(BEGIN)
-    after = rest.split(END)[1]
+    above, rest = text.split(BEGIN)
+    below = rest.split(END)[1]
     lines = [line for lock in LOCKS for line in table(lock, mistakes, found, before)]
-    return before + BEGIN + "\n" + "\n".join(lines) + END + after
+    return above + BEGIN + "\n" + "\n".join(lines) + END + below

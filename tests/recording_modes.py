@@ -168,7 +168,7 @@ def try_searches(tally, folder, library):
 
 def try_races(tally, folder):
     """ThreadSanitizer sees a data race of free threads, and none of one thread at a time."""
-    [mistake] = [it for it in mistakes_of("rw_fifo") if it.name == "counted_outside_before"]
+    [mistake] = [it for it in mistakes_of("rw_fifo") if it.name == "counted-outside-before"]
     (folder / "races" / "logs").mkdir(parents=True)
     source = planted(mistake, folder / "races").parent / "rw_fifo.c"
     (source.parent / "driver_of_one_run.h").rename(source.parent / "driver.h")

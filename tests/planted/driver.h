@@ -2,7 +2,7 @@
 
        LOCK THREADS ROUNDS SEEDS             LR_SEED: prints how many of the runs by the seeds from
                                              1 on are refused or stand still
-       LOCK THREADS ROUNDS SEED DIRECTORY    LR_VALUES: status 1 if nothing is noted for 60 ms
+       LOCK THREADS ROUNDS SEED DIRECTORY    LR_VALUES: status 1 if nothing is noted for 0.4 seconds
                                              though some thread has not ended
 
    The other modes are those of the examples' own driver.
@@ -22,7 +22,7 @@
 
 #include "../../record/lockreplay_record.h"
 
-enum { MOST_MOVES = 128, MOST_THREADS = 64, LOOKS = 6 };
+enum { MOST_MOVES = 128, MOST_THREADS = 64, LOOKS = 40 };
 
 static void open_lock(void);
 static void one_round(unsigned thread, unsigned round, lr_log *log);
