@@ -8,6 +8,7 @@ from browser import TOP, chromium, open_page, run
 
 PICTURES = TOP / "docs" / "pictures"
 MOST_BYTES = 200_000
+ANSWER = "window.lockreplay.page.stepping.toggleAnswer()"
 PLAY = "window.lockreplay.page.modes.set('play')"
 QUIZ = "window.lockreplay.page.modes.toggleQuiz()"
 FAULT = """
@@ -18,10 +19,11 @@ window.lockreplay.page.go(3);
 
 # Name of the picture, fragment of the page, dark or light, and what else is done before.
 SHOTS = [
-    ("late-link", "#lesson=mcs-late-link&move=9", False, ""),
-    ("out-of-order-dark", "#lesson=mcs-third-linked-before-second&move=12", True, ""),
+    ("late-link", "#lesson=mcs-late-link&move=9", False, ANSWER),
+    ("out-of-order-dark", "#lesson=mcs-third-linked-before-second&move=12", True, ANSWER),
     ("tickets-go-round", "#lesson=ticket-wraps-at-2-bits&move=23", False, ""),
     ("announced-writer", "#lesson=fifo-counts-wrap-at-2-bits&move=16", False, ""),
+    ("hall", "#lesson=mcs-late-link&move=9&hall", False, ANSWER),
     ("play", "#lesson=mcs-late-link&move=9", False, PLAY),
     ("quiz", "#lesson=fifo-reader-waits-behind-writer&move=9", False, QUIZ),
     ("your-own", "#lesson=mcs-late-link&move=0", False, FAULT),
