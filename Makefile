@@ -42,7 +42,7 @@ gate:
 	tests/gate.sh
 
 # What `make test` does after the proofs, in this order.
-PARTS := tried release-checks test-refused test-page test-library test-traces test-planted
+PARTS := tried release-checks test-refused test-page test-library test-traces
 
 ## test-built | what `make test` does after the proofs
 test-built:
