@@ -55,7 +55,7 @@ export function drawPictures(page, view, state, sizes) {
 }
 
 // The sentences on a move in smaller letters, where they do not fit otherwise.
-const EDGE = 8;
+const EDGE = 10;
 const FITS = ['', '1', '2', '3', '4'];
 
 function fitNow() {
@@ -73,7 +73,7 @@ function fitCode() {
   const box = byId('code-lines');
   const line = box.firstElementChild?.offsetHeight;
   if (!line) return;
-  const room = byId('code').clientHeight - box.offsetTop + byId('code').offsetTop - EDGE;
+  const room = byId('code').clientHeight - box.offsetTop - EDGE;
   const most = `${Math.floor(room / line) * line}px`;
   if (box.style.maxHeight !== most) box.style.maxHeight = most;
 }
