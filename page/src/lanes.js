@@ -73,11 +73,11 @@ function unlinkedLine(layout, span, y) {
   const [{ x, width, style }] = pieces.length ? pieces : [{ width: 0 }];
   const named = width > ROOM_FOR_UNLINKED && layout.laneHeight >= LOW_LANE;
   return html`${lines}${named && html`<text class="unlinked-text ${style}" x="${x + 50}"
-    y="${y + 4}">${texts.marks.unlinked}</text>`}`;
+    y="${y + 2}">${texts.marks.unlinked}</text>`}`;
 }
 
 function unlinkedLines(view, layout, thread, middle) {
-  const y = middle + Math.min(35, layout.laneHeight / 2 - 7);
+  const y = middle + Math.min(35, layout.laneHeight / 2 - 9);
   return unlinkedSpans(view.run, thread, layout.first, layout.last)
     .map((span) => unlinkedLine(layout, span, y));
 }
