@@ -10,7 +10,6 @@ use std::ptr;
 use std::sync::atomic::Ordering::SeqCst;
 use std::thread;
 
-use driver::Driver;
 use lockreplay_record::{call, own_record, AtomicBool, AtomicPtr, Call, Lock, Word};
 
 const MOST_THREADS: usize = 64;
@@ -99,10 +98,10 @@ fn pointer_to(record: &Record) -> *mut Record {
 }
 
 fn main() -> ExitCode {
-    let round = |lock: &McsLock, thread: usize, round: usize| {
+    let lock = McsLock::new();
+    driver::drive(Lock::Mcs, 64, |thread, round| {
         lock.acquire(thread);
         driver::inside(thread, round);
         lock.release(thread);
-    };
-    Driver { lock: Lock::Mcs, bits: 64, new: McsLock::new, round }.drive()
+    })
 }

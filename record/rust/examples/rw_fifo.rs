@@ -9,7 +9,6 @@ mod read_write;
 use std::num::Wrapping;
 use std::process::ExitCode;
 
-use driver::Driver;
 use lockreplay_record::{call, Call, Condvar, Lock, Mutex, Outcome};
 use read_write::ReadWrite;
 
@@ -90,6 +89,6 @@ impl ReadWrite for FifoLock {
 }
 
 fn main() -> ExitCode {
-    let round = read_write::round::<FifoLock>;
-    Driver { lock: Lock::RwFifo, bits: 8, new: FifoLock::default, round }.drive()
+    let lock = FifoLock::default();
+    driver::drive(Lock::RwFifo, 8, |thread, round| read_write::round(&lock, thread, round))
 }

@@ -7,7 +7,6 @@ mod read_write;
 
 use std::process::ExitCode;
 
-use driver::Driver;
 use lockreplay_record::{call, Call, Condvar, Lock, Mutex, Outcome};
 use read_write::ReadWrite;
 
@@ -73,6 +72,6 @@ impl ReadWrite for SimpleLock {
 }
 
 fn main() -> ExitCode {
-    let round = read_write::round::<SimpleLock>;
-    Driver { lock: Lock::RwSimple, bits: 64, new: SimpleLock::default, round }.drive()
+    let lock = SimpleLock::default();
+    driver::drive(Lock::RwSimple, 64, |thread, round| read_write::round(&lock, thread, round))
 }

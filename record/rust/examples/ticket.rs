@@ -9,7 +9,6 @@ use std::process::ExitCode;
 use std::sync::atomic::Ordering::SeqCst;
 use std::thread;
 
-use driver::Driver;
 use lockreplay_record::{call, AtomicU8, Call, Lock, Word};
 
 struct TicketLock {
@@ -41,10 +40,10 @@ impl TicketLock {
 }
 
 fn main() -> ExitCode {
-    let round = |lock: &TicketLock, thread: usize, round: usize| {
+    let lock = TicketLock::new();
+    driver::drive(Lock::Ticket, 8, |thread, round| {
         lock.acquire();
         driver::inside(thread, round);
         lock.release();
-    };
-    Driver { lock: Lock::Ticket, bits: 8, new: TicketLock::new, round }.drive()
+    })
 }

@@ -13,7 +13,6 @@ use crate::draw::Draw;
 use crate::moves::{Call, Move, Outcome, Step, Word};
 use crate::noise;
 use crate::run::Shared;
-use crate::stage::Effect;
 use crate::tape::Tape;
 
 /// The word that an atomic is, and its values in a trace.
@@ -52,8 +51,6 @@ pub(crate) struct Recorder {
     pub(crate) thread: usize,
     pub(crate) tape: Tape,
     pub(crate) noise: Option<Draw>,
-    /// What was looked at last, if that changed nothing and is not noted.
-    pub(crate) looked_at: Option<usize>,
     /// How many turns are taken, one inside another.
     pub(crate) depth: usize,
 }
@@ -88,20 +85,8 @@ pub(crate) fn remove() -> Option<Recorder> {
 
 impl Recorder {
     pub(crate) fn note(&mut self, made: Move) {
-        self.looked_at = None;
         let added = self.tape.add(made);
         self.shared.turns.noted(self.thread, added);
-    }
-
-    /// Something was done at an address that is not noted.
-    fn unnoted(&mut self, address: usize, changed: bool) {
-        let effect = match self.looked_at {
-            _ if changed => Effect::Step,
-            Some(last) if last == address => Effect::Again,
-            _ => Effect::Look,
-        };
-        self.looked_at = Some(address).filter(|_| !changed);
-        self.shared.turns.unnoted(self.thread, effect);
     }
 
     fn take_turn(&mut self) {
@@ -183,11 +168,12 @@ impl Drop for InCall {
 /// Another thread may have its turn here, though no step was taken.
 pub fn switch() {
     pause();
+    unnoted(true);
 }
 
-/// Something was done at an address that is not noted. What changed nothing may be a poll.
-pub(crate) fn unnoted(address: usize, changed: bool) {
-    with(|recorder| recorder.unnoted(address, changed));
+/// Something was done that is not noted. What changed nothing may be a poll.
+pub(crate) fn unnoted(changed: bool) {
+    with(|recorder| recorder.shared.turns.unnoted(changed));
 }
 
 /// Writes a step that the atomics cannot know of. It belongs right behind its operation, and both

@@ -117,8 +117,6 @@ mod draw;
 #[cfg(feature = "record")]
 mod error;
 #[cfg(feature = "record")]
-mod explore;
-#[cfg(feature = "record")]
 mod lock;
 #[cfg(feature = "record")]
 mod mode;
@@ -146,7 +144,6 @@ pub use moves::{Call, Outcome, Step, Word};
 #[cfg(feature = "record")]
 pub use {
     error::Error,
-    explore::Explore,
     lock::Lock,
     mode::Mode,
     run::{Ending, Log, Run, Setup},

@@ -77,15 +77,11 @@ impl<T> Mutex<T> {
             match self.plain.try_lock() {
                 Ok(plain) => return self.guard(plain),
                 Err(TryLockError::Poisoned(error)) => return self.guard(error.into_inner()),
-                Err(TryLockError::WouldBlock) => current::unnoted(self.address(), false),
+                Err(TryLockError::WouldBlock) => current::unnoted(false),
             }
         }
         current::pause();
         self.guard(self.plain.lock().unwrap_or_else(PoisonError::into_inner))
-    }
-
-    fn address(&self) -> usize {
-        (self as *const Mutex<T>).cast::<u8>() as usize
     }
 
     fn guard<'a>(&'a self, plain: sync::MutexGuard<'a, Counted<T>>) -> MutexGuard<'a, T> {

@@ -92,7 +92,7 @@ pub(crate) fn turn() -> Turn {
 pub(crate) fn pause() {}
 
 #[inline]
-pub(crate) fn unnoted(_address: usize, _changed: bool) {}
+pub(crate) fn unnoted(_changed: bool) {}
 
 #[inline]
 pub(crate) fn section(_sections: &mut Sections, _outcome: Outcome) {}

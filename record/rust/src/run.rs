@@ -11,7 +11,6 @@ use std::time::Duration;
 use crate::current::{self, Recorder};
 use crate::draw::Draw;
 use crate::error::Error;
-use crate::explore::{Explore, Path as Choices};
 use crate::lock::{Header, Lock, MOST_BITS};
 use crate::mode::Mode;
 use crate::records::Records;
@@ -24,8 +23,6 @@ use crate::turns::{Stopped, Turns};
 pub(crate) struct Shared {
     pub(crate) header: Header,
     pub(crate) mode: Mode,
-    /// Whether the run is one of an exploration, not one of the seed.
-    pub(crate) is_explored: bool,
     pub(crate) turns: Turns,
     pub(crate) records: Records,
     /// The log of each thread, except while the thread itself has it.
@@ -72,47 +69,15 @@ impl Setup {
     ///
     /// The threads or the bits are such as no run has, or memory was refused.
     pub fn open(self) -> Result<Run, Error> {
-        self.open_on(None)
-    }
-
-    /// All runs in which at most so many times another thread gets the turn of one that could go
-    /// on. The threads run by turns, whatever the mode. The first run has no preemption, and each
-    /// has to be run before the next one is asked for.
-    ///
-    /// ```
-    /// use lockreplay_record::{AtomicU8, Ending, Error, Lock, Run};
-    /// use std::{sync::atomic::Ordering::SeqCst, time::Duration};
-    ///
-    /// let mut counts = Vec::new();
-    /// for run in Run::of(Lock::Ticket, 2).explore(1) {
-    ///     let count = AtomicU8::new(0);
-    ///     let ending = run?.threads(Duration::from_secs(10), |_log| {
-    ///         count.store(count.load(SeqCst) + 1, SeqCst);
-    ///     })?;
-    ///     assert_eq!(ending, Ending::Complete);
-    ///     counts.push(count.load(SeqCst));
-    /// }
-    /// assert!(counts.contains(&1) && counts.contains(&2));
-    /// # Ok::<(), Error>(())
-    /// ```
-    #[must_use]
-    pub fn explore(self, preemptions: usize) -> Explore {
-        Explore::new(self.mode(Mode::Seed(0)), preemptions)
-    }
-
-    /// Opens the run; its threads take turns as a path says, if there is one.
-    pub(crate) fn open_on(self, path: Option<Choices>) -> Result<Run, Error> {
         let Setup { header, mode, room } = self;
         let Header { threads, .. } = header.checked()?;
-        let is_explored = path.is_some();
         let refused = |_| Error::OutOfMemory { logs: threads, room };
-        let turns =
-            Turns::new(mode, threads, room.saturating_mul(threads), path).map_err(refused)?;
+        let turns = Turns::new(mode, threads, room.saturating_mul(threads)).map_err(refused)?;
         let tapes: Result<Vec<_>, _> = (0..threads)
             .map(|_| Tape::with_room(room).map(|tape| Mutex::new(Some(tape))).map_err(refused))
             .collect();
         let records = Records::of(threads);
-        Ok(Run(Arc::new(Shared { header, mode, is_explored, turns, records, tapes: tapes? })))
+        Ok(Run(Arc::new(Shared { header, mode, turns, records, tapes: tapes? })))
     }
 }
 
@@ -211,17 +176,12 @@ impl Run {
         };
         let tape = tape.ok_or(Error::ThreadTaken(thread))?;
         let shared = Arc::clone(&self.0);
-        current::install(Recorder { shared, thread, tape, noise, looked_at: None, depth: 0 });
+        current::install(Recorder { shared, thread, tape, noise, depth: 0 });
         let shared = Arc::clone(&self.0);
         let mut log = Log { shared, thread, has_begun: false, of_this_thread: PhantomData };
         self.0.turns.start(thread)?;
         log.has_begun = true;
         Ok(log)
-    }
-
-    /// The path after this run's, if it is one of an exploration.
-    pub(crate) fn next_path(&self, preemptions: usize) -> Option<Choices> {
-        self.0.turns.stage().next_path(preemptions)
     }
 
     /// Waits until all threads have ended, and stops them if they do not end in time. The threads

@@ -55,7 +55,6 @@ fn write_file(
 /// The header, behind a comment that says how the run can be had again.
 fn write_header(run: &Shared, out: &mut impl Write) -> io::Result<()> {
     match run.mode {
-        Mode::Seed(_) if run.is_explored => {}
         Mode::Seed(seed) => writeln!(out, "# seed {seed}")?,
         Mode::Noise(seed) => writeln!(out, "# noise {seed}")?,
         Mode::Free | Mode::Ordered => {}

@@ -3,24 +3,10 @@
 
 use crate::draw::Draw;
 use crate::error::Error;
-use crate::explore::Path;
 use crate::tape::Added;
 
 /// So many turns in vain, one after another, and the run stands still.
 const PATIENCE: u32 = 20_000;
-/// The same where all runs are explored: no draw can leave a thread out that could get on.
-const PATIENCE_TO_EXPLORE: u32 = 1_000;
-
-/// What an operation did that may be a poll.
-#[derive(Clone, Copy, Debug, PartialEq, Eq)]
-pub(crate) enum Effect {
-    /// It was a step, or it changed something.
-    Step,
-    /// It changed nothing.
-    Look,
-    /// It changed nothing, and is the same as the thread's last one.
-    Again,
-}
 
 /// Where a thread is.
 #[derive(Clone, Copy, Debug, PartialEq, Eq)]
@@ -52,12 +38,6 @@ pub(crate) struct Stage {
     phases: Vec<Phase>,
     pub(crate) holder: Option<usize>,
     draw: Draw,
-    /// Who is next where runs are explored; else it is drawn.
-    path: Option<Path>,
-    /// Whether anything was done since that was last asked.
-    has_moved: bool,
-    /// The threads that have polled in vain since something was changed.
-    stuck: Vec<bool>,
     in_vain: u32,
     order: Vec<u8>,
     is_cut: bool,
@@ -65,12 +45,7 @@ pub(crate) struct Stage {
 
 impl Stage {
     /// A stage with memory for the order of so many moves.
-    pub(crate) fn new(
-        threads: usize,
-        moves: usize,
-        seed: u64,
-        path: Option<Path>,
-    ) -> Result<Stage, Error> {
+    pub(crate) fn new(threads: usize, moves: usize, seed: u64) -> Result<Stage, Error> {
         let mut order = Vec::new();
         let refused = Error::OutOfMemory { logs: 1, room: moves };
         order.try_reserve_exact(moves).map_err(|_| refused)?;
@@ -78,9 +53,6 @@ impl Stage {
             phases: vec![Phase::Absent; threads],
             holder: None,
             draw: Draw::new(seed),
-            path,
-            has_moved: true,
-            stuck: vec![false; threads],
             in_vain: 0,
             order,
             is_cut: false,
@@ -110,64 +82,30 @@ impl Stage {
         self.threads_that(|phase| phase != Phase::Ended)
     }
 
-    /// Says who is next of the threads that can run.
-    pub(crate) fn next(&mut self) -> Next {
+    /// Draws who is next of the threads that can run.
+    pub(crate) fn draw_next(&mut self) -> Next {
         let ready = self.threads_that(|phase| phase == Phase::Inside);
-        let patience = if self.path.is_some() { PATIENCE_TO_EXPLORE } else { PATIENCE };
-        match self.one_of(&ready) {
-            Some(thread) if self.in_vain < patience => Next::Thread(thread),
+        match self.draw.one_of(&ready) {
+            Some(thread) if self.in_vain < PATIENCE => Next::Thread(thread),
             None if self.all_have_gone() => Next::Nobody,
             _ => Next::StandsStill,
         }
     }
 
-    /// One of the threads that can run. If all of them polled in vain, they poll by turns.
-    fn one_of(&mut self, ready: &[usize]) -> Option<usize> {
-        let path = match &mut self.path {
-            Some(path) => path,
-            None => return self.draw.one_of(ready),
-        };
-        if !std::mem::take(&mut self.has_moved) && self.holder.map_or(false, |t| ready.contains(&t))
-        {
-            return self.holder;
-        }
-        let stuck = &self.stuck;
-        let is_stuck = |thread: usize| stuck.get(thread).copied().unwrap_or(false);
-        let free: Vec<_> = ready.iter().copied().filter(|&thread| !is_stuck(thread)).collect();
-        let behind = ready.iter().copied().find(|&thread| Some(thread) > self.holder);
-        path.choose(self.holder, &free).or(behind).or_else(|| ready.first().copied())
-    }
-
-    /// The path of the next run, if runs are explored and there is one.
-    pub(crate) fn next_path(&self, bound: usize) -> Option<Path> {
-        self.path.as_ref()?.next(bound)
-    }
-
     /// A move was made: it takes its place in the order, up to the first that was dropped.
     pub(crate) fn noted(&mut self, thread: usize, added: Added) {
-        let is_written = matches!(added, Added::Written | Added::Repeated);
-        self.is_cut |= added == Added::Dropped;
-        if is_written && !self.is_cut {
-            self.order.extend(u8::try_from(thread));
+        match added {
+            Added::Written if !self.is_cut => self.order.extend(u8::try_from(thread)),
+            Added::Written => {}
+            Added::Again => return self.in_vain += 1,
+            Added::Dropped => self.is_cut = true,
         }
-        let is_again = matches!(added, Added::Repeated | Added::Again);
-        self.made(thread, if is_again { Effect::Again } else { Effect::Step });
+        self.in_vain = 0;
     }
 
-    /// An operation was made.
-    pub(crate) fn made(&mut self, thread: usize, effect: Effect) {
-        self.has_moved = true;
-        match effect {
-            Effect::Step => {
-                self.stuck.fill(false);
-                self.in_vain = 0;
-            }
-            Effect::Look => self.in_vain += 1,
-            Effect::Again => {
-                self.in_vain += 1;
-                self.stuck.iter_mut().skip(thread).take(1).for_each(|stuck| *stuck = true);
-            }
-        }
+    /// An operation was made that is not noted.
+    pub(crate) fn unnoted(&mut self, changed: bool) {
+        self.in_vain = if changed { 0 } else { self.in_vain + 1 };
     }
 
     /// Wakes the threads that wait at an address, or one of them.

@@ -24,8 +24,6 @@ pub(crate) struct Tape {
 pub(crate) enum Added {
     /// It is in the log.
     Written,
-    /// It is in the log, and a poll that found what the one before it did.
-    Repeated,
     /// It is a poll that was written often enough.
     Again,
     /// The log is full.
@@ -56,11 +54,7 @@ impl Tape {
             return Added::Dropped;
         }
         self.moves.push(made);
-        if repeats {
-            Added::Repeated
-        } else {
-            Added::Written
-        }
+        Added::Written
     }
 
     pub(crate) fn moves(&self) -> &[Move] {

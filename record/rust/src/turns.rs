@@ -9,9 +9,8 @@ use std::sync::{Condvar, Mutex, MutexGuard, PoisonError};
 use std::time::{Duration, Instant};
 
 use crate::error::Error;
-use crate::explore::Path;
 use crate::mode::Mode;
-use crate::stage::{Effect, Next, Phase, Stage};
+use crate::stage::{Next, Phase, Stage};
 use crate::tape::Added;
 
 /// What a stopped thread unwinds with.
@@ -32,17 +31,12 @@ pub(crate) struct Turns {
 }
 
 impl Turns {
-    pub(crate) fn new(
-        mode: Mode,
-        threads: usize,
-        moves: usize,
-        path: Option<Path>,
-    ) -> Result<Turns, Error> {
+    pub(crate) fn new(mode: Mode, threads: usize, moves: usize) -> Result<Turns, Error> {
         let seed = if let Mode::Seed(seed) = mode { seed } else { 0 };
         let ordered = if mode.has_order() { moves } else { 0 };
         Ok(Turns {
             mode,
-            stage: Mutex::new(Stage::new(threads, ordered, seed, path)?),
+            stage: Mutex::new(Stage::new(threads, ordered, seed)?),
             own: (0..threads).map(|_| Condvar::new()).collect(),
             free: Condvar::new(),
             changed: Condvar::new(),
@@ -104,7 +98,7 @@ impl Turns {
         let mut stage = self.stage();
         stage.set_phase(thread, if ended { Phase::Ended } else { Phase::Cut });
         if ended {
-            stage.made(thread, Effect::Step);
+            stage.unnoted(true);
             self.hand_on(&mut stage);
         } else {
             self.stop(&stage);
@@ -149,10 +143,10 @@ impl Turns {
         }
     }
 
-    /// Something was done that is not noted.
-    pub(crate) fn unnoted(&self, thread: usize, effect: Effect) {
+    /// Something was done that is not noted. What changed nothing may be a poll.
+    pub(crate) fn unnoted(&self, changed: bool) {
         if self.is_seeded() {
-            self.stage().made(thread, effect);
+            self.stage().unnoted(changed);
         }
     }
 
@@ -201,7 +195,7 @@ impl Turns {
         if !self.is_seeded() {
             return;
         }
-        stage.holder = match stage.next() {
+        stage.holder = match stage.draw_next() {
             Next::Thread(thread) => Some(thread),
             Next::Nobody => None,
             Next::StandsStill => {

@@ -11,7 +11,7 @@ pub trait ReadWrite {
     fn downgrade(&self);
 }
 
-pub fn round<L: ReadWrite>(lock: &L, thread: usize, round: usize) {
+pub fn round(lock: &impl ReadWrite, thread: usize, round: usize) {
     if (round + thread) % 3 == 2 {
         write_round(lock, thread, round);
     } else {
