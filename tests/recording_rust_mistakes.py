@@ -77,11 +77,14 @@ def clears_nothing(moves):
 
 
 def _after_calls(moves, call, wrong):
-    """The first section of a call that enters where `wrong` says so of those inside."""
+    """The first section of a call that enters where `wrong` says so of those inside. A writer that
+    has announced itself counts as inside."""
     writer, readers, pending = None, set(), {}
     for number, (thread, *move) in moves:
         if move[0] != "section":
             pending[thread] = move[0]
+        elif move[2] == "moved":
+            writer = thread
         elif move[2] == "left":
             readers.discard(thread)
             writer = None if writer == thread else writer
@@ -97,7 +100,7 @@ def _after_calls(moves, call, wrong):
 
 
 def reads_beside_a_writer(moves):
-    """A reader enters while a writer is inside."""
+    """A reader enters while a writer is inside, or has announced itself."""
     return _after_calls(moves, "rlock", lambda writer, readers: writer is not None)
 
 
@@ -163,7 +166,7 @@ MISTAKES = [
             "state.readers -= 1;\n        state.note(Outcome::Left);\n"
             "        self.changed.notify_all();",
             "state.readers -= 1;\n        state.note(Outcome::Left);",
-            None, 50),
+            None, 15),  # where no other writer comes, whose unlock wakes whoever waits
     Mistake("rw_fifo", "passes_a_writer",
             "while state.writer {\n            state.note(Outcome::Waits);\n"
             "            state = self.changed.wait(state);\n        }\n"
