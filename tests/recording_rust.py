@@ -33,6 +33,7 @@ SEEDS = range(1, 51)
 COUNTS = {"seed": ["3", "100"], "ordered": ["4", "500"], "free": ["4", "5000"],
           "noise": ["4", "500"]}  # threads and rounds
 HAS_TRACE = ["seed", "ordered"]
+EXPLORED = [["2", "1", "2"], ["3", "1", "1"]]  # threads, rounds and preemptions
 NUMBERS = {"seed": SEEDS, "ordered": range(3), "free": range(3), "noise": range(5)}
 COMPLETE, HANGS = 0, 1
 UNUSED = "#![allow(unused)]\n\nmod driver;"  # a mistake may leave something that is not used
@@ -130,6 +131,27 @@ def fault_of_right(runs, example, mode, number):
     return fault or (f"order: status {status}" if status else runs.fault_of(trace))
 
 
+def fault_of_explored(runs, example, counts):
+    """What is wrong with all runs of a right lock that have few preemptions."""
+    target = runs.folder / f"{example}-explore-{'-'.join(counts)}"
+    done = ran(runs.crate.program(example), "explore", *counts, target)
+    traces = list(target.glob("*/run.trace"))
+    if done.returncode != COMPLETE or len(traces) < 2:
+        return f"status {done.returncode}, {len(traces)} runs"
+    done = ran(runs.locktrace, "check", *traces)
+    return (done.stdout + done.stderr)[:300]
+
+
+def first_explored(runs, name, counts):
+    """The first run that is refused or hangs of those that have few preemptions, or None."""
+    target = runs.folder / f"{name}-explore-{'-'.join(counts)}"
+    done = ran(runs.crate.program(name), "explore", *counts, target)
+    numbers = sorted(int(at.name) for at in target.iterdir())
+    refused = (number for number in numbers
+               if runs.refused_line(target / str(number) / "run.trace"))
+    return next(refused, numbers[-1] if done.returncode == HANGS else None)
+
+
 def fault_of_seed_again(runs, example):
     """The same seed gives the same run, and another seed another one."""
     folders = [runs.run(example, "seed", number)[0] for number in ["7", "07", "8"]]
@@ -186,6 +208,8 @@ def main(locktrace):
                 cases.many(f"{example} {mode}",
                            lambda number: fault_of_right(runs, example, mode, number), numbers)
             cases.fault(f"{example} seed again", fault_of_seed_again(runs, example))
+            cases.many(f"{example} explored",
+                       lambda counts: fault_of_explored(runs, example, counts), EXPLORED)
         for mistake in MISTAKES:
             answers = list(cases.pool.map(lambda seed: shows(runs, mistake, seed), SEEDS))
             for seed, (_, fault) in zip(SEEDS, answers):
