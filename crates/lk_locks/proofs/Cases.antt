@@ -30,7 +30,7 @@ either_way P false x y p q = q
 abbrev pub GoesOn : LockKind → ℕ → Phase → Change → Type 0
 GoesOn kind t p c = owed_of kind t p ≡ step_entries kind t p c.outcome ++ owed_of kind t c.phase
 
--- a call begins where the one before it is finished
+-- a call begins when the one before it is finished
 abbrev pub Begins : LockKind → ℕ → Phase → Op → Type 0
 Begins kind t p op =
     (owed_of kind t p ≡ [])
@@ -48,7 +48,7 @@ Fits kind n c = IsPhaseOf kind n c.phase
 abbrev pub AreOf : ℕ → List Entry → Type 0
 AreOf t es = AllByRecursion (λ e. thread_of e ≡ t) es
 
--- what a room may rest on, where thread t makes the move m in phase p
+-- what a room may rest on, when thread t makes the move m in phase p
 pub record IsTaken (kind : LockKind) (bits : ℕ) (ws : List ℕ) (ps : List Phase) (q : Sequential)
     (t : ℕ) (p : Phase) (m : Move) : Type 0 where
   pub kind_is : q.kind ≡ kind
@@ -83,7 +83,7 @@ waits kind agree ps q t p e k a = record {
 pub record IsRoom (kind : LockKind) : Type 0 where
   -- each step adds the next entries of the pending call
   pub goes_on : (bits t : ℕ) (ws : List ℕ) (p : Phase) → GoesOn kind t p (step_of kind bits ws t p)
-  -- a call begins where the one before it is finished
+  -- a call begins when the one before it is finished
   pub begins : (n t : ℕ) (p : Phase) (op : Op) → IsPhaseOf kind n p
       → has_op (family_of kind) op ≡ true → refusal_in kind p (Call op) ≡ None
       → Begins kind t p op

@@ -37,7 +37,7 @@ new_links_fit : (kind : LockKind) (n bits : ℕ) (ws : List ℕ) (t : ℕ) (p : 
 new_links_fit kind n bits ws t p (Call op) h l = l
 new_links_fit kind n bits ws t p (Step k) h l = (room_of kind).links_fit n bits t ws p h l
 
--- what an accepted move tells
+-- what follows from an accepted move
 pub record Accepted (s : State) (t : ℕ) (m : Move) : Type 0 where
   pub thread : t < length s.phases
   pub own : belongs s.kind m ≡ true

@@ -1,4 +1,4 @@
--- An entry that meets P stands in a list, by recursion: for proofs.
+-- An entry that meets P is in a list, by recursion: for proofs.
 use Rattle.std.proofs.Common.{zero, suc, ◌<◌, List, [], ◌∷◌, length, refl, sym, arith, inl, inr}
 use Rattle.std.proofs.Common.{◌⊎◌, subst}
 use Rattle.std.specs.List.{Any}

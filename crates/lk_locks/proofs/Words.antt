@@ -1,4 +1,4 @@
--- Sums of words, which go round.
+-- Sums of words, which wrap.
 use Rattle.std.proofs.Common.{ap, arith, bit_and, inl, inr, sym, ◌≤◌, ℕ, ◌%◌, ◌+◌, ◌-◌, ◌<◌, ◌^◌}
 use Rattle.std.proofs.Common.{◌∙◌, ◌≡◌}
 use Rattle.std.proofs.Math.Nat.{mod-add-mod, mod-eq-sub-mod, mod-eq_of_lt, mod-lt}

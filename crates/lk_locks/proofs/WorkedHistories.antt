@@ -84,7 +84,7 @@ not_of_two P x y f g a = elim (one_of P (x ∷ y ∷ []) a) [
   | inr r ↦ not_of_one P y g (any_of P (y ∷ []) r)
 ]
 
--- the call stands in the list
+-- the call is in the list
 abbrev IsCalled : ℕ → Op → List Entry → Type 0
 IsCalled t op es = Any (λ x. x ≡ Called t op) es
 

@@ -18,7 +18,7 @@ announcement family t op = []
 abbrev pub acts : ℕ → Op → List Entry
 acts t op = Acted t op ∷ Returned t op ∷ []
 
--- the entry in which an act on the sequential object is told
+-- the entry that records an act on the sequential object
 abbrev pub entry_of : Act → Entry
 entry_of (act.Acquire t) = Acted t Acquire
 entry_of (act.Release t) = Acted t Release

@@ -15,7 +15,7 @@ HasDone t op deeds es =
     (start middle : List Entry) × (es ≡ start ++ Called t op ∷ middle)
     × (subhistory t middle ≡ deeds)
 
--- where a call returns it was called, and since then its thread did nothing but act once, after the
+-- when a call returns it was called, and since then its thread did nothing but act once, after the
 -- announcement of a FIFO writer
 abbrev pub ActsOnce : LockKind → List Entry → Type 0
 ActsOnce kind es =
@@ -25,12 +25,12 @@ ActsOnce kind es =
 abbrev pub CallsActOnce : Type 0
 CallsActOnce = (kind : LockKind) (n : ℕ) (es : List Entry) → Legal kind n es → ActsOnce kind es
 
--- the next of a thread's entries, where there is one, is the return
+-- the next of a thread's entries, if there is one, is the return
 abbrev pub ReturnsNext : ℕ → Op → List Entry → Type 0
 ReturnsNext t op [] = Unit {0}
 ReturnsNext t op (e ∷ es) = e ≡ Returned t op
 
--- an act stands in a call: its thread called, did nothing since then but announce itself, and
+-- an act is in a call: its thread called, did nothing since then but announce itself, and
 -- returns next
 abbrev pub ActsInCalls : LockKind → List Entry → Type 0
 ActsInCalls kind es =

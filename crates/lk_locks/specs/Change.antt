@@ -36,7 +36,7 @@ abbrev pub step_by : (Phase → List ℕ → Answer → Change) → ℕ → List
 step_by after bits ws p None = to ws p Waits
 step_by after bits ws p (Some operation) = lead after p (performed bits ws operation)
 
--- words of so many bits go round
+-- sums of words of so many bits wrap
 abbrev pub plus_one : ℕ → ℕ → ℕ
 plus_one bits x = (x + 1) % 2 ^ bits
 

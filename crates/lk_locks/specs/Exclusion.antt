@@ -19,7 +19,7 @@ IsQueueLock kind = family_of kind ≡ Queue
 -- Queue locks. What is said of acquires holds of the histories of all locks: a read-write lock has
 -- none.
 
--- between the return of an acquire and the return of a later one stands the act of the first one's
+-- between the return of an acquire and the return of a later one is the act of the first one's
 -- release
 abbrev pub HasOneHolder : List Entry → Type 0
 HasOneHolder es =
@@ -28,7 +28,7 @@ HasOneHolder es =
 abbrev pub HoldersAreApart : Type 0
 HoldersAreApart = (kind : LockKind) (n : ℕ) (es : List Entry) → Legal kind n es → HasOneHolder es
 
--- who holds, from here on: an acquire returns only where nobody holds, and only who holds releases
+-- who holds, from here on: an acquire returns only if nobody holds, and only who holds releases
 abbrev pub MayHold : Option ℕ → Entry → Type 0
 MayHold h (Returned t Acquire) = h ≡ None
 MayHold h (Acted t Release) = h ≡ Some t
@@ -68,7 +68,7 @@ NeverTwoWriters = (kind : LockKind) (n : ℕ) (es : List Entry) → Legal kind n
 
 -- A reader enters only after the writer before it stopped writing, and a writer only after each
 -- reader before it left, and each writer that became a reader. After whatever beginning of the
--- history: where there is a writer, there is no reader.
+-- history: if there is a writer, there is no reader.
 pub record IsNeverBesideReader (kind : LockKind) (es : List Entry) : Type 0 where
   pub then_reader : (t u : ℕ)
       → Between (Acted t WriteLock) (Acted u ReadLock) (StopsWriting t) es
@@ -85,7 +85,7 @@ NeverAWriterBesideAReader =
     (kind : LockKind) (n : ℕ) (es : List Entry) → Legal kind n es → IsNeverBesideReader kind es
 
 -- between the announcement of a FIFO writer and a later reader's entering, or another's
--- announcement, stands that writer's entering
+-- announcement, that writer's entering comes
 pub record IsAnnouncedFirst (es : List Entry) : Type 0 where
   pub then_reader : (t u : ℕ)
       → Between (Announced t) (Acted u ReadLock) (λ e. e ≡ Acted t WriteLock) es

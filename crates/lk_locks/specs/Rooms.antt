@@ -38,7 +38,7 @@ steps_of Ticket = Add ∷ Read ∷ Write ∷ []
 steps_of Mcs = Read ∷ Write ∷ Swap ∷ Cas ∷ []
 steps_of kind = Section ∷ []
 
--- the phase that a call leads to, where a thread in this phase may make it
+-- the phase that a call leads to, if a thread in this phase may make it
 abbrev pub after_call : LockKind → Phase → Op → Option Phase
 after_call Ticket p op = ticket.after_call p op
 after_call Mcs p op = mcs.after_call p op

@@ -19,3 +19,7 @@ phase_at phases t = get_or phases t Idle
 -- at the start all threads are idle. The words are the caller's, all 0
 abbrev pub start : LockKind → ℕ → List ℕ → ℕ → State
 start kind bits ws n = record { kind = kind; bits = bits; words = ws; phases = replicate n Idle }
+
+-- the same lock with these words and phases
+abbrev pub put_back : State → List ℕ → List Phase → State
+put_back s ws ps = record s { words = ws; phases = ps }

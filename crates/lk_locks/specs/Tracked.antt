@@ -17,7 +17,7 @@ pub record Tracked : Type 0 where
   pub sequential : Sequential
   pub holder : Option ℕ
 
--- a lock in this state, with these entries behind it
+-- a lock in this state, after these entries
 abbrev pub tracked : State → List Entry → Tracked
 tracked s es = record {
   state = s;
@@ -42,7 +42,7 @@ abbrev pub after_tracked : Tracked → ℕ → Move → Tracked
 after_tracked k t m =
     followed_unless (refusal_of k.state t m) k (next_state k.state t m) (entries_of k.state t m)
 
--- who holds, and who waits in line; `holding_of` and `waiting_of` say the same of the entries
+-- who holds, and who is in the queue; `holding_of` and `waiting_of` say the same of the entries
 abbrev pub holding_in : Tracked → Holding
 holding_in k = held_in (family_of k.state.kind) k.sequential k.holder
 

@@ -92,7 +92,7 @@ writer_beside_reader = reads 0 ++ writes 1
 abbrev pub writer_beside_downgraded : List Entry
 writer_beside_downgraded = writes 0 ++ downgrades 0 ++ writes 1
 
--- a FIFO writer is announced while thread 0 reads, and enters where that has left
+-- a FIFO writer is announced while thread 0 reads, and enters when that has left
 abbrev pub announced : List Entry
 announced = reads 0 ++ Called 1 WriteLock ∷ Announced 1 ∷ []
 

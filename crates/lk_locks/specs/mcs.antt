@@ -79,8 +79,8 @@ after p ws answer = to ws p Waits
 abbrev pub step : ℕ → ℕ → List ℕ → Phase → Change
 step bits i ws p = step_by after bits ws p (operation i p)
 
--- The entries of such a step. An acquire acts where it swaps the tail, and returns where the lock
--- is granted; a release acts where it leaves.
+-- The entries of such a step. An acquire acts when it swaps the tail, and returns when the lock
+-- is granted; a release acts when it leaves.
 abbrev pub entries : ℕ → Phase → Outcome → List Entry
 entries i SwapTail Moved = Acted i Acquire ∷ []
 entries i SwapTail Entered = acts i Acquire

@@ -41,8 +41,8 @@ abbrev pub AreWords : ℕ → List ℕ → Type 0
 AreWords bits ws =
     (slice_index ws 0 < 2 ^ bits) × (slice_index ws 1 < 2 ^ bits) × (slice_index ws 2 < 2 ^ bits)
 
--- The entries of a section. A FIFO writer announces itself where it sets the flag; a call acts
--- where it succeeds.
+-- The entries of a section. A FIFO writer announces itself when it sets the flag; a call acts
+-- when it succeeds.
 abbrev pub entries : Family → ℕ → Phase → Outcome → List Entry
 entries family i TryRead Entered = acts i ReadLock
 entries family i LeaveRead Left = acts i ReadUnlock

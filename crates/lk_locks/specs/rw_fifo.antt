@@ -3,7 +3,7 @@
 -- After Herlihy and Shavit, The Art of Multiprocessor Programming, chapter 8, "FifoReadWriteLock".
 -- Each try is one section under the lock's monitor. Different here: a reader waits while the flag
 -- is set, and adds one to `readAcquires` only afterwards; a writer waits while the flag is set
--- before it sets it; the counts have B bits and go round; signals are not modelled; a writer may
+-- before it sets it; the counts have B bits and wrap; signals are not modelled; a writer may
 -- downgrade.
 use Rattle.std.specs.Prelude.{ℕ, Bool, ◌==◌, List, slice_index, set, if◌then◌else◌}
 use Rattle.lk_locks.specs.Change.{Change, to, raised}

@@ -56,7 +56,7 @@ after p ws answer = to ws p Waits
 abbrev pub step : ℕ → List ℕ → Phase → Change
 step bits ws p = step_by after bits ws p (operation bits p)
 
--- The entries of such a step. An acquire acts where it takes its ticket, and returns where that is
+-- The entries of such a step. An acquire acts when it takes its ticket, and returns when that is
 -- served.
 abbrev pub entries : ℕ → Phase → Outcome → List Entry
 entries i TakeTicket Moved = Acted i Acquire ∷ []

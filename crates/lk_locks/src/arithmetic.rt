@@ -24,7 +24,7 @@ pub fn plus_one(bits: u8, word: u64) -> u64
     word.wrapping_add(1) & greatest_of(bits)
 }
 
-/// The word before.
+/// The word before. Adding 2^B - 1 subtracts one modulo 2^B, without a case for 0.
 pub fn less_one(bits: u8, word: u64) -> u64
     requires least { 2 ≤ bits }
     requires most { bits ≤ 64 }

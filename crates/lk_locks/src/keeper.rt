@@ -18,8 +18,8 @@ use lk_words::Words;
 use std::alloc::Global;
 use std::marker::Model;
 
-/// A lock that knows who holds and who is in line, and its history. A contract sees the state, the
-/// sequential object and the entries.
+/// A lock that knows who holds and who is in the queue, and its history. A contract sees the state,
+/// the sequential object and the entries.
 #[derive(Drop)]
 pub struct Keeper<W: Words> {
     lock: Tracker<W>,
@@ -64,7 +64,7 @@ impl<W: Words> Keeper<W> {
     ///
     /// # Errors
     ///
-    /// After either fault nothing has changed. `OutOfMemory` is answered only where a growth of the
+    /// After either fault nothing has changed. `OutOfMemory` is answered only if a growth of the
     /// history was refused; a refused move asks for no memory.
     pub fn play(&mut self, t: u8, m: Move) -> Result<Outcome, PlayFault>
         ensures answer { IsPlayAnswer (refusal_of self.old.state t m)
@@ -95,7 +95,7 @@ impl<W: Words> Keeper<W> {
         self.history.entries()
     }
 
-    /// The step that thread `t` takes next. There is none exactly where it has no pending call.
+    /// The step that thread `t` takes next. There is none exactly if it has no pending call.
     pub fn next_step(&self, t: u8) -> Option<StepKind>
         requires { t < length self.now.state.phases }
         ensures { result ≡ step_due self.now.state.kind (phase_at self.now.state.phases t) }
@@ -112,8 +112,8 @@ impl<W: Words> Keeper<W> {
         self.lock.holders()
     }
 
-    /// Who is in line, by the history: the requests of a queue lock, oldest first, the holder's
-    /// too; the announced writer of a FIFO lock; nobody of a simple lock.
+    /// Who is in the queue, by the history: the requests of a queue lock, oldest first, the
+    /// holder's too; the announced writer of a FIFO lock; nobody of a simple lock.
     pub fn queue(&self) -> ArrayVec<u8, 64>
         ensures { result.items ≡ waiting_of self.now.state.kind self.now.entries }
     {

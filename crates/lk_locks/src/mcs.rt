@@ -24,7 +24,7 @@ const TAIL: usize = 0;
 
 const NIL: u64 = 0;
 
-// The number of a thread's record, where 0 is nil.
+// The number of a thread's record; 0 is nil.
 fn record(thread: u8) -> u64
     ensures { result ≡ thread + 1 }
 {
@@ -72,7 +72,7 @@ pub fn has_step(step: StepKind) -> bool
     )
 }
 
-/// The phase that a call leads to, where a thread in this phase may make it.
+/// The phase that a call leads to, if a thread in this phase may make it.
 #[inline(always)]
 pub fn after_call(phase: Phase, op: Op) -> Option<Phase>
     ensures { result ≡ after_call phase op }
@@ -90,6 +90,7 @@ pub fn operation(_bits: u8, thread: u8, phase: Phase) -> Option<Operation>
     ensures { result ≡ operation thread phase }
 {
     match phase {
+        // a link of an earlier call may be here; after the swap it would pass for a successor's
         Phase::ClearNext => Some(Operation::Write {
             word: next(thread),
             value: NIL,
@@ -98,6 +99,7 @@ pub fn operation(_bits: u8, thread: u8, phase: Phase) -> Option<Operation>
             word: TAIL,
             value: record(thread),
         }),
+        // before the link: a linked thread may be granted the lock, and a later 1 would undo that
         Phase::SetLocked(_) => Some(Operation::Write {
             word: locked(thread),
             value: 1,
@@ -155,7 +157,8 @@ pub fn after(phase: Phase, answer: Answer) -> (Phase, Outcome)
         }
         // nobody came after this thread: the queue is empty again
         (Phase::CasTail, Answer::Swapped(true)) => (Phase::Idle, Outcome::Left),
-        // another thread has swapped the tail and has not linked itself yet
+        // Another thread has swapped the tail. It may not have linked itself yet, and only a link
+        // names it: who left now would grant the lock to nobody.
         (Phase::CasTail, Answer::Swapped(false)) => (Phase::AwaitLink, Outcome::Moved),
         (Phase::Grant(_), _) => (Phase::Idle, Outcome::Left),
         _ => (phase, Outcome::Waits),

@@ -15,7 +15,7 @@ use crate::entries::Added;
 use crate::{Entry, Family, Op, Outcome, Phase, StepKind};
 use lk_words::Operation;
 
-/// The phase that a call leads to, where a thread in this phase may make it.
+/// The phase that a call leads to, if a thread in this phase may make it.
 #[inline(always)]
 pub fn after_call(phase: Phase, op: Op) -> Option<Phase>
     ensures { result ≡ after_call phase op }

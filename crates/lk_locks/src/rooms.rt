@@ -54,7 +54,7 @@ pub(crate) fn has_step(kind: LockKind, step: StepKind) -> bool
     in_room!(kind, has_step(step))
 }
 
-/// The phase that a call leads to, where a thread in this phase may make it.
+/// The phase that a call leads to, if a thread in this phase may make it.
 #[inline(always)]
 pub(crate) fn after_call(kind: LockKind, phase: Phase, op: Op) -> Option<Phase>
     ensures { result ≡ after_call kind phase op }
@@ -85,7 +85,7 @@ pub fn operation_of(kind: LockKind, bits: u8, thread: u8, phase: Phase) -> Optio
     in_room!(kind, operation(bits, thread, phase))
 }
 
-/// The step that a thread in this phase takes next, where it has a pending call.
+/// The step that a thread in this phase takes next, if it has a pending call.
 #[inline(always)]
 pub(crate) fn step_due(kind: LockKind, phase: Phase) -> Option<StepKind>
     ensures { result ≡ step_due kind phase }
@@ -121,7 +121,7 @@ pub(crate) fn outcome_of(words: &WordArray, kind: LockKind, thread: u8, phase: P
     in_room!(kind, outcome(words, thread, phase))
 }
 
-/// Adds the entries of a step, where nothing was added before.
+/// Adds the entries of a step, if nothing was added before.
 #[inline(always)]
 pub(crate) fn add_entries(
     added: &mut Added,

@@ -47,15 +47,18 @@ pub fn section(bits: u8, found: [u64; 3], phase: Phase) -> ([u64; 3], Phase, Out
     use Phase::{AwaitReaders, Idle, LeaveRead, LeaveWrite, Reading, Writing};
     use Phase::{TryDowngrade, TryRead, TryWrite};
     let [acquires, releases, flag] = found;
-    // as many readers left as came
+    // As many readers left as came. Both counts wrap. Fewer readers are inside than a count has
+    // values, so equal counts mean that there are none.
     let are_gone = acquires == releases;
     match phase {
         TryRead if flag == 0 => ([plus_one(bits, acquires), releases, flag], Reading, Entered),
         LeaveRead => ([acquires, plus_one(bits, releases), flag], Idle, Left),
         TryWrite if flag == 0 && are_gone => ([acquires, releases, 1], Writing, Entered),
+        // the flag is set while readers are inside, so that no later one enters before this writer
         TryWrite if flag == 0 => ([acquires, releases, 1], AwaitReaders, Moved),
         AwaitReaders if are_gone => (found, Writing, Entered),
         LeaveWrite => ([acquires, releases, 0], Idle, Left),
+        // both in one section, so that no writer comes in between
         TryDowngrade => ([plus_one(bits, acquires), releases, 0], Reading, Entered),
         _ => (found, phase, Waits),
     }

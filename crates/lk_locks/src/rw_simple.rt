@@ -49,6 +49,7 @@ pub fn section(bits: u8, found: [u64; 3], phase: Phase) -> ([u64; 3], Phase, Out
         LeaveRead => ([less_one(bits, readers), flag, other], Idle, Left),
         TryWrite if readers == 0 && flag == 0 => ([readers, 1, other], Writing, Entered),
         LeaveWrite => ([readers, 0, other], Idle, Left),
+        // both in one section, so that no writer comes in between
         TryDowngrade => ([plus_one(bits, readers), 0, other], Reading, Entered),
         _ => (found, phase, Waits),
     }

@@ -33,7 +33,7 @@ pub fn belongs(kind: LockKind, action: Move) -> bool
 }
 
 // Why a call of a thread with no pending call is refused. What an idle thread may call acquires,
-// and a thread that is not idle holds.
+// and a thread that is not idle holds. A second table of who may release could disagree.
 #[inline(always)]
 fn refusal_of_call(kind: LockKind, phase: Phase, op: Op) -> Option<Refusal>
     ensures { result ≡ refusal_at kind phase None (Call op) }
@@ -47,7 +47,7 @@ fn refusal_of_call(kind: LockKind, phase: Phase, op: Op) -> Option<Refusal>
     }
 }
 
-/// Why a move of a thread in this phase is refused, where it belongs to the lock.
+/// Why a move of a thread in this phase is refused, if it belongs to the lock.
 #[inline(always)]
 pub fn refusal_in(kind: LockKind, phase: Phase, action: Move) -> Option<Refusal>
     ensures { result ≡ refusal_in kind phase action }

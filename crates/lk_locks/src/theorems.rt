@@ -24,12 +24,12 @@ pub fn every_run_is_as_promised()
     ensures { EveryRunIsAsPromised }
 {}
 
-/// An acquire returns only where nobody holds the queue lock, and only who holds it releases it.
+/// An acquire returns only if nobody holds the queue lock, and only who holds it releases it.
 pub fn holders_take_turns()
     ensures { HoldersTakeTurns }
 {}
 
-/// Between the returns of two acquires stands the act of the first one's release.
+/// Between the returns of two acquires is the act of the first one's release.
 pub fn holders_are_apart()
     ensures { HoldersAreApart }
 {}
@@ -66,7 +66,7 @@ pub fn calls_act_once()
     ensures { CallsActOnce }
 {}
 
-/// Each act stands in a call, whose return comes next.
+/// Each act is in a call, whose return comes next.
 pub fn acts_are_called()
     ensures { ActsAreCalled }
 {}

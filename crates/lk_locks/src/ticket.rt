@@ -37,7 +37,7 @@ pub fn has_step(step: StepKind) -> bool
     matches!(step, StepKind::Add | StepKind::Read | StepKind::Write)
 }
 
-/// The phase that a call leads to, where a thread in this phase may make it.
+/// The phase that a call leads to, if a thread in this phase may make it.
 #[inline(always)]
 pub fn after_call(phase: Phase, op: Op) -> Option<Phase>
     ensures { result ≡ after_call phase op }
@@ -64,6 +64,7 @@ pub fn operation(bits: u8, _thread: u8, phase: Phase) -> Option<Operation>
         Phase::AwaitTurn(_) | Phase::ReadServing(_) => {
             Some(Operation::Read { word: NOW_SERVING })
         }
+        // no atomic addition: only the holder writes this word, so it is as it was read
         Phase::PassOn(serving) => Some(Operation::Write {
             word: NOW_SERVING,
             value: plus_one(bits, serving),
@@ -89,6 +90,7 @@ pub fn after(phase: Phase, answer: Answer) -> (Phase, Outcome)
 {
     match (phase, answer) {
         (Phase::TakeTicket, Answer::Found(ticket)) => (Phase::AwaitTurn(ticket), Outcome::Moved),
+        // equal, and not at least: tickets wrap
         (Phase::AwaitTurn(ticket), Answer::Found(serving)) if serving == ticket => {
             (Phase::TicketInside(ticket), Outcome::Entered)
         }

@@ -126,8 +126,8 @@ impl<W: Words> Tracker<W> {
         }
     }
 
-    /// Who is in line: the requests of a queue lock, oldest first, the holder's too; the announced
-    /// writer of a FIFO lock; nobody of a simple lock.
+    /// Who is in the queue: the requests of a queue lock, oldest first, the holder's too; the
+    /// announced writer of a FIFO lock; nobody of a simple lock.
     pub fn queue(&self) -> ArrayVec<u8, 64>
         ensures { result.items ≡ waiting_in self.now }
     {

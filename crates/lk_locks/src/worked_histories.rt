@@ -46,7 +46,7 @@ pub fn legal_histories()
         ≡ Called 1 Acquire ∷ Acted 1 Acquire ∷ Returned 1 Acquire ∷ [] }
 {}
 
-/// Who holds, and who is in line.
+/// Who holds, and who is in the queue.
 pub fn holders_of_histories()
     ensures nobody { holding_of Ticket [] ≡ Free }
     ensures first { holding_of Ticket one_inside ≡ HeldBy 0 }
@@ -108,7 +108,7 @@ pub fn order_of_entering()
     ensures not_asked { IsInOrder unasked → ⊥ }
 {}
 
-/// A call acts once before it returns. Before its act stands a call, and what follows is the
+/// A call acts once before it returns. Before its act comes a call, and what follows is the
 /// return.
 pub fn acts_of_calls()
     ensures once { ActsOnce Mcs handed_on }

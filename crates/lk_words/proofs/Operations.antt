@@ -29,7 +29,7 @@ answered : (ws : List ℕ) (i new : ℕ) (is : Bool)
 answered ws i new true = refl
 answered ws i new false = refl
 
--- it answers what its word tells it
+-- its answer follows from its word
 pub one_answer : (bits : ℕ) (ws : List ℕ) (o : Operation)
     → (performed bits ws o).answer ≡ answer_of (slice_index ws (word_of o)) o
 one_answer bits ws (Read i) = refl

@@ -1,4 +1,4 @@
--- What the tables of the FIFO read-write lock tell: each section goes on with its call, and its
+-- From the tables of the FIFO read-write lock: each section goes on with its call, and its
 -- phases fit.
 use Rattle.std.proofs.Common.{List, None, refl, rules, slice_index, true, unwrap_or, ℕ, ◌<◌, ◌==◌}
 use Rattle.std.proofs.Common.{◌∙◌, ◌≡◌}
@@ -32,7 +32,7 @@ goes_on bits t ws AwaitReaders =
     either_way (GoesOn RwFifo t AwaitReaders) (slice_index ws 0 == slice_index ws 1) _ _ refl refl
 goes_on bits t ws p = refl
 
--- a call begins where the one before it is finished
+-- a call begins when the one before it is finished
 pub begins : (n t : ℕ) (p : Phase) (op : Op) → IsPhaseOf RwFifo n p → has_op FifoReadWrite op ≡ true
     → refusal_in RwFifo p (Call op) ≡ None
     → Begins RwFifo t p op

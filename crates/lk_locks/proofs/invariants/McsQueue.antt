@@ -220,7 +220,7 @@ mcs_grant ws ps (x ∷ q) t j h w e k =
     }
 
 -- who is linked waits to be granted
--- a head whose next is not nil has that one behind it
+-- a head whose next is not nil has that one as its successor
 pub linked_is : (ws : List ℕ) (u t : ℕ) (p : Phase) → next_of ws u ≢ 0 → IsBehind ws u t p
     → next_of ws u - 1 ≡ t
 linked_is ws u t (SetLocked j) n b = absurd (n b.1)

@@ -1,4 +1,4 @@
--- What the tables of the MCS lock tell: each step goes on with its call, and its phases and links
+-- From the tables of the MCS lock: each step goes on with its call, and its phases and links
 -- fit.
 use Rattle.std.proofs.Common.{List, None, arith, inl, inr, length, refl, rules, set, slice_index}
 use Rattle.std.proofs.Common.{true, unwrap_or, ℕ, ◌+◌, ◌<◌, ◌==◌, ◌≡◌, ◌≤◌}
@@ -38,7 +38,7 @@ goes_on bits t ws AwaitLink =
     either_way (GoesOn Mcs t AwaitLink) (slice_index ws (next t) == 0) _ _ refl refl
 goes_on bits t ws p = refl
 
--- a call begins where the one before it is finished
+-- a call begins when the one before it is finished
 pub begins : (n t : ℕ) (p : Phase) (op : Op) → IsPhase n p → has_op Queue op ≡ true
     → refusal_in Mcs p (Call op) ≡ None
     → Begins Mcs t p op

@@ -47,7 +47,7 @@ goes_inside : (ws : List ℕ) (ps : List Phase) (q : List ℕ) (t : ℕ) (p : Ph
     → IsQueue ws (set ps t p) q
 goes_inside ws ps q t p i h f a = rw i.is (mcs_head ws ps i.rest t p h f (rw i.is at a))
 
--- a linked head may be in AwaitLink only if it has one behind it
+-- a linked head may be in AwaitLink only if it has a successor
 not_alone : (ws : List ℕ) (ps : List Phase) (q : List ℕ) (t : ℕ) (r : List ℕ) → q ≡ t ∷ r
     → IsQueue ws ps q → slice_index ws 0 ≢ t + 1 → r ≢ []
 not_alone ws ps q t [] e k n = absurd (n (k.tail_is ∙ ap tail_of e))
@@ -77,7 +77,7 @@ empty_of ws ps [] z k = refl
 empty_of ws ps (x ∷ q) z k =
     let g : slice_index ws 0 ≡ last_of x q + 1 = k.tail_is in absurd (omega arith)
 
--- a first one whose next word is written by the one behind it
+-- a first one whose next word is written by its successor
 relinked : (ws vs : List ℕ) (h : ℕ) (r : List ℕ) (p : Phase) → next_of ws h ≡ 0
     → locked_of vs h ≡ locked_of ws h → IsFirst ws h r p → IsFirst vs h r p
 relinked ws vs h r AwaitGrant n l f = l ∙ f

@@ -43,7 +43,7 @@ use Rattle.lk_locks.specs.declared.kinds.Entry.TheVariants.{Acted, Announced, Ca
 use Rattle.lk_locks.proofs.invariants.FifoSteps.{begins, call_fits, goes_on, keeps_length}
 use Rattle.lk_locks.proofs.invariants.FifoSteps.{owed_is_own, step_fits}
 
--- the counts are equal exactly where there is no reader
+-- the counts are equal exactly when there is no reader
 none_read : (bits : ℕ) (ws : List ℕ) (ps : List Phase) (q : Sequential)
     → AgreesWith bits ws ps q → slice_index ws 0 ≡ slice_index ws 1 → q.readers ≡ []
 none_read bits ws ps q a e = empty_of_length q.readers (elim (eqb_tells (length q.readers) 0) [
@@ -70,7 +70,7 @@ still bits ws ps q t p r h e x y z a = record {
 same_thread : (t : ℕ) → eqb t t ≡ true
 same_thread t = eqb-same t
 
--- the announcement before the act leaves nothing behind
+-- after the act nothing is left of the announcement before it
 written : (ps : List Phase) (q : Sequential) (t : ℕ)
     → AreHolders (set ps t Writing) (after_entry q (Acted t WriteLock))
     → AreHolders (set ps t Writing) (after_entry (after_entry q (Announced t)) (Acted t WriteLock))

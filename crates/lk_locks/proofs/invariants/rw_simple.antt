@@ -48,7 +48,7 @@ goes_on bits t ws TryWrite =
     refl refl
 goes_on bits t ws p = refl
 
--- a call begins where the one before it is finished
+-- a call begins when the one before it is finished
 begins : (n t : ℕ) (p : Phase) (op : Op) → IsPhaseOf RwSimple n p → has_op ReadWrite op ≡ true
     → refusal_in RwSimple p (Call op) ≡ None
     → Begins RwSimple t p op

@@ -42,7 +42,7 @@ goes_on bits t ws (AwaitTurn x) =
     either_way (GoesOn Ticket t (AwaitTurn x)) (slice_index ws now_serving == x) _ _ refl refl
 goes_on bits t ws p = refl
 
--- a call begins where the one before it is finished
+-- a call begins when the one before it is finished
 begins : (n t : ℕ) (p : Phase) (op : Op) → IsPhaseOf Ticket n p → has_op Queue op ≡ true
     → refusal_in Ticket p (Call op) ≡ None
     → Begins Ticket t p op

@@ -3,7 +3,7 @@ use Rattle.std.specs.Prelude.{◌≡◌, ℕ, ◌<◌, List, [], ◌∷◌, Opti
 use Rattle.std.specs.Option.{option_eq}
 use Rattle.lk_locks.specs.Sequential.{has}
 
--- the one, where there is one, is t
+-- the one, if there is one, is t
 abbrev pub is_this : Option ℕ → ℕ → Bool
 is_this o t = option_eq eqb (Some t) o
 

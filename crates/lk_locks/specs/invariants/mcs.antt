@@ -1,6 +1,6 @@
 -- Invariants. The MCS lock's: its phases, what a pending call still owes the history, who is
--- inside, and how its words agree with the queue of its sequential object, which is only partly
--- linked at most moments.
+-- inside, and how its words agree with the queue of its sequential object, of whose links some may
+-- not be written yet.
 use Rattle.std.specs.Prelude.{◌≡◌, ◌≢◌, ℕ, ◌+◌, ◌<◌, ◌≤◌, List, [], ◌∷◌, length, slice_index}
 use Rattle.std.specs.Prelude.{true, false, IsTrue}
 use Rattle.lk_words.specs.declared.operation.Answer.{Answer}
@@ -68,7 +68,7 @@ abbrev pub last_of : ℕ → List ℕ → ℕ
 last_of u [] = u
 last_of u (t ∷ q) = last_of t q
 
--- the tail names the last, and is nil where there is none
+-- the tail names the last, and is nil if there is none
 abbrev pub tail_of : List ℕ → ℕ
 tail_of [] = 0
 tail_of (t ∷ q) = last_of t q + 1
@@ -86,8 +86,8 @@ abbrev pub IsLater : List ℕ → List Phase → ℕ → List ℕ → Type 0
 IsLater ws ps u [] = next_of ws u ≡ 0
 IsLater ws ps u (t ∷ q) = IsBehind ws u t (phase_at ps t) × IsLater ws ps t q
 
--- The head t, in this phase, before the others. Where it still waits it is granted; where it waits
--- for a link there is a second; where it grants, the second is its next.
+-- The head t, in this phase, before the others. If it still waits it is granted; if it waits
+-- for a link there is a second; if it grants, the second is its next.
 abbrev pub IsFirst : List ℕ → ℕ → List ℕ → Phase → Type 0
 IsFirst ws t q AwaitGrant = locked_of ws t ≡ 0
 IsFirst ws t q McsInside = Unit {0}

@@ -38,7 +38,7 @@ owed i TryDowngrade = acts i Downgrade
 owed i p = []
 
 -- The lock counts who came and who left, and its flag is for the writer or the announced one. There
--- are fewer readers than words, so the counts are equal exactly where there is no reader.
+-- are fewer readers than words, so the counts are equal exactly when there is no reader.
 pub record AgreesWith (bits : ℕ) (ws : List ℕ) (ps : List Phase) (q : Sequential) : Type 0 where
   pub narrow : length ps < 2 ^ bits
   pub left : slice_index ws read_releases < 2 ^ bits
