@@ -11,7 +11,7 @@ pub followed_more : (kind : LockKind) (es new : List Entry)
     → followed_by (following kind es) new ≡ following kind (es ++ new)
 followed_more kind es new = rw (after_append (nobody kind) es new, holder_append None es new) refl
 
--- what is followed tells who holds and who waits
+-- what is followed says who holds and who waits
 pub text_of : (kind : LockKind) (es : List Entry)
     → followed_text (following kind es) ≡ state_text kind es
 unfolding state_text

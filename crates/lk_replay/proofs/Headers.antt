@@ -12,7 +12,7 @@ use Rattle.lk_replay.specs.declared.schedule.Line.{Line}
 use Rattle.lk_replay.specs.declared.schedule.ReadFault.{ReadFault}
 use Rattle.lk_replay.specs.declared.schedule.ReadFault.TheVariants as read
 
--- a word behind the number of bits
+-- a word after the number of bits
 pub more_words : (count bits number : List ℕ) (words : List (List ℕ)) → 0 < length words
     → size_of_words (count ∷ bits ∷ number ∷ words) ≡ None
 more_words count bits number [] some = absurd (omega arith)

@@ -22,7 +22,7 @@ onto_prefix : (x : ℕ) (parts others : List (List ℕ)) → 0 < length parts
 onto_prefix x [] others some = absurd (omega arith)
 onto_prefix x (part ∷ parts) others some = refl
 
--- a text is cut before and behind a byte at which it is cut
+-- a text is cut before and after a byte at which it is cut
 pub split_append : (p : ℕ → Bool) (xs : List ℕ) (y : ℕ) (ys : List ℕ) → p y ≡ true
     → slice_split p (xs ++ y ∷ ys) ≡ slice_split p xs ++ slice_split p ys
 split_append p [] y ys here = slice_split-cons_yes p y ys here

@@ -52,7 +52,7 @@ head_listed (x ∷ xs) text t gone head is wide =
           ∙ drop-append_seam (44 ∷ decimal x) (later_numbers xs),
     )
 
--- an ascending list, cut behind a thread
+-- an ascending list, cut after a thread
 pub two_parts : (xs : List ℕ) (t : ℕ) → xs ≡ up_to xs t ++ above xs t
 two_parts [] t = refl
 two_parts (x ∷ xs) t = elim (cases_Bool (nat_lt t x)) [

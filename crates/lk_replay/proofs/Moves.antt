@@ -11,7 +11,7 @@ use Rattle.lk_replay.specs.Schedule.{moves_from, moves_after, with_line, move_of
 use Rattle.lk_replay.proofs.Skipped.{moves_skip}
 use Rattle.lk_replay.specs.Lines.{SkipsTo, is_skipped}
 
--- what is read from the rest, behind these lines
+-- what is read from the rest, after these lines
 abbrev pub with_lines : List Line → Result (List Line) Fault → Result (List Line) Fault
 with_lines prefix (Ok lines) = Ok (prefix ++ lines)
 with_lines prefix (Err fault) = Err fault
@@ -55,7 +55,7 @@ with_one : (prefix : List Line) (line : Line) (read : Result (List Line) Fault)
 with_one prefix line (Ok lines) = ap Ok (sym (append_assoc prefix (line ∷ []) lines))
 with_one prefix line (Err fault) = refl
 
--- a line that is a move, where there is room for one more
+-- a line that is a move, if there is room for one more
 pub line_good : (from taken number next : ℕ) (lines : List (List ℕ)) (line : List ℕ)
     (others : List (List ℕ)) (move : ℕ × Move)
     → next ≡ number + 1 → SkipsTo from lines number (line ∷ others) → is_skipped line ≡ false

@@ -24,7 +24,7 @@ pub passes_sent : (waited : List ℕ) (old new : Option (List ℕ)) → Appends 
     → Passes waited old [] [] new
 passes_sent waited old new appended = (waited, appended, refl)
 
--- where nothing waited, the bytes went out
+-- if nothing waited, the bytes went out
 pub passes_through : (bytes : List ℕ) (old new : Option (List ℕ)) → Appends old new bytes
     → Passes [] old bytes [] new
 passes_through bytes old new appended = (bytes, appended, append-nil bytes)
@@ -49,7 +49,7 @@ passes_line done between line waits old mid passed is =
     (passes_on [] done between line (between ++ line) old mid mid passed
     (passes_kept between line mid))
 
--- what waited and a prefix of a text, where the text is the beginning of a longer one
+-- what waited and a prefix of a text, if the text is the beginning of a longer one
 pub prefix_of_more : (waited a b : List ℕ) (old new : Option (List ℕ))
     → AppendsPrefix old new (waited ++ a) → AppendsPrefix old new (waited ++ (a ++ b))
 prefix_of_more waited a b old new (n, within, appended) =
@@ -82,7 +82,7 @@ pub told : {T : Type 0} (r : Result T RunFault) (P : Type 0) → P → OnErr r P
 told (Ok _) P fact = tt
 told (Err _) P fact = fact
 
--- what holds of an error, where there is one
+-- what holds of an error, if there is one
 pub of_error : (r : Result (Unit {0}) RunFault) (e : RunFault) (P : Type 0) → OnErr r P → r ≡ Err e
     → P
 of_error r e P fact is = subst (λ r. OnErr r P) is fact

@@ -144,7 +144,7 @@ stops : (r : Option Refusal) (number : ℕ) (m : Made) (rest : Replay)
 stops None number m rest none = absurd (omega arith)
 stops (Some x) number m rest none = refl
 
--- where no line is left, the next move is refused, or there is none
+-- if no line is left, the next move is refused, or there is none
 none_left : (s : State) (ls : List Line) → length (replay_from s ls).made ≡ 0
     → (replay_from s ls).refused ≡ next_refused s ls
 none_left s [] none = refl
@@ -269,7 +269,7 @@ behind_lines f count (m ∷ ms) text some =
     ∙ behind_line (prefix ++ shown) (rest ++ text) (omega (arith, length-append rest text))
     ∙ behind_lines g (count + 1) ms text some
 
--- the last line is not empty, so it tells how the report ends
+-- the last line is not empty, so it says how the report ends
 pub last_some : (count : ℕ) (refused : Option (ℕ × Refusal)) → 0 < length (last_line count refused)
 last_some count None = omega arith
 last_some count (Some refused) = omega arith

@@ -27,7 +27,7 @@ use Rattle.lk_replay.specs.declared.played.Accepted.{Accepted}
 abbrev pub accepted_of : Line → Outcome → Accepted
 accepted_of l p = record { line = l.number; thread = l.thread; action = l.action; outcome = p }
 
--- what is shown where these moves, what they added, and their entries come before the replay
+-- what is shown if these moves, what they added, and their entries come before the replay
 abbrev pub after : LockKind → ℕ → List Accepted → List ℕ → List Entry → Replay → Replayed
 after kind threads accepted added entries r = record {
   kind = kind;
@@ -38,7 +38,7 @@ after kind threads accepted added entries r = record {
   refused = r.refused;
 }
 
--- what an answer of `play` tells
+-- what follows from an answer of `play`
 pub was_accepted : (r : Option Refusal) (o p : Outcome) → IsPlayAnswer r o (Ok p)
     → (r ≡ None) × (p ≡ o)
 was_accepted None o p h = (refl, h)
@@ -189,7 +189,7 @@ move_few : (kind : LockKind) (t : ℕ) (p : Phase) (m : Move) (o : Outcome)
 move_few kind t p (Call op) o = omega arith
 move_few kind t p (Step step) o = (room_of kind).few_entries t p o
 
--- the entries that a move added are those behind the earlier ones
+-- the entries that a move added are those after the earlier ones
 pub record Adds (k : RecordedLock) (t : ℕ) (a : Move) (n : ℕ) : Type 0 where
   pub count : n ≡ length (entries_of k.state t a)
   pub few : n ≤ 3

@@ -1,4 +1,4 @@
--- A text at the front of an array, edited where it stands.
+-- A text at the front of an array, edited in place.
 use Rattle.std.proofs.Common.{◌≡◌, ℕ, ◌+◌, ◌-◌, ◌≤◌, List, [], ◌∷◌, ◌++◌, length, take, drop, sym}
 use Rattle.std.proofs.Common.{ap, ◌∙◌, arith, length-append, length-drop, length-take-le}
 use Rattle.std.proofs.Common.{append_assoc, take-append-drop}
@@ -7,7 +7,7 @@ use Rattle.std.proofs.lemmas.List.{drop-take, drop_at, take-append-le, take-take
 use lib.Seq.{paste, take-paste, length-paste}
 use borrow.Rule.Slice.PartMut.{put_mid, post_of, Post-is}
 
--- the first bytes of what was written, behind those before it
+-- the first bytes of what was written, after those before it
 pub written_behind : (xs now post : List ℕ) (at len : ℕ) → at ≤ length xs → len ≤ length now
     → take (at + len) (take at xs ++ (now ++ post)) ≡ take at xs ++ take len now
 written_behind xs now post at len within fits =

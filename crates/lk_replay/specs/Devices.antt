@@ -8,12 +8,12 @@ use Rattle.lk_replay.specs.declared.devices.RunFault.{RunFault}
 abbrev pub AppendsPrefix : Option (List ℕ) → Option (List ℕ) → List ℕ → Type 0
 AppendsPrefix old new bytes = (n : ℕ) × (n ≤ length bytes) × Appends old new (take n bytes)
 
--- bytes went behind what waited: what the output got, and then what waits now, is what waited and
+-- bytes went after what waited: what the output got, and then what waits now, is what waited and
 -- then the bytes
 abbrev pub Passes : List ℕ → Option (List ℕ) → List ℕ → List ℕ → Option (List ℕ) → Type 0
 Passes waited old bytes waits new =
     (sent : List ℕ) × Appends old new sent × (sent ++ waits ≡ waited ++ bytes)
 
--- P, where the result is that error
+-- P, if the result is that error
 abbrev pub IfErrOf : {T : Type 0} → Result T RunFault → RunFault → Type 0 → Type 0
 IfErrOf r fault P = r ≡ Err fault → P

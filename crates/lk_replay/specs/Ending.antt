@@ -7,7 +7,7 @@ use Rattle.lk_replay.specs.declared.devices.RunFault.{RunFault}
 use Rattle.lk_replay.specs.declared.ending.Ending.{Ending}
 use Rattle.lk_replay.specs.declared.ending.Ending.TheVariants.{Accepted, Refused, Faulty}
 
--- the last of these lines, and an empty one where there is none
+-- the last of these lines, and an empty one if there is none
 abbrev pub last_of : List (List ℕ) → List ℕ
 last_of [] = []
 last_of (line ∷ []) = line

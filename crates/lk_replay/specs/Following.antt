@@ -46,7 +46,7 @@ abbrev pub above : List ℕ → ℕ → List ℕ
 above [] t = []
 above (x ∷ xs) t = if nat_lt t x then x ∷ xs else above xs t
 
--- the texts are those of the requests and of the readers, each number behind a comma, and the
+-- the texts are those of the requests and of the readers, each number after a comma, and the
 -- numbers are bytes
 pub record AreListed (q : Sequential) (requests readers : List ℕ) : Type 0 where
   pub requests_are : requests ≡ later_numbers q.queue

@@ -18,7 +18,7 @@ lines_from f count (m ∷ ms) =
     (move_text (count + 1) m.accepted ++ followed_text (followed_by f m.entries))
     ++ lines_from (followed_by f m.entries) (count + 1) ms
 
--- the line of the first of these moves, and why it is refused, where there is one and it is
+-- the line of the first of these moves, and why it is refused, if there is one and it is
 abbrev pub next_refused : State → List Line → Option (ℕ × Refusal)
 next_refused s [] = None
 next_refused s (l ∷ ls) = option_map (λ r. (l.number, r)) (refusal_of s l.thread l.action)

@@ -15,7 +15,7 @@ abbrev pub counted : Result (List Line) Fault → Result ℕ Fault
 counted (Ok moves) = Ok (length moves)
 counted (Err fault) = Err fault
 
--- the moves that were read, where there is no fault
+-- the moves that were read, if there is no fault
 abbrev pub moves_in : Result (List Line) Fault → List Line
 moves_in (Ok moves) = moves
 moves_in (Err fault) = []

@@ -23,12 +23,12 @@ move_of_words _ = None
 unfoldable pub move_of : List ℕ → Option (ℕ × Move)
 move_of line = move_of_words (words_of line)
 
--- what is read from the rest, behind a line
+-- what is read from the rest, after a line
 abbrev pub with_line : Line → Result (List Line) Fault → Result (List Line) Fault
 with_line line (Ok lines) = Ok (line ∷ lines)
 with_line line (Err fault) = Err fault
 
--- a move that stands in line `number`, and then the moves of the other lines
+-- a move in line `number`, and then the moves of the other lines
 abbrev pub moves_after : Option (ℕ × Move) → ℕ → Bool → Result (List Line) Fault
     → Result (List Line) Fault
 moves_after None number full others = Err (BadLine number)
@@ -36,7 +36,7 @@ moves_after (Some move) number full others =
     if full then Err (TooManyMoves number) else with_line
     (record { number = number; thread = move.0; action = move.1 }) others
 
--- the moves of the lines from line `number` on, where `taken` came before them
+-- the moves of the lines from line `number` on, if `taken` came before them
 abbrev pub moves_from : ℕ → ℕ → List (List ℕ) → Result (List Line) Fault
 moves_from number taken [] = Ok []
 moves_from number taken (line ∷ lines) =
@@ -57,7 +57,7 @@ with_header (Ok header) (Ok moves) =
 with_header (Ok header) (Err fault) = Err fault
 with_header (Err fault) moves = Err fault
 
--- the lines from line `number` on, where no header came before them
+-- the lines from line `number` on, if no header came before them
 abbrev pub plan_from : ℕ → List (List ℕ) → Result Plan Fault
 plan_from number [] = Err (NoHeader number)
 plan_from number (line ∷ lines) =

@@ -1,4 +1,4 @@
--- Definitions: the numbers and the names of a schedule text, and what they stand for. This
+-- Definitions: the numbers and the names of a schedule text, and what they mean. This
 -- project's own.
 use Rattle.std.specs.Prelude.{ℕ, ◌+◌, ◌-◌, ◌*◌, List, [], ◌∷◌, Option, Some, None, Bool}
 use Rattle.std.specs.Prelude.{if◌then◌else◌, ◌==◌, ◌&&◌, ◌||◌, not, length, nat_lt, nat_le}
@@ -27,7 +27,7 @@ abbrev pub value_from : ℕ → List ℕ → ℕ
 value_from n [] = n
 value_from n (c ∷ cs) = value_from (n * 10 + (c - 48)) cs
 
--- the number that the text writes, where that is at least `least` and at most `most`
+-- the number that the text writes, if that is at least `least` and at most `most`
 unfoldable pub number_of : ℕ → ℕ → List ℕ → Option ℕ
 number_of least most text =
     if is_plain_number text && (nat_le least (value_from 0 text) && nat_le (value_from 0 text) most)

@@ -1,4 +1,4 @@
--- Definitions: the theorem from bytes to bytes. What a report says is told of a history that keeps
+-- Definitions: the theorem from bytes to bytes. A report describes a history that keeps
 -- the whole theorem. This project's own.
 use Rattle.std.specs.Prelude.{◌≡◌, ℕ, List, [], map, Option, Ok, replicate}
 use Rattle.std.specs.List.{flat_map}
@@ -23,7 +23,7 @@ abbrev pub IsHistoryOf : Plan → List Accepted → List Entry → Type 0
 IsHistoryOf p accepted es =
     es ≡ (after_moves (lock_of p) (map (λ a. (a.thread, a.action)) accepted)).entries
 
--- A report of a schedule tells of accepted moves, each with its entries, up to the refused one.
+-- A report of a schedule describes accepted moves, each with its entries, up to the refused one.
 -- `lines_text` shows in each line who holds and who waits after the entries so far, and all entries
 -- together are the history that the moves leave, which is as promised.
 pub record IsReportOf (p : Plan) (report : List ℕ) : Type 0 where
@@ -33,7 +33,7 @@ pub record IsReportOf (p : Plan) (report : List ℕ) : Type 0 where
   pub history : IsHistoryOf p (map (λ m. m.accepted) made) (flat_map (λ m. m.entries) made)
   pub promised : IsAsPromised p.kind p.threads (flat_map (λ m. m.entries) made)
 
--- the report of this text is told of such a history, where the text is a schedule
+-- the report of this text describes such a history, if the text is a schedule
 abbrev pub IsAsTold : List ℕ → List ℕ → Type 0
 IsAsTold text report = (p : Plan) → plan_of text ≡ Ok p → IsReportOf p report
 

@@ -36,7 +36,7 @@ const CHUNK: usize = 4_096;
 /// # Errors
 ///
 /// A read that fails, for whatever kind of error, is `Read`: there is no second try. `OutOfMemory`
-/// where there was no memory for the text.
+/// if there was no memory for the text.
 pub fn read_text<R: Read>(alloc: Global, input: &mut R) -> Result<Vec<u8>, RunFault>
     ensures taken { IfOk result
         (λ text. Consumes (R.remaining input.old) (R.remaining input.new) text.items) }

@@ -69,8 +69,8 @@ fn write_report<W: Write>(alloc: Global, output: &mut W, text: &[u8]) -> Result<
     }
 }
 
-/// Reads a schedule text, and writes its report and nothing else. What the report of a schedule
-/// tells is the legal history that its moves leave.
+/// Reads a schedule text, and writes its report and nothing else. The report of a schedule shows
+/// the legal history that its moves leave.
 ///
 /// The whole text is read before the first byte goes out. Then each move is played and its line
 /// printed, and each 65,536 bytes are written, so that the memory that this takes does not grow
@@ -78,8 +78,8 @@ fn write_report<W: Write>(alloc: Global, output: &mut W, text: &[u8]) -> Result<
 ///
 /// # Errors
 ///
-/// `Read` where the input failed, `OutOfMemory` where a request for memory was refused; nothing was
-/// written then, since the last request is made before the first byte goes out. `Write` where the
+/// `Read` if the input failed, `OutOfMemory` if a request for memory was refused; nothing was
+/// written then, since the last request is made before the first byte goes out. `Write` if the
 /// output failed or took nothing: what was written is a prefix of the report.
 pub fn run<R: Read, W: Write>(
     alloc: Global,
@@ -105,7 +105,7 @@ pub fn run<R: Read, W: Write>(
     write_report(alloc, output, &text)
 }
 
-/// The exit status of a run: 0 where every move was accepted, 1 where one was refused or the text
+/// The exit status of a run: 0 if every move was accepted, 1 if one was refused or the text
 /// is no schedule, and 3 after a fault.
 pub fn status_of(ran: &Result<Ending, RunFault>) -> u8
     ensures { result ≡ status_of ran.now }

@@ -1,4 +1,4 @@
-//! The header of a schedule text: `lock NAME threads N`, and `bits B` where words have fewer than
+//! The header of a schedule text: `lock NAME threads N`, and `bits B` if words have fewer than
 //! 64 bits.
 
 ghost use Rattle.std.specs.Prelude.{◌≡◌, ◌<◌, ◌≤◌, ◌^◌, MatchOption, IfSome, IfOk, IfErr, None};
@@ -43,7 +43,7 @@ fn size_of(words: &[u8]) -> Option<(&[u8], u8)>
     Some((count, bits))
 }
 
-// The lock, and the words behind `threads`.
+// The lock, and the words after `threads`.
 fn named_lock(line: &[u8]) -> Option<(LockKind, &[u8])>
     ensures { MatchOption result (shape_of_words (words_of line.now) ≡ None)
         (λ lock. shape_of_words (words_of line.now)

@@ -1,7 +1,7 @@
 //! Bytes that wait for an output, in memory that is asked for once: no request can be refused after
 //! some bytes went out.
 //!
-//! It is std's `BufWriter` with a contract that says what was written where a write fails.
+//! It is std's `BufWriter` with a contract that says what was written if a write fails.
 
 ghost use Rattle.std.specs.Prelude.{◌≡◌, ℕ, List, ◌+◌, ◌++◌, ◌<◌, ◌≤◌, [], length, IfErr, IfOk};
 ghost use Rattle.std.specs.Prelude.{MatchBool, OnErr, OnOk, take};
@@ -80,7 +80,7 @@ impl OutputBuffer {
         self.len = end;
     }
 
-    /// Puts bytes behind what waits, and writes first what has no room. It asks for no memory.
+    /// Puts bytes after what waits, and writes first what has no room. It asks for no memory.
     ///
     /// # Errors
     ///
@@ -107,7 +107,7 @@ impl OutputBuffer {
         Ok(())
     }
 
-    // Writes what waits, where a line might have no room behind it.
+    // Writes what waits, if a line might have no room after it.
     pub(crate) fn make_room<W: Write>(&mut self, output: &mut W) -> Result<(), RunFault>
         ensures passed { OnOk result
             (Passes self.old (W.contents output.old) [] self.new (W.contents output.new)) }
@@ -124,7 +124,7 @@ impl OutputBuffer {
         Ok(())
     }
 
-    // Prints lines behind what waits, as many as have room, and answers whether there are any.
+    // Prints lines after what waits, as many as have room, and answers whether there are any.
     pub(crate) fn print<S: Source>(&mut self, source: &mut S) -> bool
         requires { length self.old + 448 ≤ 65536 }
         ensures lines { (lines : List ℕ) × (self.new ≡ self.old ++ lines)

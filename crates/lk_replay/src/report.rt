@@ -88,8 +88,8 @@ fn printed(alloc: Global, bytes: &[u8]) -> Result<Vec<u8>, AllocError>
     }
 }
 
-/// The report of a schedule text. A fault of the text is a report, not an error. What the report of
-/// a schedule tells is the legal history that its moves leave.
+/// The report of a schedule text. A fault of the text is a report, not an error. The report of
+/// a schedule shows the legal history that its moves leave.
 ///
 /// # Errors
 ///

@@ -25,7 +25,7 @@ pub const MOST_MOVES: usize = 65_536;
 // The bytes of the shortest move's line: a digit, a space, three letters and the line feed.
 const SHORTEST_MOVE: usize = 6;
 
-/// A move, and the line of the text in which it stands, from 1.
+/// A move, and the line of the text in which it is, from 1.
 #[derive(Clone, Copy, PartialEq, Eq, Debug)]
 pub struct Line {
     pub number: u32,
@@ -188,8 +188,8 @@ fn read_moves(alloc: Global, lines: Lines<'_>, most: usize) -> Result<Vec<Line>,
 ///
 /// # Errors
 ///
-/// Those of the length and of the header are answered without taking memory. Where a request for
-/// memory was refused, `OutOfMemory` may stand in place of a later one.
+/// Those of the length and of the header are answered without taking memory. If a request for
+/// memory was refused, `OutOfMemory` may be returned in place of a later one.
 pub fn read_schedule(alloc: Global, bytes: &[u8]) -> Result<Schedule, ReadFault>
     ensures { Gives (λ schedule. schedule) result (plan_of bytes.now) }
 {

@@ -1,12 +1,12 @@
 //! The law of every report, from bytes to bytes. Its function's contract is the law, and its body
 //! is empty.
 //!
-//! `report_of`, `run` and whatever stands on them give the text `report_text` of their input, by
-//! their own contracts. Here stands what that text tells.
+//! `report_of`, `run` and whatever calls them give the text `report_text` of their input, by
+//! their own contracts. Here is what that text says.
 
 ghost use Rattle.lk_replay.specs.Whole.{EveryReportIsAsPromised};
 
-/// The report of every byte text that is a schedule tells of the history that its accepted moves
+/// The report of every byte text that is a schedule describes the history that its accepted moves
 /// leave on a new lock. That history is legal, and so exclusive and in order. Each line shows the
 /// holders and the queue of the history so far.
 pub fn every_report_is_as_promised()

@@ -1,4 +1,4 @@
-//! Where a line of a schedule text stops to be one, and what could stand there: what a message to
+//! Where a line of a schedule text stops to be one, and what could be there: what a message to
 //! its writer needs. Whether a line is a header or a move, `header_of` and `move_of` say; this goes
 //! along with them word by word.
 
@@ -39,13 +39,13 @@ pub enum Expected {
 #[derive(Clone, Copy, PartialEq, Eq, Debug, Error)]
 #[error("column {column}: expected {expected}")]
 pub struct Unreadable {
-    /// Where the word begins, in bytes from 1, or where one is missing.
+    /// Where the word begins, in bytes from 1, or the place at which one is missing.
     pub column: usize,
     pub expected: Expected,
 }
 
 impl Expected {
-    /// What may come after this word, or none where it may not be here.
+    /// What may come after this word, or none if it may not be here.
     #[tactic(auto, unfolding(crate::specs::Unreadable::after_word))]
     pub fn after(self, word: &[u8]) -> Option<Expected>
         ensures { result ≡ after_word self word.now }

@@ -1,4 +1,4 @@
-//! What a word of a text stands for: a number, a lock, a call, a step or an outcome. Each word is
+//! What a word of a text means: a number, a lock, a call, a step or an outcome. Each word is
 //! written once, in a table that is read both ways.
 
 ghost use Rattle.std.specs.Prelude.{◌≡◌, ◌≤◌, IfSome};
@@ -40,7 +40,7 @@ macro_rules! move_words {
     };
 }
 
-// The words of the outcomes of steps, behind that of a call where it is given.
+// The words of the outcomes of steps, after that of a call if it is given.
 macro_rules! outcome_words {
     ($rule:ident, $given:expr $(, $($call:tt)+)?) => {
         $rule!($given;
@@ -53,7 +53,7 @@ macro_rules! outcome_words {
     };
 }
 
-// What a word stands for, by such a table.
+// What a word means, by such a table.
 macro_rules! named {
     ($word:expr; $([$($value:tt)+] $text:literal,)+) => {
         $(if $word == $text.as_bytes() { Some($($value)+) } else)+ { None }

@@ -54,7 +54,7 @@ occurrences-flat_map f x (v ∷ vs) =
     let a = sum_over-append (indicator x) (f v) (flat_map f vs) in
     ap (occurrences x) (flat_map-cons f v vs) ∙ omega arith
 
--- where only numbers below n stand in a list, all are below n
+-- if only numbers below n are in a list, all are below n
 pub all_below : (n : ℕ) (xs : List ℕ) → ((x : ℕ) → 1 ≤ occurrences x xs → x < n)
     → All (λ x. x < n) xs
 all_below n [] h = λ k d l. absurd (omega arith)

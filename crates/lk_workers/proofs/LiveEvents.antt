@@ -22,7 +22,7 @@ use Rattle.lk_workers.specs.LockState.{Happens, IsEvent, due_in}
 use Rattle.lk_workers.proofs.Sums.{set_same}
 use Rattle.lk_workers.proofs.LockStates.{between}
 
--- what looks of this word: inside where it is the ticket
+-- what looks of this word: inside if it is the ticket
 pub looks : (found t : ℕ) (b : Bool) → (found == t) ≡ b
     → look_event t found
     ≡ event found (thread_in (if b then Inside else Waiting) t) (if b then Entered else Waits)

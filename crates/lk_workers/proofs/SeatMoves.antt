@@ -224,7 +224,7 @@ module _ (takes slots id : ℕ) (me : Sees) (r : SeatState) (is : me.0 ≡ r ∷
         told read_step ReadTells (step slots 1 0 0 none) me m r is (sym fits.0),
       )
 
-  -- where no seat has the ticket that was served, each fits the next
+  -- if no seat has the ticket that was served, each fits the next
   up_phase : (m : ℕ) (p : LivePhase) (t taken : ℕ) → FitsPhase m p t taken
       → ticket_indicator_in m p t ≡ 0 → FitsPhase (m + 1) p t taken
   up_phase m Idle t taken f z = tt

@@ -30,7 +30,7 @@ module _ {A : Type 0} where
     sum_over-both [] = omega arith
     sum_over-both (x ∷ xs) = let r = sum_over-both xs in omega arith
 
-    -- where f is 0 of each element, so is g
+    -- if f is 0 of each element, so is g
     nothing_at : (l : List A) → ((j : ℕ) (u : A) → get_elem? l j ≡ some u → f u ≡ 0 → g u ≡ 0)
         → sum_over f l ≡ 0 → sum_over g l ≡ 0
     nothing_at [] z e = refl
@@ -40,7 +40,7 @@ module _ {A : Type 0} where
         let r = nothing_at xs (λ j u. z (suc j) u) (omega arith) in
         omega arith
 
-    -- where one element has all of f, it has all of g
+    -- if one element has all of f, it has all of g
     pub alone_at : (l : List A) → ((j : ℕ) (u : A) → get_elem? l j ≡ some u → f u ≡ 0 → g u ≡ 0)
         → (i : ℕ) (v : A) → get_elem? l i ≡ some v → sum_over f l ≡ f v → sum_over g l ≡ g v
     alone_at [] z i v at e = absurd (some-ne-none v (sym at))

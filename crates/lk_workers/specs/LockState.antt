@@ -21,7 +21,7 @@ use Rattle.lk_workers.specs.Seats.{Table, next_of, serving_of, sum_over_seats, t
 use Rattle.lk_workers.specs.SeatSteps.{LiveStep, after}
 use Rattle.lk_workers.specs.invariants.Running.{Running}
 
--- a seat that was made: the number of its view, and where it stands there
+-- a seat that was made: the number of its view, and its place there
 abbrev pub IsAt : List (List SeatState) → ℕ → ℕ → SeatState → Type 0
 IsAt views id k r = (v : List SeatState) × (get_elem? views id ≡ some v) × (get_elem? v k ≡ some r)
 
@@ -69,8 +69,8 @@ OthersStay = (s : Table) (id j : ℕ) → j ≢ id
     × ((other : ℕ) (both spent : List SeatState) → j ≢ other
     → get_elem? (slice_set (slice_set s.views id both) other spent) j ≡ get_elem? s.views j)
 
--- the phase in which a thread makes the step of its seat: after the call of an acquire where it is
--- idle, and after that of a release where it is inside
+-- the phase in which a thread makes the step of its seat: after the call of an acquire if it is
+-- idle, and after that of a release if it is inside
 abbrev pub due_in : LivePhase → ℕ → Phase
 due_in Idle t = TakeTicket
 due_in Waiting t = AwaitTurn t

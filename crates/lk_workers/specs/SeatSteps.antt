@@ -8,7 +8,7 @@ use Rattle.lk_workers.specs.declared.live.LivePhase.TheVariants.{Idle, Waiting, 
 use Rattle.lk_workers.specs.declared.live.rule.SeatState.{SeatState}
 use Rattle.lk_workers.specs.Seats.{Table, seat_state, operation, noted, with_seen}
 
--- its word, what it adds or stores there, what it leaves there where it finds this, and the seat
+-- its word, what it adds or stores there, what it leaves there if it finds this, and the seat
 -- afterwards but for the note
 pub record LiveStep : Type 0 where
   pub word : ℕ

@@ -1,5 +1,5 @@
 -- Definitions. What is known of a seat of the running ticket lock, and the thread of the ticket
--- machine that it stands for.
+-- machine that it represents.
 --
 -- The correspondence is this project's own: a seat is a thread, and each of its calls is one event
 -- of the lock of Mellor-Crummey and Scott, "Algorithms for Scalable Synchronization on
@@ -41,7 +41,7 @@ pub record Live : Type 0 where
   pub table : TableId
   pub state : SeatState
 
--- the two words, and the view of each seat that was made: no record where the seat was joined into
+-- the two words, and the view of each seat that was made: no record if the seat was joined into
 -- another, else one, or two between the two steps of `apart`
 abbrev pub Table : Type 0
 Table = State (Unit {0}) (List SeatState)
@@ -64,7 +64,7 @@ ticket_in Waiting t = Some t
 ticket_in Inside t = Some t
 ticket_in Leaving t = Some t
 
--- the phase of the thread that a seat stands for
+-- the phase of the thread that a seat represents
 abbrev pub thread_in : LivePhase → ℕ → Phase
 thread_in Idle t = Rattle.lk_locks.specs.declared.kinds.Phase.TheVariants.Idle
 thread_in Waiting t = AwaitTurn t
@@ -81,7 +81,7 @@ IsHolding Waiting = ⊥
 IsHolding Inside = ⊤
 IsHolding Leaving = ⊤
 
--- 1 where the seat has the ticket x, else 0
+-- 1 if the seat has the ticket x, else 0
 abbrev pub ticket_indicator_in : ℕ → LivePhase → ℕ → ℕ
 ticket_indicator_in x Idle t = 0
 ticket_indicator_in x Waiting t = indicator x t

@@ -5,7 +5,7 @@ ghost use Rattle.std.specs.Prelude.{ℕ};
 
 use std::marker::Brand;
 
-/// A type that stands for a number.
+/// A type that represents a number.
 pub trait Amount {
     /// The number.
     ghost amount: { ℕ };

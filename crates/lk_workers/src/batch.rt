@@ -31,7 +31,7 @@ fn room_for(reports: &[Vec<u8>]) -> usize {
     room
 }
 
-/// The reports in order, each behind the line `file K`, K from 1.
+/// The reports in order, each after the line `file K`, K from 1.
 ///
 /// # Errors
 ///

@@ -1,7 +1,7 @@
 //! A counter whose numbers threads draw, each once.
 //!
 //! A draw is a fetch-and-add on one shared word. What a contract sees of a seat is the list of the
-//! numbers that it drew, which no run keeps. The rule counts: each number stands as often in the
+//! numbers that it drew, which no run keeps. The invariant counts: each number is as often in the
 //! lists of all seats as it is below the word.
 
 ghost use Rattle.std.specs.Prelude.{◌≡◌, ℕ, ◌+◌, ◌-◌, ◌^◌, ◌<◌, ◌≤◌, [], ◌∷◌, ◌++◌, length, All};
@@ -39,7 +39,7 @@ impl Play<(), Hand> for Draw {
     ghost then = { DrawTells };
 }
 
-// A load that changes no view, for what only the rule knows: a joined seat's draws are few.
+// A load that changes no view, for what only the invariant says: a joined seat's draws are few.
 struct Count;
 
 impl Play<(), Hand> for Count {

@@ -1,4 +1,4 @@
-//! What a caller of `replay_many` is told of each text.
+//! What a caller of `replay_many` learns of each text.
 
 ghost use Rattle.std.specs.Prelude.{◌≡◌};
 
@@ -7,7 +7,7 @@ pub trait Gate: Sync {
     /// A worker begins with the text of this number, from 0.
     fn begin(&self, number: u32);
 
-    /// The same worker has ended with it, also where memory was refused.
+    /// The same worker has ended with it, also if memory was refused.
     fn end(&self, number: u32);
 }
 
@@ -29,13 +29,13 @@ pub struct Opened<'a, G: Gate> {
 }
 
 impl<'a, G: Gate> Opened<'a, G> {
-    /// Tells the gate that a worker begins with the text of this number.
+    /// Says to the gate that a worker begins with the text of this number.
     pub fn begin(gate: &'a G, number: u32) -> Opened<'a, G> {
         gate.begin(number);
         Opened { gate, number }
     }
 
-    /// Ends it behind what was made in between.
+    /// Ends it after what was made in between.
     pub fn end<T>(self, made: T) -> T
         ensures { result ≡ made }
     {

@@ -1,8 +1,8 @@
 //! Many schedules at once, and a ticket lock that threads of the caller's own run on.
 //!
-//! Both stand on a few shared words and on seats. A thread steps with a seat of its own, each call
-//! is one atomic operation on one word, and a rule about the words and all seats holds between any
-//! two of them. No call waits, locks or needs unsafe code.
+//! Both are built over a few shared words and seats. A thread steps with a seat of its own, each
+//! call is one atomic operation on one word, and an invariant of the words and all seats holds
+//! between any two of them. No call waits, locks or needs unsafe code.
 #![tactic(auto)]
 
 mod amount;

@@ -114,7 +114,7 @@ impl LiveSeat {
         self.phase
     }
 
-    /// Its ticket, where it is not idle.
+    /// Its ticket, if it is not idle.
     pub fn ticket(&self) -> Option<u64>
         ensures { result ≡ ticket_in self.now.state.phase self.now.state.ticket }
     {
@@ -276,6 +276,7 @@ impl LiveTicket {
             seen,
         } = other;
         self.table.shared.join_seat::<Glue>(&mut seat.seat, second);
+        // A load only for the invariant's bound on the sums: it is available at an atomic step.
         self.table.shared.load::<Count>(&mut seat.seat, 0);
         seat.ticket = 0;
         seat.left += left;
@@ -318,7 +319,7 @@ impl LiveTicket {
         }
     }
 
-    /// `next_ticket` and `now_serving` at the end. They are equal where the seat took all tickets.
+    /// `next_ticket` and `now_serving` at the end. They are equal if the seat took all tickets.
     pub fn close(self, seat: LiveSeat) -> (u64, u64)
         requires own { seat.table ≡ self }
         requires idle { seat.state.phase ≡ Idle }

@@ -99,7 +99,8 @@ fn gather(draws: &Draws, front: Done, back: Done) -> Result<Done, AllocError>
     Ok((seat, reports))
 }
 
-// This many workers, in halves side by side.
+// This many workers, in halves side by side. It takes `Batch` apart: of a closure that holds a
+// whole one, inside a recursion, the kit's `join` can prove nothing.
 fn work_all<G: Gate, R: Threads + Sync>(
     rt: &R,
     batch: Batch<'_, G>,

@@ -5,7 +5,7 @@ use Rattle.std.proofs.lemmas.List.{drop_all}
 use Rattle.lk_workers.specs.Batch.{file_line, numbered_from}
 use Rattle.lockreplay.proofs.Sent.{bytes_of}
 
--- the next report, behind its line
+-- the next report, after its line
 pub report_next : (whole done : List ℕ) (place : ℕ) (reports : List (Vec ℕ Global))
     (r : Vec ℕ Global)
     → place < length reports → r ≡ get_or reports place r

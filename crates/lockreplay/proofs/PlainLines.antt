@@ -1,4 +1,4 @@
--- What the parser makes of a plain batch line: the words behind `batch` go to it, the digit to
+-- What the parser makes of a plain batch line: the words after `batch` go to it, the digit to
 -- `--workers`, and each word after it to the files.
 use Rattle.std.proofs.Common.{◌≡◌, ◌∙◌, ℕ, ◌+◌, ◌<◌, Bool, true, false, List, [], ◌∷◌, ◌++◌, length}
 use Rattle.std.proofs.Common.{Option, Some, None, codes, refl, sym, ap, arith, not, append_assoc}
@@ -43,7 +43,7 @@ pub no_dashes : (file : Text) → is_plain file ≡ true → bytes_eq file (45 �
 no_dashes [] plain = refl
 no_dashes (b ∷ rest) plain = rw (no_hyphen b plain) refl
 
--- where files are taken, behind the digit or behind a file
+-- where files are taken, after the digit or after a file
 abbrev pub taking : Waiting → List Row → Option (Text × List Text) → Walk
 taking waiting rows pending = record {
   held = record { rows = rows; pending = pending; skip = 0 };
@@ -108,7 +108,7 @@ unfolding clap_on_literals
 meets_file workers file plain =
     rw (no_dashes file plain, no_long file plain, no_short file plain) refl
 
--- the walk over the words behind `batch`
+-- the walk over the words after `batch`
 pub batch_walk : (workers : ℕ) (file : Text) (files : List Text)
     → list_all is_plain (file ∷ files) ≡ true
     → walk batch_rules [] nothing_held (codes "--workers" ∷ digit workers ∷ file ∷ files)

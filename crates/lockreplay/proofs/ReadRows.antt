@@ -44,7 +44,7 @@ reads_digit gives parses workers None most read =
     let number = is_number workers most in
     absurd (parses _ _ read.1 (is_numeral workers most, omega (arith, number.0, most)))
 
--- what stands in the rows
+-- what is in the rows
 pub finds_digit : (workers : ℕ) (files : List Text)
     → one_of (codes "workers") (batch_rows workers files) ≡ Some (digit workers)
 finds_digit workers files = rw (no_hyphen (48 + workers) (plain_digit workers)) refl
@@ -53,7 +53,7 @@ pub finds_files : (workers : ℕ) (files : List Text)
     → all_of (codes "files") (batch_rows workers files) ≡ Some files
 finds_files workers files = refl
 
--- what an option's default stands for, where the option has a value
+-- what an option's default means, if the option has a value
 pub taken_texts : {X : Type 0} (f : X → List Text) (o : Option X) (d : X) (files : List Text)
     → option_map f o ≡ Some files → f (unwrap_or o d) ≡ files
 taken_texts f None d files e = absurd (none-some files e)

@@ -15,7 +15,7 @@ use Rattle.lockreplay.specs.Faults.{fault_from}
 abbrev pub bytes_of : List (Vec ℕ Global) → List (List ℕ)
 bytes_of = map (λ v. v.items)
 
--- the reports, where the slices that were handed on are the lists
+-- the reports, if the slices that were handed on are the lists
 pub same_reports : (texts given reports lent : List (Vec ℕ Global)) → given ≡ texts → lent ≡ reports
     → bytes_of reports ≡ map (λ t. report_text t.items) given
     → bytes_of lent ≡ map report_text (bytes_of texts)

@@ -19,7 +19,7 @@ use Rattle.lockreplay.proofs.PlainLines.{files_after, has_digit, meets_digit, me
 use Rattle.lockreplay.proofs.PlainLines.{meets_option, no_dashes, no_long, no_short, one_more}
 use Rattle.lockreplay.proofs.PlainLines.{plain_digit, stops, wants_digit}
 
--- words behind a subcommand are not looked at
+-- words after a subcommand are not looked at
 stopped_passes : (s : Shape) (names : Names) (w : Walk) (p : Text × List Text) (words : List Text)
     → walk_passes s names (record w { stopped = Some p }) words ≡ true
 unfolding clap_on_literals

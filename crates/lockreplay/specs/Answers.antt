@@ -23,15 +23,15 @@ Does (Err (parse.Usage text)) input old new r = (r ≡ Ok 2) × Keeps old new
 Does (Err parse.TooManyFiles) input old new r = (r ≡ Err TooManyFiles) × Keeps old new
 Does (Err parse.OutOfMemory) input old new r = (r ≡ Err Memory) × Keeps old new
 
--- a status stands for itself, and a fault has its line on standard error, whole where the device
+-- a status is what it ends with, and a fault has its line on standard error, whole if the device
 -- took it
 abbrev pub TellsOf : Result ℕ ProgramFault → Option (List ℕ) → Option (List ℕ) → Ended → Type 0
 TellsOf (Ok status) old new ended = (ended.status ≡ status) × Keeps old new
 TellsOf (Err fault) old new ended =
     (ended.status ≡ fault_status fault) × (ended.told ≡ true → Appends old new (fault_line fault))
 
--- what stands on standard error: the parser's text where the words ask for nothing, else what the
--- ending tells
+-- what is on standard error: the parser's text if the words ask for nothing, else what the
+-- ending says
 abbrev pub Tells : Result Job ParseFault → Result ℕ ProgramFault → Option (List ℕ) → Option (List ℕ)
     → Ended → Type 0
 Tells (Err (parse.Usage text)) r old new ended =

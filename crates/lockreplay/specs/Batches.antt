@@ -18,7 +18,7 @@ is_accepted Accepted = true
 is_accepted Refused = false
 is_accepted Faulty = false
 
--- 0 where each report is that of a schedule of which every move was accepted, else 1
+-- 0 if each report is that of a schedule of which every move was accepted, else 1
 abbrev pub status_of_reports : List (List ℕ) → ℕ
 status_of_reports reports = if list_all (λ r. is_accepted (ending_of r)) reports then 0 else 1
 
@@ -28,7 +28,7 @@ IsBatchOf count old new status = (texts : List (List ℕ)) × (length texts ≡ 
     × Appends old new (batch_text_of (map report_text texts))
     × (status ≡ status_of_reports (map report_text texts))
 
--- where a fault ends a batch of so many files, a prefix of its text went out if the output failed,
+-- if a fault ends a batch of so many files, a prefix of its text went out if the output failed,
 -- and else nothing
 abbrev pub IsCutBatch : ℕ → Option (List ℕ) → Option (List ℕ) → ProgramFault → Type 0
 IsCutBatch count old new Output = (texts : List (List ℕ)) × (length texts ≡ count)

@@ -13,7 +13,7 @@ abbrev pub IsReplayOf : Option (List ℕ) → Option (List ℕ) → Option (List
 IsReplayOf input old new status = IfSome input (λ text. Appends old new (report_text text)
     × (status ≡ status_of (Ok (ending_of (report_text text)))))
 
--- where a fault ends the replay, a prefix of the report went out if the output failed, and else
+-- if a fault ends the replay, a prefix of the report went out if the output failed, and else
 -- nothing
 abbrev pub IsCutReplay : Option (List ℕ) → Option (List ℕ) → Option (List ℕ) → ProgramFault → Type 0
 IsCutReplay input old new Output = IfSome input (λ text. AppendsPrefix old new (report_text text))

@@ -25,8 +25,8 @@ const USAGE_STATUS: u8 = 2;
 pub struct Ended {
     /// The status that it ends with.
     pub status: u8,
-    /// Whether standard error took all that was to be told there. Where it did not, the status
-    /// alone tells.
+    /// Whether standard error took all that was to be written there. If it did not, only the
+    /// status says how it ended.
     pub told: bool,
 }
 
@@ -60,7 +60,7 @@ fn tell_fault<E: Write>(errors: &mut E, fault: ProgramFault) -> Ended
     }
 }
 
-/// Gives the status of what was done, or tells what ended it.
+/// Gives the status of what was done, or says what ended it.
 fn finish<E: Write>(errors: &mut E, ending: Result<u8, ProgramFault>) -> Ended
     ensures { TellsOf ending (E.contents errors.old) (E.contents errors.new) result }
 {
@@ -83,7 +83,7 @@ fn tell_usage<E: Write>(errors: &mut E, text: &str) -> Ended
     }
 }
 
-/// Does the job that was asked for, or tells why there is none.
+/// Does the job that was asked for, or says why there is none.
 pub fn answer<R: Files + Threads + Sync, I: Read, O: Write, E: Write>(
     rt: &R,
     alloc: Global,

@@ -25,7 +25,8 @@ pub enum ProgramFault {
 }
 
 impl ProgramFault {
-    /// The text of its line, before a file's number.
+    /// The text of its line, before a file's number. It has a contract, which what `thiserror`
+    /// derives has not.
     pub fn text(&self) -> &'static str
         ensures { result.now ≡ fault_words self.now }
     {
@@ -38,7 +39,7 @@ impl ProgramFault {
         }
     }
 
-    /// The status that the program ends with: 2 where the words ask for too much, else 3.
+    /// The status that the program ends with: 2 if the words ask for too much, else 3.
     pub fn status(&self) -> u8
         ensures { result ≡ fault_status self.now }
     {

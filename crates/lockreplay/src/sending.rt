@@ -1,8 +1,8 @@
-//! The reports of a batch on their way out, each behind the line with its number.
+//! The reports of a batch on their way out, each after the line with its number.
 //!
 //! The bytes are those of `batch_text`, which gives them as one text and copies all reports for it.
 //! Of 24 long reports by two workers that copy was half of the time, on one thread, and half of the
-//! memory. Here a long report goes out as it stands. Short texts wait in an `OutputBuffer` until a
+//! memory. Here a long report goes out as it is. Short texts wait in an `OutputBuffer` until a
 //! write is worth while.
 
 ghost use Rattle.std.specs.Prelude.{◌≡◌, ◌≢◌, ◌++◌, map, IfErr, IfOk, OnErr, OnOk};
@@ -35,12 +35,12 @@ fn push_file_line<W: Write>(
     waiting.push(output, b"\n")
 }
 
-/// Sends the reports in order, each behind the line `file K`, K from 1.
+/// Sends the reports in order, each after the line `file K`, K from 1.
 ///
 /// # Errors
 ///
-/// `OutOfMemory` where a request for memory was refused; it is made before the first byte goes out.
-/// `Write` where the output failed or took nothing: what was written is a prefix of it all.
+/// `OutOfMemory` if a request for memory was refused; it is made before the first byte goes out.
+/// `Write` if the output failed or took nothing: what was written is a prefix of it all.
 pub fn send_reports<W: Write>(
     alloc: Global,
     output: &mut W,

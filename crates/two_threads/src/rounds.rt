@@ -11,7 +11,7 @@ use std::fmt::Write;
 use std::sync::atomic::{AtomicU64, Ordering};
 use std::thread;
 
-/// How often a round looks before it gives up.
+/// How often a round polls before it gives up.
 const TURNS: u64 = 100_000_000;
 
 // Waits until the seat is inside. A look that finds what the last one found changes nothing and is

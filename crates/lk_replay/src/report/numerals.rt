@@ -51,7 +51,7 @@ impl Numeral {
         self.number
     }
 
-    /// The number after this one. Its digits are printed anew only where more than the last one
+    /// The number after this one. Its digits are printed anew only if more than the last one
     /// changes.
     pub fn count_on(&mut self)
         requires { self.old + 1 < 2 ^ 32 }

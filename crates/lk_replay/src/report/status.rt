@@ -19,8 +19,8 @@ use lk_locks::{Act, Entry, Family, LockKind, Op, SeqLock, family_of};
 use std::marker::Model;
 
 /// The sequential object after the entries so far and, of a queue lock, the thread whose acquire
-/// returned last, up to its release. Beside them stand the requests and the readers as text, each
-/// number behind a comma.
+/// returned last, up to its release. Beside them are the requests and the readers as text, each
+/// number after a comma.
 #[derive(Drop)]
 pub struct StatusText {
     kind: LockKind,
@@ -58,7 +58,7 @@ fn remove_request(text: &mut Text, queue: &[u8], thread: u8)
     text.remove(0, width(thread) + 1);
 }
 
-// The bytes of the numbers up to a thread in an ascending list, each behind a comma.
+// The bytes of the numbers up to a thread in an ascending list, each after a comma.
 fn bytes_up_to(threads: &[u8], thread: u8) -> usize
     requires { length threads.now ≤ 64 }
     ensures { result ≡ length (later_numbers (up_to threads.now thread)) }

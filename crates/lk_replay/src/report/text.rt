@@ -9,10 +9,10 @@ ghost use Rattle.std.specs.Prelude.{IsTrue, drop};
 
 use std::marker::Model;
 
-// Enough for 64 numbers of at most 3 digits, each behind a comma, and for a block's rest.
+// Enough for 64 numbers of at most 3 digits, each after a comma, and for a block's rest.
 const MOST: usize = 320;
 
-// The bytes of a text that are copied at once, where it has no more: two stores, whatever its
+// The bytes of a text that are copied at once, if it has no more: two stores, whatever its
 // length.
 const SHORT: usize = 32;
 

@@ -1,4 +1,4 @@
-//! A schedule text that is read where it stands, move after move, for who may take no memory. This
+//! A schedule text that is read in place, move after move, for who may take no memory. This
 //! project's own: the text is gone through once before its first move, so that each fault is known
 //! by then, and its moves are read again as they are asked for.
 
@@ -99,7 +99,7 @@ impl<'a> ScheduleReader<'a> {
         self.left
     }
 
-    /// The next move, where there is one.
+    /// The next move, if there is one.
     pub fn next_move(&mut self) -> Option<Line>
         ensures first { result ≡ first_of self.old.moves }
         ensures rest { self.new ≡ record self.old { moves = drop 1 self.old.moves } }

@@ -47,7 +47,7 @@ abbrev pub IsDone : Counter → List (Vec ℕ Global) → ℕ → Drawer → Lis
 IsDone c texts workers s reports =
     IsBack c (workers * (length texts + 1)) s × IsWorkOf (bytes_of texts) s.drawn (numbered reports)
 
--- the number of each text stands there once, with its report, and no other number
+-- the number of each text is there once, with its report, and no other number
 abbrev pub IsEachOnce : List (List ℕ) → List (ℕ × List ℕ) → Type 0
 IsEachOnce texts ps =
     (ks : List ℕ) × (ps ≡ reports_of texts ks)

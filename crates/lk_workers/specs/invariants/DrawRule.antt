@@ -1,4 +1,4 @@
--- Invariants. The rule of the draw counter in counting form, and what its steps tell.
+-- Invariants. The rule of the draw counter in counting form, and what follows from its steps.
 use Rattle.std.specs.Prelude.{◌≡◌, ℕ, ◌+◌, ◌-◌, ◌^◌, ◌<◌, ◌≤◌, [], ◌∷◌, ◌++◌, length, slice_index}
 use Rattle.std.specs.Prelude.{All}
 use Rattle.atomic_table.specs.Table.{State, Me, Step}

@@ -1,4 +1,5 @@
--- Invariants. The rule of the running ticket lock in counting form, and what its steps tell.
+-- Invariants. The rule of the running ticket lock in counting form, and what follows from its
+-- steps.
 use Rattle.std.specs.Prelude.{◌≡◌, ℕ, ◌+◌, ◌^◌, ◌<◌, ◌≤◌, List, [], ◌∷◌, length, ⊤}
 use mathlib.Core.Option.{some}
 use lib.ListN.{get_elem?}
@@ -31,7 +32,7 @@ abbrev pub made_of : List SeatState → List Operation
 made_of [] = []
 made_of (r ∷ rs) = r.made
 
--- one seat by itself, where this ticket is served
+-- one seat by itself, when this ticket is served
 abbrev pub Fits : ℕ → SeatState → Type 0
 Fits serving r = FitsPhase serving r.phase r.ticket r.taken × (r.seen ≤ serving)
 

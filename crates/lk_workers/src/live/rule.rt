@@ -77,7 +77,7 @@ impl Play<(), View> for Pass {
     ghost then = { OfOne pass_step PassTells };
 }
 
-// A load that changes nothing. It tells that the numbers of a joined seat are at most 2^40, which
+// A load that changes nothing. It shows that the numbers of a joined seat are at most 2^40, which
 // the rule alone knows.
 pub struct Count;
 
@@ -85,7 +85,7 @@ impl Play<(), View> for Count {
     ghost then = { Counts };
 }
 
-// A load that changes nothing. It tells that two seats of one view do not both hold the lock, and
+// A load that changes nothing. It shows that two seats of one view do not both hold the lock, and
 // that their tickets differ, which the rule alone knows.
 pub struct Compare;
 

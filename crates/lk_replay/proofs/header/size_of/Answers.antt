@@ -1,4 +1,4 @@
--- A word behind the number of bits is one too many.
+-- A word after the number of bits is one too many.
 use Rattle.std.proofs.Common.{List, ℕ, ap, ◌∙◌, ◌∷◌}
 use Rattle.lk_replay.proofs.Cuts.{has_piece}
 use Rattle.lk_replay.proofs.Headers.{more_words}

@@ -1,4 +1,4 @@
--- Where there is no job, nothing goes to standard output.
+-- If there is no job, nothing goes to standard output.
 use Rattle.std.proofs.Common.{rules, refl, Ok, Err}
 use Rattle.std.proofs.KnownBytes.{Keeps-refl}
 use Rattle.lockreplay.specs.declared.faults.ProgramFault.TheVariants.{Memory, TooManyFiles}

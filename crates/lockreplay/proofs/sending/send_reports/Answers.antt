@@ -1,4 +1,4 @@
--- Each report goes on its way behind its line.
+-- Each report goes out after its line.
 use Rattle.std.proofs.Common.{ℕ, List, [], ◌++◌, ◌+◌, ◌∙◌, append-nil, append_assoc, arith, subst}
 use Rattle.std.proofs.Common.{sym}
 use Rattle.lk_replay.proofs.Passed.{prefix_of_whole, of_error, passes_on}

@@ -1,4 +1,4 @@
--- The lines stand behind what waited.
+-- The lines come after what waited.
 use Rattle.std.proofs.Common.{◌≡◌, ◌≤◌, ◌+◌, ◌-◌, ◌++◌, ◌∙◌, List, ℕ, ap, arith, drop, length}
 use Rattle.std.proofs.Common.{length-drop, length-take-le, take}
 use Rattle.lk_replay.proofs.Texts.{written_in}

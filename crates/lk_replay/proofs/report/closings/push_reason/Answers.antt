@@ -1,4 +1,4 @@
--- The step's word comes behind the reason.
+-- The step's word comes after the reason.
 use Rattle.std.proofs.Common.{append_assoc, codes, List, ℕ, ◌++◌, ap, sym, ◌∙◌}
 use Rattle.lk_locks.specs.declared.kinds.Refusal.{Refusal}
 use Rattle.lk_replay.specs.Report.{refusal_text}

@@ -1,4 +1,4 @@
--- The digits stand behind the byte.
+-- The digits come after the byte.
 use Rattle.std.proofs.Common.{◌≡◌, List, ℕ, ◌+◌, ◌∷◌, add-one, ap, refl, take, ◌∙◌}
 use Rattle.lk_replay.proofs.Digits.{three_bytes}
 use Rattle.lk_replay.proofs.report.numerals.thread_block.Goals as goal

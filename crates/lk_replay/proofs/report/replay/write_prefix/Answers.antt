@@ -1,4 +1,4 @@
--- The words stand one after another.
+-- The words come one after another.
 use Rattle.lk_replay.proofs.Printed.{words_joined}
 use Rattle.lk_replay.specs.Report.{move_text}
 use Rattle.lk_replay.proofs.report.replay.write_prefix.Goals as goal

@@ -1,4 +1,4 @@
--- The number stands behind those below it.
+-- The number comes after those below it.
 use Rattle.std.proofs.Common.{◌∙◌, arith, ap, length}
 use Rattle.lk_replay.proofs.Listing.{later_most, reader_listed, reader_place}
 use Rattle.lk_replay.proofs.report.status.insert_reader.Goals as goal

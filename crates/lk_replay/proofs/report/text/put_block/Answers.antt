@@ -1,4 +1,4 @@
--- The block's bytes stand behind those before it.
+-- The block's bytes come after those before it.
 use Rattle.std.proofs.Common.{arith}
 use Rattle.lk_replay.proofs.Texts.{block_pushed}
 use Rattle.lk_replay.proofs.report.text.put_block.Goals as goal

@@ -1,4 +1,4 @@
--- The digits stand at the block's front.
+-- The digits are at the block's front.
 use Rattle.std.proofs.Common.{◌≡◌, ◌<◌, arith, ap, ◌∙◌, length, decimal}
 use Rattle.std.proofs.lemmas.Fmt.{decimal_nonempty}
 use Rattle.std.proofs.lemmas.List.{take_at}

@@ -1,4 +1,4 @@
--- The next line stands behind those before it.
+-- The next line comes after those before it.
 use Rattle.std.proofs.Common.{◌≡◌, ◌-◌, ◌++◌, ◌∙◌, List, ℕ, ap, append_assoc, arith, drop}
 use Rattle.std.proofs.Common.{length, length-drop, length-take-le, sym, take}
 use Rattle.lk_replay.proofs.Texts.{written_behind}

@@ -1,4 +1,4 @@
--- The bytes stand between the two parts.
+-- The bytes are between the two parts.
 use Rattle.std.proofs.Common.{◌≡◌, ◌≤◌, ◌++◌, ◌∙◌, length, length-take-le, List, ℕ, ap, arith, take}
 use Rattle.std.proofs.Common.{drop}
 use Rattle.lk_replay.proofs.Texts.{inserted}

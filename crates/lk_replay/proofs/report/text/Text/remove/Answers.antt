@@ -1,4 +1,4 @@
--- What stands behind them goes on in their place.
+-- What comes after them moves to their place.
 use Rattle.std.proofs.Common.{◌≡◌, ◌≤◌, ◌++◌, ◌∙◌, ◌+◌, length, length-take-le, List, ℕ, ap, arith}
 use Rattle.std.proofs.Common.{take, drop}
 use Rattle.lk_replay.proofs.Texts.{removed}
