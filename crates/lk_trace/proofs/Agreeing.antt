@@ -17,8 +17,9 @@ use Rattle.lk_locks.specs.declared.kinds.Move.TheVariants.{Call, Step}
 use Rattle.lk_locks.specs.declared.kinds.Outcome.{Outcome}
 use Rattle.lk_locks.specs.declared.kinds.Outcome.TheVariants.{Called, Moved, Waits, Entered, Left}
 use Rattle.lk_locks.specs.declared.kinds.Refusal.{Refusal}
-use Rattle.lk_trace.specs.Agreement.{Agrees, AgreesOn, AgreesOnWord}
+use Rattle.lk_trace.specs.Agreement.{Agrees, AgreesOn, AgreesOnWord, IsCounted, count_in}
 use Rattle.lk_trace.specs.Checks.{checked, count_other, difference_of, new_lock, outcome_other}
+use Rattle.lk_trace.specs.Checks.{count_given}
 use Rattle.lk_trace.specs.Checks.{refused, same_outcome, Checked, or_then, is_word, other_word}
 use Rattle.lk_trace.specs.Checks.{found_other, left_other, same_answer, wrote_other, values_other}
 use Rattle.lk_trace.specs.Checks.{seen_other, effect_of, effect_other, name_of, will_stand}
@@ -294,3 +295,10 @@ pub stays_well : (c : Checked) (l : TraceLine) → WellFormed c.lock.state
     → refusal_of c.lock.state l.thread l.action ≡ None → WellFormed (checked c l).lock.state
 stays_well c l w accepted =
     well_kept c.lock.state l.thread l.action w (accepted_of c.lock.state l.thread l.action accepted)
+
+-- a count that a line gives is the last one afterwards
+pub counted : (last : ℕ) (seen : Seen) → IsCounted last (count_in seen) (count_given last seen)
+counted last Nothing = record { given_is = tt; stays = λ _. refl }
+counted last (OnWord word found left wrote) = record { given_is = tt; stays = λ _. refl }
+counted last (InSection None outcome) = record { given_is = tt; stays = λ _. refl }
+counted last (InSection (Some n) outcome) = record { given_is = refl; stays = λ e. cc }

@@ -39,6 +39,10 @@ new_lock kind threads bits = record {
   sections = 0;
 }
 
+-- a lock in this state, of whose sections this was the greatest count
+abbrev pub on : State → ℕ → Checked
+on s sections = record { lock = tracked s []; sections = sections }
+
 -- the first difference of two checks, one after the other
 abbrev pub or_then : Option Difference → Option Difference → Option Difference
 or_then (Some difference) rest = Some difference

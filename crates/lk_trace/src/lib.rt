@@ -6,6 +6,7 @@
 #![tactic(auto)]
 
 mod checker;
+mod compare;
 mod difference;
 mod line;
 mod mcs;
@@ -17,6 +18,7 @@ mod ticket;
 mod trace;
 
 pub use checker::{Checker, Made};
+pub use compare::first_difference;
 pub use difference::Difference;
 pub use line::{MOST_OF_A_LINE, Seen, TraceLine, read_line, read_log_line};
 pub use names::{WordName, name_at};

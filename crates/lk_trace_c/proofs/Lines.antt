@@ -41,7 +41,7 @@ unfolding lines_of
 no_more reading [] empty = refl
 no_more reading (b ∷ bs) empty = absurd (omega (arith, eqb-true _ _ empty))
 
--- the same of what is told
+-- the same of what is reported
 pub told_on : (t : Told) (lines : List (List ℕ)) (line : List ℕ) (others : List (List ℕ))
     (number : ℕ)
     → lines ≡ line ∷ others → number ≡ event_number (event_of t.reading line) → number ≡ 0
@@ -65,7 +65,7 @@ unfolding lines_of
 told_no_more t [] empty = refl
 told_no_more t (b ∷ bs) empty = absurd (omega (arith, eqb-true _ _ empty))
 
--- what a line leaves is what is told of it, where it was counted before it was read
+-- what a line leaves is what is reported of it, if it was counted before it was read
 pub told_as : (t : Told) (line : List ℕ) (number : ℕ) (reading : Option Checked) (answer : LtAnswer)
     (steps : List LtStep)
     → number ≡ one_more t.answer.line → reading ≡ after_text_line t.reading line

@@ -1,4 +1,4 @@
--- Definitions. What a text comes to: the number of its first fault, 0 where it has none. This
+-- Definitions. What a text comes to: the number of its first fault, 0 if it has none. This
 -- project's own; what a line comes to is said by the traces' definitions alone.
 use Rattle.std.specs.Prelude.{ℕ, ◌==◌, List, [], ◌∷◌, Option, Some, None, if◌then◌else◌}
 use Rattle.lk_replay.specs.Lines.{lines_of}

@@ -54,12 +54,12 @@ answer_by (Began header) a = record a { threads = header.threads }
 answer_by (Made l made) a = record a { moves = one_more a.moves }
 answer_by event a = a
 
--- a move that is made is recorded behind those before it, as far as there is room
+-- a move that is made is recorded after those before it, as far as there is room
 abbrev pub steps_by : Event → LtAnswer → List LtStep → List LtStep
 steps_by (Made l made) a steps = slice_set steps a.moves (record_of a.line l made)
 steps_by event a steps = steps
 
--- what was read so far, and what is told of it
+-- what was read so far, and what is reported of it
 pub record Told : Type 0 where
   pub reading : Option Checked
   pub answer : LtAnswer
@@ -72,7 +72,7 @@ told_line t line = record {
   steps = steps_by (event_of t.reading line) (counted t.answer) t.steps;
 }
 
--- a text without a header has its fault in the line behind its last
+-- a text without a header has its fault in the line after its last
 abbrev pub told_end : Told → Told
 told_end t =
     record t { answer = if end_number t.reading == 0 then t.answer else counted t.answer }

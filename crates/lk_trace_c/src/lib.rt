@@ -14,7 +14,7 @@ use lk_replay::parts::cut_line;
 use lk_trace::{Event, Made, TextFault, TraceLine, TraceReader};
 use numbers::{action_number, difference_number, fault_number, fault_text, outcome_number};
 
-/// A move that was made. `word` is the place of its word, or the greatest number where it is on
+/// A move that was made. `word` is the place of its word, or the greatest number if it is on
 /// none; what it found and left is 0 then.
 #[repr(C)]
 #[derive(Clone, Copy)]
@@ -28,7 +28,7 @@ pub struct LtStep {
     pub word: u32,
 }
 
-/// How a trace ended: the number of its fault, 0 where all is accepted, its line, and how many
+/// How a trace ended: the number of its fault, 0 if all is accepted, its line, and how many
 /// moves were made.
 #[repr(C)]
 #[derive(Clone, Copy)]
@@ -63,7 +63,7 @@ fn step_of(line: u64, read: TraceLine, made: Made) -> LtStep
     }
 }
 
-// Reads a line. Its number is that of its fault, 0 where it has none.
+// Reads a line. Its number is that of its fault, 0 if it has none.
 fn take_line(
     trace: &mut TraceReader,
     line: &[u8],
@@ -93,7 +93,7 @@ fn take_line(
     }
 }
 
-// What the end of a text is after the lines that were read: a fault, where there was no header.
+// What the end of a text is after the lines that were read: a fault, if there was no header.
 fn end_of(trace: &TraceReader) -> u32
     ensures { result ≡ end_number trace.now }
 {
@@ -103,7 +103,7 @@ fn end_of(trace: &TraceReader) -> u32
     }
 }
 
-// The number of a text's first fault, 0 where it has none.
+// The number of a text's first fault, 0 if it has none.
 fn fault_in(text: &[u8], steps: &mut [LtStep], answer: &mut LtAnswer) -> u32
     ensures fault { result ≡ fault_of_text text.now }
     ensures answer { answer.new ≡ (told_text answer.old steps.old text.now).answer }

@@ -1,4 +1,4 @@
--- Each line is read, and told, as the text's definitions do.
+-- Each line is read, and reported, as the text's definitions do.
 use Rattle.std.proofs.Common.{ap, sym, ◌∙◌}
 use Rattle.lk_replay.specs.Lines.{lines_of}
 use Rattle.lk_trace_c.specs.Records.{Told, told_lines}

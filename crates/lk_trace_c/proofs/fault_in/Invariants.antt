@@ -1,4 +1,4 @@
--- What is left has the fault of the text, and is told as the text is.
+-- What is left has the fault of the text, and is reported as the text is.
 use Rattle.std.proofs.Common.{◌≡◌, length}
 use Rattle.lk_replay.specs.Lines.{lines_of}
 use Rattle.lk_trace_c.specs.Ends.{fault_of_lines, fault_of_text}
