@@ -1,6 +1,7 @@
-//! Tests of the libraries `lk_words`, `lk_locks`, `lk_replay` and `lk_workers`, and nothing else.
+//! Tests of the libraries `lk_words`, `lk_locks`, `lk_replay`, `lk_search` and `lk_workers`, and
+//! nothing else.
 //!
-//! A crate that has tests is proved twice, with and without them. So the tests stand in a crate
+//! A crate that has tests is proved twice, with and without them. So the tests are in a crate
 //! of their own: it uses what the others make public, as any crate does, and none of them is
 //! proved anew for its tests. What the built program shows as well is not tried here: the worked
 //! rows, and each request for memory refused on each of them (tests/rows.py, tests/refusals.py).
@@ -12,6 +13,10 @@ mod locks;
 mod refusing;
 #[cfg(test)]
 mod replays;
+#[cfg(test)]
+mod sketches;
+#[cfg(test)]
+mod spaces;
 #[cfg(test)]
 mod words;
 #[cfg(test)]

@@ -97,7 +97,7 @@ fn told(holders: &Holders) -> (char, u64) {
     }
 }
 
-// Plays a row on a keeper, which tells these holders after each move.
+// Plays a row on a keeper, which has these holders after each move.
 fn keeps(
     rt: &impl Abort,
     keeper: &mut Keeper<WordArray>,

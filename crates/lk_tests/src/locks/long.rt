@@ -33,7 +33,7 @@ fn play_round(rt: &impl Abort, keeper: &mut Keeper<WordArray>) {
     }
 }
 
-// Words of four bits: the tickets, too, go round.
+// Words of four bits: the tickets, too, wrap.
 #[test]
 fn eleven_thousand_rounds(rt: HostRuntime) {
     let words = WordArray::with_bits(2, 4);

@@ -4,7 +4,7 @@ use lk_locks::{Act, Entry, History, LockKind, Op, SeqLock, words_needed};
 use std::process::Abort;
 use std::test::Fail;
 
-// Acts where that is allowed, and says whether it was.
+// Acts if that is allowed, and says whether it was.
 fn acts(lock: &mut SeqLock, act: Act) -> bool {
     let allowed = lock.allows(act);
     if allowed {

@@ -1,5 +1,5 @@
-//! What each move of a whole hand-over adds to the history of a queue lock: the acquire acts where
-//! it asks, and returns where it enters.
+//! What each move of a whole hand-over adds to the history of a queue lock: the acquire acts when
+//! it asks, and returns when it enters.
 
 use super::rows::*;
 use Entry::{Acted, Called, Returned};
@@ -8,7 +8,7 @@ use lk_locks::{Entry, Keeper, LockKind, Move, Op, Outcome};
 use lk_words::WordArray;
 use std::process::Abort;
 
-// Plays a row on a keeper. The entries stand beside the moves that add them, counted from 0.
+// Plays a row on a keeper. The entries are beside the moves that add them, counted from 0.
 fn records(
     rt: &impl Abort,
     keeper: &mut Keeper<WordArray>,

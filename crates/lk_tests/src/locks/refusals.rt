@@ -70,7 +70,7 @@ const WRONG_WRITE: Refusal = Refusal::WrongStep {
     next: StepKind::Write,
 };
 
-// Each refusal alone, where no other could be answered.
+// Each refusal alone, when no other could be answered.
 #[test]
 fn refusals(rt: HostRuntime) {
     let rows = [

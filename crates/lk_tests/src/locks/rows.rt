@@ -249,7 +249,7 @@ pub const WRITER_BECOMES_READER: [(u8, Move, Outcome); 7] = [
     (1, SECTION, Entered),
 ];
 
-/// A FIFO writer announces itself behind a downgrade, and waits for the reader.
+/// A FIFO writer announces itself after a downgrade, and waits for the reader.
 pub const WRITER_BEHIND_DOWNGRADE: [(u8, Move, Outcome); 10] = [
     (0, WRITE_LOCK, Called),
     (0, SECTION, Entered),

@@ -195,7 +195,7 @@ impl<'a> Write for FailsLater<'a> {
     }
 }
 
-// A thread waits and looks up to the limit of moves: a report of 2.3 MB.
+// A thread waits and polls up to the limit of moves: a report of 2.3 MB.
 fn long_text(alloc: Global) -> Result<Vec<u8>, AllocError> {
     let start = b"lock ticket threads 2\n0 acquire\n0 add\n1 acquire\n1 add\n";
     let mut text = Vec::from_slice(alloc, start)?;
@@ -205,7 +205,7 @@ fn long_text(alloc: Global) -> Result<Vec<u8>, AllocError> {
     Ok(text)
 }
 
-// What was written where a write fails is a prefix of the report, of as many writes as went before.
+// What was written if a write fails is a prefix of the report, of as many writes as went before.
 #[test]
 fn each_write_of_a_long_report_fails(rt: HostRuntime) -> Result<(), Fail> {
     let alloc = rt.alloc();

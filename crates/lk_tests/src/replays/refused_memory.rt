@@ -10,7 +10,7 @@ use std::io::Write;
 use std::process::Abort;
 use std::test::Fail;
 
-// Whether a call's rounds end here: in this one no request was refused. Where the allocator
+// Whether a call's rounds end here: in this one no request was refused. If the allocator
 // refuses, one was in the first round, since the call wants memory.
 fn is_last(rt: &impl Abort, alloc: Global, number: usize, refused: bool) -> bool {
     assert!(rt; number < MOST_REQUESTS - 1);
@@ -40,7 +40,7 @@ fn each_request_refused_in_read_schedule(rt: HostRuntime) -> Result<(), Fail> {
     Ok(())
 }
 
-// A fault behind a move: it is answered, or want of memory.
+// A fault after a move: it is answered, or out of memory.
 #[test]
 fn each_request_refused_before_a_late_fault(rt: HostRuntime) {
     let alloc = rt.alloc();

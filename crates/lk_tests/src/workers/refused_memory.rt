@@ -42,7 +42,7 @@ fn each_request_refused_in_opening_a_lock(rt: HostRuntime) {
     assert!(rt; false, "a request was refused each time");
 }
 
-// Where the system has no memory for a thread, its work is done by another: so a refusal need not
+// If the system has no memory for a thread, its work is done by another: so a refusal need not
 // show.
 #[test]
 fn each_request_refused_in_a_batch(rt: HostRuntime) -> Result<(), Fail> {
@@ -71,7 +71,7 @@ fn each_request_refused_in_a_batch(rt: HostRuntime) -> Result<(), Fail> {
     panic!(rt; "a request was refused each time")
 }
 
-// Has the first request behind `begin` refused, and notes at `end` whether there was one.
+// Has the first request after `begin` refused, and notes at `end` whether there was one.
 #[derive(Drop)]
 struct Refusing {
     alloc: Global,
@@ -91,7 +91,7 @@ impl Gate for Refusing {
     }
 }
 
-// One worker, so that no thread starts: a report is made behind `begin` and before `end`, and a
+// One worker, so that no thread starts: a report is made after `begin` and before `end`, and a
 // refused one has its `end`.
 #[test]
 fn a_request_between_begin_and_end_is_refused(rt: HostRuntime) -> Result<(), Fail> {

@@ -10,7 +10,7 @@ use std::test::Fail;
 use std::thread;
 use std::thread::{Promise, Threads, join};
 
-// How often a round looks before it gives up.
+// How often a round polls before it gives up.
 const TURNS: u64 = 100_000_000;
 
 const ROUNDS: u64 = 1000;
@@ -60,7 +60,7 @@ fn a_waiting_seat_is_dropped(rt: HostRuntime) -> Result<(), Fail> {
     Ok(())
 }
 
-// One round of the lock. False where the turn never came.
+// One round of the lock. False if the turn never came.
 fn round(lock: &LiveTicket, seat: &mut LiveSeat) -> bool
     requires { IsIdleOf lock.now 1 seat.old }
     ensures own { seat.new.table ≡ lock.now }
@@ -79,7 +79,7 @@ fn round(lock: &LiveTicket, seat: &mut LiveSeat) -> bool
     false
 }
 
-// This many rounds, or `None` where a turn never came.
+// This many rounds, or `None` if a turn never came.
 pub fn rounds(lock: &LiveTicket, mut seat: LiveSeat, count: u64) -> Option<LiveSeat>
     requires { IsIdleOf lock.now count seat }
     ensures { IfSome result
