@@ -4,8 +4,8 @@ not end, devices that take nothing, little memory, several threads, and a termin
 
     tests/locktrace.py LOCKTRACE
 
-What is wanted is written by hand from docs/LOCKTRACE.md and docs/TRACE.md. The last line counts the
-cases; the status is 1 where one failed.
+What is wanted is written by hand from packaging/man/locktrace.1 and docs/TRACE.md. The last line
+counts the cases; the status is 1 if one failed.
 """
 import contextlib
 import json
@@ -20,6 +20,7 @@ import tempfile
 import threading
 from pathlib import Path
 
+import locktrace_rows
 import logs_by_hand
 from tally import Tally
 
@@ -50,11 +51,13 @@ lock mcs threads 2
 1 write
 """
 OTHER = GOOD.replace("1 swap tail found 1", "1 swap tail found 2")
-OTHER_LINE = ("{}:9: refused: found 2 in tail, where the lock has 1\n"
-              "{}:9: note: held by 0; queue 0\n")
+BEFORE = "{0}:7: note: before it: 1 acquire\n{0}:8: note: before it: 1 write next left 0\n"
+OTHER_LINE = ("{0}:9: refused: thread 1's swap found 2 in tail, and the lock has 1\n" + BEFORE
+              + "{0}:6: note: tail was last written here: thread 0's swap left 1\n"
+              "{0}:9: note: held by 0; queue 0\n")
 WRONG = GOOD.replace("1 swap tail found 1", "1 write locked left 1")
-WRONG_LINE = ("{}:9: refused: '1 write', but thread 1's next step is 'swap' (WrongStep)\n"
-              "{}:9: note: held by 0; queue 0\n")
+WRONG_LINE = ("{0}:9: refused: '1 write', but thread 1's next step is 'swap' (WrongStep)\n" + BEFORE
+              + "{0}:9: note: held by 0; queue 0\n")
 FAULTY = "lock ticket threads 2\n0 aquire\n"
 FAULTY_LINE = "{}:2: not a move (BadLine)\n"
 TEXTS = {"good": GOOD, "other": OTHER, "wrong": WRONG, "faulty": FAULTY}
@@ -96,19 +99,20 @@ def words_and_texts(program):
     program.case("version", ["--version"], 0, f"locktrace {VERSION}\n")
     program.case("help", ["--help"], 0, lambda text: "check" in text and "order" in text)
     for words in ([], ["walk"], ["check", "--format", "xml"], ["check", "-j", "0"],
-                  ["check", "-j", "65"], ["explain", "--moves", "0..3"],
+                  ["check", "-j", "65"], ["check", "--color", "red"],
+                  ["order", "--format", "xml", "good", "-o", "made"],
+                  ["explain", "--moves", "0..3"],
                   ["explain", "--moves", "4..3"], ["order", "thread-0.log"], ["explain", "a", "b"]):
         program.case(f"usage {words}", words, 2, "", begins("error:") if words else len)
     program.case("all is well", ["check", "good"], 0)
     program.case("a schedule", ["check", "-"], 0, stdin=SCHEDULE)
-    program.case("another value", ["check", "other"], 1, OTHER_LINE.format("other", "other"))
-    program.case("another step", ["check", "wrong"], 1, WRONG_LINE.format("wrong", "wrong"))
+    program.case("another step", ["check", "wrong"], 1, WRONG_LINE.format("wrong"))
     program.case("no trace", ["check", "faulty"], 4, FAULTY_LINE.format("faulty"))
     program.case("no header", ["check"], 4, "-:1: no header (NoHeader)\n")
     program.case("no such file", ["check", "absent"], 3, begins("absent: ", "o such file"))
     program.case("a directory", ["check", "."], 3, begins(".: ", "irectory"))
     program.case("the greatest wins", ["check", "wrong", "absent", "faulty", "good"], 4,
-                 begins(WRONG_LINE.format("wrong", "wrong") + "absent: ",
+                 begins(WRONG_LINE.format("wrong") + "absent: ",
                         FAULTY_LINE.format("faulty")))
     program.case("long comment", ["check"], 0, stdin="#" * 3_000_000 + "\n" + GOOD)
     move = "0 acquire"
@@ -120,10 +124,6 @@ def words_and_texts(program):
 
 
 def summaries(program):
-    program.case("summary", ["check", "--summary", "good"], 0,
-                 "good: 2 threads, 7 moves, 0 waits, 0 failed compare-and-swaps, "
-                 "0 polls of a late link, longest queue 2, 0 rounds of the counter\n"
-                 "good: warning: no thread ever waited, so the run shows nothing of contention\n")
     rounds = "lock ticket threads 1 bits 2\n" + "".join(
         f"0 acquire\n0 add next_ticket found {k % 4}\n0 read\n0 release\n0 read\n0 write\n"
         for k in range(9))
@@ -194,7 +194,6 @@ def formats(program):
     check("json: endings", [answer["ending"] for answer in answers],
           ["accepted", "refused", "faulty", "unread"])
     check("json: lines", [answer.get("line") for answer in answers], [None, 9, 2, 0])
-    check("json: standing", answers[1]["standing"], "held by 0; queue 0")
     check("json: counts", [answers[0][key] for key in ("threads", "moves", "longest_queue")],
           [2, 7, 2])
     odd = 'a "name"\\\x01\n.trace'
@@ -243,7 +242,52 @@ def devices(program):
 
     threading.Thread(target=feed, daemon=True).start()
     program.case("a refused move in an input without end", ["check", "endless"], 1,
-                 WRONG_LINE.format("endless", "endless"))
+                 WRONG_LINE.format("endless"))
+
+
+def folders(program):
+    """The traces and schedules of a folder, by their names, and nothing else of it."""
+    inside = program.folder / "runs"
+    inside.mkdir()
+    for name, text in (("b.trace", OTHER), ("a.schedule", SCHEDULE), ("notes.txt", "no trace\n"),
+                       ("c.trace", FAULTY)):
+        (inside / name).write_text(text)
+    for name in ("runs", "runs/"):
+        program.case(f"the folder {name}", ["check", name], 4,
+                     OTHER_LINE.format("runs/b.trace") + FAULTY_LINE.format("runs/c.trace"))
+    program.case("a folder between files", ["check", "--format", "tap", "good", "runs", "good"], 4,
+                 begins("TAP version 14\n1..5\nok 1 - good\nok 2 - runs/a.schedule\n"
+                        "not ok 3 - runs/b.trace\n", "not ok 4 - runs/c.trace\n",
+                        "ok 5 - good\n"))
+    shutil.rmtree(inside)
+
+
+def pipes(program):
+    """Who reads a part of the output has read enough."""
+    rounds = "0 acquire\n0 add\n0 read\n0 release\n0 read\n0 write\n" * 40_000
+    (program.folder / "many").write_text("lock ticket threads 1\n" + rounds)
+    for words in (["explain", "many"], ["schedule", "many"], ["check", *["wrong"] * 2_000]):
+        reader, writer = os.pipe()
+        os.close(reader)
+        program.case(f"{words[0]} into a closed pipe", words, 0, "", "", stdout=writer)
+        os.close(writer)
+    (program.folder / "many").unlink()
+
+
+def colors(program):
+    """On a terminal alone, unless they are asked for."""
+    plain = WRONG_LINE.format("wrong")
+    for when, on_terminal, has_colors in (("auto", True, True), ("auto", False, False),
+                                          ("never", True, False), ("always", False, True)):
+        reader, writer = pty.openpty()
+        output = {"stdout": writer} if on_terminal else {}
+        got = program.run("check", "--color", when, "wrong", **output)
+        os.close(writer)
+        text = all_from(reader).decode().replace("\r\n", "\n") if on_terminal else got[0]
+        os.close(reader)
+        program.tally.check(f"--color {when}: status", got[2], 1)
+        program.tally.check(f"--color {when}: colors", "\x1b[" in text, has_colors)
+        program.tally.check(f"--color {when}: text", re.sub("\x1b\\[[0-9;]*m", "", text), plain)
 
 
 def memory(program):
@@ -253,12 +297,12 @@ def memory(program):
         limit = (size << 10, size << 10)
         got = program.run("check", "wrong",
                           preexec_fn=lambda: resource.setrlimit(resource.RLIMIT_AS, limit))
-        if got[:2] == (WRONG_LINE.format("wrong", "wrong"), "") and got[2] == 1:
+        if got[:2] == (WRONG_LINE.format("wrong"), "") and got[2] == 1:
             seen.add("answered")
         elif got[0] == "" and got[2] == 3 and got[1] == "locktrace: out of memory\n":
             seen.add("refused")
         elif got[0] or got[2] in (0, 1, 2, 4):
-            program.tally.check(f"{size} KB", got, "an answer or want of memory")
+            program.tally.check(f"{size} KB", got, "an answer or out of memory")
     program.tally.check("memory is refused, and then the answer is given", seen,
                         {"answered", "refused"})
 
@@ -305,8 +349,9 @@ def orders(program):
     spoilt = LOGS["thread-1.log"].replace("found 1", "found 7", 1)
     (program.folder / "thread-1.log").write_text(spoilt)
     program.case("order: stuck", ["order", *LOGS, "-o", "made"], 1, "",
-                 begins("thread-1.log:3: cannot be placed: "
-                        "found 7 in next_ticket, where the lock has 1\n"))
+                 "thread-1.log:3: cannot be placed: thread 1's add found 7 in next_ticket, and the "
+                 "lock has 1\n"
+                 "thread-1.log:3: note: 7 steps placed; held by nobody; queue empty\n")
     (program.folder / "thread-1.log").write_text("lock ticket threads 2 thread 1\nacquire\n")
     program.case("order: cut off", ["order", *LOGS, "-o", "made"], 0, "",
                  begins("thread-1.log: warning: cut off", "ordered up to there"))
@@ -344,7 +389,8 @@ def main(path):
         for name, text in TEXTS.items():
             (program.folder / name).write_text(text)
         for part in (words_and_texts, summaries, explained, refusals_by_name, formats, by_threads,
-                     devices, memory, terminal, orders, bad_logs, *logs_by_hand.PARTS):
+                     devices, folders, memory, terminal, colors, pipes, orders, bad_logs,
+                     *logs_by_hand.PARTS, *locktrace_rows.PARTS):
             part(program)
     return tally.end()
 

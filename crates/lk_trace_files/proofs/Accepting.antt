@@ -1,6 +1,6 @@
 -- A text ends accepted exactly where it is an accepted trace.
 use Rattle.std.proofs.Common.{◌≡◌, ℕ, ◌+◌, List, [], ◌∷◌, true, false, None, Some, Ok, Err, refl}
-use Rattle.std.proofs.Common.{sym, ap, ap₂, ◌∙◌, inl, inr}
+use Rattle.std.proofs.Common.{Bool, sym, ap, ap₂, ◌∙◌, inl, inr}
 use Rattle.std.specs.Prelude.{Option, Result, ◌≢◌}
 use Rattle.std.proofs.lemmas.Bool.{cond-true, cond-false, cases_Bool}
 use Rattle.lk_locks.specs.invariants.WellFormed.{WellFormed}
@@ -21,12 +21,13 @@ use Rattle.lk_trace.specs.declared.trace.TextFault.{TextFault}
 use Rattle.lk_trace.specs.declared.trace.TextFault.TheVariants.{BadLine}
 use Rattle.lk_trace_files.specs.Accepted.{IsMove, AreMoves, IsHeader, IsTrace}
 use Rattle.lk_trace_files.specs.Verdicts.{Verdict, IsOfText, unless_ended, verdict, verdict_from}
-use Rattle.lk_trace_files.specs.Verdicts.{verdict_in, verdict_of}
+use Rattle.lk_trace_files.specs.Verdicts.{hanging, hangs_in, if_hangs, verdict_in, verdict_of}
+use Rattle.lk_trace_files.specs.declared.check.Ending.{Ending}
 use Rattle.lk_trace_files.specs.declared.check.Ending.TheVariants.{Accepted, Refused, Unread}
-use Rattle.lk_trace_files.specs.declared.check.Ending.TheVariants.{Faulty}
+use Rattle.lk_trace_files.specs.declared.check.Ending.TheVariants.{Faulty, Hangs}
 use Rattle.lk_trace_files.specs.declared.check.Report.{Report}
 
--- a line, and those behind it
+-- a line, and those after it
 line_read : (n : ℕ) (r after : Option Checked) (e : Event) (line : List ℕ) (lines : List (List ℕ))
     → event_of r line ≡ e → after_text_line r line ≡ after
     → verdict_from n r (line ∷ lines) ≡ unless_ended n e (verdict_from (n + 1) after lines)
@@ -209,15 +210,38 @@ trace_ends n (line ∷ lines) (inr trace) =
     ∙ moves_end (n + 1) (new_checked trace.header) lines
     (new_is_well trace.header.kind trace.header.threads trace.header.bits) trace.behind
 
+-- a run that hangs is not accepted
+not_accepted : (e : Ending) (line : ℕ) → (hanging e line).ending ≡ Accepted → ⊥
+not_accepted Accepted line is = let no : Hangs ≡ Accepted = is in cc
+not_accepted Refused line is = let no : Refused ≡ Accepted = is in cc
+not_accepted Unread line is = let no : Unread ≡ Accepted = is in cc
+not_accepted Faulty line is = let no : Faulty ≡ Accepted = is in cc
+not_accepted Hangs line is = let no : Hangs ≡ Accepted = is in cc
+
+goes_well : (h : Bool) (v : Verdict) → (if_hangs h v).ending ≡ Accepted
+    → (v.ending ≡ Accepted) × (h ≡ false)
+goes_well false v is = (is, refl)
+goes_well true v is = absurd (not_accepted v.ending v.line is)
+
+ends_well : (h : Bool) (v : Verdict) → v.ending ≡ Accepted → h ≡ false
+    → (if_hangs h v).ending ≡ Accepted
+ends_well false v is none = is
+ends_well true v is none = let no : true ≡ false = none in cc
+
 -- a report with the text's verdict is the text's
 pub of_text : (report : Report) (text : List ℕ)
     → (report.ending ≢ Unread → verdict_in report ≡ verdict_of text) → IsOfText report text
 of_text report text is = record {
   verdict_is = is;
   accepted = λ read.
-      let same : report.ending ≡ (verdict_of text).ending =
+      let lines = lines_of text in
+      let h = hangs_in lines in
+      let v = verdict_from 1 None lines in
+      let same : report.ending ≡ (if_hangs h v).ending =
       ending_of (verdict_in report) (verdict_of text) (is read) in (
-        λ accepted. trace_is 1 (lines_of text) (sym same ∙ accepted),
-        λ trace. same ∙ trace_ends 1 (lines_of text) trace,
+        λ accepted.
+            let well = goes_well h v (sym same ∙ accepted) in
+            (trace_is 1 lines well.0, well.1),
+        λ trace. same ∙ ends_well h v (trace_ends 1 lines trace.0) trace.1,
       );
 }

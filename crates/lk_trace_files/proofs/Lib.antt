@@ -2,3 +2,4 @@ pub mod Taken
 pub mod Reading
 pub mod Keeping
 pub mod Accepting
+pub mod FatesLeft

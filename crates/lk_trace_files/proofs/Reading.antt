@@ -18,8 +18,10 @@ use Rattle.lk_trace.specs.declared.trace.TextFault.TheVariants.{BadHeader}
 use Rattle.lk_trace_files.proofs.Accepting.{of_text}
 use Rattle.lk_trace_files.specs.Lines.{TakesLine, kept}
 use Rattle.lk_trace_files.specs.declared.lines.Line.{Line}
-use Rattle.lk_trace_files.specs.Verdicts.{Verdict, IsOfText, at_end, unless_ended, verdict_from}
-use Rattle.lk_trace_files.specs.Verdicts.{verdict_in}
+use Rattle.lk_trace_files.specs.Fates.{after_comment, after_line, hangs_after, hangs_at, said_of}
+use Rattle.lk_trace_files.specs.declared.course.Fate.{Fate}
+use Rattle.lk_trace_files.specs.Verdicts.{Verdict, IsOfText, at_end, if_hangs, unless_ended}
+use Rattle.lk_trace_files.specs.Verdicts.{verdict_from, verdict_in}
 use Rattle.lk_trace_files.specs.invariants.Following.{Follows, Reads}
 use Rattle.lk_trace_files.specs.declared.check.Ending.TheVariants.{Unread}
 use Rattle.lk_trace_files.specs.declared.check.Report.{Report}
@@ -83,7 +85,41 @@ kept_after reading line kept is =
       | inr short ↦ ap (after_text_line reading) (take_all 97 line short)
     ]
 
--- a line and those behind it
+-- what is kept of a line says of a thread what the line says
+long_comment : (line : List ℕ) → 96 < length line → said_of line ≡ None
+long_comment line long = cond-true (nat_lt 96 (length line)) _ _ (lt-ltb 96 (length line) long)
+
+kept_said : (line kept : List ℕ) → kept ≡ take 97 line → said_of kept ≡ said_of line
+kept_said line kept is = ap said_of is ∙ elim (cases_lt 97 (length line)) [
+  | inl long ↦
+      let short : length (take 97 line) ≡ 97 = length-take-le 97 line (omega arith) in
+      long_comment (take 97 line) (omega arith) ∙ sym (long_comment line (omega arith))
+  | inr short ↦ ap said_of (take_all 97 line short)
+]
+
+kept_line : (fates : List Fate) (event : Event) (line kept : List ℕ) → kept ≡ take 97 line
+    → after_line fates event kept ≡ after_line fates event line
+kept_line fates Skipped line kept is = ap (after_comment fates) (kept_said line kept is)
+kept_line fates (Began header) line kept is = refl
+kept_line fates (Made move made) line kept is = refl
+kept_line fates (Differs move difference) line kept is = refl
+kept_line fates (Fault fault) line kept is = refl
+
+-- whether the run hangs, a line later
+later : (reading : Option Checked) (fates : List Fate) (lines rest : List (List ℕ))
+    (line kept : List ℕ) → lines ≡ line ∷ rest → kept ≡ take 97 line
+    → hangs_after reading fates lines
+    ≡ hangs_after (after_text_line reading kept)
+    (after_line fates (event_of reading kept) kept) rest
+unfolding hangs_after
+later reading fates lines rest line kept is same =
+    ap (hangs_after reading fates) is
+    ∙ ap₂ (λ (r : Option Checked) (f : List Fate). hangs_after r f rest)
+    (sym (kept_after reading line kept same))
+    (sym (kept_line fates (event_of reading kept) line kept same
+    ∙ ap (λ (e : Event). after_line fates e line) (kept_event reading line kept same)))
+
+-- a line and those after it
 step : (number : ℕ) (reading : Option Checked) (lines rest : List (List ℕ)) (line kept : List ℕ)
     → lines ≡ line ∷ rest → kept ≡ take 97 line
     → verdict_from number reading lines
@@ -116,33 +152,51 @@ stops number (Fault fault) report behind follows = follows.1
 
 -- a line that does not end the text
 pub reads_on : (all old new : Option (List ℕ)) (number : ℕ) (reading : Option Checked)
-    (line : Line) (report : Report)
-    → Reads all old number reading → TakesLine old new line
+    (fates : List Fate) (line : Line) (report : Report)
+    → Reads all old number reading fates → TakesLine old new line
     → Follows number (event_of reading (kept line)) true report
     → Reads all new (number + 1) (after_text_line reading (kept line))
-reads_on None old new number reading line report reads taken follows = tt
-reads_on (Some text) None new number reading line report reads taken follows = absurd reads
-reads_on (Some text) (Some rest) None number reading line report reads taken follows = absurd taken
-reads_on (Some text) (Some rest) (Some behind) number reading line report reads taken follows =
-    reads ∙ step number reading (lines_of rest) (lines_of behind) taken.bytes
-    (kept line) taken.first taken.kept_is
-    ∙ goes_on number (event_of reading (kept line)) report _ follows
-
--- a line that ends it
-pub reads_last : (all old new : Option (List ℕ)) (number : ℕ) (reading : Option Checked)
-    (line : Line) (report : Report)
-    → Reads all old number reading → TakesLine old new line
-    → Follows number (event_of reading (kept line)) false report → IfSome all (IsOfText report)
-reads_last None old new number reading line report reads taken follows = tt
-reads_last (Some text) None new number reading line report reads taken follows = absurd reads
-reads_last (Some text) (Some rest) None number reading line report reads taken follows =
+    (after_line fates (event_of reading (kept line)) (kept line))
+reads_on None old new number reading fates line report reads taken follows = tt
+reads_on (Some text) None new number reading fates line report reads taken follows = absurd reads
+reads_on (Some text) (Some rest) None number reading fates line report reads taken follows =
     absurd taken
-reads_last (Some text) (Some rest) (Some behind) number reading line report reads taken follows =
-    of_text report text (λ _.
-    stops number (event_of reading (kept line)) report _ follows
-    ∙ sym (reads
-    ∙ step number reading (lines_of rest) (lines_of behind) taken.bytes
-    (kept line) taken.first taken.kept_is))
+reads_on (Some text) (Some rest) (Some after) number reading fates line report reads taken follows =
+    reads
+    ∙ ap₂ if_hangs
+    (later reading fates (lines_of rest) (lines_of after) taken.bytes (kept line) taken.first
+    taken.kept_is)
+    (step number reading (lines_of rest) (lines_of after) taken.bytes
+    (kept line) taken.first taken.kept_is
+    ∙ goes_on number (event_of reading (kept line)) report _ follows)
+
+-- a line that ends it: then it does not matter whether the run hangs
+ends_all : (h : Bool) (number : ℕ) (event : Event) (report : Report) (after : Verdict)
+    → Follows number event false report
+    → if_hangs h (unless_ended number event after) ≡ verdict_in report
+ends_all false number event report after follows = sym (stops number event report after follows)
+ends_all true number Skipped report after follows = let no : false ≡ true = follows in cc
+ends_all true number (Began header) report after follows = let no : false ≡ true = follows in cc
+ends_all true number (Made line made) report after follows = let no : false ≡ true = follows in cc
+ends_all true number (Differs line difference) report after follows = sym follows.1
+ends_all true number (Fault fault) report after follows = sym follows.1
+
+pub reads_last : (all old new : Option (List ℕ)) (number : ℕ) (reading : Option Checked)
+    (fates : List Fate) (line : Line) (report : Report)
+    → Reads all old number reading fates → TakesLine old new line
+    → Follows number (event_of reading (kept line)) false report → IfSome all (IsOfText report)
+reads_last None old new number reading fates line report reads taken follows = tt
+reads_last (Some text) None new number reading fates line report reads taken follows = absurd reads
+reads_last (Some text) (Some rest) None number reading fates line report reads taken follows =
+    absurd taken
+reads_last (Some text) (Some rest) (Some after) number reading fates line report reads taken
+    follows =
+    let h = hangs_after reading fates (lines_of rest) in
+    of_text report text (λ _. sym (reads
+    ∙ ap (if_hangs h)
+    (step number reading (lines_of rest) (lines_of after) taken.bytes (kept line) taken.first
+    taken.kept_is)
+    ∙ ends_all h number (event_of reading (kept line)) report _ follows))
 
 no_lines : lines_of [] ≡ []
 unfolding lines_of
@@ -153,17 +207,26 @@ none_left : (number : ℕ) (reading : Option Checked)
 unfolding verdict_from
 none_left number reading = refl
 
+no_later : (reading : Option Checked) (fates : List Fate)
+    → hangs_after reading fates [] ≡ hangs_at reading fates
+unfolding hangs_after
+no_later reading fates = refl
+
 -- the end of the text
 pub reads_end : (all left : Option (List ℕ)) (number : ℕ) (reading : Option Checked)
-    (report : Report)
-    → Reads all left number reading → IsAtEnd left
-    → verdict_in report ≡ at_end number reading → IfSome all (IsOfText report)
-reads_end None left number reading report reads end is = tt
-reads_end (Some text) None number reading report reads end is = absurd reads
-reads_end (Some text) (Some rest) number reading report reads end is = of_text report text (λ _.
+    (fates : List Fate) (report : Report)
+    → Reads all left number reading fates → IsAtEnd left
+    → verdict_in report ≡ if_hangs (hangs_at reading fates) (at_end number reading)
+    → IfSome all (IsOfText report)
+reads_end None left number reading fates report reads end is = tt
+reads_end (Some text) None number reading fates report reads end is = absurd reads
+reads_end (Some text) (Some rest) number reading fates report reads end is =
+    let none : lines_of rest ≡ [] = ap lines_of end ∙ no_lines in
+    of_text report text (λ _.
     is
-    ∙ sym (reads ∙ ap (λ l. verdict_from number reading (lines_of l)) end
-    ∙ ap (verdict_from number reading) no_lines ∙ none_left number reading))
+    ∙ sym (reads
+    ∙ ap₂ if_hangs (ap (hangs_after reading fates) none ∙ no_later reading fates)
+    (ap (verdict_from number reading) none ∙ none_left number reading)))
 
 -- the input failed
 pub reads_no_more : (all : Option (List ℕ)) (report : Report) → report.ending ≡ Unread
@@ -173,26 +236,32 @@ reads_no_more (Some text) report unread = of_text report text (λ read. absurd (
 
 -- the same, as the line is passed on
 pub line_on : (all old new : Option (List ℕ)) (number : ℕ) (reading after : Option Checked)
-    (line : Line) (bytes : List ℕ) (on : Bool) (report : Report)
-    → Reads all old number reading
+    (fates fates_after : List Fate) (line : Line) (bytes : List ℕ) (on : Bool) (report : Report)
+    → Reads all old number reading fates
     → TakesLine old new line → bytes ≡ kept line → Follows number (event_of reading bytes) on report
-    → on ≡ true → after ≡ after_text_line reading bytes → Reads all new (number + 1) after
-line_on all old new number reading after line bytes true report reads taken same follows is now =
-    subst (Reads all new (number + 1)) (sym (now ∙ ap (after_text_line reading) same))
-    (reads_on all old new number reading line report reads taken
-    (subst (λ l. Follows number (event_of reading l) true report) same follows))
-line_on all old new number reading after line bytes false report reads taken same follows is now =
-    absurd (cc)
+    → on ≡ true → after ≡ after_text_line reading bytes
+    → fates_after ≡ after_line fates (event_of reading bytes) bytes
+    → Reads all new (number + 1) after fates_after
+line_on all old new number reading after fates fates_after line bytes true report reads taken same
+    follows is now told =
+    subst (λ (r : Option Checked). Reads all new (number + 1) r fates_after)
+    (sym (now ∙ ap (after_text_line reading) same))
+    (subst (Reads all new (number + 1) (after_text_line reading (kept line)))
+    (sym (told ∙ ap (λ (l : List ℕ). after_line fates (event_of reading l) l) same))
+    (reads_on all old new number reading fates line report reads taken
+    (subst (λ l. Follows number (event_of reading l) true report) same follows)))
+line_on all old new number reading after fates fates_after line bytes false report reads taken same
+    follows is now told = absurd (cc)
 
 pub line_last : (all old new : Option (List ℕ)) (number : ℕ) (reading : Option Checked)
-    (line : Line) (bytes : List ℕ) (on : Bool) (report : Report)
-    → Reads all old number reading
+    (fates : List Fate) (line : Line) (bytes : List ℕ) (on : Bool) (report : Report)
+    → Reads all old number reading fates
     → TakesLine old new line → bytes ≡ kept line → Follows number (event_of reading bytes) on report
     → on ≡ false → IfSome all (IsOfText report)
-line_last all old new number reading line bytes true report reads taken same follows is =
+line_last all old new number reading fates line bytes true report reads taken same follows is =
     absurd (cc)
-line_last all old new number reading line bytes false report reads taken same follows is =
-    reads_last all old new number reading line report reads taken
+line_last all old new number reading fates line bytes false report reads taken same follows is =
+    reads_last all old new number reading fates line report reads taken
     (subst (λ l. Follows number (event_of reading l) false report) same follows)
 
 -- the report of an input that failed

@@ -3,14 +3,16 @@
 use Rattle.std.specs.Prelude.{ℕ, List, [], ◌∷◌, max}
 use Rattle.lk_trace_files.specs.declared.check.Ending.{Ending}
 use Rattle.lk_trace_files.specs.declared.check.Ending.TheVariants.{Accepted, Refused, Unread}
-use Rattle.lk_trace_files.specs.declared.check.Ending.TheVariants.{Faulty}
+use Rattle.lk_trace_files.specs.declared.check.Ending.TheVariants.{Faulty, Hangs}
 
--- 1 where a move or a value is refused, 3 where the file could not be read, 4 where it is no trace
+-- 1 if a move or a value is refused or the run hangs, 3 if the file could not be read, 4 if it is
+-- no trace
 abbrev pub status_of : Ending → ℕ
 status_of Accepted = 0
 status_of Refused = 1
 status_of Unread = 3
 status_of Faulty = 4
+status_of Hangs = 1
 
 -- the greatest status of so many endings
 unfoldable pub greatest_status : List Ending → ℕ

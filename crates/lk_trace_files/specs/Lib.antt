@@ -1,5 +1,6 @@
 pub mod Accepted
 pub mod Endings
+pub mod Fates
 pub mod Lines
 pub mod Verdicts
 pub mod invariants

@@ -4,12 +4,19 @@
 ghost use Rattle.std.specs.Prelude.{◌≡◌, IfOk, IfSome, None};
 ghost use Rattle.lk_trace.specs.Traces.{after_text_line, event_of};
 ghost use Rattle.lk_trace_files.specs.Endings.{greatest_status, status_of};
-ghost use Rattle.lk_trace_files.specs.Verdicts.{IsOfText, at_end, verdict, verdict_in};
+ghost use Rattle.lk_trace_files.specs.Fates.{after_line, hangs_at};
+ghost use Rattle.lk_trace_files.specs.Verdicts.{IsOfText, at_end, if_hangs, verdict, verdict_in};
 ghost use Rattle.lk_trace_files.specs.invariants.Following.{Follows};
 
+use crate::blame::put_blame;
+use crate::course::Course;
+use crate::facts::Facts;
 use crate::lines::{Line, Lines};
+use crate::notes::Notes;
 use crate::summary::Summary;
 use crate::texts::{Standing, Wrong};
+use crate::trail::Trail;
+use crate::waiting::{HANGS, put_waits};
 use lk_trace::{Checker, Difference, Event, Made, TextFault, TraceLine, TraceReader};
 use std::alloc::{AllocError, Global};
 use std::fmt::Write;
@@ -26,16 +33,18 @@ pub enum Ending {
     Unread,
     /// The text is no trace.
     Faulty,
+    /// The text is an accepted trace, and its run hangs.
+    Hangs,
 }
 
 impl Ending {
-    /// The status of the program where this is the worst ending.
+    /// The status of the program if this is the worst ending.
     pub fn status(self) -> u8
         ensures { result ≡ status_of self }
     {
         match self {
             Ending::Accepted => 0,
-            Ending::Refused => 1,
+            Ending::Refused | Ending::Hangs => 1,
             Ending::Unread => 3,
             Ending::Faulty => 4,
         }
@@ -48,6 +57,7 @@ impl Ending {
             Ending::Refused => "refused",
             Ending::Unread => "unread",
             Ending::Faulty => "faulty",
+            Ending::Hangs => "hangs",
         }
     }
 }
@@ -67,10 +77,14 @@ pub fn worst(endings: &[Ending]) -> u8
 #[derive(Drop)]
 pub struct Report {
     pub ending: Ending,
-    /// The line that ended it, from 1; 0 where none did.
+    /// The line that ended it, from 1; 0 if none did.
     pub line: u64,
     /// What is said of that line, or of the input.
     pub message: String,
+    /// What else helps to see why, with the lines that it is about.
+    pub notes: Notes,
+    /// The same for programs.
+    pub facts: Facts,
     /// Who held and who was in the queue then.
     pub standing: String,
     pub summary: Summary,
@@ -82,6 +96,8 @@ impl Report {
             ending: Ending::Accepted,
             line: 0,
             message: String::new(alloc),
+            notes: Notes::new(alloc),
+            facts: Facts::Nothing,
             standing: String::new(alloc),
             summary: Summary::default(),
         }
@@ -98,6 +114,7 @@ impl Report {
     fn explain(
         &mut self,
         checker: &Checker,
+        trail: &Trail,
         line: TraceLine,
         difference: Difference,
     ) -> Result<(), AllocError>
@@ -106,6 +123,20 @@ impl Report {
         let lock = checker.lock();
         let (wrong, standing) = (Wrong::unnamed(lock, line, difference), Standing(lock));
         write!(self.message, "refused: {wrong}")?;
+        self.facts = Facts::of(lock, trail, line, difference);
+        put_blame(&mut self.notes, lock, trail, line, difference)?;
+        write!(self.standing, "{standing}")
+    }
+
+    // Says who waits for what, and who holds.
+    fn explain_hang(&mut self, checker: &Checker, course: &Course) -> Result<(), AllocError>
+        ensures { IfOk result (λ _. verdict_in self.new ≡ verdict_in self.old) }
+    {
+        let lock = checker.lock();
+        let standing = Standing(lock);
+        self.message.push_str(HANGS)?;
+        self.facts = Facts::Hangs;
+        put_waits(&mut self.notes, lock, course, &[])?;
         write!(self.standing, "{standing}")
     }
 
@@ -116,17 +147,29 @@ impl Report {
         }
     }
 
-    // The text has no more lines.
-    fn end(&mut self, trace: &TraceReader, number: u64) -> Result<(), AllocError>
-        ensures { IfOk result (λ _. verdict_in self.new ≡ at_end number trace.now) }
+    // Says why the text is no trace.
+    fn fault(&mut self, fault: TextFault) -> Result<(), AllocError>
+        ensures { IfOk result (λ _. verdict_in self.new ≡ verdict_in self.old) }
     {
-        if trace.checker().is_some() {
+        self.facts = Facts::Fault(fault);
+        write!(self.message, "{fault}")
+    }
+
+    // The text has no more lines.
+    fn end(&mut self, trace: &TraceReader, course: &Course, number: u64) -> Result<(), AllocError>
+        ensures { IfOk result (λ _. verdict_in self.new
+            ≡ if_hangs (hangs_at trace.now course.now) (at_end number trace.now)) }
+    {
+        if let Some(checker) = trace.checker() {
+            if course.hangs(checker.lock().machine().threads()) {
+                self.settle(Ending::Hangs, 0);
+                return self.explain_hang(checker, course);
+            }
             self.settle(Ending::Accepted, 0);
             return Ok(());
         }
         self.settle(Ending::Faulty, number);
-        let fault = TextFault::NoHeader;
-        write!(self.message, "{fault}")
+        self.fault(TextFault::NoHeader)
     }
 }
 
@@ -140,22 +183,28 @@ pub fn unread(alloc: Global, error: &Error) -> Result<Report, AllocError>
 {
     let mut report = Report::new(alloc);
     write!(report.message, "{error}")?;
+    report.facts = Facts::Unread;
     report.ending = Ending::Unread;
     Ok(report)
 }
 
-// Reads a line of this number into the trace. True where it is to be read on.
+// Reads a line of this number into the trace. True if it is to be read on.
 fn take_line(
     trace: &mut TraceReader,
+    course: &mut Course,
     number: u64,
     line: &[u8],
     report: &mut Report,
 ) -> Result<bool, AllocError>
     ensures after { IfOk result (λ _. trace.new ≡ after_text_line trace.old line.now) }
+    ensures told { IfOk result (λ _. course.new
+        ≡ after_line course.old (event_of trace.old line.now) line.now) }
     ensures reported { IfOk result
         (λ on. Follows number (event_of trace.old line.now) on report.new) }
 {
-    match trace.line(line) {
+    let event = trace.line(line);
+    course.take(number, line, event);
+    match event {
         Event::Skipped | Event::Began(_) => Ok(true),
         Event::Made(line, made) => {
             report.count(trace, line, made);
@@ -164,13 +213,13 @@ fn take_line(
         Event::Differs(line, difference) => {
             report.settle(Ending::Refused, number);
             if let Some(checker) = trace.checker() {
-                report.explain(checker, line, difference)?;
+                report.explain(checker, course.trail(), line, difference)?;
             }
             Ok(false)
         }
         Event::Fault(fault) => {
             report.settle(Ending::Faulty, number);
-            write!(report.message, "{fault}")?;
+            report.fault(fault)?;
             Ok(false)
         }
     }
@@ -208,16 +257,17 @@ pub fn check_input<R: Read + Drop, W: Watcher>(
     let mut lines = Lines::new(alloc, input)?;
     let mut line = Line::new();
     let mut trace = TraceReader::new();
+    let mut course = Course::new();
     for number in 1..u64::MAX {
         match lines.next_line(&mut line) {
             Ok(true) => {}
             Ok(false) => {
-                report.end(&trace, number)?;
+                report.end(&trace, &course, number)?;
                 return Ok(report);
             }
             Err(error) => return unread(alloc, &error),
         }
-        if !take_line(&mut trace, number, line.bytes(), &mut report)? {
+        if !take_line(&mut trace, &mut course, number, line.bytes(), &mut report)? {
             return Ok(report);
         }
         watcher.line(number);

@@ -1,5 +1,5 @@
-//! The job of checking files, by several threads where asked for. The reports come in the order of
-//! the files.
+//! The job of checking files, by several threads if that is asked for. The reports come in the
+//! order of the files.
 
 ghost use Rattle.lk_trace_files.specs.Verdicts.{AreOfTexts};
 ghost use Rattle.std.specs.Prelude.{◌≡◌, ◌+◌, ◌++◌, ◌∷◌, [], IfOk, OnOk, length};
@@ -18,6 +18,10 @@ use std::thread::{Threads, map_vec};
 pub struct CheckJob {
     pub format: Format,
     pub summary: bool,
+    /// Whether nothing is written.
+    pub quiet: bool,
+    /// Whether the text has the colors of a terminal.
+    pub colored: bool,
     /// How many threads share the files.
     pub workers: u8,
     pub files: Vec<String>,
@@ -67,7 +71,7 @@ impl<'a> Reports<'a> {
         ensures { IfOk result (λ reports. reports.endings.items ≡ []) }
     {
         let mut text = String::new(alloc);
-        put_front(&mut text, job.format, job.files.len())?;
+        put_front(&mut text, job)?;
         let endings = Vec::new(alloc);
         Ok(Reports { job, text, endings })
     }
@@ -127,7 +131,7 @@ fn check_shown<R: Runtime>(
 ///
 /// # Errors
 ///
-/// A request for memory was refused. One that was refused in a check stands in that report's place.
+/// A request for memory was refused. One that was refused in a check is in that report's place.
 pub fn check_side_by_side<R: Threads + Sync, I: Read + Send + Drop>(
     rt: &R,
     alloc: Global,
@@ -211,9 +215,9 @@ where
 {
     let mut rest = job.files.as_slice();
     while rest.len() > 0 {
-        let (names, behind) = rest.split_at((job.workers as usize).max(1).min(rest.len()));
+        let (names, others) = rest.split_at((job.workers as usize).max(1).min(rest.len()));
         check_round(rt, alloc, names, reports, output)?;
-        rest = behind;
+        rest = others;
     }
     Ok(())
 }
@@ -238,7 +242,7 @@ fn check_each<R: Runtime, O: Write>(
 }
 
 /// Checks the files, writes their reports, and gives their endings, in the order of the files.
-/// `told` where a terminal is told how far it is.
+/// `told` if a terminal is told how far it is.
 ///
 /// # Errors
 ///

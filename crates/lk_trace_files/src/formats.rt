@@ -2,6 +2,7 @@
 
 use crate::check::{Ending, Report};
 use crate::checking::CheckJob;
+use crate::notes::Notes;
 use std::alloc::AllocError;
 use std::fmt;
 use std::fmt::Write;
@@ -16,29 +17,154 @@ pub enum Format {
 
 const UNCONTENDED: &str = "no thread ever waited, so the run shows nothing of contention";
 
+// The colors of a terminal, and the end of one.
+const RED: &str = "\x1b[1;31m";
+
+const PURPLE: &str = "\x1b[1;35m";
+
+const CYAN: &str = "\x1b[1;36m";
+
+const PLAIN: &str = "\x1b[0m";
+
+/// Text in a color, if there are colors.
+#[derive(Clone, Copy)]
+pub struct Painted<'a> {
+    pub color: &'static str,
+    pub text: &'a str,
+    pub colored: bool,
+}
+
+impl fmt::Display for Painted<'_> {
+    fn fmt<W: fmt::Write>(&self, f: &mut fmt::Formatter<W>) -> fmt::Result {
+        let Painted {
+            color,
+            text,
+            colored,
+        } = *self;
+        if colored {
+            write!(f, "{color}{text}{PLAIN}")
+        } else {
+            f.write_str(text)
+        }
+    }
+}
+
+impl<'a> Painted<'a> {
+    /// What is wrong.
+    pub fn wrong(text: &'a str, colored: bool) -> Painted<'a> {
+        Painted {
+            color: RED,
+            text,
+            colored,
+        }
+    }
+
+    /// The word that begins a warning.
+    pub fn warning(colored: bool) -> Painted<'a> {
+        Painted {
+            color: PURPLE,
+            text: "warning:",
+            colored,
+        }
+    }
+
+    /// The word that begins a note.
+    pub fn note(colored: bool) -> Painted<'a> {
+        Painted {
+            color: CYAN,
+            text: "note:",
+            colored,
+        }
+    }
+}
+
+// Writes a file's name, and the line in it that is meant, if one is.
+fn put_place(text: &mut String, name: &str, line: u64) -> Result<(), AllocError> {
+    if line > 0 {
+        write!(text, "{name}:{line}: ")
+    } else {
+        write!(text, "{name}: ")
+    }
+}
+
+/// Writes texts about lines, each with this word before it. A text of no file is of the one named.
+pub fn put_noted(
+    text: &mut String,
+    name: &str,
+    notes: &Notes,
+    word: &str,
+) -> Result<(), AllocError> {
+    for note in notes.as_slice() {
+        let file = if note.file.is_empty() {
+            name
+        } else {
+            note.file.as_str()
+        };
+        let said = &note.text;
+        put_place(text, file, note.line)?;
+        writeln!(text, "{word}{said}")?;
+    }
+    Ok(())
+}
+
+// Writes the notes of a report as lines of text.
+fn put_notes(
+    text: &mut String,
+    name: &str,
+    notes: &Notes,
+    colored: bool,
+) -> Result<(), AllocError> {
+    for note in notes.as_slice() {
+        let (begin, said) = (Painted::note(colored), &note.text);
+        put_place(text, name, note.line)?;
+        writeln!(text, "{begin} {said}")?;
+    }
+    Ok(())
+}
+
 fn put_text(
     text: &mut String,
     name: &str,
     report: &Report,
     counted: bool,
+    colored: bool,
 ) -> Result<(), AllocError> {
-    let (line, message, standing) = (report.line, &report.message, &report.standing);
+    let (line, standing) = (report.line, &report.standing);
     if report.ending != Ending::Accepted {
-        text.push_str(name)?;
-        if line > 0 {
-            write!(text, ":{line}")?;
-        }
-        writeln!(text, ": {message}")?;
+        let message = Painted::wrong(report.message.as_str(), colored);
+        put_place(text, name, line)?;
+        writeln!(text, "{message}")?;
     }
+    put_notes(text, name, &report.notes, colored)?;
     if !standing.is_empty() {
-        writeln!(text, "{name}:{line}: note: {standing}")?;
+        let begin = Painted::note(colored);
+        put_place(text, name, line)?;
+        writeln!(text, "{begin} {standing}")?;
     }
     if counted {
         let summary = &report.summary;
         writeln!(text, "{name}: {summary}")?;
         if !summary.is_contended() {
-            writeln!(text, "{name}: warning: {UNCONTENDED}")?;
+            let begin = Painted::warning(colored);
+            writeln!(text, "{name}: {begin} {UNCONTENDED}")?;
         }
+    }
+    Ok(())
+}
+
+/// Writes notes as comments of TAP.
+pub fn put_comments(text: &mut String, notes: &Notes) -> Result<(), AllocError> {
+    for note in notes.as_slice() {
+        let (line, said) = (note.line, &note.text);
+        text.push_str("# ")?;
+        if !note.file.is_empty() {
+            text.push_str(note.file.as_str())?;
+            text.push_str(" ")?;
+        }
+        if line > 0 {
+            write!(text, "line {line}: ")?;
+        }
+        writeln!(text, "{said}")?;
     }
     Ok(())
 }
@@ -53,9 +179,12 @@ fn put_tap(
     let (line, message, standing) = (report.line, &report.message, &report.standing);
     if report.ending == Ending::Accepted {
         writeln!(text, "ok {number} - {name}")?;
-    } else {
+    } else if line > 0 {
         writeln!(text, "not ok {number} - {name}\n# line {line}: {message}")?;
+    } else {
+        writeln!(text, "not ok {number} - {name}\n# {message}")?;
     }
+    put_comments(text, &report.notes)?;
     if !standing.is_empty() {
         writeln!(text, "# {standing}")?;
     }
@@ -69,9 +198,9 @@ fn put_tap(
     Ok(())
 }
 
-// Text as a string of JSON.
+/// Text as a string of JSON.
 #[derive(Clone, Copy)]
-struct Quoted<'a>(&'a str);
+pub struct Quoted<'a>(pub &'a str);
 
 impl fmt::Display for Quoted<'_> {
     fn fmt<W: fmt::Write>(&self, f: &mut fmt::Formatter<W>) -> fmt::Result {
@@ -88,6 +217,27 @@ impl fmt::Display for Quoted<'_> {
     }
 }
 
+/// Writes notes as a field of a JSON object, unless there is none.
+pub fn put_note_fields(text: &mut String, name: &str, notes: &Notes) -> Result<(), AllocError> {
+    if notes.as_slice().is_empty() {
+        return Ok(());
+    }
+    write!(text, ",\"{name}\":[")?;
+    for (place, note) in notes.as_slice().iter().enumerate() {
+        let (line, said) = (note.line, Quoted(&note.text));
+        text.push_str(if place > 0 { ",{" } else { "{" })?;
+        if !note.file.is_empty() {
+            let file = Quoted(&note.file);
+            write!(text, "\"file\":{file},")?;
+        }
+        if line > 0 {
+            write!(text, "\"line\":{line},")?;
+        }
+        write!(text, "\"message\":{said}}}")?;
+    }
+    text.push_str("]")
+}
+
 fn put_json(
     text: &mut String,
     name: &str,
@@ -99,7 +249,9 @@ fn put_json(
     if report.ending != Ending::Accepted {
         let message = Quoted(&report.message);
         write!(text, ",\"line\":{line},\"message\":{message}")?;
+        report.facts.put_fields(text)?;
     }
+    put_note_fields(text, "notes", &report.notes)?;
     if !report.standing.is_empty() {
         let standing = Quoted(&report.standing);
         write!(text, ",\"standing\":{standing}")?;
@@ -120,17 +272,21 @@ pub fn put_report(
     report: &Report,
 ) -> Result<(), AllocError> {
     let counted = job.summary && report.ending != Ending::Unread;
+    if job.quiet {
+        return Ok(());
+    }
     match job.format {
-        Format::Text => put_text(text, name, report, counted),
+        Format::Text => put_text(text, name, report, counted, job.colored),
         Format::Tap => put_tap(text, number, name, report, counted),
         Format::Json => put_json(text, name, report, counted),
     }
 }
 
-/// Writes what comes before the first report of so many.
-pub fn put_front(text: &mut String, format: Format, count: usize) -> Result<(), AllocError> {
-    match format {
-        Format::Tap => write!(text, "TAP version 14\n1..{count}\n"),
-        Format::Text | Format::Json => Ok(()),
+/// Writes what comes before the first report of a job.
+pub fn put_front(text: &mut String, job: &CheckJob) -> Result<(), AllocError> {
+    let count = job.files.len();
+    match job.format {
+        Format::Tap if !job.quiet => write!(text, "TAP version 14\n1..{count}\n"),
+        _ => Ok(()),
     }
 }

@@ -6,22 +6,28 @@
 //! without its values, and `order_logs` orders logs. The program `locktrace` gives them its files.
 #![tactic(auto)]
 
+mod blame;
 mod check;
 mod checking;
+mod course;
 mod explain;
+mod facts;
 mod failures;
 mod formats;
 mod lines;
+mod notes;
 mod ordering;
 mod rewriting;
 mod scheduling;
 mod sentences;
 mod summary;
 mod texts;
+mod trail;
+mod waiting;
 
 pub use check::{Ending, NoWatcher, Report, Watcher, check_input, unread, worst};
 pub use checking::{CheckJob, check_files, check_side_by_side};
-pub use explain::{Asked, explain_input};
+pub use explain::{Asked, Due, explain_input, put_wrong, wrong_in_header, wrong_in_sketch};
 pub use failures::Failure;
 pub use formats::Format;
 pub use lines::{Line, Lines};

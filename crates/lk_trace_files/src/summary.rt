@@ -1,6 +1,8 @@
 //! What a run had of contention: waits, failed compare-and-swaps, polls of a late link, the longest
 //! queue, rounds of a counter.
 
+ghost use Rattle.std.specs.Prelude.{◌≡◌};
+
 use crate::texts::Lock;
 use lk_locks::{LockKind, Move, Outcome, Phase, StepKind};
 use lk_trace::{Made, TraceLine};
@@ -46,6 +48,13 @@ impl Summary {
     /// Whether some thread waited.
     pub fn is_contended(&self) -> bool {
         self.waits > 0 || self.late > 0 || self.failed > 0
+    }
+
+    /// How often the lock's counter went round.
+    pub fn rounds(&self) -> u64
+        ensures { result ≡ self.now.rounds }
+    {
+        self.rounds
     }
 
     // Counts a step that may have changed who is in the queue, and the lock's counter.

@@ -11,50 +11,73 @@ use std::fmt::Write;
 /// A lock that is followed along a trace.
 pub type Lock = Tracker<WordArray>;
 
-// Writes what a line saw, each part with a space before it.
-fn put_seen(text: &mut String, seen: Seen, thread: u8) -> Result<(), AllocError> {
-    match seen {
-        Seen::Nothing => {}
-        Seen::OnWord {
-            word,
-            found,
-            left,
-            wrote,
-        } => {
-            match word {
-                WordName::Next(owner) if owner == thread => text.push_str(" next")?,
-                WordName::Locked(owner) if owner == thread => text.push_str(" locked")?,
-                _ => write!(text, " {word}")?,
-            }
-            if let Some(found) = found {
-                write!(text, " found {found}")?;
-            }
-            if let Some(left) = left {
-                write!(text, " left {left}")?;
-            }
-            if let Some(wrote) = wrote {
-                text.push_str(if wrote { " done" } else { " failed" })?;
-            }
-        }
-        Seen::InSection { count, outcome } => {
-            if let Some(count) = count {
-                write!(text, " {count}")?;
-            }
-            if let Some(outcome) = outcome {
-                let outcome = outcome_text(outcome);
-                write!(text, " {outcome}")?;
-            }
+/// A line of a trace as it is written, without its end.
+#[derive(Clone, Copy)]
+pub struct Shown<'a>(pub &'a TraceLine);
+
+impl fmt::Display for Shown<'_> {
+    fn fmt<W: fmt::Write>(&self, f: &mut fmt::Formatter<W>) -> fmt::Result {
+        let (thread, word) = (self.0.thread, move_text(self.0.action));
+        write!(f, "{thread} {word}")?;
+        let seen = SeenBy(thread, self.0.seen);
+        write!(f, "{seen}")
+    }
+}
+
+// What a thread saw, each part with a space before it.
+#[derive(Clone, Copy)]
+struct SeenBy(u8, Seen);
+
+impl SeenBy {
+    // Writes the word that a step was on. `of` is left out of the thread's own record.
+    fn put_word<W: fmt::Write>(&self, f: &mut fmt::Formatter<W>, word: WordName) -> fmt::Result {
+        match word {
+            WordName::Next(owner) if owner == self.0 => f.write_str(" next"),
+            WordName::Locked(owner) if owner == self.0 => f.write_str(" locked"),
+            _ => write!(f, " {word}"),
         }
     }
-    Ok(())
+}
+
+impl fmt::Display for SeenBy {
+    fn fmt<W: fmt::Write>(&self, f: &mut fmt::Formatter<W>) -> fmt::Result {
+        match self.1 {
+            Seen::Nothing => {}
+            Seen::OnWord {
+                word,
+                found,
+                left,
+                wrote,
+            } => {
+                self.put_word(f, word)?;
+                if let Some(found) = found {
+                    write!(f, " found {found}")?;
+                }
+                if let Some(left) = left {
+                    write!(f, " left {left}")?;
+                }
+                if let Some(wrote) = wrote {
+                    f.write_str(if wrote { " done" } else { " failed" })?;
+                }
+            }
+            Seen::InSection { count, outcome } => {
+                if let Some(count) = count {
+                    write!(f, " {count}")?;
+                }
+                if let Some(outcome) = outcome {
+                    let outcome = outcome_text(outcome);
+                    write!(f, " {outcome}")?;
+                }
+            }
+        }
+        Ok(())
+    }
 }
 
 /// Writes a line of a trace, with its end.
 pub fn put_line(text: &mut String, line: &TraceLine) -> Result<(), AllocError> {
-    let (thread, word) = (line.thread, move_text(line.action));
-    write!(text, "{thread} {word}")?;
-    put_seen(text, line.seen, thread)?;
-    text.push_str("\n")
+    let line = Shown(line);
+    writeln!(text, "{line}")
 }
 
 // A list of threads, or `nobody`.
@@ -100,7 +123,7 @@ impl fmt::Display for Standing<'_> {
     }
 }
 
-/// A thread as it is called: by its number where it has no name.
+/// A thread as it is called: by its number if it has no name.
 #[derive(Clone, Copy)]
 pub struct Called<'a>(pub u8, pub &'a [String]);
 
@@ -159,16 +182,70 @@ impl<'a> Wrong<'a> {
     }
 }
 
+impl Wrong<'_> {
+    // Writes which word is another than the lock's.
+    fn put_other_word<W: fmt::Write>(
+        &self,
+        f: &mut fmt::Formatter<W>,
+        word: Option<WordName>,
+        given: WordName,
+    ) -> fmt::Result {
+        let called = Called(self.line.thread, self.names);
+        let step = move_text(self.line.action);
+        write!(f, "{called}'s {step} is on {given}, and the lock's is on ")?;
+        match word {
+            Some(word) => write!(f, "{word}"),
+            None => f.write_str("no single word"),
+        }
+    }
+
+    // Writes which value, word or result is another than the lock's.
+    fn put_value<W: fmt::Write>(&self, f: &mut fmt::Formatter<W>) -> fmt::Result {
+        let called = Called(self.line.thread, self.names);
+        let step = move_text(self.line.action);
+        match self.difference {
+            Difference::FoundOther { word, found, given } => {
+                write!(
+                    f,
+                    "{called}'s {step} found {given} in {word}, and the lock has {found}"
+                )
+            }
+            Difference::LeftOther { word, left, given } => {
+                write!(
+                    f,
+                    "{called}'s {step} left {given} in {word}, and the lock leaves {left}"
+                )
+            }
+            Difference::OtherWord { word, given } => self.put_other_word(f, word, given),
+            Difference::WroteOther { wrote: true } => {
+                write!(f, "{called}'s {step} failed, and the lock's writes")
+            }
+            Difference::WroteOther { wrote: false } => {
+                write!(f, "{called}'s {step} wrote, and the lock's fails")
+            }
+            Difference::CountNotAbove { last, given } => {
+                write!(
+                    f,
+                    "{called}'s section has the count {given}, after the count {last}"
+                )
+            }
+            Difference::OtherOutcome { outcome, given } => {
+                let (outcome, given) = (outcome_text(outcome), outcome_text(given));
+                write!(
+                    f,
+                    "{called}'s section came to '{given}', and the lock's to '{outcome}'"
+                )
+            }
+            Difference::Refused(_) => Ok(()),
+        }
+    }
+}
+
 impl fmt::Display for Wrong<'_> {
     fn fmt<W: fmt::Write>(&self, f: &mut fmt::Formatter<W>) -> fmt::Result {
-        let difference = self.difference;
-        match difference {
+        match self.difference {
             Difference::Refused(refusal) => self.put_refusal(f, refusal),
-            Difference::OtherWord { .. } => {
-                let step = move_text(self.line.action);
-                write!(f, "{step} {difference}")
-            }
-            _ => write!(f, "{difference}"),
+            _ => self.put_value(f),
         }
     }
 }

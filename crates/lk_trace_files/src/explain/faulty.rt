@@ -31,8 +31,8 @@ fn nearest(
     Ok(best.map(|(_, known)| known))
 }
 
-// Writes what is at a column, and what could be.
-fn put_wrong(
+/// Writes what is at a column of a line, what could be there, and the nearest word.
+pub fn put_wrong(
     text: &mut String,
     alloc: Global,
     line: &[u8],

@@ -23,6 +23,10 @@ pub enum Due {
     Part(StepKind, usize),
     /// A number, and then such a part.
     Value(StepKind, usize),
+    /// Of a sketch: `*`, or a thread's number.
+    AnyThread,
+    /// Of a sketch: a place, or a part without its place.
+    Open(StepKind),
 }
 
 /// The words of all calls and steps.
@@ -50,6 +54,19 @@ const OUTCOME: &str = "moved, waits, entered or left";
 
 const PLACES: [&str; 5] = ["next_ticket", "now_serving", "tail", "next", "locked"];
 
+// The places, and the parts that may follow a place that a sketch leaves out.
+const OPEN: [&str; 9] = [
+    "next_ticket",
+    "now_serving",
+    "tail",
+    "next",
+    "locked",
+    "found",
+    "left",
+    "done",
+    "failed",
+];
+
 // What may follow a word of the lock, in this order. The last two are a compare-and-swap's.
 const PARTS: [&str; 5] = ["of", "found", "left", "done", "failed"];
 
@@ -74,7 +91,14 @@ impl Due {
     // What is expected after this word. None where it may not be here.
     fn after(self, word: &[u8]) -> Option<Due> {
         match self {
-            Due::OfSchedule(_) => None,
+            Due::OfSchedule(_) | Due::AnyThread => None,
+            Due::Open(kind) => match place_among(self.words(), word)? {
+                0..3 => Some(Due::Part(kind, 1)),
+                3..5 => Some(Due::Part(kind, 0)),
+                5 => Some(Due::Value(kind, 2)),
+                6 => Some(Due::Value(kind, 3)),
+                _ => Some(END),
+            },
             Due::Section if whole_number(word).is_some() => Some(Due::Outcome),
             Due::Section | Due::Outcome => place_among(&OUTCOMES, word).map(|_| END),
             // the last two are in a record, and its owner may follow
@@ -99,7 +123,7 @@ impl Due {
     fn may_end(self) -> bool {
         match self {
             Due::OfSchedule(expected) => expected.may_end(),
-            _ => !matches!(self, Due::Owner(_) | Due::Value(..)),
+            _ => !matches!(self, Due::Owner(_) | Due::Value(..) | Due::AnyThread),
         }
     }
 
@@ -113,6 +137,8 @@ impl Due {
             Due::OfSchedule(Expected::Action) => &MOVES,
             Due::Section | Due::Outcome => &OUTCOMES,
             Due::Place(_) => &PLACES,
+            Due::Open(StepKind::Cas) => &OPEN,
+            Due::Open(_) => OPEN.get(..7).unwrap_or(&[]),
             Due::Part(StepKind::Cas, first) => PARTS.get(first..).unwrap_or(&[]),
             Due::Part(_, first) => PARTS.get(first..3).unwrap_or(&[]),
             _ => &[],
@@ -131,7 +157,8 @@ impl fmt::Display for Due {
             ),
             Due::Owner(_) => f.write_str("a thread's number, from 0 to 255"),
             Due::Value(..) => f.write_str("a number of at most 64 bits"),
-            Due::Part(..) => {
+            Due::AnyThread => f.write_str("'*', or a thread's number, from 0 to 255"),
+            Due::Open(_) | Due::Part(..) => {
                 let words = self.words();
                 f.write_str("the end")?;
                 for (at, word) in words.iter().enumerate() {
@@ -180,6 +207,21 @@ pub fn wrong_in_move(line: &[u8]) -> Option<(usize, Due)> {
     let place = unreadable_move(line)?;
     let due = match place.expected {
         Expected::End => Due::after_move(line)?,
+        expected => Due::OfSchedule(expected),
+    };
+    wrong_from(line, place.column, due)
+}
+
+/// The first column of a sketch's line at which something else is expected, and what. It begins
+/// with a thread's number, which may be in the place of `*`.
+pub fn wrong_in_sketch(line: &[u8]) -> Option<(usize, Due)> {
+    let place = unreadable_move(line)?;
+    let due = match place.expected {
+        Expected::Thread => Due::AnyThread,
+        Expected::End => match Due::after_move(line)? {
+            Due::Place(kind) => Due::Open(kind),
+            due => due,
+        },
         expected => Due::OfSchedule(expected),
     };
     wrong_from(line, place.column, due)

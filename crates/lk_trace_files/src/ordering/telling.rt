@@ -1,52 +1,215 @@
-//! What is said of an order that does not reach the end of the logs.
+//! What is said of an order that does not reach the end of the logs, or whose run hangs.
 
-use crate::texts::{Standing, Wrong};
-use lk_order::{Order, Stuck};
-use lk_replay::parts::move_text;
+use super::report::OrderReport;
+use crate::course::Course;
+use crate::facts::Facts;
+use crate::texts::{Called, Shown, Standing, Wrong};
+use crate::trail::Trail;
+use crate::waiting::{HANGS, put_waits};
+use lk_locks::{LockKind, Move, StepKind};
+use lk_order::{Log, Order, Stuck};
+use lk_trace::{Seen, TraceLine};
 use std::alloc::AllocError;
-use std::fmt::Write;
+use std::fmt;
 
-/// Says which step cannot be placed, and why, with the line of the thread's file that it is in.
+// How far an order came.
+#[derive(Clone, Copy)]
+struct Placed<'a>(&'a Order);
+
+impl fmt::Display for Placed<'_> {
+    fn fmt<W: fmt::Write>(&self, f: &mut fmt::Formatter<W>) -> fmt::Result {
+        let (placed, standing) = (self.0.len(), Standing(self.0.checker().lock()));
+        write!(f, "{placed} steps placed; {standing}")
+    }
+}
+
+// Why a step cannot be placed.
+#[derive(Clone, Copy)]
+struct Unplaced<'a> {
+    order: &'a Order,
+    stuck: Stuck,
+}
+
+impl fmt::Display for Unplaced<'_> {
+    fn fmt<W: fmt::Write>(&self, f: &mut fmt::Formatter<W>) -> fmt::Result {
+        let Some(line) = self.order.next(self.stuck.thread) else {
+            return Ok(());
+        };
+        match self.stuck.difference {
+            Some(difference) => {
+                let wrong = Wrong::unnamed(self.order.checker().lock(), line, difference);
+                write!(f, "cannot be placed: {wrong}")
+            }
+            None => {
+                let line = Shown(&line);
+                write!(f, "'{line}' cannot be placed: ")?;
+                f.write_str("a step of another thread has to come before")
+            }
+        }
+    }
+}
+
+// A step that is its thread's next, and why it is not placed.
+#[derive(Clone, Copy)]
+struct Next<'a> {
+    order: &'a Order,
+    line: TraceLine,
+}
+
+impl fmt::Display for Next<'_> {
+    fn fmt<W: fmt::Write>(&self, f: &mut fmt::Formatter<W>) -> fmt::Result {
+        let (called, shown) = (Called(self.line.thread, &[]), Shown(&self.line));
+        write!(f, "{called}'s next step is '{shown}'")?;
+        let checker = self.order.checker();
+        match checker.difference(self.line) {
+            Some(difference) => {
+                let wrong = Wrong::unnamed(checker.lock(), self.line, difference);
+                write!(f, ": {wrong}")
+            }
+            None => f.write_str(": a step of another thread has to come before"),
+        }
+    }
+}
+
+// A part of a step without which logs may have no order.
+#[derive(Clone, Copy)]
+struct Missing(TraceLine, &'static str);
+
+impl fmt::Display for Missing {
+    fn fmt<W: fmt::Write>(&self, f: &mut fmt::Formatter<W>) -> fmt::Result {
+        let (line, part) = (Shown(&self.0), self.1);
+        write!(f, "'{line}' has no {part}, which an order needs")
+    }
+}
+
+// The part that a step lacks of those that an order needs.
+fn missing_in(kind: LockKind, line: TraceLine) -> Option<&'static str> {
+    let Move::Step(step) = line.action else {
+        return None;
+    };
+    let (found, wrote, count) = match line.seen {
+        Seen::Nothing => (None, None, None),
+        Seen::OnWord { found, wrote, .. } => (found, wrote, None),
+        Seen::InSection { count, .. } => (None, None, count),
+    };
+    match (kind, step) {
+        (LockKind::Ticket, StepKind::Add | StepKind::Read)
+        | (LockKind::Mcs, StepKind::Swap | StepKind::Read)
+            if found.is_none() => { Some("'found'") }
+        (LockKind::Mcs, StepKind::Cas) if wrote.is_none() => Some("'done' or 'failed'"),
+        (LockKind::RwSimple | LockKind::RwFifo, StepKind::Section) if count.is_none() => {
+            Some("count")
+        }
+        _ => None,
+    }
+}
+
+// Says which needed part is missing first in a log, if one is.
+fn put_missing(report: &mut OrderReport, log: &Log, name: &str) -> Result<(), AllocError> {
+    for (at, line) in log.moves().iter().enumerate() {
+        if let Some(part) = missing_in(log.kind(), *line) {
+            let number = u64::from(log.line_of(at).unwrap_or(0));
+            return report.notes.put_in(name, number, Missing(*line, part));
+        }
+    }
+    Ok(())
+}
+
+// The line of its file in which a thread's next step is.
+fn next_number(order: &Order, thread: u8) -> u64 {
+    match order.logs().get(thread as usize) {
+        Some(log) => u64::from(log.line_of(order.placed(thread)).unwrap_or(0)),
+        None => 0,
+    }
+}
+
+/// Says which step cannot be placed, and why, with the line of the thread's file that it is in; and
+/// what each other thread would do next.
 pub fn put_stuck(
-    text: &mut String,
+    report: &mut OrderReport,
     order: &Order,
     names: &[&str],
     stuck: Stuck,
 ) -> Result<(), AllocError> {
-    let thread = stuck.thread as usize;
-    let name = names.get(thread).copied().unwrap_or("");
-    let log = order.logs().get(thread);
-    let number = log.and_then(|log| log.line_of(stuck.at)).unwrap_or(0);
-    let (lock, placed) = (order.checker().lock(), order.len());
-    write!(text, "{name}:{number}: ")?;
-    match (order.next(stuck.thread), stuck.difference) {
-        (Some(line), Some(difference)) => {
-            let wrong = Wrong::unnamed(lock, line, difference);
-            write!(text, "cannot be placed: {wrong}")?;
-        }
-        (Some(line), None) => {
-            let word = move_text(line.action);
-            write!(text, "'{word}' cannot be placed: ")?;
-            text.push_str("a step of another thread has to come before")?;
-        }
-        (None, _) => {}
+    let name = names.get(stuck.thread as usize).copied().unwrap_or("");
+    let number = next_number(order, stuck.thread);
+    report
+        .messages
+        .put_in(name, number, Unplaced { order, stuck })?;
+    if let (Some(line), Some(difference)) = (order.next(stuck.thread), stuck.difference) {
+        report.facts = Facts::of(order.checker().lock(), &Trail::new(), line, difference);
     }
-    let standing = Standing(lock);
-    writeln!(
-        text,
-        "\n{name}:{number}: note: {placed} steps placed; {standing}"
-    )
+    for thread in 0..order.threads() {
+        let file = names.get(thread as usize).copied().unwrap_or("");
+        match order.next(thread) {
+            Some(line) if thread != stuck.thread => {
+                let number = next_number(order, thread);
+                report.notes.put_in(file, number, Next { order, line })?;
+            }
+            _ => {}
+        }
+        if let Some(log) = order.logs().get(thread as usize) {
+            put_missing(report, log, file)?;
+        }
+    }
+    report.notes.put_in(name, number, Placed(order))
 }
 
-/// Says that an order ends where a log was cut short.
-pub fn put_cut(text: &mut String, order: &Order, names: &[&str]) -> Result<(), AllocError> {
-    for (log, name) in order.logs().iter().zip(names) {
-        match log.dropped() {
-            Some(0) => {}
-            Some(count) => writeln!(text, "{name}: warning: {count} moves were dropped")?,
-            None => writeln!(text, "{name}: warning: cut off, without its last line")?,
+// What is said of a log that is not whole.
+#[derive(Clone, Copy)]
+struct Cut<'a> {
+    log: &'a Log,
+    is_open: bool,
+}
+
+impl fmt::Display for Cut<'_> {
+    fn fmt<W: fmt::Write>(&self, f: &mut fmt::Formatter<W>) -> fmt::Result {
+        match self.log.dropped() {
+            Some(1) => f.write_str("1 move was dropped"),
+            Some(count) => write!(f, "{count} moves were dropped"),
+            None if self.is_open => f.write_str("its thread has not ended"),
+            None => f.write_str("cut off, without its last line"),
         }
     }
-    let placed = order.len();
-    writeln!(text, "locktrace: ordered up to there: {placed} steps")
+}
+
+// How far an order came that ends at the end of a log.
+#[derive(Clone, Copy)]
+struct UpTo(usize);
+
+impl fmt::Display for UpTo {
+    fn fmt<W: fmt::Write>(&self, f: &mut fmt::Formatter<W>) -> fmt::Result {
+        let placed = self.0;
+        write!(f, "ordered up to there: {placed} steps")
+    }
+}
+
+/// Says that an order ends where a log was cut short. `open` has the threads that have not ended.
+pub fn put_cut(
+    report: &mut OrderReport,
+    order: &Order,
+    names: &[&str],
+    open: &[bool],
+) -> Result<(), AllocError> {
+    for (t, log) in order.logs().iter().enumerate() {
+        let name = names.get(t).copied().unwrap_or("");
+        let is_open = open.get(t).copied().unwrap_or(false);
+        if log.is_cut() {
+            report.warnings.put_in(name, 0, Cut { log, is_open })?;
+        }
+    }
+    report.notes.put(0, UpTo(order.len()))
+}
+
+/// Says that a run hangs, who waits for what, and who holds.
+pub fn put_hang(
+    report: &mut OrderReport,
+    order: &Order,
+    names: &[&str],
+    course: &Course,
+) -> Result<(), AllocError> {
+    report.facts = Facts::Hangs;
+    report.messages.put(0, HANGS)?;
+    put_waits(&mut report.notes, order.checker().lock(), course, names)?;
+    report.notes.put(0, Placed(order))
 }

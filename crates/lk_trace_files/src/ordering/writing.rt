@@ -1,6 +1,7 @@
 //! An order as text: its trace, and schedules that are cut where nobody is in a call and nobody
 //! holds.
 
+use crate::course::{Course, Fate};
 use crate::failures::Failure;
 use crate::texts::put_line;
 use lk_order::{Order, Piece, Pieces};
@@ -24,8 +25,26 @@ fn put_header(text: &mut String, order: &Order) -> Result<(), AllocError> {
     text.push_str("\n")
 }
 
-/// Writes the trace of an order.
-pub fn write_trace<O: Write>(alloc: Global, order: &Order, output: &mut O) -> Result<(), Failure> {
+// Writes which threads of a run that hangs have ended, as a recorder writes it.
+fn put_ends(text: &mut String, threads: u8, course: &Course) -> Result<(), AllocError> {
+    for thread in 0..threads {
+        let end = if course.fate(thread) == Fate::Ended {
+            "has ended"
+        } else {
+            "has not ended"
+        };
+        writeln!(text, "# thread {thread} {end}")?;
+    }
+    Ok(())
+}
+
+/// Writes the trace of an order. If the run hangs, `hung` says how far its threads came.
+pub fn write_trace<O: Write>(
+    alloc: Global,
+    order: &Order,
+    hung: Option<&Course>,
+    output: &mut O,
+) -> Result<(), Failure> {
     let mut text = String::new(alloc);
     put_header(&mut text, order)?;
     for k in 0..order.len() {
@@ -36,6 +55,9 @@ pub fn write_trace<O: Write>(alloc: Global, order: &Order, output: &mut O) -> Re
             output.write_all(text.as_bytes())?;
             text.clear();
         }
+    }
+    if let Some(course) = hung {
+        put_ends(&mut text, order.threads(), course)?;
     }
     output.write_all(text.as_bytes())?;
     output.flush()?;
@@ -55,7 +77,7 @@ fn schedule_of(alloc: Global, order: &Order, piece: Piece) -> Result<String, All
     Ok(text)
 }
 
-/// Writes the schedules of an order into a folder, and gives how many moves stand in none.
+/// Writes the schedules of an order into a folder, and gives how many moves are in none.
 pub fn write_schedules<R: Files>(
     rt: &R,
     alloc: Global,

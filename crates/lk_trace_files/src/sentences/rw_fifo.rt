@@ -1,5 +1,6 @@
 //! What the sections of the FIFO read-write lock mean.
 
+use super::Awaited;
 use lk_locks::{Outcome, Phase};
 
 /// What a section of a thread in this phase, with this outcome, means.
@@ -16,5 +17,14 @@ pub fn sentence(phase: Phase, outcome: Outcome) -> &'static str {
         (Phase::LeaveWrite, _) => "writes no more",
         (Phase::TryDowngrade, _) => "reads from here on, with nobody between",
         _ => "takes a step",
+    }
+}
+
+/// What a thread in this phase polls for, if its step may fail.
+pub fn polled_for(phase: Phase) -> Option<Awaited> {
+    match phase {
+        Phase::TryRead | Phase::TryWrite => Some(Awaited::Section("flag to be 0")),
+        Phase::AwaitReaders => Some(Awaited::Section("readReleases to be readAcquires")),
+        _ => None,
     }
 }

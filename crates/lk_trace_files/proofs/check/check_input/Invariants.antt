@@ -6,3 +6,4 @@ use Rattle.lk_trace_files.proofs.check.check_input.Given as goal
 abbrev pub invariant-loop-number : goal.invariant-loop-number
 invariant-loop-number g l =
     Reads (g.R.Read.remaining l.fn.input) (left g.R.Read.remaining l.lines) l.number l.trace
+    l.course

@@ -1,0 +1,191 @@
+//! What ended an input, as fields for programs: a code, and of a refusal the thread, its step, the
+//! word, what was expected and what was found.
+
+use crate::sentences::{Awaited, polled_for};
+use crate::texts::Lock;
+use crate::trail::Trail;
+use lk_locks::{Move, Outcome, Refusal};
+use lk_replay::parts::{move_text, outcome_text};
+use lk_trace::{Difference, TextFault, TraceLine, WordName, name_at};
+use std::alloc::AllocError;
+use std::fmt::Write;
+
+/// The last poll of a thread that went on all the same: its word, what it found, and the value that
+/// it waits for, if that is one.
+#[derive(Clone, Copy)]
+pub struct LastPoll {
+    word: WordName,
+    found: u64,
+    due: Option<u64>,
+}
+
+/// What is known of an ending.
+#[derive(Clone, Copy)]
+pub enum Facts {
+    Nothing,
+    Unread,
+    Hangs,
+    Fault(TextFault),
+    /// This line differs so from the lock.
+    Refused(TraceLine, Difference, Option<LastPoll>),
+}
+
+// The name of a refusal of the lock.
+fn refusal_code(refusal: Refusal) -> &'static str {
+    match refusal {
+        Refusal::NoSuchThread => "NoSuchThread",
+        Refusal::WrongLock => "WrongLock",
+        Refusal::Busy => "Busy",
+        Refusal::NotHolder => "NotHolder",
+        Refusal::AlreadyHolds => "AlreadyHolds",
+        Refusal::NoCall => "NoCall",
+        Refusal::WrongStep { .. } => "WrongStep",
+    }
+}
+
+// The name of a difference.
+fn difference_code(difference: Difference) -> &'static str {
+    match difference {
+        Difference::Refused(refusal) => refusal_code(refusal),
+        Difference::OtherWord { .. } => "OtherWord",
+        Difference::FoundOther { .. } => "FoundOther",
+        Difference::LeftOther { .. } => "LeftOther",
+        Difference::WroteOther { .. } => "WroteOther",
+        Difference::CountNotAbove { .. } => "CountNotAbove",
+        Difference::OtherOutcome { .. } => "OtherOutcome",
+    }
+}
+
+// The name of a fault of a text.
+fn fault_code(fault: TextFault) -> &'static str {
+    match fault {
+        TextFault::NoHeader => "NoHeader",
+        TextFault::BadHeader => "BadHeader",
+        TextFault::BadThreads => "BadThreads",
+        TextFault::WordsTooNarrow => "WordsTooNarrow",
+        TextFault::BadLine => "BadLine",
+    }
+}
+
+// How a compare-and-swap ended, as a trace says it.
+fn result_text(wrote: bool) -> &'static str {
+    if wrote { "done" } else { "failed" }
+}
+
+// The last poll of a thread, if its last move was one.
+fn last_poll(lock: &Lock, trail: &Trail, thread: u8) -> Option<LastPoll> {
+    let step = trail.steps(thread)[0]?;
+    let effect = step.made.effect?;
+    if step.made.outcome != Outcome::Waits {
+        return None;
+    }
+    let due = match polled_for(lock.kind(), step.made.from) {
+        Some(Awaited::Ticket(due) | Awaited::Value(due)) => Some(due),
+        _ => None,
+    };
+    Some(LastPoll {
+        word: name_at(lock.kind(), effect.word)?,
+        found: effect.found,
+        due,
+    })
+}
+
+impl Facts {
+    /// What a line differs in from the lock.
+    pub fn of(lock: &Lock, trail: &Trail, line: TraceLine, difference: Difference) -> Facts {
+        let poll = match difference {
+            Difference::Refused(Refusal::Busy) => last_poll(lock, trail, line.thread),
+            _ => None,
+        };
+        Facts::Refused(line, difference, poll)
+    }
+
+    /// Writes them as further fields of a JSON object.
+    pub fn put_fields(&self, text: &mut String) -> Result<(), AllocError> {
+        let code = match self {
+            Facts::Nothing => return Ok(()),
+            Facts::Unread => "Unread",
+            Facts::Hangs => "Hangs",
+            Facts::Fault(fault) => fault_code(*fault),
+            Facts::Refused(line, difference, poll) => {
+                return put_refused(text, *line, *difference, *poll);
+            }
+        };
+        write!(text, ",\"code\":\"{code}\"")
+    }
+}
+
+// Writes the fields of a refusal. None of the words has a quote.
+fn put_refused(
+    text: &mut String,
+    line: TraceLine,
+    difference: Difference,
+    poll: Option<LastPoll>,
+) -> Result<(), AllocError> {
+    let (code, thread) = (difference_code(difference), line.thread);
+    let step = move_text(line.action);
+    write!(
+        text,
+        ",\"code\":\"{code}\",\"thread\":{thread},\"step\":\"{step}\""
+    )?;
+    match difference {
+        Difference::Refused(Refusal::WrongStep { next }) => {
+            let next = move_text(Move::Step(next));
+            write!(text, ",\"expected\":\"{next}\",\"found\":\"{step}\"")
+        }
+        Difference::Refused(_) => match poll {
+            Some(poll) => put_poll(text, poll),
+            None => Ok(()),
+        },
+        _ => put_value(text, difference),
+    }
+}
+
+// Writes the fields of a poll.
+fn put_poll(text: &mut String, poll: LastPoll) -> Result<(), AllocError> {
+    let LastPoll { word, found, due } = poll;
+    write!(text, ",\"word\":\"{word}\"")?;
+    if let Some(due) = due {
+        write!(text, ",\"expected\":{due}")?;
+    }
+    write!(text, ",\"found\":{found}")
+}
+
+// Writes the fields of a value, a word or a result that is another than the lock's.
+fn put_value(text: &mut String, difference: Difference) -> Result<(), AllocError> {
+    match difference {
+        Difference::OtherWord {
+            word: Some(word),
+            given,
+        } => write!(
+            text,
+            ",\"word\":\"{word}\",\"expected\":\"{word}\",\"found\":\"{given}\""
+        ),
+        Difference::OtherWord { word: None, given } => write!(text, ",\"found\":\"{given}\""),
+        Difference::FoundOther { word, found, given } => {
+            write!(
+                text,
+                ",\"word\":\"{word}\",\"expected\":{found},\"found\":{given}"
+            )
+        }
+        Difference::LeftOther { word, left, given } => {
+            write!(
+                text,
+                ",\"word\":\"{word}\",\"expected\":{left},\"found\":{given}"
+            )
+        }
+        Difference::WroteOther { wrote } => {
+            let (own, given) = (result_text(wrote), result_text(!wrote));
+            write!(text, ",\"expected\":\"{own}\",\"found\":\"{given}\"")
+        }
+        Difference::CountNotAbove { last, given } => {
+            let least = last.saturating_add(1);
+            write!(text, ",\"expected\":{least},\"found\":{given}")
+        }
+        Difference::OtherOutcome { outcome, given } => {
+            let (own, given) = (outcome_text(outcome), outcome_text(given));
+            write!(text, ",\"expected\":\"{own}\",\"found\":\"{given}\"")
+        }
+        Difference::Refused(_) => Ok(()),
+    }
+}

@@ -1,0 +1,66 @@
+//! Whether the run of an order hangs: each thread that has not ended polls, and would poll on.
+//!
+//! The logs of threads that run freely are not saved at one moment. So here the next poll of such a
+//! thread has to fail as well, by the lock after all steps.
+
+use crate::course::{Course, Fate};
+use crate::waiting::Waiting;
+use lk_order::{Log, Order};
+use lk_trace::{Checker, Event};
+
+// Makes the steps of an order again, and notes how far each thread comes.
+fn course_of(order: &Order, first: &Log) -> Course {
+    let mut course = Course::new();
+    let mut checker = Checker::new(first.kind(), first.threads(), first.bits());
+    let mut at = [0usize; 256];
+    for k in 0..order.len() {
+        let Some(line) = order.line(k) else {
+            break;
+        };
+        let t = line.thread as usize;
+        let place = at[t];
+        at[t] = place.saturating_add(1);
+        let log = order.logs().get(t);
+        let number = log.and_then(|log| log.line_of(place)).unwrap_or(0);
+        if let Ok(made) = checker.step(line) {
+            course.take(u64::from(number), b"".as_slice(), Event::Made(line, made));
+        }
+    }
+    course
+}
+
+/// How far the threads came, if the run hangs. `open` has the threads whose logs say that they have
+/// not ended.
+pub fn hanging(order: &Order, open: &[bool]) -> Option<Course> {
+    let first = order.logs().first()?;
+    if !open.contains(&true) {
+        return None;
+    }
+    let mut course = course_of(order, first);
+    for t in 0..order.threads() {
+        let is_open = open.get(t as usize).copied().unwrap_or(false);
+        let log = order.logs().get(t as usize)?;
+        let is_whole = is_open || log.dropped() == Some(0);
+        if !is_whole || order.next(t).is_some() {
+            return None;
+        }
+        course.end(t, !is_open);
+    }
+    if course.hangs(order.threads()) && !may_go_on(order, &course) {
+        Some(course)
+    } else {
+        None
+    }
+}
+
+// Whether a thread that has not ended would find what it polls for.
+fn may_go_on(order: &Order, course: &Course) -> bool {
+    let lock = order.checker().lock();
+    for thread in 0..order.threads() {
+        let waiting = Waiting { lock, thread };
+        if course.fate(thread) == Fate::Hangs && waiting.may_go_on() {
+            return true;
+        }
+    }
+    false
+}

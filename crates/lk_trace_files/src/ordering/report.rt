@@ -1,0 +1,88 @@
+//! What came of an order, and how it is written: as lines on standard error, or on standard output
+//! as TAP or JSON.
+
+use crate::check::Ending;
+use crate::facts::Facts;
+use crate::formats::{Format, Quoted, put_comments, put_note_fields, put_noted};
+use crate::notes::Notes;
+use std::alloc::{AllocError, Global};
+use std::fmt::Write;
+
+/// How an order ended, and what is said of it. A text of no file is the program's own.
+#[derive(Drop)]
+pub struct OrderReport {
+    pub ending: Ending,
+    /// How many steps were placed.
+    pub placed: usize,
+    /// What is wrong.
+    pub messages: Notes,
+    pub facts: Facts,
+    pub warnings: Notes,
+    pub notes: Notes,
+}
+
+// How a text without a file begins.
+const OWN_NAME: &str = "locktrace";
+
+impl OrderReport {
+    /// Nothing is said.
+    pub fn new(alloc: Global) -> OrderReport {
+        OrderReport {
+            ending: Ending::Accepted,
+            placed: 0,
+            messages: Notes::new(alloc),
+            facts: Facts::Nothing,
+            warnings: Notes::new(alloc),
+            notes: Notes::new(alloc),
+        }
+    }
+
+    // Writes it as lines.
+    fn put_text(&self, text: &mut String) -> Result<(), AllocError> {
+        put_noted(text, OWN_NAME, &self.messages, "")?;
+        put_noted(text, OWN_NAME, &self.warnings, "warning: ")?;
+        put_noted(text, OWN_NAME, &self.notes, "note: ")
+    }
+
+    // Writes it as TAP with one point.
+    fn put_tap(&self, text: &mut String, folder: &str) -> Result<(), AllocError> {
+        let sign = if self.ending == Ending::Accepted {
+            "ok"
+        } else {
+            "not ok"
+        };
+        writeln!(text, "TAP version 14\n1..1\n{sign} 1 - {folder}")?;
+        put_comments(text, &self.messages)?;
+        put_comments(text, &self.warnings)?;
+        put_comments(text, &self.notes)
+    }
+
+    // Writes it as an object of JSON.
+    fn put_json(&self, text: &mut String, folder: &str) -> Result<(), AllocError> {
+        let (folder, ending, placed) = (Quoted(folder), self.ending.text(), self.placed);
+        write!(
+            text,
+            "{{\"folder\":{folder},\"ending\":\"{ending}\",\"moves\":{placed}"
+        )?;
+        self.facts.put_fields(text)?;
+        put_note_fields(text, "messages", &self.messages)?;
+        put_note_fields(text, "warnings", &self.warnings)?;
+        put_note_fields(text, "notes", &self.notes)?;
+        text.push_str("}\n")
+    }
+
+    /// Writes it in a form: what goes to standard output, or as text to standard error.
+    pub fn put(
+        &self,
+        format: Format,
+        folder: &str,
+        output: &mut String,
+        errors: &mut String,
+    ) -> Result<(), AllocError> {
+        match format {
+            Format::Text => self.put_text(errors),
+            Format::Tap => self.put_tap(output, folder),
+            Format::Json => self.put_json(output, folder),
+        }
+    }
+}

@@ -1,0 +1,122 @@
+//! What a thread waits for, by the words of its lock.
+
+use crate::course::{Course, Fate};
+use crate::notes::Notes;
+use crate::sentences::{Awaited, polled_for};
+use crate::texts::{Called, Lock};
+use lk_locks::{Move, Outcome};
+use lk_trace::name_at;
+use std::alloc::AllocError;
+use std::fmt;
+
+/// What is said of a run that hangs.
+pub const HANGS: &str = "hangs: each thread that has not ended waits";
+
+/// What a thread waits for, and what its lock has; nothing of one that polls nothing.
+#[derive(Clone, Copy)]
+pub struct Waiting<'a> {
+    pub lock: &'a Lock,
+    pub thread: u8,
+}
+
+impl Waiting<'_> {
+    /// Whether its next step, if it is in a call, would be no failed poll.
+    pub fn may_go_on(&self) -> bool {
+        let machine = self.lock.machine();
+        if self.thread >= machine.threads() {
+            return false;
+        }
+        let Some(step) = machine.next_step(self.thread) else {
+            return false;
+        };
+        let next = Move::Step(step);
+        machine.check(self.thread, next).is_ok()
+            && machine.outcome(self.thread, next) != Outcome::Waits
+    }
+
+    // Writes each word of a monitor with its value.
+    fn put_monitor<W: fmt::Write>(&self, f: &mut fmt::Formatter<W>) -> fmt::Result {
+        for (place, value) in self.lock.machine().words().as_slice().iter().enumerate() {
+            if let Some(word) = name_at(self.lock.kind(), place) {
+                f.write_str(if place > 0 { ", " } else { "; " })?;
+                write!(f, "{word} is {value}")?;
+            }
+        }
+        Ok(())
+    }
+
+    // Writes what the word that is polled is waited for to be, and what it is.
+    fn put_word<W: fmt::Write>(&self, f: &mut fmt::Formatter<W>, due: Awaited) -> fmt::Result {
+        let machine = self.lock.machine();
+        if self.thread >= machine.threads() {
+            return Ok(());
+        }
+        let Some(operation) = machine.operation(self.thread) else {
+            return Ok(());
+        };
+        let place = operation.word();
+        let value = machine.words().as_slice().get(place).copied().unwrap_or(0);
+        let Some(word) = name_at(self.lock.kind(), place) else {
+            return Ok(());
+        };
+        match due {
+            Awaited::Ticket(due) => {
+                write!(f, "{word} to be {due}, its ticket; {word} is {value}")
+            }
+            Awaited::Value(due) => write!(f, "{word} to be {due}; {word} is {value}"),
+            Awaited::Other(due) => write!(f, "{word} to be other than {due}; {word} is {value}"),
+            Awaited::Section(_) => Ok(()),
+        }
+    }
+}
+
+impl fmt::Display for Waiting<'_> {
+    fn fmt<W: fmt::Write>(&self, f: &mut fmt::Formatter<W>) -> fmt::Result {
+        let machine = self.lock.machine();
+        if self.thread >= machine.threads() {
+            return Ok(());
+        }
+        match polled_for(self.lock.kind(), machine.phase(self.thread)) {
+            None => f.write_str("nothing"),
+            Some(Awaited::Section(due)) => {
+                f.write_str(due)?;
+                self.put_monitor(f)
+            }
+            Some(due) => self.put_word(f, due),
+        }
+    }
+}
+
+// What is said of a thread that hangs.
+#[derive(Clone, Copy)]
+struct Hung<'a>(Waiting<'a>);
+
+impl fmt::Display for Hung<'_> {
+    fn fmt<W: fmt::Write>(&self, f: &mut fmt::Formatter<W>) -> fmt::Result {
+        let waiting = self.0;
+        let called = Called(waiting.thread, &[]);
+        write!(f, "{called} waits from here on for {waiting}")?;
+        if waiting.may_go_on() {
+            f.write_str(", so it did not look again")?;
+        }
+        Ok(())
+    }
+}
+
+/// Says of each thread that hangs what it waits for, and since which line of its file. If a thread
+/// has no file of its own, it is the one that the message is about.
+pub fn put_waits(
+    notes: &mut Notes,
+    lock: &Lock,
+    course: &Course,
+    files: &[&str],
+) -> Result<(), AllocError> {
+    for thread in 0..lock.machine().threads() {
+        if course.fate(thread) == Fate::Hangs {
+            let file = files.get(thread as usize).copied().unwrap_or("");
+            let since = course.trail().since(thread).unwrap_or(0);
+            notes.put_in(file, since, Hung(Waiting { lock, thread }))?;
+        }
+    }
+    Ok(())
+}
