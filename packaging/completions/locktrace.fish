@@ -1,29 +1,49 @@
 # Completion of locktrace's command line for fish.
 
-set -l commands check explain order schedule help
+set -l commands check explain order schedule find space cover help
 set -l none "not __fish_seen_subcommand_from $commands"
 set -l help '__fish_seen_subcommand_from help'
 set -l check "__fish_seen_subcommand_from check; and not $help"
 set -l explain "__fish_seen_subcommand_from explain; and not $help"
 set -l order "__fish_seen_subcommand_from order; and not $help"
 set -l schedule "__fish_seen_subcommand_from schedule; and not $help"
+set -l find "__fish_seen_subcommand_from find; and not $help"
+set -l space "__fish_seen_subcommand_from space; and not $help"
+set -l cover "__fish_seen_subcommand_from cover; and not $help"
+set -l locks 'ticket mcs rw-simple rw-fifo'
 
 complete -c locktrace -f
 complete -c locktrace -n $none -a check -d 'Check each move and each value of traces'
 complete -c locktrace -n $none -a explain -d 'Tell of each move what it found and left'
 complete -c locktrace -n $none -a order -d "Put the logs of a run's threads into one order"
 complete -c locktrace -n $none -a schedule -d 'Write a trace without its values'
+complete -c locktrace -n $none -a find -d 'Find a shortest run that has these lines'
+complete -c locktrace -n $none -a space -d 'Count the states of all runs of a lock'
+complete -c locktrace -n $none -a cover -d 'Count which kinds of transition traces took'
 complete -c locktrace -n $none -a help -d 'Print help'
 complete -c locktrace -n $none -s V -l version -d 'Print the version'
 complete -c locktrace -n "not $help" -s h -l help -d 'Print help'
 complete -c locktrace -n $check -l format -x -a 'text tap json' -d 'The form of the reports'
+complete -c locktrace -n $check -l color -x -a 'auto always never' -d 'When the text has colors'
+complete -c locktrace -n $check -s q -l quiet -d 'Write no report'
 complete -c locktrace -n $check -l summary -d 'Count moves, waits and more'
 complete -c locktrace -n $check -s j -l jobs -x -a '(seq 64)' -d 'How many threads share the files'
 complete -c locktrace -n $explain -l moves -x -d 'Only these moves, as 5..10'
 complete -c locktrace -n $explain -l names -x -d 'What the threads are called'
 complete -c locktrace -n $order -s o -x -a '(__fish_complete_directories)' \
     -d 'Where the trace and the schedules are written'
-for files in $check $explain $order $schedule
+complete -c locktrace -n $order -l format -x -a 'text tap json' -d 'The form of the report'
+complete -c locktrace -n $order -s q -l quiet -d 'Write no report'
+for search in $find $space
+    complete -c locktrace -n $search -l rounds -x -d 'How many times each thread takes the lock'
+    complete -c locktrace -n $search -l bits -x -d 'How many bits a word has'
+    complete -c locktrace -n $search -l limit -x -d 'How many states are searched at most'
+    complete -c locktrace -n $search -a $locks
+end
+complete -c locktrace -n $space -l format -x -a 'text json' -d 'The form of the counts'
+complete -c locktrace -n $cover -l format -x -a 'text json' -d 'The form of the counts'
+complete -c locktrace -n $cover -l require -x -d 'Kinds that may not be missing, or all'
+for files in $check $explain $order $schedule $find $cover
     complete -c locktrace -n $files -F
 end
 complete -c locktrace -n $help -a "$commands"

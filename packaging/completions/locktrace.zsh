@@ -11,6 +11,9 @@ _locktrace() {
                      explain\:"tell of each move what it found and left"
                      order\:"put the logs of a run'\''s threads into one order"
                      schedule\:"write a trace without its values"
+                     find\:"find a shortest run that has these lines"
+                     space\:"count the states of all runs of a lock"
+                     cover\:"count which kinds of transition traces took"
                      help\:"print help"))' \
         '*::argument:->argument'
     [[ $state == argument ]] || return
@@ -18,6 +21,8 @@ _locktrace() {
     check) _arguments '(- *)'{-h,--help}'[print help]' \
         '--format[the form of the reports]:form:(text tap json)' \
         '--summary[count moves, waits and more]' \
+        '--color[when the text has colors]:when:(auto always never)' \
+        '(-q --quiet)'{-q,--quiet}'[write no report]' \
         '(-j --jobs)'{-j,--jobs}'[how many threads share the files]:number:' \
         '*:trace:_files' ;;
     explain) _arguments '(- *)'{-h,--help}'[print help]' \
@@ -26,9 +31,27 @@ _locktrace() {
         '1:trace:_files' ;;
     order) _arguments '(- *)'{-h,--help}'[print help]' \
         '-o[where the trace and the schedules are written]:folder:_files -/' \
+        '--format[the form of the report]:form:(text tap json)' \
+        '(-q --quiet)'{-q,--quiet}'[write no report]' \
         '*:log:_files' ;;
     schedule) _arguments '(- *)'{-h,--help}'[print help]' '1:trace:_files' ;;
-    help) _arguments '1:command:(check explain order schedule help)' ;;
+    find) _arguments '(- *)'{-h,--help}'[print help]' \
+        '--rounds[how many times each thread takes the lock]:number:' \
+        '--bits[how many bits a word has]:number:' \
+        '--limit[how many states are searched at most]:number:' \
+        '1: :_alternative "locks\:lock\:(ticket mcs rw-simple rw-fifo)" "files\:sketch\:_files"' \
+        '2:threads:' '*:line of a sketch:' ;;
+    space) _arguments '(- *)'{-h,--help}'[print help]' \
+        '--rounds[how many times each thread takes the lock]:number:' \
+        '--bits[how many bits a word has]:number:' \
+        '--limit[how many states are searched at most]:number:' \
+        '--format[the form of the counts]:form:(text json)' \
+        '1:lock:(ticket mcs rw-simple rw-fifo)' '2:threads:' ;;
+    cover) _arguments '(- *)'{-h,--help}'[print help]' \
+        '--require[kinds that may not be missing]:names, or all:' \
+        '--format[the form of the counts]:form:(text json)' \
+        '*:trace:_files' ;;
+    help) _arguments '1:command:(check explain order schedule find space cover help)' ;;
     esac
 }
 

@@ -1,5 +1,8 @@
 //! The words after the program's name, and the job that they ask for. `clap` reads the words.
 
+use crate::searches::{
+    SearchJob, cover_command, cover_given, find_command, find_given, space_command, space_given,
+};
 use clap::error::ErrorKind;
 use clap::{Arg, ArgAction, ArgMatches, Command, value_parser};
 use lk_trace_files::{CheckJob, Format, OrderJob};
@@ -9,7 +12,10 @@ use thiserror::Error;
 /// What the program is asked to do. A file `-` is standard input.
 #[derive(Debug, Drop)]
 pub enum Job {
-    Check(CheckJob),
+    Check {
+        job: CheckJob,
+        color: Color,
+    },
     Schedule {
         file: String,
     },
@@ -20,6 +26,7 @@ pub enum Job {
         names: Vec<String>,
     },
     Order(OrderJob),
+    Search(SearchJob),
 }
 
 /// Why there is no job.
@@ -38,18 +45,45 @@ pub enum ParseFault {
 /// The version of the program, as the file VERSION has it.
 const VERSION: &str = "1.0.0";
 
+/// When the text has colors.
+#[derive(Clone, Copy, PartialEq, Eq, Debug)]
+pub enum Color {
+    /// On a terminal.
+    Auto,
+    Always,
+    Never,
+}
+
 /// The most workers of a check.
 pub const MOST_WORKERS: u8 = 64;
 
 const BAD_FORMAT: &str = "error: a format is text, tap or json\n";
 
+const BAD_COLOR: &str = "error: a color is auto, always or never\n";
+
 const BAD_MOVES: &str = "error: moves are two numbers from 1, as 5..10\n";
 
-fn check_command<'a>(alloc: Global) -> Result<Command<'a>, AllocError> {
-    let format = Arg::new(alloc, "format")
+fn format_arg<'a>(alloc: Global) -> Arg<'a> {
+    Arg::new(alloc, "format")
         .long("format")
         .value_name("FORMAT")
         .help("text, tap or json")
+        .action(ArgAction::Set)
+}
+
+fn quiet_arg<'a>(alloc: Global) -> Arg<'a> {
+    Arg::new(alloc, "quiet")
+        .short('q')
+        .long("quiet")
+        .help("Writes no report: the status alone says how it ended")
+        .action(ArgAction::SetTrue)
+}
+
+fn check_command<'a>(alloc: Global) -> Result<Command<'a>, AllocError> {
+    let color = Arg::new(alloc, "color")
+        .long("color")
+        .value_name("WHEN")
+        .help("auto, always or never: auto is on a terminal alone")
         .action(ArgAction::Set);
     let summary = Arg::new(alloc, "summary")
         .long("summary")
@@ -67,13 +101,15 @@ fn check_command<'a>(alloc: Global) -> Result<Command<'a>, AllocError> {
         .value_parser(value_parser!(u8).range(1..=MOST_WORKERS as i64));
     let files = Arg::new(alloc, "files")
         .value_name("FILE")
-        .help("Traces or schedules; - is standard input, also where none is named")
+        .help("Traces or schedules, or folders of them; - is standard input, also if none is named")
         .num_args(0..)
         .action(ArgAction::Append);
     Command::new(alloc, "check")
         .about("Checks each move, and each value that is given, with the lock's machine")
-        .arg(format)?
+        .arg(format_arg(alloc))?
         .arg(summary)?
+        .arg(quiet_arg(alloc))?
+        .arg(color)?
         .arg(workers)?
         .arg(files)
 }
@@ -81,7 +117,7 @@ fn check_command<'a>(alloc: Global) -> Result<Command<'a>, AllocError> {
 fn file_arg<'a>(alloc: Global) -> Arg<'a> {
     Arg::new(alloc, "file")
         .value_name("FILE")
-        .help("A trace or a schedule; - is standard input, also where none is named")
+        .help("A trace or a schedule; - is standard input, also if none is named")
         .action(ArgAction::Set)
 }
 
@@ -122,6 +158,8 @@ fn order_command<'a>(alloc: Global) -> Result<Command<'a>, AllocError> {
              it found",
         )
         .arg(folder)?
+        .arg(format_arg(alloc))?
+        .arg(quiet_arg(alloc))?
         .arg(logs)
 }
 
@@ -130,10 +168,7 @@ fn program_command<'a>(alloc: Global) -> Result<Command<'a>, AllocError> {
         .about("Writes a trace without its values")
         .arg(file_arg(alloc))?;
     Command::new(alloc, "locktrace")
-        .about(
-            "Checks runs of locks, explains them, and puts the logs of their threads into \
-             one order",
-        )
+        .about("Checks runs of locks, explains and orders them, and searches all runs of a lock")
         .version(VERSION)
         .bin_name("locktrace")?
         .no_binary_name(true)
@@ -141,6 +176,9 @@ fn program_command<'a>(alloc: Global) -> Result<Command<'a>, AllocError> {
         .subcommand(check_command(alloc)?)?
         .subcommand(explain_command(alloc)?)?
         .subcommand(order_command(alloc)?)?
+        .subcommand(find_command(alloc)?)?
+        .subcommand(space_command(alloc)?)?
+        .subcommand(cover_command(alloc)?)?
         .subcommand(schedule)
 }
 
@@ -164,26 +202,57 @@ fn file_given(alloc: Global, matches: &ArgMatches<'_>) -> Result<String, AllocEr
     String::from_str(alloc, matches.get_str("file").unwrap_or("-"))
 }
 
-fn check_given(alloc: Global, matches: &ArgMatches<'_>) -> Result<Job, ParseFault> {
+// The form of reports that was asked for.
+fn format_given(alloc: Global, matches: &ArgMatches<'_>) -> Result<Format, ParseFault> {
     let format = matches.get_str("format").unwrap_or("text");
-    let format = if format == "text" {
-        Format::Text
+    if format == "text" {
+        Ok(Format::Text)
     } else if format == "tap" {
-        Format::Tap
+        Ok(Format::Tap)
     } else if format == "json" {
-        Format::Json
+        Ok(Format::Json)
     } else {
-        return Err(usage(alloc, BAD_FORMAT));
-    };
+        Err(usage(alloc, BAD_FORMAT))
+    }
+}
+
+// When colors were asked for.
+fn color_given(alloc: Global, matches: &ArgMatches<'_>) -> Result<Color, ParseFault> {
+    let color = matches.get_str("color").unwrap_or("auto");
+    if color == "auto" {
+        Ok(Color::Auto)
+    } else if color == "always" {
+        Ok(Color::Always)
+    } else if color == "never" {
+        Ok(Color::Never)
+    } else {
+        Err(usage(alloc, BAD_COLOR))
+    }
+}
+
+fn check_given(alloc: Global, matches: &ArgMatches<'_>) -> Result<Job, ParseFault> {
     let mut files = copied(alloc, matches.get_strs("files").unwrap_or(&[]))?;
     if files.is_empty() {
         files.push(String::from_str(alloc, "-")?)?;
     }
-    Ok(Job::Check(CheckJob {
-        format,
+    let color = color_given(alloc, matches)?;
+    let job = CheckJob {
+        format: format_given(alloc, matches)?,
         summary: matches.get_flag("summary"),
+        quiet: matches.get_flag("quiet"),
+        colored: false,
         workers: matches.get_one::<u8>("jobs").unwrap_or(1),
         files,
+    };
+    Ok(Job::Check { job, color })
+}
+
+fn order_given(alloc: Global, matches: &ArgMatches<'_>) -> Result<Job, ParseFault> {
+    Ok(Job::Order(OrderJob {
+        format: format_given(alloc, matches)?,
+        quiet: matches.get_flag("quiet"),
+        logs: copied(alloc, matches.get_strs("logs").unwrap_or(&[]))?,
+        folder: String::from_str(alloc, matches.get_str("folder").unwrap_or("."))?,
     }))
 }
 
@@ -219,6 +288,17 @@ fn explain_given(alloc: Global, matches: &ArgMatches<'_>) -> Result<Job, ParseFa
     })
 }
 
+// The job of a search, or what is wrong with its words.
+fn search_given(
+    alloc: Global,
+    given: Result<Result<SearchJob, &'static str>, AllocError>,
+) -> Result<Job, ParseFault> {
+    match given? {
+        Ok(job) => Ok(Job::Search(job)),
+        Err(text) => Err(usage(alloc, text)),
+    }
+}
+
 // What the parser's error is to the program.
 fn fault_told(alloc: Global, error: &clap::Error) -> ParseFault {
     match (error.kind(), error.to_string(alloc)) {
@@ -239,10 +319,10 @@ pub fn parse_words(alloc: Global, words: &[String]) -> Result<Job, ParseFault> {
     match matches.subcommand() {
         Some((name, check)) if name == "check" => check_given(alloc, check),
         Some((name, explain)) if name == "explain" => explain_given(alloc, explain),
-        Some((name, order)) if name == "order" => Ok(Job::Order(OrderJob {
-            logs: copied(alloc, order.get_strs("logs").unwrap_or(&[]))?,
-            folder: String::from_str(alloc, order.get_str("folder").unwrap_or("."))?,
-        })),
+        Some((name, order)) if name == "order" => order_given(alloc, order),
+        Some((name, find)) if name == "find" => search_given(alloc, find_given(alloc, find)),
+        Some((name, space)) if name == "space" => search_given(alloc, space_given(alloc, space)),
+        Some((name, cover)) if name == "cover" => search_given(alloc, cover_given(alloc, cover)),
         Some((_, schedule)) => Ok(Job::Schedule {
             file: file_given(alloc, schedule)?,
         }),

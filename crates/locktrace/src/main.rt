@@ -1,16 +1,21 @@
-//! `locktrace`: checks traces of locks, explains them, and puts the logs of a run's threads into
-//! one order.
+//! `locktrace`: checks traces of locks, explains them, puts the logs of a run's threads into one
+//! order, and searches all runs of a lock.
 //!
 //! Reports, schedules and help go to standard output, every other line to standard error.
 #![tactic(auto)]
 
 mod command_line;
+mod folders;
+mod searches;
 
-use command_line::{Job, ParseFault, parse_words};
+use command_line::{Color, Job, ParseFault, parse_words};
+use folders::files_named;
+use lk_search_files::{count_space, cover_traces, find_run};
 use lk_trace_files::{
-    Asked, Ending, Failure, Unscheduled, check_files, explain_input, order_logs, worst,
+    Asked, CheckJob, Ending, Failure, Unscheduled, check_files, explain_input, order_logs, worst,
     write_schedule,
 };
+use searches::SearchJob;
 use std::alloc::{AllocError, Global};
 use std::io::{ErrorKind, IsTerminal, Write};
 use std::process::ExitCode;
@@ -21,7 +26,7 @@ use std::{env, fs};
 /// The status of a command line that asks for nothing that the program does.
 const USAGE_STATUS: u8 = 2;
 
-/// The status where a read or a write failed or memory was refused.
+/// The status if a read or a write failed or memory was refused.
 const FAILED_STATUS: u8 = 3;
 
 /// Of words that are not UTF-8 the parser can read none.
@@ -85,30 +90,101 @@ fn explain_file<R: Runtime, O: Write>(
     }
 }
 
-// Does a job, and gives the status that the program ends with.
-fn perform<R: Runtime + Threads + Sync, O: Write>(
+// Searches a lock's space.
+fn search<R: Runtime, O: Write>(
     rt: &R,
     alloc: Global,
-    job: &Job,
+    job: &SearchJob,
+    output: &mut O,
+) -> Result<u8, Failure> {
+    let (mut text, mut errors) = (String::new(alloc), String::new(alloc));
+    let ending = match job {
+        SearchJob::Find { source, asked } => {
+            find_run(rt, alloc, source, *asked, &mut text, &mut errors)?
+        }
+        SearchJob::Space {
+            header,
+            asked,
+            format,
+        } => count_space(
+            alloc,
+            header.as_slice(),
+            *asked,
+            *format,
+            &mut text,
+            &mut errors,
+        )?,
+        SearchJob::Cover(job) => cover_traces(rt, alloc, job, &mut text, &mut errors)?,
+    };
+    let _ = eprint!(rt; "{errors}");
+    output.write_all(text.as_bytes())?;
+    output.flush()?;
+    Ok(ending.status())
+}
+
+// Which outputs are terminals.
+#[derive(Clone, Copy)]
+struct Terminals {
+    output: bool,
+    errors: bool,
+}
+
+// Checks the files that a job names.
+fn check_named<R: Runtime + Threads + Sync + Clone + Drop, O: Write>(
+    rt: &R,
+    alloc: Global,
+    job: CheckJob,
+    colored: bool,
     told: bool,
     output: &mut O,
 ) -> Result<u8, Failure>
 where
     R::File: Send,
 {
+    let told = told && !job.quiet;
+    let job = CheckJob {
+        files: files_named(rt, alloc, job.files)?,
+        colored,
+        format: job.format,
+        summary: job.summary,
+        quiet: job.quiet,
+        workers: job.workers,
+    };
+    Ok(worst(&check_files(rt, alloc, &job, told, output)?))
+}
+
+// Does a job, and gives the status that the program ends with.
+fn perform<R: Runtime + Threads + Sync + Clone + Drop, O: Write>(
+    rt: &R,
+    alloc: Global,
+    job: Job,
+    terminals: Terminals,
+    output: &mut O,
+) -> Result<u8, Failure>
+where
+    R::File: Send,
+{
     match job {
-        Job::Check(job) => Ok(worst(&check_files(rt, alloc, job, told, output)?)),
-        Job::Schedule { file } => Ok(write_file(rt, alloc, file, output)?.status()),
+        Job::Check { job, color } => {
+            let colored = match color {
+                Color::Auto => terminals.output,
+                Color::Always => true,
+                Color::Never => false,
+            };
+            check_named(rt, alloc, job, colored, terminals.errors, output)
+        }
+        Job::Schedule { file } => Ok(write_file(rt, alloc, &file, output)?.status()),
         Job::Explain { file, moves, names } => {
             let asked = Asked {
-                moves: *moves,
-                names,
+                moves,
+                names: &names,
             };
-            Ok(explain_file(rt, alloc, file, asked, output)?.status())
+            Ok(explain_file(rt, alloc, &file, asked, output)?.status())
         }
+        Job::Search(job) => search(rt, alloc, &job, output),
         Job::Order(job) => {
             let mut errors = String::new(alloc);
-            let ended = order_logs(rt, alloc, job, &mut errors);
+            let ended = order_logs(rt, alloc, &job, output, &mut errors);
             let _ = eprint!(rt; "{errors}");
             Ok(ended?.status())
         }
@@ -118,8 +194,11 @@ where
 fn main(rt: HostRuntime) -> ExitCode {
     let ended = match job_given(&rt) {
         Ok(job) => {
-            let told = rt.stderr().is_terminal();
-            perform(&rt, rt.alloc(), &job, told, &mut rt.stdout())
+            let terminals = Terminals {
+                output: rt.stdout().is_terminal(),
+                errors: rt.stderr().is_terminal(),
+            };
+            perform(&rt, rt.alloc(), job, terminals, &mut rt.stdout())
         }
         Err(ParseFault::Told(text)) => match rt.stdout().write_all(text.as_bytes()) {
             Ok(()) => Ok(0),
@@ -131,8 +210,14 @@ fn main(rt: HostRuntime) -> ExitCode {
         }
         Err(ParseFault::Memory(error)) => Err(Failure::Memory(error)),
     };
-    ExitCode::from(ended.unwrap_or_else(|failure| {
-        let _ = eprintln!(rt; "locktrace: {failure}");
-        FAILED_STATUS
-    }))
+    let status = match ended {
+        Ok(status) => status,
+        // who reads has read enough
+        Err(Failure::Output(error)) if error.kind() == ErrorKind::BrokenPipe => 0,
+        Err(failure) => {
+            let _ = eprintln!(rt; "locktrace: {failure}");
+            FAILED_STATUS
+        }
+    };
+    ExitCode::from(status)
 }

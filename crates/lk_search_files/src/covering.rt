@@ -1,0 +1,207 @@
+//! The job of counting which kinds of transition traces took.
+
+use crate::coverage::Coverage;
+use crate::endings::Ending;
+use crate::kinds::{LOCKS, Transition};
+use crate::listing::{Format, put_coverage, put_missing};
+use lk_locks::LockKind;
+use lk_trace::{Event, Made, TextFault, TraceLine, TraceReader};
+use lk_trace_files::{Line, Lines, Summary};
+use std::alloc::{AllocError, Global};
+use std::fmt::Write;
+use std::fs;
+use std::io::Read;
+use std::rt::Runtime;
+
+/// Which traces are counted, and what they have to have.
+#[derive(Debug, Drop)]
+pub struct CoverJob {
+    pub format: Format,
+    /// Whether each kind is required of each lock of which there is a trace.
+    pub all: bool,
+    /// The names of the kinds that are required.
+    pub required: Vec<String>,
+    /// A file `-` is standard input.
+    pub files: Vec<String>,
+}
+
+// What was counted of each lock.
+fn nothing_counted(alloc: Global) -> Result<Vec<Coverage>, AllocError> {
+    let mut coverages = Vec::new(alloc);
+    for kind in LOCKS {
+        coverages.push(Coverage::new(alloc, kind)?)?;
+    }
+    Ok(coverages)
+}
+
+// The place of this lock's counts.
+fn place_of(coverages: &[Coverage], kind: LockKind) -> Option<usize> {
+    coverages
+        .iter()
+        .position(|coverage| coverage.kind() == kind)
+}
+
+// Counts a move that was made.
+fn note_move(
+    coverages: &mut [Coverage],
+    summary: &mut Summary,
+    trace: &TraceReader,
+    line: TraceLine,
+    made: Made,
+) {
+    let Some(checker) = trace.checker() else {
+        return;
+    };
+    summary.note(checker.lock(), line, made);
+    let Some(after) = checker.phase(line.thread) else {
+        return;
+    };
+    let Some(place) = place_of(coverages, checker.lock().kind()) else {
+        return;
+    };
+    if let Some(coverage) = coverages.get_mut(place) {
+        coverage.note(Transition {
+            from: made.from,
+            action: line.action,
+            outcome: made.outcome,
+            after,
+        });
+    }
+}
+
+// Counts a trace that was read up to its end, or up to a line that ends it.
+fn note_end(coverages: &mut [Coverage], summary: &Summary, trace: &TraceReader) {
+    let Some(checker) = trace.checker() else {
+        return;
+    };
+    let Some(place) = place_of(coverages, checker.lock().kind()) else {
+        return;
+    };
+    if let Some(coverage) = coverages.get_mut(place) {
+        coverage.end_trace(summary.rounds());
+    }
+}
+
+// Reads a line of this number. An ending if it ends the trace.
+fn take_line(
+    coverages: &mut [Coverage],
+    summary: &mut Summary,
+    trace: &mut TraceReader,
+    (name, number, line): (&str, u64, &[u8]),
+    errors: &mut String,
+) -> Result<Option<Ending>, AllocError> {
+    match trace.line(line) {
+        Event::Skipped | Event::Began(_) => Ok(None),
+        Event::Made(line, made) => {
+            note_move(coverages, summary, trace, line, made);
+            Ok(None)
+        }
+        Event::Differs(_, difference) => {
+            writeln!(errors, "{name}:{number}: refused: {difference}")?;
+            Ok(Some(Ending::Refused))
+        }
+        Event::Fault(fault) => {
+            writeln!(errors, "{name}:{number}: {fault}")?;
+            Ok(Some(Ending::Faulty))
+        }
+    }
+}
+
+// The end of a trace after its last line.
+fn end_of(
+    trace: &TraceReader,
+    name: &str,
+    number: u64,
+    errors: &mut String,
+) -> Result<Ending, AllocError> {
+    if trace.checker().is_some() {
+        return Ok(Ending::Found);
+    }
+    let fault = TextFault::NoHeader;
+    writeln!(errors, "{name}:{number}: {fault}")?;
+    Ok(Ending::Faulty)
+}
+
+// Reads a trace up to its end, or up to a line that ends it.
+fn take_trace<R: Read + Drop>(
+    alloc: Global,
+    input: R,
+    name: &str,
+    coverages: &mut [Coverage],
+    errors: &mut String,
+) -> Result<Ending, AllocError> {
+    let mut lines = Lines::new(alloc, input)?;
+    let (mut line, mut trace, mut summary) = (Line::new(), TraceReader::new(), Summary::default());
+    let mut ended = None;
+    for number in 1..u64::MAX {
+        ended = match lines.next_line(&mut line) {
+            Ok(true) => {
+                let read = (name, number, line.bytes());
+                take_line(coverages, &mut summary, &mut trace, read, errors)?
+            }
+            Ok(false) => Some(end_of(&trace, name, number, errors)?),
+            Err(error) => {
+                writeln!(errors, "{name}: {error}")?;
+                Some(Ending::Undecided)
+            }
+        };
+        if ended.is_some() {
+            break;
+        }
+    }
+    note_end(coverages, &summary, &trace);
+    Ok(ended.unwrap_or(Ending::Undecided))
+}
+
+// Reads the trace in a file.
+fn take_file<R: Runtime>(
+    rt: &R,
+    alloc: Global,
+    name: &str,
+    coverages: &mut [Coverage],
+    errors: &mut String,
+) -> Result<Ending, AllocError> {
+    if name == "-" {
+        return take_trace(alloc, rt.reader(), name, coverages, errors);
+    }
+    match fs::open(rt, name) {
+        Ok(input) => take_trace(alloc, input, name, coverages, errors),
+        Err(error) => {
+            writeln!(errors, "{name}: {error}")?;
+            Ok(Ending::Undecided)
+        }
+    }
+}
+
+/// Counts which kinds of transition the traces took, and writes the counts to `text`, and what else
+/// there is to say to `errors`. The answer is `Found`; `Refused` if a move is refused, or a kind
+/// that is required is missing; `Undecided` if a trace could not be read; `Faulty` if a text is no
+/// trace. Of several the one with the greatest status is answered.
+///
+/// # Errors
+///
+/// A request for memory was refused.
+pub fn cover_traces<R: Runtime>(
+    rt: &R,
+    alloc: Global,
+    job: &CoverJob,
+    text: &mut String,
+    errors: &mut String,
+) -> Result<Ending, AllocError> {
+    let mut coverages = nothing_counted(alloc)?;
+    let mut worst = Ending::Found;
+    for name in &job.files {
+        let ending = take_file(rt, alloc, name, coverages.as_mut_slice(), errors)?;
+        worst = worst.or_worse(ending);
+    }
+    put_coverage(text, job.format, coverages.as_slice())?;
+    if put_missing(
+        errors,
+        coverages.as_slice(),
+        job.all,
+        job.required.as_slice(),
+    )? {
+        worst = worst.or_worse(Ending::Refused);
+    }
+    Ok(worst)
+}

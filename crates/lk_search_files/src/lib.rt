@@ -1,0 +1,30 @@
+//! Spaces of locks' schedules, searched for runs.
+//!
+//! `find_run` looks for a shortest run that has the lines of a sketch, and writes it as a schedule.
+//! `count_space` writes how large a space is, and `cover_traces` which kinds of transition traces
+//! took. The program `locktrace` gives them its words.
+#![tactic(auto)]
+
+mod admitting;
+mod asked;
+mod coverage;
+mod covering;
+mod endings;
+mod faults;
+mod finding;
+mod kinds;
+mod listing;
+mod numbers;
+mod reading;
+mod sketches;
+mod spaces;
+mod writing;
+
+pub use asked::{Asked, Shape, Source};
+pub use covering::{CoverJob, cover_traces};
+pub use endings::Ending;
+pub use finding::find_run;
+pub use kinds::is_kind;
+pub use listing::Format;
+pub use sketches::{Sketch, SketchFault};
+pub use spaces::count_space;

@@ -1,0 +1,52 @@
+//! Numbers as a reader writes them.
+
+use std::fmt;
+
+/// A number with a comma before each three digits, as in 1,018.
+#[derive(Clone, Copy)]
+pub struct Grouped(pub usize);
+
+impl fmt::Display for Grouped {
+    fn fmt<W: fmt::Write>(&self, f: &mut fmt::Formatter<W>) -> fmt::Result {
+        let mut rest = self.0;
+        let mut unit: usize = 1_000_000_000_000_000_000;
+        let mut begun = false;
+        for _ in 0..7 {
+            let group = rest / unit.max(1);
+            rest %= unit.max(1);
+            if begun {
+                write!(f, ",{group:03}")?;
+            } else if group > 0 || unit <= 1 {
+                write!(f, "{group}")?;
+                begun = true;
+            }
+            unit /= 1000;
+        }
+        Ok(())
+    }
+}
+
+/// How many threads of how many rounds each.
+#[derive(Clone, Copy)]
+pub struct Rounds(pub u8, pub u8);
+
+impl fmt::Display for Rounds {
+    fn fmt<W: fmt::Write>(&self, f: &mut fmt::Formatter<W>) -> fmt::Result {
+        let Rounds(threads, rounds) = *self;
+        let thread = if threads == 1 { "thread" } else { "threads" };
+        let round = if rounds == 1 { "round" } else { "rounds" };
+        let each = if threads == 1 { "" } else { " each" };
+        write!(f, "{threads} {thread} with {rounds} {round}{each}")
+    }
+}
+
+/// How many moves.
+#[derive(Clone, Copy)]
+pub struct Moves(pub u64);
+
+impl fmt::Display for Moves {
+    fn fmt<W: fmt::Write>(&self, f: &mut fmt::Formatter<W>) -> fmt::Result {
+        let moves = self.0;
+        write!(f, "{moves} {}", if moves == 1 { "move" } else { "moves" })
+    }
+}

@@ -1,0 +1,104 @@
+//! A sketch, read from a file or from the words of a command.
+
+use crate::asked::{Shape, Source};
+use crate::endings::Ending;
+use crate::faults::put_fault;
+use crate::sketches::{Sketch, SketchFault};
+use lk_trace::TextFault;
+use lk_trace_files::{Line, Lines};
+use std::alloc::{AllocError, Global};
+use std::fmt::Write;
+use std::fs;
+use std::io::Read;
+use std::rt::Runtime;
+
+/// A sketch with its lock, or how the job ends without one.
+pub type Taken = Result<(Sketch, Shape), Ending>;
+
+// A sketch that was read to its end.
+fn whole(
+    sketch: Sketch,
+    name: &str,
+    number: u64,
+    errors: &mut String,
+) -> Result<Taken, AllocError> {
+    match sketch.shape() {
+        Some(shape) => Ok(Ok((sketch, shape))),
+        None => {
+            let fault = SketchFault::Header(TextFault::NoHeader);
+            writeln!(errors, "{name}:{number}: {fault}")?;
+            Ok(Err(Ending::Faulty))
+        }
+    }
+}
+
+// Reads the sketch in an input of this name.
+fn read_input<R: Read + Drop>(
+    alloc: Global,
+    input: R,
+    name: &str,
+    errors: &mut String,
+) -> Result<Taken, AllocError> {
+    let mut lines = Lines::new(alloc, input)?;
+    let mut line = Line::new();
+    let mut sketch = Sketch::new(alloc);
+    for number in 1..u64::MAX {
+        match lines.next_line(&mut line) {
+            Ok(true) => {}
+            Ok(false) => return whole(sketch, name, number, errors),
+            Err(error) => {
+                writeln!(errors, "{name}: {error}")?;
+                return Ok(Err(Ending::Undecided));
+            }
+        }
+        if let Some(fault) = sketch.line(alloc, line.bytes())? {
+            write!(errors, "{name}:{number}: ")?;
+            put_fault(errors, alloc, line.bytes(), fault)?;
+            return Ok(Err(Ending::Faulty));
+        }
+    }
+    Ok(Err(Ending::Undecided))
+}
+
+/// Reads the sketch whose lines are words of a command.
+pub fn read_words(
+    alloc: Global,
+    words: &[String],
+    errors: &mut String,
+) -> Result<Taken, AllocError> {
+    let mut sketch = Sketch::new(alloc);
+    for word in words {
+        if let Some(fault) = sketch.line(alloc, word.as_bytes())? {
+            write!(errors, "locktrace: '{word}': ")?;
+            put_fault(errors, alloc, word.as_bytes(), fault)?;
+            return Ok(Err(Ending::Misused));
+        }
+    }
+    whole(sketch, "locktrace", 1, errors)
+}
+
+/// Reads a sketch. What is wrong with it is written to `errors`.
+///
+/// # Errors
+///
+/// A request for memory was refused.
+pub fn read_sketch<R: Runtime>(
+    rt: &R,
+    alloc: Global,
+    source: &Source,
+    errors: &mut String,
+) -> Result<Taken, AllocError> {
+    match source {
+        Source::Words(words) => read_words(alloc, words.as_slice(), errors),
+        Source::File(name) if name.as_str() == "-" => {
+            read_input(alloc, rt.reader(), name, errors)
+        }
+        Source::File(name) => match fs::open(rt, name.as_str()) {
+            Ok(input) => read_input(alloc, input, name, errors),
+            Err(error) => {
+                writeln!(errors, "{name}: {error}")?;
+                Ok(Err(Ending::Undecided))
+            }
+        },
+    }
+}

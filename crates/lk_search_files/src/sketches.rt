@@ -1,0 +1,121 @@
+//! A sketch of a run, read line by line: a header, and lines of a trace in which parts are open.
+
+use crate::admitting::admit;
+use crate::asked::Shape;
+use lk_replay::parts::{is_skipped, number_of};
+use lk_search::{Admitted, Bounds};
+use lk_trace::{MOST_OF_A_LINE, TextFault, read_header};
+use std::alloc::{AllocError, Global};
+use thiserror::Error;
+
+/// The most lines of a sketch.
+const MOST_LINES: usize = 255;
+
+// The comment that says how many rounds a thread has.
+const ROUNDS: &str = "#! rounds ";
+
+/// Why a text is no sketch.
+#[derive(Clone, Copy, PartialEq, Eq, Debug, Error)]
+pub enum SketchFault {
+    /// The header is missing or none.
+    #[error("{0}")]
+    Header(TextFault),
+    /// `#! rounds` is not followed by a number from 1 to 255.
+    #[error("not a number of rounds, from 1 to 255 (BadRounds)")]
+    BadRounds,
+    /// A later line is no line of a trace, with or without open parts.
+    #[error("not a line of a sketch (BadLine)")]
+    BadLine,
+    /// Line number 256.
+    #[error("a sketch has at most 255 lines (TooManyLines)")]
+    TooManyLines,
+}
+
+/// A sketch of which some lines were read.
+#[derive(Drop)]
+pub struct Sketch {
+    shape: Option<Shape>,
+    rounds: Option<u8>,
+    lines: Vec<String>,
+    admitted: Vec<Admitted>,
+}
+
+impl Sketch {
+    /// No line was read yet.
+    pub fn new(alloc: Global) -> Sketch {
+        Sketch {
+            shape: None,
+            rounds: None,
+            lines: Vec::new(alloc),
+            admitted: Vec::new(alloc),
+        }
+    }
+
+    /// The lock, if the header was read.
+    pub fn shape(&self) -> Option<Shape> {
+        self.shape
+    }
+
+    /// How many rounds each thread has, if the sketch says it.
+    pub fn rounds(&self) -> Option<u8> {
+        self.rounds
+    }
+
+    /// The lines that are to occur, in their order.
+    pub fn lines(&self) -> &[String] {
+        self.lines.as_slice()
+    }
+
+    /// What a search looks for, if each thread has so many rounds. Afterwards the sketch admits
+    /// nothing.
+    pub fn take_bounds(&mut self, alloc: Global, rounds: u8) -> Bounds {
+        let mut sketch = Vec::new(alloc);
+        std::mem::swap(&mut sketch, &mut self.admitted);
+        Bounds::new(rounds, sketch)
+    }
+
+    // Reads a comment.
+    fn comment(&mut self, line: &[u8]) -> Option<SketchFault> {
+        let rest = line.strip_prefix(ROUNDS.as_bytes())?;
+        match number_of(rest, 1, 255) {
+            Some(rounds) => {
+                self.rounds = Some(rounds);
+                None
+            }
+            None => Some(SketchFault::BadRounds),
+        }
+    }
+
+    /// Reads the next line, without its end. After a fault the sketch is as it was, or some of the
+    /// line's.
+    ///
+    /// # Errors
+    ///
+    /// A request for memory was refused.
+    pub fn line(&mut self, alloc: Global, line: &[u8]) -> Result<Option<SketchFault>, AllocError> {
+        if is_skipped(line) {
+            return Ok(self.comment(line));
+        }
+        let Some(shape) = self.shape else {
+            return match read_header(line) {
+                Ok(header) => {
+                    self.shape = Some(Shape::of_header(header));
+                    Ok(None)
+                }
+                Err(fault) => Ok(Some(SketchFault::Header(fault))),
+            };
+        };
+        if self.lines.len() >= MOST_LINES {
+            return Ok(Some(SketchFault::TooManyLines));
+        }
+        let number = self.lines.len() as u8;
+        let Ok(text) = str::from_utf8(line) else {
+            return Ok(Some(SketchFault::BadLine));
+        };
+        if line.len() > MOST_OF_A_LINE || !admit(alloc, &mut self.admitted, shape, number, line)? {
+            return Ok(Some(SketchFault::BadLine));
+        }
+        self.lines.push(String::from_str(alloc, text)?)?;
+        Ok(None)
+    }
+}

@@ -1,0 +1,239 @@
+//! The words of the commands that search a lock's space, and the jobs that they ask for.
+
+use clap::{Arg, ArgAction, ArgMatches, Command, value_parser};
+use lk_search_files::{Asked, CoverJob, Format, Source, is_kind};
+use std::alloc::{AllocError, Global};
+
+/// How many states are searched if nothing else is asked for.
+const LIMIT: u64 = 1_000_000;
+
+// The most that can be asked for: places in a table of states are numbered by 32 bits.
+const MOST_STATES: i64 = 4_000_000_000;
+
+/// What a search is asked for.
+#[derive(Debug, Drop)]
+pub enum SearchJob {
+    Find {
+        source: Source,
+        asked: Asked,
+    },
+    Space {
+        header: Vec<String>,
+        asked: Asked,
+        format: Format,
+    },
+    Cover(CoverJob),
+}
+
+const BAD_SKETCH: &str =
+    "error: give a lock, its threads and the lines of a sketch, or the file of one\n";
+
+const BAD_KIND: &str = "error: --require names a kind of transition that no lock has\n";
+
+const BAD_FORMAT: &str = "error: a format is text or json\n";
+
+fn with_bounds<'a>(alloc: Global, command: Command<'a>) -> Result<Command<'a>, AllocError> {
+    let rounds = Arg::new(alloc, "rounds")
+        .long("rounds")
+        .value_name("R")
+        .help("How many times each thread takes the lock at most; 1 if it is not given")
+        .action(ArgAction::Set)
+        .value_parser(value_parser!(u8).range(1..=255));
+    let bits = Arg::new(alloc, "bits")
+        .long("bits")
+        .value_name("B")
+        .help("How many bits a word has; 64 if it is not given")
+        .action(ArgAction::Set);
+    let limit = Arg::new(alloc, "limit")
+        .long("limit")
+        .value_name("N")
+        .help("How many states are searched at most; 1,000,000 if it is not given")
+        .action(ArgAction::Set)
+        .value_parser(value_parser!(u64).range(1..=MOST_STATES));
+    command.arg(rounds)?.arg(bits)?.arg(limit)
+}
+
+/// The command `find`.
+pub fn find_command<'a>(alloc: Global) -> Result<Command<'a>, AllocError> {
+    let words = Arg::new(alloc, "words")
+        .value_name("LOCK THREADS LINE")
+        .help("A lock, its threads and the lines of a sketch; or the file of a sketch, or -")
+        .required(true)
+        .num_args(1..)
+        .action(ArgAction::Append);
+    let command = Command::new(alloc, "find").about(
+        "Finds a shortest run that has these lines in this order, or says that none has",
+    );
+    with_bounds(alloc, command)?.arg(words)
+}
+
+fn format_arg<'a>(alloc: Global, forms: &'a str) -> Arg<'a> {
+    Arg::new(alloc, "format")
+        .long("format")
+        .value_name("FORMAT")
+        .help(forms)
+        .action(ArgAction::Set)
+}
+
+fn with_lock<'a>(alloc: Global, command: Command<'a>) -> Result<Command<'a>, AllocError> {
+    let lock = Arg::new(alloc, "lock")
+        .value_name("LOCK")
+        .help("ticket, mcs, rw-simple or rw-fifo")
+        .required(true)
+        .action(ArgAction::Set);
+    let threads = Arg::new(alloc, "threads")
+        .value_name("THREADS")
+        .help("How many threads it has, from 1 to 64")
+        .required(true)
+        .action(ArgAction::Set);
+    command.arg(lock)?.arg(threads)
+}
+
+/// The command `space`.
+pub fn space_command<'a>(alloc: Global) -> Result<Command<'a>, AllocError> {
+    let command = Command::new(alloc, "space").about(
+        "Counts the states and the transitions of all runs of a lock",
+    );
+    let format = format_arg(alloc, "text or json");
+    with_lock(alloc, with_bounds(alloc, command)?.arg(format)?)
+}
+
+/// The command `cover`.
+pub fn cover_command<'a>(alloc: Global) -> Result<Command<'a>, AllocError> {
+    let required = Arg::new(alloc, "require")
+        .long("require")
+        .value_name("NAME,NAME")
+        .help("Fails if one of these kinds is missing; all is each one of the traces' locks")
+        .action(ArgAction::Set);
+    let files = Arg::new(alloc, "files")
+        .value_name("TRACE")
+        .help("Traces or schedules; - is standard input, also if none is named")
+        .num_args(0..)
+        .action(ArgAction::Append);
+    Command::new(alloc, "cover")
+        .about("Counts which kinds of transition traces took, and how to reach the others")
+        .arg(required)?
+        .arg(format_arg(alloc, "text or json"))?
+        .arg(files)
+}
+
+fn asked_of(matches: &ArgMatches<'_>) -> Asked {
+    let limit = matches.get_one::<u64>("limit").unwrap_or(LIMIT);
+    Asked {
+        rounds: matches.get_one::<u8>("rounds"),
+        limit: limit as usize,
+    }
+}
+
+// The header of a schedule of this lock.
+fn header_of(
+    alloc: Global,
+    matches: &ArgMatches<'_>,
+    lock: &str,
+    threads: &str,
+) -> Result<String, AllocError> {
+    match matches.get_str("bits") {
+        Some(bits) => format!(in alloc; "lock {lock} threads {threads} bits {bits}"),
+        None => format!(in alloc; "lock {lock} threads {threads}"),
+    }
+}
+
+/// The job of the command `find`, or what is wrong with its words.
+pub fn find_given(
+    alloc: Global,
+    matches: &ArgMatches<'_>,
+) -> Result<Result<SearchJob, &'static str>, AllocError> {
+    let words = matches.get_strs("words").unwrap_or(&[]);
+    let source = match words {
+        [file] => Source::File(String::from_str(alloc, *file)?),
+        [lock, threads, _, ..] => {
+            let mut lines = Vec::new(alloc);
+            lines.push(header_of(alloc, matches, *lock, *threads)?)?;
+            for line in words.iter().skip(2) {
+                lines.push(String::from_str(alloc, *line)?)?;
+            }
+            Source::Words(lines)
+        }
+        _ => return Ok(Err(BAD_SKETCH)),
+    };
+    let asked = asked_of(matches);
+    Ok(Ok(SearchJob::Find { source, asked }))
+}
+
+fn format_of(matches: &ArgMatches<'_>) -> Option<Format> {
+    let format = matches.get_str("format").unwrap_or("text");
+    if format == "text" {
+        Some(Format::Text)
+    } else if format == "json" {
+        Some(Format::Json)
+    } else {
+        None
+    }
+}
+
+// A sketch of no lines, of the lock that is named.
+fn lock_given(alloc: Global, matches: &ArgMatches<'_>) -> Result<Vec<String>, AllocError> {
+    let lock = matches.get_str("lock").unwrap_or("");
+    let threads = matches.get_str("threads").unwrap_or("");
+    let mut header = Vec::new(alloc);
+    header.push(header_of(alloc, matches, lock, threads)?)?;
+    Ok(header)
+}
+
+/// The job of the command `space`, or what is wrong with its words.
+pub fn space_given(
+    alloc: Global,
+    matches: &ArgMatches<'_>,
+) -> Result<Result<SearchJob, &'static str>, AllocError> {
+    let Some(format) = format_of(matches) else {
+        return Ok(Err(BAD_FORMAT));
+    };
+    let header = lock_given(alloc, matches)?;
+    let asked = asked_of(matches);
+    Ok(Ok(SearchJob::Space {
+        header,
+        asked,
+        format,
+    }))
+}
+
+// The kinds that are required, or none if one of them is not known.
+fn required_of(alloc: Global, text: &str) -> Result<Option<Vec<String>>, AllocError> {
+    let mut required = Vec::new(alloc);
+    for name in text.split(',') {
+        if !is_kind(name) {
+            return Ok(None);
+        }
+        required.push(String::from_str(alloc, name)?)?;
+    }
+    Ok(Some(required))
+}
+
+/// The job of the command `cover`, or what is wrong with its words.
+pub fn cover_given(
+    alloc: Global,
+    matches: &ArgMatches<'_>,
+) -> Result<Result<SearchJob, &'static str>, AllocError> {
+    let Some(format) = format_of(matches) else {
+        return Ok(Err(BAD_FORMAT));
+    };
+    let required = matches.get_str("require");
+    let all = required.unwrap_or("") == "all";
+    let required = match required {
+        Some(text) if !all => match required_of(alloc, text)? {
+            Some(required) => required,
+            None => return Ok(Err(BAD_KIND)),
+        },
+        _ => Vec::new(alloc),
+    };
+    let mut files = Vec::new(alloc);
+    for file in matches.get_strs("files").unwrap_or(&["-"]) {
+        files.push(String::from_str(alloc, *file)?)?;
+    }
+    Ok(Ok(SearchJob::Cover(CoverJob {
+        format,
+        all,
+        required,
+        files,
+    })))
+}
