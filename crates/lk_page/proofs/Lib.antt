@@ -8,5 +8,6 @@ pub mod Replayed
 pub mod Records
 pub mod Places
 pub mod Threads
+pub mod OwnedBytes
 pub mod Turns
 pub mod StateBytes

@@ -1,5 +1,8 @@
 -- The record of a move that was made.
-use Rattle.std.proofs.Common.{◌≡◌, ℕ, List, ◌++◌, length, Option, None, refl, ap, subst, ◌∙◌}
+use Rattle.std.proofs.Common.{◌≡◌, ℕ, Bool, List, ◌++◌, length, Option, None, refl, ap, subst}
+use Rattle.std.proofs.Common.{◌∙◌}
+use Rattle.lk_locks.specs.Rooms.{step_due}
+use Rattle.lk_locks.specs.declared.kinds.StepKind.{StepKind}
 use Rattle.std.proofs.lemmas.List.{get_or-set_same}
 use Rattle.lk_locks.specs.State.{State, phase_at}
 use Rattle.lk_locks.specs.Steps.{refusal_of, change_of, next_state}
@@ -13,6 +16,7 @@ use Rattle.lk_locks.specs.declared.kinds.Phase.TheVariants.{Idle}
 use Rattle.lk_locks.proofs.Moves.{accepted_of}
 use Rattle.lk_replay.specs.declared.schedule.Line.{Line}
 use Rattle.lk_page.specs.Told.{AreTouched, IsOwn, IsRecord, own_word, standing}
+use Rattle.lk_page.specs.Next.{allowed_calls, waits_after}
 use Rattle.lk_page.specs.Playing.{moment}
 use Rattle.lk_page.specs.declared.told.Standing.{Standing}
 use Rattle.lk_page.specs.declared.told.Touch.{Touch}
@@ -23,11 +27,15 @@ pub state_after : (k next : Tracked) (t : ℕ) (m : Move) → refusal_of k.state
 state_after k next t m a e = ap (λ (x : Tracked). x.state) e ∙ rw a refl
 
 pub is_told : (k next : Tracked) (es : List Entry) (l : Line) (o : Outcome) (p : Phase)
-    (stand : Standing) (first second : Option Touch)
+    (d : Option StepKind) (stand : Standing) (calls : ℕ) (waits : Bool)
+    (first second : Option Touch)
     → k ≡ tracked k.state es → refusal_of k.state l.thread l.action ≡ None
     → next ≡ after_tracked k l.thread l.action
     → o ≡ (change_of k.state l.thread l.action).outcome → p ≡ phase_at next.state.phases l.thread
+    → d ≡ step_due next.state.kind (phase_at next.state.phases l.thread)
     → stand ≡ standing (holding_in next) (waiting_in next) l.thread
+    → calls ≡ allowed_calls next.state l.thread
+    → waits ≡ waits_after next.state l.thread o stand.is_queued
     → AreTouched k.state.words next.state.words first second
     → IsOwn (length k.state.words) (own_word k.state l.thread l.action) first second
     → IsRecord (moment k.state es) l (record {
@@ -36,23 +44,34 @@ pub is_told : (k next : Tracked) (es : List Entry) (l : Line) (o : Outcome) (p :
       action = l.action;
       outcome = o;
       phase = p;
+      due = d;
       standing = stand;
+      calls = calls;
+      waits = waits;
       first = first;
       second = second;
     })
-is_told k next es l o p stand first second h a e oe pe se touched own =
+is_told k next es l o p d stand calls waits first second h a e oe pe de se ce we touched own =
     let new : State = next_state k.state l.thread l.action in
     let all : List Entry = es ++ entries_of k.state l.thread l.action in
     let g : next ≡ tracked new all =
     e ∙ ap (λ (x : Tracked). after_tracked x l.thread l.action) h
     ∙ tracked_on k.state l.thread l.action es a in
+    let is : phase_at next.state.phases l.thread
+    ≡ (change_of k.state l.thread l.action).phase =
+    ap (λ (x : Tracked). phase_at x.state.phases l.thread) g
+    ∙ get_or-set_same k.state.phases l.thread (change_of k.state l.thread l.action).phase Idle
+    (accepted_of k.state l.thread l.action a).thread in
     record {
       accepted = rw oe refl;
-      phase =
-          pe ∙ ap (λ (x : Tracked). phase_at x.state.phases l.thread) g
-          ∙ get_or-set_same k.state.phases l.thread (change_of k.state l.thread l.action).phase Idle
-          (accepted_of k.state l.thread l.action a).thread;
+      phase = pe ∙ is;
+      due =
+          de ∙ ap (step_due next.state.kind) is
+          ∙ ap (λ (x : Tracked). step_due x.state.kind (change_of k.state l.thread l.action).phase)
+          g;
       stands = se ∙ rw (g, holding_tracked new all, waiting_tracked new all) refl;
+      calls = ce ∙ ap (λ (x : Tracked). allowed_calls x.state l.thread) g;
+      waiting = we ∙ ap (λ (x : Tracked). waits_after x.state l.thread o stand.is_queued) g;
       touched = subst (λ (x : Tracked). AreTouched k.state.words x.state.words first second) g
           touched;
       own = own;

@@ -1,28 +1,24 @@
 -- Definitions: the bytes of a record and of a state. This project's own. All numbers are
 -- little-endian.
 use Rattle.std.specs.Prelude.{ℕ, zero, suc, ◌+◌, ◌-◌, ◌*◌, List, [], ◌∷◌, ◌++◌, length, replicate}
-use Rattle.std.specs.Prelude.{Option, None, Some, is_none, Bool, if◌then◌else◌, nat_lt}
+use Rattle.std.specs.Prelude.{Option, None, Some, if◌then◌else◌, nat_lt}
 use Rattle.std.specs.Int.{to_le_bytes, w16, w32, w64}
 use Rattle.std.specs.List.{flat_map}
 use Rattle.lk_locks.specs.State.{State, phase_at}
-use Rattle.lk_locks.specs.Steps.{refusal_of}
 use Rattle.lk_locks.specs.Rooms.{step_due}
 use Rattle.lk_locks.specs.Holding.{Holding, Free, HeldBy, ReadBy, WrittenBy, holding_of, waiting_of}
-use Rattle.lk_locks.specs.declared.kinds.Op.{Op}
-use Rattle.lk_locks.specs.declared.kinds.Op.TheVariants.{Acquire, Release, ReadLock, ReadUnlock}
-use Rattle.lk_locks.specs.declared.kinds.Op.TheVariants.{WriteLock, WriteUnlock, Downgrade}
-use Rattle.lk_locks.specs.declared.kinds.Move.TheVariants.{Call}
 use Rattle.lk_locks.specs.declared.kinds.Refusal.{Refusal}
 use Rattle.lk_replay.specs.Faults.{Fault}
 use Rattle.lk_page.specs.Codes.{lock_code, action_code, word_code, outcome_code, phase_code}
 use Rattle.lk_page.specs.Codes.{phase_number, due_code, refusal_code, refusal_step, fault_code}
-use Rattle.lk_page.specs.Codes.{fault_line}
+use Rattle.lk_page.specs.Codes.{bit, fault_line, is_unlinked}
+use Rattle.lk_page.specs.Next.{allowed_calls}
+use Rattle.lk_page.specs.Owned.{next_word, locked_word, record_name}
 use Rattle.lk_page.specs.Told.{Moment}
 use Rattle.lk_page.specs.declared.told.Touch.{Touch}
-use Rattle.lk_page.specs.declared.told.Standing.{Standing}
 use Rattle.lk_page.specs.declared.told.Record.{Record}
 
--- what a page reads of a word that was touched; 65535 where none was
+-- what a page reads of a word that was touched; 65535 if none was
 abbrev pub touched_word : Option Touch → ℕ
 touched_word None = 65535
 touched_word (Some t) = t.word
@@ -35,25 +31,25 @@ abbrev pub left_of : Option Touch → ℕ
 left_of None = 0
 left_of (Some t) = t.left
 
-abbrev pub bit : Bool → ℕ
-bit b = if b then 1 else 0
-
-abbrev pub standing_code : Standing → ℕ
-standing_code s = bit s.holds + 2 * bit s.is_queued + 4 * bit s.writes
+-- what a thread is after its move
+abbrev pub thread_code : Record → ℕ
+thread_code r =
+    bit r.standing.holds + 2 * bit r.standing.is_queued + 4 * bit r.standing.writes
+    + 8 * bit (is_unlinked r.phase) + 16 * bit r.waits
 
 -- 56 bytes
 unfoldable pub record_bytes : Record → List ℕ
 record_bytes r =
     to_le_bytes w32 r.line
     ++ (r.thread ∷ action_code r.action ∷ word_code r.action ∷ outcome_code r.outcome
-    ∷ phase_code r.phase ∷ standing_code r.standing ∷ [])
+    ∷ phase_code r.phase ∷ thread_code r ∷ [])
     ++ to_le_bytes w16 (touched_word r.first) ++ to_le_bytes w16 (touched_word r.second)
-    ++ to_le_bytes w16 0
+    ++ (due_code r.due ∷ r.calls ∷ [])
     ++ to_le_bytes w64 (found_of r.first) ++ to_le_bytes w64 (left_of r.first)
     ++ to_le_bytes w64 (found_of r.second) ++ to_le_bytes w64 (left_of r.second)
     ++ to_le_bytes w64 (phase_number r.phase)
 
--- a list, and zeros behind it
+-- a list, and zeros after it
 abbrev pub padded : ℕ → List ℕ → List ℕ
 padded n xs = xs ++ replicate (n - length xs) 0
 
@@ -69,22 +65,12 @@ holder_list (HeldBy t) = t ∷ []
 holder_list (ReadBy ts) = ts
 holder_list (WrittenBy t) = t ∷ []
 
--- 1 where the call would be accepted
-abbrev pub call_bit : State → ℕ → Op → ℕ
-call_bit s t op = bit (is_none (refusal_of s t (Call op)))
-
--- the calls that would be accepted of a thread
-abbrev pub allowed_calls : State → ℕ → ℕ
-allowed_calls s t =
-    call_bit s t Acquire + 2 * call_bit s t Release + 4 * call_bit s t ReadLock
-    + 8 * call_bit s t ReadUnlock
-    + 16 * call_bit s t WriteLock + 32 * call_bit s t WriteUnlock + 64 * call_bit s t Downgrade
-
--- what a thread does, and what it may do next: 16 bytes
+-- what a thread does, what it may do next, and what is its own: 16 bytes
 abbrev pub own_bytes : State → ℕ → List ℕ
 own_bytes s t =
     (phase_code (phase_at s.phases t) ∷ due_code (step_due s.kind (phase_at s.phases t))
-    ∷ allowed_calls s t ∷ 0 ∷ 0 ∷ 0 ∷ 0 ∷ 0 ∷ [])
+    ∷ allowed_calls s t ∷ next_word s.kind s.bits t ∷ locked_word s.kind s.bits t
+    ∷ record_name s.kind s.bits t ∷ 0 ∷ 0 ∷ [])
     ++ to_le_bytes w64 (phase_number (phase_at s.phases t))
 
 abbrev pub thread_bytes : State → ℕ → List ℕ

@@ -1,4 +1,6 @@
 pub mod Codes
+pub mod Next
+pub mod Owned
 pub mod Told
 pub mod Changes
 pub mod Layout

@@ -1,11 +1,11 @@
--- Definitions: what a page is told of each move that is made, and of the lock after the last. This
+-- Definitions: what a page learns of each move that is made, and of the lock after the last. This
 -- project's own; what a move does, who holds and who waits is said by the definitions of the locks
 -- and of the replay alone.
 use Rattle.std.specs.Prelude.{◌≡◌, ◌≢◌, ℕ, ◌<◌, List, [], ◌∷◌, ◌++◌, length, slice_index, Option}
 use Rattle.std.specs.Prelude.{None, Some, option_map, Bool, false, eqb}
 use Rattle.lk_words.specs.Operations.{word_of}
 use Rattle.lk_locks.specs.State.{State, phase_at}
-use Rattle.lk_locks.specs.Rooms.{operation_of}
+use Rattle.lk_locks.specs.Rooms.{operation_of, step_due}
 use Rattle.lk_locks.specs.Steps.{refusal_of, change_of, next_state}
 use Rattle.lk_locks.specs.Entries.{entries_of}
 use Rattle.lk_locks.specs.Sequential.{has}
@@ -17,6 +17,7 @@ use Rattle.lk_locks.specs.declared.kinds.Refusal.{Refusal}
 use Rattle.lk_replay.specs.Schedule.{Plan}
 use Rattle.lk_replay.specs.Replay.{start_of, made_by}
 use Rattle.lk_replay.specs.declared.schedule.Line.{Line}
+use Rattle.lk_page.specs.Next.{allowed_calls, waits_after}
 use Rattle.lk_page.specs.declared.told.Touch.{Touch}
 use Rattle.lk_page.specs.declared.told.Standing.{Standing}
 use Rattle.lk_page.specs.declared.told.Record.{Record}
@@ -47,7 +48,7 @@ after_lines m [] = m
 after_lines m (l ∷ ls) =
     unless_stopped (refusal_of m.state l.thread l.action) m (after_lines (after_line m l) ls)
 
--- a word that was touched, with what stood in it before and after
+-- a word that was touched, with its value before and after
 abbrev pub IsTouch : List ℕ → List ℕ → Option Touch → Type 0
 IsTouch before after None = Unit {0}
 IsTouch before after (Some t) =
@@ -58,7 +59,7 @@ abbrev pub IsWord : Option Touch → ℕ → Type 0
 IsWord None i = ⊥
 IsWord (Some t) i = t.word ≡ i
 
--- what stood in the word and what stands there differ
+-- the values before and after differ
 abbrev pub IsChange : Option Touch → Type 0
 IsChange None = ⊥
 IsChange (Some t) = t.found ≢ t.left
@@ -97,7 +98,7 @@ abbrev pub writes : Holding → ℕ → Bool
 writes (WrittenBy u) t = eqb t u
 writes h t = false
 
--- how a thread stands to a lock that is held so, with these threads in line
+-- whether a thread holds a lock that is held so, and is in this queue
 abbrev pub standing : Holding → List ℕ → ℕ → Standing
 standing h queue t = record { holds = holds h t; is_queued = has queue t; writes = writes h t }
 
@@ -106,8 +107,12 @@ pub record IsRecord (m : Moment) (l : Line) (r : Record) : Type 0 where
   pub accepted : (made_by m.state l).accepted
       ≡ record { line = r.line; thread = r.thread; action = r.action; outcome = r.outcome }
   pub phase : r.phase ≡ (change_of m.state l.thread l.action).phase
+  pub due : r.due ≡ step_due m.state.kind (change_of m.state l.thread l.action).phase
   pub stands : r.standing
       ≡ (let n : Moment = after_line m l in
       standing (holding_of n.state.kind n.entries) (waiting_of n.state.kind n.entries) l.thread)
+  pub calls : r.calls ≡ allowed_calls (after_line m l).state l.thread
+  pub waiting : r.waits
+      ≡ waits_after (after_line m l).state l.thread r.outcome r.standing.is_queued
   pub touched : AreTouched m.state.words (after_line m l).state.words r.first r.second
   pub own : IsOwn (length m.state.words) (own_word m.state l.thread l.action) r.first r.second

@@ -12,7 +12,7 @@ use Rattle.lk_page.specs.Layout.{record_bytes, state_bytes, fault_bytes}
 use Rattle.lk_page.specs.Told.{Moment, beginning, after_line, after_lines, IsRecord}
 use Rattle.lk_page.specs.declared.told.Record.{Record}
 
--- bytes from a place on, where they fit wholly
+-- bytes from a place on, if they fit wholly
 abbrev pub placed : List ℕ → ℕ → List ℕ → List ℕ
 placed old at bytes =
     if nat_le (at + length bytes) (length old) then take at old ++ bytes
@@ -22,8 +22,7 @@ abbrev pub IsWrittenUnless : Option Refusal → Type 0 → Type 0 → Type 0
 IsWrittenUnless None next stopped = next
 IsWrittenUnless (Some r) next stopped = stopped
 
--- `new` is `old` with the records of these moves up to the first refused one, where `count` others
--- came before
+-- `new` is `old` with the records of these moves up to the first refused one, after `count` others
 abbrev pub AreRecords : Moment → List Line → ℕ → List ℕ → List ℕ → Type 0
 AreRecords m [] count old new = new ≡ old
 AreRecords m (l ∷ ls) count old new =

@@ -12,7 +12,7 @@ use crate::told::Touch;
 use lk_locks::{Added, Move, Outcome, Tracker};
 use lk_words::WordArray;
 
-/// The words as they stand.
+/// The words as they are.
 pub fn words_of(lock: &Tracker<WordArray>) -> &[u64]
     ensures words { result.now ≡ lock.now.state.words }
     ensures few { length result.now ≤ 129 }

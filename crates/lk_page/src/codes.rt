@@ -4,6 +4,7 @@
 ghost use Rattle.std.specs.Prelude.{◌≡◌, IfSome};
 ghost use Rattle.lk_page.specs.Codes.{lock_code, op_code, step_code, action_code, word_code};
 ghost use Rattle.lk_page.specs.Codes.{outcome_code, phase_code, phase_number, due_code};
+ghost use Rattle.lk_page.specs.Codes.{is_unlinked};
 ghost use Rattle.lk_page.specs.Codes.{refusal_code, refusal_step, fault_code, fault_line, as_fault};
 
 use lk_locks::{LockKind, Move, Op, Outcome, Phase, Refusal, StepKind};
@@ -78,7 +79,7 @@ pub fn phase_code(phase: Phase) -> u8
     }
 }
 
-/// The ticket, value or thread that a phase carries, and 0 where it carries none.
+/// The ticket, value or thread that a phase carries, and 0 if it carries none.
 pub fn phase_number(phase: Phase) -> u64
     ensures { result ≡ phase_number phase }
 {
@@ -90,7 +91,15 @@ pub fn phase_number(phase: Phase) -> u64
     }
 }
 
-/// The step that is due, and 0 where none is.
+/// Whether a thread in this phase is in the queue of an MCS lock, and has not linked itself to its
+/// predecessor.
+pub fn is_unlinked(phase: Phase) -> bool
+    ensures { result ≡ is_unlinked phase }
+{
+    matches!(phase, Phase::SetLocked(_) | Phase::LinkTo(_))
+}
+
+/// The step that is due, and 0 if none is.
 pub fn due_code(due: Option<StepKind>) -> u8
     ensures { result ≡ due_code due }
 {
@@ -115,7 +124,7 @@ pub fn refusal_code(refusal: Refusal) -> u32
     }
 }
 
-/// The due step that a refusal names, and 0 where it names none.
+/// The due step that a refusal names, and 0 if it names none.
 pub fn refusal_step(refusal: Refusal) -> u8
     ensures { result ≡ refusal_step refusal }
 {

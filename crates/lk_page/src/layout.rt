@@ -1,4 +1,4 @@
-//! Numbers as the bytes that a page reads: little-endian, one behind the other.
+//! Numbers as the bytes that a page reads: little-endian, one after the other.
 
 ghost use Rattle.std.specs.Prelude.{◌≡◌, ◌+◌, ◌*◌, ◌≤◌, ◌++◌, length, replicate};
 ghost use Rattle.std.specs.Int.{to_le_bytes, w16, w32, w64};

@@ -2,7 +2,7 @@
 //! by move for a page to draw. This project's own.
 //!
 //! It is built to a WebAssembly module that imports nothing. An exported function takes no memory
-//! there, so text, records and state are slices that the page lends. docs/MODULE.md lists their
+//! there, so text, records and state are slices that the page lends. page/MODULE.md lists their
 //! bytes.
 #![tactic(auto)]
 
@@ -13,6 +13,8 @@ ghost use Rattle.lk_page.specs.Written.{IsTold};
 mod changes;
 mod codes;
 mod layout;
+mod next;
+mod owned;
 mod playing;
 mod record;
 mod state;
@@ -26,8 +28,8 @@ use playing::play_text;
 /// record of 56 bytes of each, as many as fit, and the state after the last into the first 2,304
 /// bytes of `state`.
 ///
-/// It answers 0 where all moves asked for were accepted, 1 where the next is refused, 2 where the
-/// text has a fault, which the state names, and 3, with nothing done, where `state` is too short.
+/// It answers 0 if all moves asked for were accepted, 1 if the next is refused, 2 if the text has a
+/// fault, which the state names, and 3, with nothing done, if `state` is too short.
 #[unsafe(no_mangle)]
 pub extern "C" fn play(text: &[u8], most: u64, records: &mut [u8], state: &mut [u8]) -> u64
     ensures short { length state.old < 2304

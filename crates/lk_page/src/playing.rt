@@ -17,7 +17,7 @@ use lk_locks::{Tracker, words_needed};
 use lk_replay::ScheduleReader;
 use lk_words::WordArray;
 
-// Writes record number `count`, where it fits wholly.
+// Writes record number `count`, if it fits wholly.
 fn put_record(records: &mut [u8], count: u32, told: &Record)
     requires { count ≤ 65536 }
     ensures { records.new ≡ placed records.old (count * 56) (record_bytes told.now) }

@@ -7,11 +7,12 @@ ghost use Rattle.lk_locks.specs.Tracked.{tracked, after_tracked, holding_in, wai
 ghost use Rattle.lk_locks.specs.declared.kinds.Entry.{Entry};
 ghost use Rattle.lk_page.specs.Told.{IsRecord, standing};
 ghost use Rattle.lk_page.specs.Layout.{record_bytes, touched_word, found_of, left_of};
-ghost use Rattle.lk_page.specs.Layout.{standing_code};
+ghost use Rattle.lk_page.specs.Layout.{thread_code};
 
 use crate::changes::make;
-use crate::codes::{action_codes, outcome_code, phase_code, phase_number};
+use crate::codes::{action_codes, due_code, is_unlinked, outcome_code, phase_code, phase_number};
 use crate::layout::{put_bytes, put_u16, put_u32, put_u64};
+use crate::next::{allowed_calls, waits_after};
 use crate::told::{Record, Standing, Touch};
 use arrayvec::ArrayVec;
 use lk_locks::{Holders, Refusal, Tracker};
@@ -43,7 +44,7 @@ fn standing_of(lock: &Tracker<WordArray>, thread: u8) -> Standing
     }
 }
 
-/// Makes a move, and tells what it did.
+/// Makes a move, and answers what it did.
 pub fn play_line(lock: &mut Tracker<WordArray>, line: &Line) -> Result<Record, Refusal>
     ensures refused { refused_with result
         ≡ refusal_of lock.old.state line.now.thread line.now.action }
@@ -54,14 +55,20 @@ pub fn play_line(lock: &mut Tracker<WordArray>, line: &Line) -> Result<Record, R
     lock.machine().check(line.thread, line.action)?;
     let (outcome, first, second) = make(lock, line.thread, line.action);
     let phase = lock.machine().phase(line.thread);
+    let due = lock.machine().next_step(line.thread);
     let standing = standing_of(lock, line.thread);
+    let calls = allowed_calls(lock.machine(), line.thread);
+    let waits = waits_after(lock.machine(), line.thread, outcome, standing.is_queued);
     Ok(Record {
         line: line.number,
         thread: line.thread,
         action: line.action,
         outcome,
         phase,
+        due,
         standing,
+        calls,
+        waits,
         first,
         second,
     })
@@ -86,10 +93,15 @@ fn values_of(touch: Option<Touch>) -> (u64, u64)
     }
 }
 
-fn standing_code(standing: Standing) -> u8
-    ensures { result ≡ standing_code standing }
+// What the thread is after its move, as a sum of bits.
+fn thread_code(told: &Record) -> u8
+    ensures { result ≡ thread_code told.now }
 {
-    u8::from(standing.holds) + 2 * u8::from(standing.is_queued) + 4 * u8::from(standing.writes)
+    u8::from(told.standing.holds)
+        + 2 * u8::from(told.standing.is_queued)
+        + 4 * u8::from(told.standing.writes)
+        + 8 * u8::from(is_unlinked(told.phase))
+        + 16 * u8::from(told.waits)
 }
 
 /// The bytes of a record.
@@ -111,12 +123,12 @@ pub fn record_bytes(told: &Record) -> ArrayVec<u8, 56>
             code,
             outcome_code(told.outcome),
             phase_code(told.phase),
-            standing_code(told.standing),
+            thread_code(told),
         ],
     );
     put_u16(&mut out, touched_word(told.first));
     put_u16(&mut out, touched_word(told.second));
-    put_u16(&mut out, 0);
+    put_bytes(&mut out, &[due_code(told.due), told.calls]);
     put_u64(&mut out, found);
     put_u64(&mut out, left);
     put_u64(&mut out, found_second);

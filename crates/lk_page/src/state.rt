@@ -3,16 +3,18 @@
 ghost use Rattle.std.specs.Prelude.{◌≡◌, ◌+◌, ◌<◌, ◌≤◌, ◌++◌, length};
 ghost use Rattle.lk_locks.specs.Holding.{holding};
 ghost use Rattle.lk_locks.specs.Tracked.{holding_in, waiting_in};
-ghost use Rattle.lk_page.specs.Layout.{padded, holding_code, holder_list, call_bit, allowed_calls};
+ghost use Rattle.lk_page.specs.Layout.{padded, holding_code, holder_list};
 ghost use Rattle.lk_page.specs.Layout.{own_bytes, thread_bytes, threads_bytes, stop_numbers};
 ghost use Rattle.lk_page.specs.Layout.{bytes_of_state, bytes_of_fault};
 
 use crate::changes::words_of;
 use crate::codes::{due_code, lock_code, phase_code, phase_number, refusal_code, refusal_step};
 use crate::layout::{copy_of, put_bytes, put_u32s, put_u64, put_u64s, put_zeros};
+use crate::next::allowed_calls;
+use crate::owned::owned;
 use crate::told::Stopped;
 use arrayvec::ArrayVec;
-use lk_locks::{Holders, Machine, Move, Op, Refusal, Tracker};
+use lk_locks::{Holders, LockKind, Machine, Refusal, Tracker};
 use lk_words::{WordArray, Words};
 
 /// How many bytes a state has.
@@ -22,7 +24,7 @@ const MOST_THREADS: usize = 64;
 
 const THREAD_BYTES: usize = 16;
 
-// The bytes of the words, and of the zeros behind them.
+// The bytes of the words, and of the zeros after them.
 const WORDS_BYTES: usize = 1088;
 
 /// The bytes of a fault: what is wrong with the text, and in which line.
@@ -37,32 +39,15 @@ pub fn fault_bytes(code: u32, line: u32) -> ArrayVec<u8, 2304>
     out
 }
 
-// 1 where the call would be accepted.
-fn call_bit(machine: &Machine<WordArray>, thread: u8, op: Op) -> u8
-    ensures bit { result ≡ call_bit machine.now thread op }
-    ensures small { result ≤ 1 }
-{
-    match machine.check(thread, Move::Call(op)) {
-        Ok(()) => 1,
-        Err(_) => 0,
-    }
-}
-
-// The calls that would be accepted of a thread: bit k for the call with code k.
-fn allowed_calls(machine: &Machine<WordArray>, thread: u8) -> u8
-    ensures { result ≡ allowed_calls machine.now thread }
-{
-    call_bit(machine, thread, Op::Acquire)
-        + 2 * call_bit(machine, thread, Op::Release)
-        + 4 * call_bit(machine, thread, Op::ReadLock)
-        + 8 * call_bit(machine, thread, Op::ReadUnlock)
-        + 16 * call_bit(machine, thread, Op::WriteLock)
-        + 32 * call_bit(machine, thread, Op::WriteUnlock)
-        + 64 * call_bit(machine, thread, Op::Downgrade)
-}
-
-fn put_thread(out: &mut ArrayVec<u8, 2304>, machine: &Machine<WordArray>, thread: u8)
+fn put_thread(
+    out: &mut ArrayVec<u8, 2304>,
+    machine: &Machine<WordArray>,
+    kind: LockKind,
+    thread: u8,
+)
+    requires kind { kind ≡ machine.now.kind }
     requires thread { thread < length machine.now.phases }
+    requires few { thread < 64 }
     requires room { length out.old.items + 16 ≤ 2304 }
     ensures bytes { out.new.items ≡ out.old.items ++ own_bytes machine.now thread }
     ensures size { length out.new.items ≡ length out.old.items + 16 }
@@ -70,33 +55,51 @@ fn put_thread(out: &mut ArrayVec<u8, 2304>, machine: &Machine<WordArray>, thread
     let phase = machine.phase(thread);
     let due = due_code(machine.next_step(thread));
     let calls = allowed_calls(machine, thread);
-    put_bytes(out, &[phase_code(phase), due, calls, 0, 0, 0, 0, 0]);
+    let (next, locked, name) = owned(kind, machine.words().bits(), thread);
+    put_bytes(
+        out,
+        &[phase_code(phase), due, calls, next, locked, name, 0, 0],
+    );
     put_u64(out, phase_number(phase));
 }
 
-// A thread, or zeros where the lock has it not.
-fn put_place(out: &mut ArrayVec<u8, 2304>, machine: &Machine<WordArray>, threads: u8, thread: u8)
+// A thread, or zeros if the lock does not have it.
+fn put_place(
+    out: &mut ArrayVec<u8, 2304>,
+    machine: &Machine<WordArray>,
+    kind: LockKind,
+    threads: u8,
+    thread: u8,
+)
+    requires kind { kind ≡ machine.now.kind }
     requires threads { threads ≡ length machine.now.phases }
+    requires few { thread < 64 }
     requires room { length out.old.items + 16 ≤ 2304 }
     ensures bytes { out.new.items ≡ out.old.items ++ thread_bytes machine.now thread }
     ensures size { length out.new.items ≡ length out.old.items + 16 }
 {
     if thread < threads {
-        put_thread(out, machine, thread);
+        put_thread(out, machine, kind, thread);
     } else {
         put_zeros(out, THREAD_BYTES);
     }
 }
 
-// All threads, and zeros for those that the lock has not.
-fn put_threads(out: &mut ArrayVec<u8, 2304>, machine: &Machine<WordArray>, threads: u8)
+// All threads, and zeros for those that the lock does not have.
+fn put_threads(
+    out: &mut ArrayVec<u8, 2304>,
+    machine: &Machine<WordArray>,
+    kind: LockKind,
+    threads: u8,
+)
+    requires kind { kind ≡ machine.now.kind }
     requires threads { threads ≡ length machine.now.phases }
     requires room { length out.old.items + 1024 ≤ 2304 }
     ensures bytes { out.new.items ≡ out.old.items ++ threads_bytes machine.now 0 64 }
     ensures size { length out.new.items ≡ length out.old.items + 1024 }
 {
     for thread in 0..64 {
-        put_place(out, machine, threads, thread);
+        put_place(out, machine, kind, threads, thread);
     }
 }
 
@@ -139,7 +142,7 @@ fn stop_numbers(refused: Option<(u32, Refusal)>) -> [u32; 4]
     }
 }
 
-/// The bytes of a lock's state, where a schedule has `moves` moves.
+/// The bytes of a lock's state, of a schedule that has `moves` moves.
 #[tactic(auto, unfolding(crate::specs::Layout::bytes_of_state))]
 pub fn state_bytes(
     lock: &Tracker<WordArray>,
@@ -181,7 +184,7 @@ pub fn state_bytes(
     );
     put_list(&mut out, holder_slice);
     put_list(&mut out, queue_slice);
-    put_threads(&mut out, lock.machine(), threads);
+    put_threads(&mut out, lock.machine(), lock.kind(), threads);
     put_u64s(&mut out, words);
     put_zeros(&mut out, WORDS_BYTES - 8 * words.len());
     out

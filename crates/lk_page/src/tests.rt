@@ -1,4 +1,4 @@
-//! What a page is told of short schedules. What they expect was made by hand.
+//! What a page learns of short schedules. What they expect was made by hand.
 
 use crate::play;
 use std::process::Abort;
@@ -28,7 +28,7 @@ fn a_late_link_is_seen(rt: HostRuntime) {
     assert_eq!(rt; play(LATE_LINK, 99, &mut [], &mut state), 1);
     // the refused move: its number, its line, and the due step
     assert_eq!(rt; (state[4], state[8], state[12]), (7, 13, 2));
-    // ten of eleven moves, five words; held by thread 0, with 0 and 1 in line
+    // ten of eleven moves, five words; held by thread 0, with 0 and 1 in the queue
     assert_eq!(rt;
         (
             state[16], state[20], state[24], state[28], state[32], state[36]
@@ -37,7 +37,7 @@ fn a_late_link_is_seen(rt: HostRuntime) {
     );
     assert_eq!(rt; (state[40], state[44], state[48]), (1, 1, 2));
     assert_eq!(rt; (state[64], state[128], state[129]), (0, 0, 1));
-    // thread 0 awaits the link, thread 1 is to say that it waits behind thread 0; neither may call
+    // thread 0 awaits the link, thread 1 is to set its own `locked`; neither may call
     assert_eq!(rt; (state[192], state[193], state[194]), (14, 1, 0));
     assert_eq!(rt;
         (state[208], state[209], state[210], state[216]),
@@ -45,6 +45,9 @@ fn a_late_link_is_seen(rt: HostRuntime) {
     );
     // the tail names record 2, and no record has a next
     assert_eq!(rt; (state[1216], state[1224], state[1240]), (2, 0, 0));
+    // thread 0 has words 1 and 2, and is named by 1; thread 1 has words 3 and 4, and is named by 2
+    assert_eq!(rt; (state[195], state[196], state[197]), (1, 2, 1));
+    assert_eq!(rt; (state[211], state[212], state[213]), (3, 4, 2));
 }
 
 #[test]
@@ -81,6 +84,35 @@ fn a_swap_and_a_failed_compare_and_swap_are_recorded(rt: HostRuntime) {
 }
 
 #[test]
+fn who_may_call_and_who_waits_is_recorded(rt: HostRuntime) {
+    let mut records = [9u8; 616];
+    assert_eq!(rt; play(LATE_LINK, 99, &mut records, &mut [0u8; 2304]), 1);
+    // thread 0 calls, and may call nothing; it enters, and may release
+    assert_eq!(rt; (records[9], records[15]), (0, 0));
+    assert_eq!(rt; (records[121], records[127]), (3, 2));
+    // thread 1 is in the queue and not linked, and its next step is no poll
+    assert_eq!(rt; (records[289], records[295]), (10, 0));
+    // after its compare-and-swap failed, thread 0 holds, is in the queue, and waits for the link;
+    // so it does after a failed poll
+    assert_eq!(rt; (records[457], records[463]), (19, 0));
+    assert_eq!(rt; (records[513], records[519]), (19, 0));
+}
+
+#[test]
+fn a_reader_waits_from_its_first_failed_poll_on(rt: HostRuntime) {
+    let text = b"lock rw-simple threads 2\n0 wlock\n0 section\n1 rlock\n1 section\n0 wunlock\n";
+    let mut records = [9u8; 280];
+    let mut state = [0u8; 2304];
+    assert_eq!(rt; play(text, 9, &mut records, &mut state), 0);
+    // the writer may stop writing or become a reader
+    assert_eq!(rt; (records[65], records[71]), (5, 96));
+    // the reader's call, and its failed poll
+    assert_eq!(rt; (records[121], records[177], records[183]), (0, 16, 0));
+    // no thread has a record
+    assert_eq!(rt; (state[195], state[196], state[197]), (0, 0, 0));
+}
+
+#[test]
 fn a_downgrade_changes_two_words(rt: HostRuntime) {
     let text = b"lock rw-fifo threads 3 bits 2\n2 wlock\n2 section\n2 downgrade\n2 section\n";
     let mut records = [9u8; 300];
@@ -104,7 +136,7 @@ fn a_downgrade_changes_two_words(rt: HostRuntime) {
         (17, 1, 2, 1, 2)
     );
     assert_eq!(rt; (state[194], state[210], state[226]), (20, 20, 8));
-    // behind the records nothing is written
+    // after the records nothing is written
     assert_eq!(rt; (records[223], records[224], records[299]), (0, 9, 9));
 }
 

@@ -1,8 +1,8 @@
-//! What a page is told of a schedule: of each move a record, and where the moves ended.
+//! What a page learns of a schedule: of each move a record, and where the moves ended.
 
-use lk_locks::{Move, Outcome, Phase, Refusal};
+use lk_locks::{Move, Outcome, Phase, Refusal, StepKind};
 
-/// A word that a move touched, with what stood in it before and after.
+/// A word that a move touched, with its value before and after.
 #[derive(Clone, Copy, PartialEq, Eq, Debug)]
 pub struct Touch {
     pub word: u8,
@@ -10,7 +10,7 @@ pub struct Touch {
     pub left: u64,
 }
 
-/// How a thread stands to the lock.
+/// Whether a thread holds the lock, is in its queue, and holds it as a writer.
 #[derive(Clone, Copy, PartialEq, Eq, Debug)]
 pub struct Standing {
     pub holds: bool,
@@ -25,16 +25,21 @@ pub struct Record {
     pub thread: u8,
     pub action: Move,
     pub outcome: Outcome,
-    /// The phase and the standing of its thread after it.
+    /// What its thread is after it: its phase, the step that is then due, and its standing.
     pub phase: Phase,
+    pub due: Option<StepKind>,
     pub standing: Standing,
+    /// The calls that its thread may make then, bit k for the call with code k.
+    pub calls: u8,
+    /// Whether its thread waits then.
+    pub waits: bool,
     /// The word that changed or else was looked at, and the second word of a section that changes
     /// two.
     pub first: Option<Touch>,
     pub second: Option<Touch>,
 }
 
-/// How many moves were made, and the line of the refused one and why it was refused, where one was.
+/// How many moves were made, and the line of the refused one and why it was refused, if one was.
 #[derive(Clone, Copy, PartialEq, Eq, Debug)]
 pub struct Stopped {
     pub count: u32,

@@ -1,0 +1,47 @@
+-- Definitions: what a thread may do next, as the machine would answer. This project's own.
+use Rattle.std.specs.Prelude.{ℕ, ◌+◌, ◌*◌, Bool, true, false, ◌&&◌, Option, None, Some, is_none}
+use Rattle.lk_locks.specs.State.{State, phase_at}
+use Rattle.lk_locks.specs.Steps.{refusal_of, change_of}
+use Rattle.lk_locks.specs.Rooms.{step_due}
+use Rattle.lk_locks.specs.declared.kinds.Op.{Op}
+use Rattle.lk_locks.specs.declared.kinds.Op.TheVariants.{Acquire, Release, ReadLock, ReadUnlock}
+use Rattle.lk_locks.specs.declared.kinds.Op.TheVariants.{WriteLock, WriteUnlock, Downgrade}
+use Rattle.lk_locks.specs.declared.kinds.Move.{Move}
+use Rattle.lk_locks.specs.declared.kinds.Move.TheVariants.{Call, Step}
+use Rattle.lk_locks.specs.declared.kinds.Outcome.{Outcome}
+use Rattle.lk_locks.specs.declared.kinds.Outcome.TheVariants.{Waits}
+use Rattle.lk_locks.specs.declared.kinds.StepKind.{StepKind}
+use Rattle.lk_page.specs.Codes.{bit}
+
+-- 1 if the call would be accepted
+abbrev pub call_bit : State → ℕ → Op → ℕ
+call_bit s t op = bit (is_none (refusal_of s t (Call op)))
+
+-- the calls that would be accepted of a thread
+abbrev pub allowed_calls : State → ℕ → ℕ
+allowed_calls s t =
+    call_bit s t Acquire + 2 * call_bit s t Release + 4 * call_bit s t ReadLock
+    + 8 * call_bit s t ReadUnlock
+    + 16 * call_bit s t WriteLock + 32 * call_bit s t WriteUnlock + 64 * call_bit s t Downgrade
+
+abbrev pub is_wait : Outcome → Bool
+is_wait Waits = true
+is_wait o = false
+
+-- whether a move would be accepted, and would be a failed poll
+abbrev pub fails : State → ℕ → Move → Bool
+fails s t m = is_none (refusal_of s t m) && is_wait (change_of s t m).outcome
+
+abbrev pub step_fails : State → ℕ → Option StepKind → Bool
+step_fails s t None = false
+step_fails s t (Some step) = fails s t (Step step)
+
+-- whether the next step of a thread, taken now, would be a failed poll
+abbrev pub next_waits : State → ℕ → Bool
+next_waits s t = step_fails s t (step_due s.kind (phase_at s.phases t))
+
+-- Whether a thread waits after a move of its own with this outcome: that was a failed poll, or the
+-- thread is in the queue and its next step would be one.
+abbrev pub waits_after : State → ℕ → Outcome → Bool → Bool
+waits_after s t Waits queued = true
+waits_after s t outcome queued = queued && next_waits s t

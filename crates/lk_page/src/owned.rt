@@ -1,0 +1,46 @@
+//! What is a thread's own in an MCS lock: the two words of its record, and the value by which a
+//! word names that record. All three are read off the operations of the machine's steps.
+
+ghost use Rattle.std.specs.Prelude.{◌≡◌, ◌<◌, ◌≤◌};
+ghost use Rattle.lk_page.specs.Owned.{next_word, locked_word, record_name, word_or_0, left_or_0};
+
+use lk_locks::{LockKind, Phase, operation_of};
+use lk_words::Operation;
+
+fn word_of(operation: Option<Operation>) -> usize
+    ensures { result ≡ word_or_0 operation }
+{
+    match operation {
+        Some(operation) => operation.word(),
+        None => 0,
+    }
+}
+
+// What the operation leaves in a word that holds 0.
+fn left_by(operation: Option<Operation>, bits: u8) -> u64
+    requires least { 2 ≤ bits }
+    requires most { bits ≤ 64 }
+    ensures { result ≡ left_or_0 bits operation }
+{
+    match operation {
+        Some(operation) => operation.effect(0, bits).left,
+        None => 0,
+    }
+}
+
+/// The places of a thread's `next` and `locked`, and the value that names its record. Of another
+/// lock all three are 0.
+#[tactic(auto, using(crate::proofs::OwnedBytes::small))]
+pub fn owned(kind: LockKind, bits: u8, thread: u8) -> (u8, u8, u8)
+    requires least { 2 ≤ bits }
+    requires most { bits ≤ 64 }
+    requires few { thread < 64 }
+    ensures next { result.0 ≡ next_word kind bits thread }
+    ensures locked { result.1 ≡ locked_word kind bits thread }
+    ensures name { result.2 ≡ record_name kind bits thread }
+{
+    let next = word_of(operation_of(kind, bits, thread, Phase::ClearNext));
+    let locked = word_of(operation_of(kind, bits, thread, Phase::AwaitGrant));
+    let name = left_by(operation_of(kind, bits, thread, Phase::SwapTail), bits);
+    (next as u8, locked as u8, name as u8)
+}
