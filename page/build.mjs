@@ -15,6 +15,7 @@ import { fileURLToPath } from 'node:url';
 import { setFlagsFromString } from 'node:v8';
 import { bundle } from './build/bundle.mjs';
 import { lessonsOf, storedOf } from './build/lessons.mjs';
+import { rangesOf } from './build/ranges.mjs';
 import { codeOf } from './src/locks_code.js';
 
 const HERE = dirname(fileURLToPath(import.meta.url));
@@ -23,7 +24,7 @@ const SOURCES = join(HERE, 'src');
 
 const read = (...path) => readFileSync(join(HERE, ...path), 'utf8');
 
-// `<` never stands in the data, so that no text of a lesson can end the script.
+// The data never has a `<`, so that no text of a lesson can end the script.
 const asScript = (data) => JSON.stringify(data).replaceAll('<', '\\u003c');
 
 const style = () => readdirSync(join(SOURCES, 'style')).sort()
@@ -41,6 +42,7 @@ function build(module) {
   const code = codeOf(read('..', 'docs', 'LOCKS.md'));
   const data = {
     module: module.toString('base64'), code, lessons, stored: storedOf(module, lessons),
+    ranges: rangesOf(module),
   };
   const script = `${bundle(SOURCES, 'main.js')}\nstart(${asScript(data)});`;
   // Functions, so that no `$` of a source is taken for a sign of the replacement.

@@ -4,7 +4,7 @@
 The module's code is proved against the definitions of crates/lk_page/specs. That the page reads its
 numbers as these definitions mean them is not proved. Here each name and number of
 page/src/codes.js, and the order of the page's locks and of its ways to hold one, is compared with
-the definitions. So is the table of codes in docs/MODULE.md. Prints `N passed, M failed`, and ends
+the definitions. So is the table of codes in page/MODULE.md. Prints `N passed, M failed`, and ends
 with 1 if one failed.
 """
 import pathlib
@@ -21,15 +21,16 @@ LOCKS = {"Ticket": "ticket", "Mcs": "mcs", "RwSimple": "rw-simple", "RwFifo": "r
 ACTIONS = {"Call": "call", "Step": "step"}
 # who holds: a report's letter, and the page's text
 HELD = {"ReadBy": ("r", "asReader"), "WrittenBy": ("w", "asWriter")}
-# of a kind of code: its definition, its list in codes.js, its row in docs/MODULE.md, and its words
+# of a kind of code: its definition, its list in codes.js, its row in page/MODULE.md, and its words
 KINDS = (("op_code", "CALLS", "call", CALLS.get),
          ("step_code", "STEPS", "step", str.lower),
          ("outcome_code", "OUTCOMES", "outcome", str.lower),
          ("refusal_code", "REFUSALS", "refusal", str),
          ("fault_code", "FAULTS", "fault", str),
          ("phase_code", "PHASES", "phase", str))
-# of the bits of a standing: their field in the definition, and their name in codes.js
-BITS = {"holds": "HOLDS", "is_queued": "IN_LINE", "writes": "AS_WRITER"}
+# of the bits of a record's thread: what the definition has there, and its name in codes.js
+BITS = {"r.standing.holds": "HOLDS", "r.standing.is_queued": "IN_LINE",
+        "r.standing.writes": "AS_WRITER", "(is_unlinked r.phase)": "UNLINKED", "r.waits": "WAITS"}
 # the fault that the module cannot have, since it takes no memory
 OF_THE_LIBRARY = {"OutOfMemory": 7}
 
@@ -61,7 +62,7 @@ def constant(text, name):
 
 
 def in_table(text, row):
-    """A row of the table of codes in docs/MODULE.md."""
+    """A row of the table of codes in page/MODULE.md."""
     codes = re.search(rf"^\| {row} \| (\d.*) \|$", text, re.MULTILINE).group(1)
     return {word: int(number) for number, word in re.findall(r"(\d+) ([\w-]+)", codes)}
 
@@ -82,10 +83,10 @@ def compare_codes(tally, codes, page, table):
 
 
 def compare_layout(tally, layout, page):
-    bits = re.search(r"^standing_code s = (.*)$", layout, re.MULTILINE).group(1)
-    due = {BITS[field]: int(factor or 1)
-           for factor, field in re.findall(r"(?:(\d+) \* )?bit s\.(\w+)", bits)}
-    tally.check("bits of a standing", {name: constant(page, name) for name in BITS.values()}, due)
+    bits = re.search(r"^thread_code r =\n((?: .*\n)+)", layout, re.MULTILINE).group(1)
+    due = {BITS[what]: int(factor or 1)
+           for factor, what in re.findall(r"(?:(\d+) \* )?bit (\(.*?\)|\S+)", bits)}
+    tally.check("bits of a thread", {name: constant(page, name) for name in BITS.values()}, due)
     tally.check("NO_WORD", constant(page, "NO_WORD"), defined(layout, "touched_word")["None"])
     holding = defined(layout, "holding_code")
     letters = listed(read(PAGE / "report.js"), "HOLDER_LETTERS")
@@ -118,7 +119,7 @@ def compare_limits(tally, page):
 def main():
     tally = Tally()
     page = read(PAGE / "codes.js")
-    compare_codes(tally, read(SPECS / "Codes.antt"), page, read(TOP / "docs" / "MODULE.md"))
+    compare_codes(tally, read(SPECS / "Codes.antt"), page, read(TOP / "page" / "MODULE.md"))
     compare_layout(tally, read(SPECS / "Layout.antt"), page)
     compare_answers(tally, page)
     compare_limits(tally, page)

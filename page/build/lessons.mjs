@@ -31,12 +31,12 @@ export function lessonsOf(folder) {
     || place(one) - place(other));
 }
 
-// Each lesson played from its first move to its end, every answer kept.
+// Each lesson played to its end, with what a page asks of it.
 export function storedOf(module, lessons) {
   const recorder = new Recorder(new Machine(module));
   for (const { text } of lessons) {
     const run = new Run(recorder, new Uint8Array(Buffer.from(text, 'base64')));
-    for (let move = 0; run.hasLock && move <= run.count; move += 1) run.state(move);
+    if (run.hasLock) run.replayed(0);
   }
   return recorder.kept();
 }

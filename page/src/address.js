@@ -38,7 +38,7 @@ export class Address {
     location.reload();
   }
 
-  // Opens what the address names. False where it names nothing.
+  // Opens what the address names. False if it names nothing.
   open() {
     if ((askedLanguage(location.hash) ?? language) !== language) location.reload();
     readLooks(location.hash);
@@ -122,7 +122,7 @@ export class Address {
     return fragmentOf(session) ?? `#kept=${this.work}${endOf(session.place)}`;
   }
 
-  // Notes a schedule of one's own, to be kept when there is time, where that is not done yet.
+  // Notes a schedule of one's own, to be kept when there is time, if that is not done yet.
   note() {
     const { held, place, lesson, remarks } = this.page.session;
     if (lesson || held === this.noted) return;

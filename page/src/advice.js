@@ -1,7 +1,8 @@
-// What is wrong with a text, in words: what was found, what could stand there, and where it is
-// plain a line to write instead. That there is a fault, and in which line, the machine said.
+// What is wrong with a text, in words: what was found, what could be there, and if it is plain a
+// line to write instead. That there is a fault, and in which line, the machine said. Which numbers
+// it takes the build asked it.
 
-import { CALLS, LAST_THREAD_NUMBER, MOST_THREADS, STEPS } from './codes.js';
+import { ANSWER, CALLS, STEPS } from './codes.js';
 import { lineOf } from './bytes.js';
 import { LOCK_NAMES } from './locks.js';
 import { nearest } from './nearest.js';
@@ -43,12 +44,13 @@ const headerFault = (says, mended = null) => ({ say: [says, could(T.header)], me
 const withWord = (words, at, word) => words.map((one, i) => (i === at ? word : one)).join(' ');
 
 // Null for a number in the range; else what is wrong, and the number that was probably meant.
-function numberFault(found, [least, most], says, range) {
+function numberFault(found, [least, most], says) {
   const inRange = (text) => NUMBER.test(text) && Number(text) >= least && Number(text) <= most;
   if (inRange(found)) return null;
   const plain = found.replace(/^0+(?=\d)/, '');
   const zero = inRange(plain);
-  return { say: [say(says, { found }), zero ? T.zero : could(range)], meant: zero ? plain : null };
+  const range = could(fill(T.range, { least, most }));
+  return { say: [say(says, { found }), zero ? T.zero : range], meant: zero ? plain : null };
 }
 
 // The parts of a header in turn, as the reader takes them: each gives a fault, or null.
@@ -79,61 +81,74 @@ const HEADER_PARTS = [
     return headerFault(T.noBitsWord, mended);
   },
   (words) => (words.length === 4 || words.length === 6 ? null : headerFault(T.headerShape)),
-  (words) => words.length === 6 && numberPart(words, 5, [2, 64], T.badBits, T.bitsRange),
-  (words) => numberPart(words, 3, [1, MOST_THREADS], T.badThreads, T.threadsRange),
+  (words, ranges) => words.length === 6 && numberPart(words, 5, ranges.bits, T.badBits),
+  (words, ranges) => numberPart(words, 3, ranges.threads, T.badThreads),
 ];
 
-function numberPart(words, at, range, says, inWords) {
-  const fault = numberFault(words[at], range, says, inWords);
+function numberPart(words, at, range, says) {
+  const fault = numberFault(words[at], range, says);
   return fault && { say: fault.say, mended: fault.meant && withWord(words, at, fault.meant) };
 }
 
-function firstFault(words) {
+function firstFault(words, ranges) {
   for (const part of HEADER_PARTS) {
-    const fault = part(words);
+    const fault = part(words, ranges);
     if (fault) return fault;
   }
   return null;
 }
 
-function tooNarrow(words) {
+// The fewest bits of a word with which the machine takes the header.
+function enoughBits(machine, words) {
+  const encoder = new TextEncoder();
+  const isFault = (bits) => machine.play(encoder.encode(withWord(words, 5, bits)), 0, false)
+    .state.answer === ANSWER.fault;
+  let bits = Number(words[5]) + 1;
+  while (isFault(bits)) bits += 1;
+  return bits;
+}
+
+function tooNarrow(machine, words) {
   const threads = Number(words[3]);
   const bits = Number(words[5]);
-  const enough = Math.max(2, threads.toString(2).length);
+  const narrow = say(T.tooNarrow, { threads, bits, places: 2 ** bits });
+  // stored answers are of the lessons alone
+  if (machine.stored) return { say: [narrow], mended: null };
+  const enough = enoughBits(machine, words);
   return {
-    say: [say(T.tooNarrow, { threads, bits, places: 2 ** bits }),
+    say: [narrow,
       could(fill(T.atLeastBits, { bits: enough }))],
     mended: withWord(words, 5, enough),
   };
 }
 
 // The move that a line probably means, if it has a thread's number, one word and some signs:
-// `acquire 0`, `0: acquire`, `thread 0 acquire()`. Null where that is not clear.
+// `acquire 0`, `0: acquire`, `thread 0 acquire()`. Null if that is not clear.
 const SIGNS = /^[a-z0-9 .,:;()]+$/i;
 const THREAD_WORD = /^(t|thread)$/i;
 
-function moveMeant(line, ownWords) {
+function moveMeant(line, ownWords, [, last]) {
   if (!SIGNS.test(line)) return null;
   const numbers = line.match(/[0-9]+/g) ?? [];
   const names = (line.match(/[a-z]+/gi) ?? []).filter((name) => !THREAD_WORD.test(name));
   if (numbers.length !== 1 || names.length !== 1) return null;
   const [number, name] = [numbers[0].replace(/^0+(?=.)/, ''), names[0].toLowerCase()];
   const word = WORDS.includes(name) ? name : nearest(name, ownWords);
-  return word && Number(number) <= LAST_THREAD_NUMBER ? `${number} ${word}` : null;
+  return word && Number(number) <= last ? `${number} ${word}` : null;
 }
 
-function moveFault(words, ownWords) {
-  const fault = partFault(words, ownWords);
-  const meant = fault.mended ? null : moveMeant(words.join(' '), ownWords);
+function moveFault(words, ownWords, range) {
+  const fault = partFault(words, ownWords, range);
+  const meant = fault.mended ? null : moveMeant(words.join(' '), ownWords, range);
   return meant ? { say: [T.moveShape, say(T.meant, { meant })], mended: meant } : fault;
 }
 
-function partFault(words, ownWords) {
+function partFault(words, ownWords, range) {
   if (words.length !== 2) {
     const begins = words.length > 2 && WORDS.includes(words[1]);
     return { say: [T.moveShape], mended: begins ? words.slice(0, 2).join(' ') : null };
   }
-  const thread = numberPart(words, 0, [0, LAST_THREAD_NUMBER], T.badThread, T.threadRange);
+  const thread = numberPart(words, 0, range, T.badThread);
   if (thread) return thread;
   const meant = nearest(words[1], ownWords);
   const own = say(T.ownMoves, { moves: ownWords.join(', ') });
@@ -143,15 +158,17 @@ function partFault(words, ownWords) {
   };
 }
 
-function lineFault(line, fault, ownWords) {
+function lineFault(machine, line, fault, ownWords) {
   const unseen = UNSEEN.find(({ found }) => found.test(line));
   if (unseen) {
     const says = say(unseen.says, codeOf(line, unseen.found));
     return { say: [says], mended: unseen.mended(line), returns: unseen.returns };
   }
   const words = line.split(' ');
-  if (fault.name === 'WordsTooNarrow') return tooNarrow(words);
-  return fault.name === 'BadLine' ? moveFault(words, ownWords) : firstFault(words);
+  if (fault.name === 'WordsTooNarrow') return tooNarrow(machine, words);
+  const { ranges } = machine;
+  return fault.name === 'BadLine' ? moveFault(words, ownWords, ranges.thread)
+    : firstFault(words, ranges);
 }
 
 const OF_TEXT = {
@@ -160,11 +177,12 @@ const OF_TEXT = {
   TooManyMoves: ({ line }) => ({ line, say: [T.TooManyMoves], mended: null }),
 };
 
-// {line, say: sentences, mended: the line that could stand there, returns: whether carriage returns
+// {line, say: sentences, mended: the line that could be there, returns: whether carriage returns
 // are what is wrong}
 export function faultAdvice(run, ownWords) {
-  const { fault, text } = run;
+  const { fault, text, machine } = run;
   if (OF_TEXT[fault.name]) return OF_TEXT[fault.name](fault);
   const found = lineOf(text, fault.line);
-  return { say: [], mended: null, ...lineFault(found, fault, ownWords), line: fault.line, found };
+  const advice = lineFault(machine, found, fault, ownWords);
+  return { say: [], mended: null, ...advice, line: fault.line, found };
 }

@@ -1,9 +1,9 @@
-// The write that ended a wait, and the step that found it. A thread waits in a phase whose line of
-// code says `await`. The wait begins with the move into that phase if the thread is in line then,
-// and else with its first failed poll. It was ended by the last change of a word that is polled.
+// The write that ended a wait, and the step that found it. Whether a thread waits after a move of
+// its own, its record says. A wait begins with the first such move and goes on through failed
+// polls. It was ended by the last change of a word that is polled.
 
-import { IN_LINE, NO_WORD, OUTCOME } from './codes.js';
-import { placeAfter } from './run.js';
+import { NO_WORD, OUTCOME } from './codes.js';
+import { placeAfter } from './ascending.js';
 
 // The words whose last change ended a wait in this phase. A section's are in its line of code; a
 // step of one operation looks at the word that its record names.
@@ -19,11 +19,10 @@ function noteChanges(records, move, changedAt) {
   if (records.alsoChanged(move) !== NO_WORD) changedAt.set(records.alsoChanged(move), move);
 }
 
-// The move with which the wait of the thread began; 0 where it does not wait after this move.
-function waitingSince(records, move, since, awaited) {
-  if (!awaited.has(records.phase(move))) return 0;
-  if (records.outcome(move) === OUTCOME.waits) return since || move;
-  return records.standing(move) & IN_LINE ? move : 0;
+// The move with which the wait of the thread began; 0 if it does not wait after this move.
+function waitingSince(records, move, since) {
+  if (!records.waits(move)) return 0;
+  return records.outcome(move) === OUTCOME.waits && since ? since : move;
 }
 
 // Arrows {from, to} in the order of `to`. `awaited` has the waiting lines of the lock's code by
@@ -41,7 +40,7 @@ export function arrowsOf(run, awaited, wordNames) {
       const from = Math.max(...words.map((word) => changedAt.get(word) ?? 0));
       if (from > since[thread] && records.thread(from) !== thread) arrows.push({ from, to: move });
     }
-    since[thread] = waitingSince(records, move, since[thread], awaited);
+    since[thread] = waitingSince(records, move, since[thread]);
     phase[thread] = records.phase(move);
     noteChanges(records, move, changedAt);
   }

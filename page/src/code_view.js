@@ -46,7 +46,7 @@ export function linesMade(view, state, lines) {
   return lines.filter((line) => wasMade(line, made));
 }
 
-// Where a phase has several lines, its threads stand at the first.
+// If a phase has several lines, its threads are at the first.
 function codeLine(view, line, here, threads) {
   const phase = line.phase !== undefined && html`data-phase="${PHASES[line.phase]}"`;
   return html`<div class="code-line ${line.kind || 'plain'} ${here && 'here'}" ${phase}

@@ -27,14 +27,14 @@ export const PHASE = Object.fromEntries(PHASES.map((name, code) => [name, code])
 export const HOLDS = 1;
 export const IN_LINE = 2;
 export const AS_WRITER = 4;
+export const UNLINKED = 8;
+export const WAITS = 16;
 
 export const NO_WORD = 65535;
 
-// Limits of a schedule text.
+// Limits of a schedule text. Those of its numbers the build asks the module for.
 export const MOST_BYTES = 1048576;
 export const MOST_MOVES = 65536;
-export const MOST_THREADS = 64;
-export const LAST_THREAD_NUMBER = 255;
 
 // The word of a call or step in a schedule.
 export const wordOf = (action, code) => (action === ACTION.call ? CALLS : STEPS)[code];

@@ -63,7 +63,7 @@ function said(run, move) {
   return [moveText(run, move), outcome, holdersText(state), queueText(state)].join(' ');
 }
 
-// The first move here after which the two differ; 0 where none does. `at` is as above.
+// The first move here after which the two differ; 0 if none does. `at` is as above.
 export function firstDifference(run, other, at) {
   for (let move = 1; move <= run.count; move += 1) {
     const there = at(move);

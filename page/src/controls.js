@@ -21,7 +21,7 @@ function clicks(page) {
     'mode-play': () => modes.toggle('play'), 'mode-quiz': () => modes.toggleQuiz(),
     compare: () => comparing.toggle(), 'mode-hall': () => page.toggleHall(),
     leave: () => page.toggleHall(), 'show-view': () => page.showView(), menu: () => toggleMenu(),
-    link: () => address.copy(), print: () => page.showSheets(), theme: () => toggleTheme(),
+    link: () => address.copy(), print: () => page.showSheets(), theme: () => toggleTheme(page),
     'show-keys': () => page.showKeys(), 'show-about': () => page.showAbout(),
     'show-take': () => page.showTake(), undo: () => playing.undo(),
     'undo-own': () => playing.undo(), save: () => editing.save(),
@@ -77,12 +77,21 @@ function files(page) {
   });
 }
 
+// The numbers of a new schedule go as far as the machine takes them.
+function limitNumbers({ threads, bits }) {
+  const { elements } = byId('new');
+  for (const [name, [min, max]] of Object.entries({ threads, bits })) {
+    Object.assign(elements[name], { min, max });
+  }
+}
+
 export function listen(page) {
   clicks(page);
   partsThatAreDrawn(page);
   files(page);
   listenForKeys(page);
   show(byId('new-lock'), lockOptions());
+  limitNumbers(page.session.machine.ranges);
   byId('new').addEventListener('submit', (event) => {
     event.preventDefault();
     page.playing.beginNew(event.target);
@@ -91,7 +100,7 @@ export function listen(page) {
   byId('every').addEventListener('change', () => page.playing.toggleEvery());
   byId('slider').addEventListener('input', (event) => page.go(Number(event.target.value)));
   byId('lanes').addEventListener('scroll', () => page.draw());
-  addEventListener('resize', () => page.draw());
+  addEventListener('resize', () => page.fit());
   addEventListener('popstate', () => page.address.open());
   addEventListener('pagehide', () => page.address.flush());
   addEventListener('beforeprint', () => drawPaper(page, page.sheet));

@@ -12,22 +12,22 @@ export const germanLocks = {
           + 'nun {left}.',
       },
       AwaitTurn: {
-        waits: '{who} fragt und wartet: now_serving ist {found}, das eigene Ticket {number}.',
+        waits: '{who} fragt ab und wartet: now_serving ist {found}, das eigene Ticket {number}.',
         entered: '{who} findet das eigene Ticket, {found}, in now_serving und tritt ein.',
       },
       ReadServing: { moved: '{who} liest now_serving, um es weiterzugeben: Es ist {found}.' },
       PassOn: { left: '{who} schreibt {left} in now_serving und hat die Sperre verlassen.' },
-      wraps: 'Nach {found} kommt {left}: Die Zahlen sind einmal herum.',
+      wraps: 'Nach {found} kommt {left}: Die Zahlen beginnen wieder bei 0.',
     },
     captions: {
       nobody: 'Kein Ticket ist vergeben: Das nächste ist {next}.',
       line: 'Bedient wird {serving}; das nächste Ticket ist {next}.',
-      wraps: 'Die Tickets sind einmal herum: {first} kommt vor {last} dran.',
+      wraps: 'Die Tickets haben wieder bei 0 begonnen: {first} kommt vor {last} dran.',
     },
   },
   mcs: {
     title: 'MCS-Sperre', memory: 'Speicher, in der Reihenfolge der Schlange',
-    noLink: 'kein Link', atRest: (who) => `In Ruhe: ${who}`,
+    noLink: 'fehlt', atRest: (who) => `In Ruhe: ${who}`,
     says: {
       ClearNext: { moved: '{who} schreibt nil in das eigene next.' },
       SwapTail: {
@@ -46,13 +46,13 @@ export const germanLocks = {
         nil: '{who} sucht einen Nachfolger: Das eigene next ist nil.',
       },
       CasTail: {
-        moved: 'Das compare-and-swap scheitert: tail ist {foundName}, nicht {whom}. Jemand kommt '
-          + 'nach {whom}, und {whom} sieht nicht, wer.',
+        moved: 'Das compare-and-swap scheitert: tail ist {foundName}, nicht {whom}. {whom} hat '
+          + 'einen Nachfolger und sieht nicht, wer es ist.',
         left: 'tail ist noch {whom}: Das compare-and-swap setzt es auf nil, und {whom} hat die '
           + 'Sperre verlassen.',
       },
       AwaitLink: {
-        waits: '{who} fragt: Das eigene next ist noch nil. {who} muss auf den Link warten.',
+        waits: '{who} fragt ab: Das eigene next ist noch nil. {who} muss auf den Link warten.',
         moved: 'Der Link ist da: {who} findet {foundName}.',
       },
       Grant: {
@@ -68,11 +68,11 @@ export const germanLocks = {
   },
   readWrite: {
     memory: 'Speicher: wer wo ist', inside: 'drinnen', nobody: 'niemand',
-    atMonitor: 'am Monitor', pollFailed: 'vergebens',
+    atMonitor: 'am Monitor', pollFailed: 'vergebliche Abfrage',
     wants: {
       TryRead: 'möchte lesen', LeaveRead: 'möchte aufhören zu lesen', TryWrite: 'möchte schreiben',
-      AwaitReaders: 'angekündigt, wartet auf die Leser', LeaveWrite: 'möchte aufhören zu schreiben',
-      TryDowngrade: 'möchte als Leser weitermachen',
+      AwaitReaders: 'angekündigt, wartet auf Leser', LeaveWrite: 'möchte aufhören zu schreiben',
+      TryDowngrade: 'möchte Leser werden',
     },
     captions: {
       readers: '{readers} drinnen, {words}.', writer: '{writer} schreibt, {words}.',
@@ -80,7 +80,7 @@ export const germanLocks = {
     },
     sections: {
       TryRead: {
-        waits: '{who} fragt und wartet: Das flag ist gesetzt.',
+        waits: '{who} fragt ab und wartet: Das flag ist gesetzt.',
         entered: '{who} findet das flag frei und zählt sich: {coming} ist nun {left}.',
       },
       LeaveRead: {
@@ -97,7 +97,7 @@ export const germanLocks = {
     title: 'Einfache Schreib-Lese-Sperre',
     says: {
       TryWrite: {
-        waits: '{who} fragt und wartet: readers ist {readers}, und das flag ist {flag}. Beide '
+        waits: '{who} fragt ab und wartet: readers ist {readers}, und das flag ist {flag}. Beide '
           + 'müssen 0 sein.',
         entered: '{who} findet keinen Leser und das flag frei, setzt das flag und schreibt.',
       },
@@ -108,18 +108,18 @@ export const germanLocks = {
     announced: '{writer} ist angekündigt: kein Leser darf vorbei.',
     says: {
       TryWrite: {
-        waits: '{who} fragt und wartet: Das flag ist gesetzt. {who} ist nicht in der Schlange.',
-        moved: '{who} setzt das flag und ist damit angekündigt: Kein Leser kommt mehr herein. Die '
+        waits: '{who} fragt ab und wartet: Das flag ist gesetzt. {who} ist nicht in der Schlange.',
+        moved: '{who} setzt das flag und ist damit angekündigt: Kein Leser kommt mehr hinein. Die '
           + 'Zähler sind {acquires} und {releases}, also wartet {who} auf die Leser.',
         entered: '{who} setzt das flag, findet die Zähler gleich und schreibt.',
       },
       AwaitReaders: {
-        waits: '{who} fragt und wartet: Die Zähler sind {acquires} und {releases}, es sind also '
+        waits: '{who} fragt ab und wartet: Die Zähler sind {acquires} und {releases}, es sind also '
           + 'Leser drinnen.',
         entered: '{who} findet die Zähler gleich, {acquires} und {releases}: Kein Leser ist '
           + 'drinnen, und {who} schreibt.',
       },
-      wraps: 'Nach {found} kommt {left}: Der Zähler ist einmal herum.',
+      wraps: 'Nach {found} kommt {left}: Der Zähler beginnt wieder bei 0.',
     },
   },
 };

@@ -24,7 +24,7 @@ function actions(page) {
     c: () => comparing.toggle(), u: () => playing.undo(), l: () => address.copy(),
     t: () => page.showTake(),
     h: () => page.toggleHall(), v: () => page.showView(), f: () => page.toggleFuture(),
-    p: () => page.showSheets(), d: () => toggleTheme(), '?': () => page.showKeys(),
+    p: () => page.showSheets(), d: () => toggleTheme(page), '?': () => page.showKeys(),
     '.': () => stepping.faster(1), ',': () => stepping.faster(-1),
     '+': () => zoom(page, WIDER), '=': () => zoom(page, WIDER), '-': () => zoom(page, 1 / WIDER),
   };

@@ -8,7 +8,7 @@ import { lockOf } from './locks.js';
 import { html } from './markup.js';
 import { fillOf, standingOf } from './shapes.js';
 import { spansOf, unlinkedSpans } from './spans.js';
-import { placeAfter } from './run.js';
+import { placeAfter } from './ascending.js';
 import { texts } from './texts.js';
 
 const THICK = { call: 3, line: 14, holds: 24, reads: 24, writes: 24 };
@@ -39,7 +39,7 @@ function parts(layout, span) {
   }));
 }
 
-// In the gap up to the thread's next mark, where it is wide enough.
+// In the gap up to the thread's next mark, if it is wide enough.
 function spanText(view, layout, thread, span, middle) {
   const from = Math.max(span.from, layout.first - 0.5);
   const moves = view.run.movesOf.get(thread);
@@ -82,8 +82,9 @@ function unlinkedLines(view, layout, thread, middle) {
     .map((span) => unlinkedLine(layout, span, y));
 }
 
+// A compare-and-swap that fails leaves the word as it found it.
 export const casFails = (records, move) => records.action(move) === ACTION.step
-  && records.code(move) === CAS && records.outcome(move) !== OUTCOME.left;
+  && records.code(move) === CAS && records.left(move) === records.found(move);
 
 const SHAPES = {
   [OUTCOME.waits]: (x, y) => html`<circle class="step waits" cx="${x}" cy="${y}" r="7.5"/>`,
@@ -109,7 +110,7 @@ function foundText(view, move) {
   const word = wordOf(records.action(move), records.code(move));
   if (records.action(move) === ACTION.call) return '';
   if (word === 'cas') return casFails(records, move) ? texts.marks.fails : texts.marks.done;
-  return LOOKS.includes(word) ? lockOf(view.run).mark(view.run, move, view.names) : '';
+  return LOOKS.includes(word) ? lockOf(view.run).mark(view, move) : '';
 }
 
 // Above the mark: the call or the kind of step. In low lanes only the current move's is written.
@@ -150,7 +151,7 @@ function moveMark(view, layout, move, middle) {
     ${tall && found(view, layout, move, at)}</g>`;
 }
 
-// The last move that is drawn: those that come are, faintly, where the reader wants it.
+// The last move that is drawn: later ones are, faintly, if the reader wants it.
 function lastDrawn(view, layout) {
   if (view.blank) return layout.first - 1;
   return view.hidden || !view.future ? Math.min(layout.now, layout.last) : layout.last;
@@ -164,7 +165,7 @@ function laneMoves(view, layout, thread, middle) {
     .map((move) => moveMark(view, layout, move, middle));
 }
 
-// The refused move, crossed out, in the column behind the last move.
+// The refused move, crossed out, in the column after the last move.
 function refusedMark(view, layout, thread, middle) {
   const { refusal, last } = view.run;
   const shown = refusal?.thread === thread && layout.last >= last;

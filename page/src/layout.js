@@ -1,11 +1,11 @@
-// Which moves and which threads are in view, and where they stand. Only these are drawn, so a
+// Which moves and which threads are in view, and where they are. Only these are drawn, so a
 // step costs the same in a schedule of 65,536 moves as in one of ten.
 
 import { widthOf } from './fitting.js';
 import { lockOf } from './locks.js';
 import { standingAfter } from './spans.js';
 
-// Where the names of threads stand: how wide, which share of the lanes at most, and what stands
+// Where the names of threads are: how wide, which share of the lanes at most, and what is
 // beside a name there.
 const GUTTER = { least: 122, share: 0.16 };
 export const NAME_EDGES = { left: 20, right: 10 };
@@ -13,7 +13,7 @@ const COLUMN = { narrowest: 16, least: 44, most: 66, widest: 120 };
 const LANE = { tallest: 85, lowest: 38, foot: 6 };
 // Of more threads than these only those that move are drawn.
 const MANY_THREADS = 8;
-// How far along the view the current move stands in a long schedule.
+// How far along the view the current move is in a long schedule.
 const HERE = 0.6;
 
 export function lanesOf(run, all) {
@@ -41,7 +41,7 @@ function firstMove(run, move, visible) {
   return Math.min(Math.max(1, wanted), run.last - visible + 1);
 }
 
-// As wide as the longest name that a thread was given, where there is so much room.
+// As wide as the longest name that a thread was given, if there is so much room.
 export function gutterOf(names, width) {
   const longest = Math.max(0, ...[...names.given.values()].map((name) => widthOf(name, 'lane')));
   const wanted = Math.ceil(longest) + NAME_EDGES.left + NAME_EDGES.right;

@@ -16,7 +16,7 @@ export const looks = {
 // One of these, or null.
 const oneOf = (all, asked) => (all.includes(asked) ? asked : null);
 
-// Parts in the order of the page; null where none is named.
+// Parts in the order of the page; null if none is named.
 function partsOf(text) {
   const asked = text?.split(',') ?? [];
   const known = PARTS.filter((part) => asked.includes(part));
@@ -33,7 +33,7 @@ export function readLooks(fragment) {
   if (looks.hall) looks.parts = looks.parts?.slice(0, MOST_IN_A_HALL) ?? null;
 }
 
-// The end of a link; empty where nothing is asked for.
+// The end of a link; empty if nothing is asked for.
 export function looksText() {
   const { hall, embed, parts, future, theme } = looks;
   const flags = Object.entries({ hall, embed, future }).filter(([, is]) => is);
@@ -55,7 +55,7 @@ export function partsShown() {
   return looks.embed ? IN_A_FRAME : PARTS;
 }
 
-// In a hall the part that was chosen first goes where a third is chosen.
+// In hall mode the part that was chosen first goes when a third is chosen.
 export function togglePart(part) {
   const shown = partsShown();
   const others = shown.filter((one) => one !== part);

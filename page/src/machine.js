@@ -3,7 +3,7 @@
 // copies the text in and the bytes out, and gives the bytes their names; it knows no rule of any
 // lock.
 
-import { MOST_MOVES } from './codes.js';
+import { MOST_MOVES, UNLINKED, WAITS } from './codes.js';
 
 export const RECORD_BYTES = 56;
 export const STATE_BYTES = 2304;
@@ -90,6 +90,10 @@ export class State {
   phase(thread) { return this.bytes[threadAt(thread)]; }
   dueStep(thread) { return this.bytes[threadAt(thread) + 1]; }
   allows(thread, call) { return (this.bytes[threadAt(thread) + 2] >> call & 1) === 1; }
+  // Of an MCS lock: the words of the thread's record, and the value that names it.
+  nextWord(thread) { return this.bytes[threadAt(thread) + 3]; }
+  lockedWord(thread) { return this.bytes[threadAt(thread) + 4]; }
+  recordName(thread) { return this.bytes[threadAt(thread) + 5]; }
   phaseNumber(thread) { return this.view.getBigUint64(threadAt(thread) + 8, true); }
   word(index) { return this.view.getBigUint64(WORDS_AT + 8 * index, true); }
 }
@@ -114,6 +118,10 @@ export class Records {
   standing(move) { return this.byte(move, 9); }
   touched(move) { return this.word(move, 10); }
   alsoChanged(move) { return this.word(move, 12); }
+  due(move) { return this.byte(move, 14); }
+  allows(move, call) { return (this.byte(move, 15) >> call & 1) === 1; }
+  isUnlinked(move) { return (this.standing(move) & UNLINKED) !== 0; }
+  waits(move) { return (this.standing(move) & WAITS) !== 0; }
   found(move) { return this.value(move, 16); }
   left(move) { return this.value(move, 24); }
   alsoFound(move) { return this.value(move, 32); }

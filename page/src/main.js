@@ -15,14 +15,17 @@ import { StoredMachine } from './stored.js';
 import { frameOf, pictureOf, pngOf } from './take.js';
 import { texts } from './texts.js';
 
-// The machine where the browser can run it, else what it answered when the page was built.
-function machineOf(data) {
+// The machine if the browser can run it, else what it answered when the page was built.
+function runOrStored(data) {
   try {
     return new Machine(fromBase64(data.module));
   } catch {
     return new StoredMachine(data.stored);
   }
 }
+
+// The machine, and which numbers it takes in a schedule.
+const machineOf = (data) => Object.assign(runOrStored(data), { ranges: data.ranges });
 
 // The texts of the page that never change.
 function writeTexts() {

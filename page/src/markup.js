@@ -22,7 +22,7 @@ export function html(pieces, ...values) {
   return new Markup(text);
 }
 
-// Shows markup in a node, or nothing where it is what the node shows already.
+// Shows markup in a node, or nothing if it is what the node shows already.
 export function show(node, markup) {
   if (node.shown === markup.text) return;
   node.shown = markup.text;

@@ -1,5 +1,5 @@
 // The MCS lock: what is said of its steps, and its memory: the tail, and the threads' records in
-// the order of the queue that the machine names. A link is drawn where the word says so; one that
+// the order of the queue that the machine names. A link is drawn if the word says so; one that
 // is missing is drawn as missing.
 
 import { PHASE, PHASES } from './codes.js';
@@ -10,11 +10,12 @@ import { looks } from './looks.js';
 import { html } from './markup.js';
 import { covers } from './remarks.js';
 import { BOX_EDGES, movingMark, picture, standingOf, useOf, wordBox } from './shapes.js';
+import { unlinkedAfter } from './spans.js';
 import { say, texts } from './texts.js';
 
 const T = translated('mcs', {
   title: 'MCS queue lock', memory: 'Memory, in the order of the queue', noLink: 'no link',
-  atRest: (who) => `At rest: ${who}`,
+  atRest: (who) => `Idle: ${who}`,
   says: {
     ClearNext: { moved: '{who} writes nil into {whose} own next.' },
     SwapTail: {
@@ -33,8 +34,8 @@ const T = translated('mcs', {
       nil: '{who} looks for a successor: {whose} next is nil.',
     },
     CasTail: {
-      moved: 'The compare-and-swap fails: the tail is {foundName}, not {whom}. Somebody is '
-        + 'behind {whom}, and {whom} cannot see who.',
+      moved: 'The compare-and-swap fails: the tail is {foundName}, not {whom}. {whom} has '
+        + 'a successor, and cannot see who it is.',
       left: 'The tail is still {whom}: the compare-and-swap sets it to nil, and {whom} has '
         + 'left.',
     },
@@ -57,19 +58,12 @@ const T = translated('mcs', {
 const { says, captions, atRest } = T;
 const NIL = 'nil';
 
-const TAIL = 0;
-const nextOf = (thread) => 1 + 2 * thread;
-const lockedOf = (thread) => 2 + 2 * thread;
-const isLocked = (word) => word !== TAIL && word % 2 === 0;
-const ownerOf = (word) => (word - 1) >> 1;
-const named = (value) => Number(value) - 1;
-
 const OWN_VARIABLE = { SetLocked: 'pred', LinkTo: 'pred', Grant: 'succ' };
 const RECORD = {
   narrowest: 123, widest: 156, height: 108, gap: 52, wideGap: 60, top: 86, row: 184, left: 19,
   edge: 14,
 };
-// Up to so many records stay in one row, even where a picture of two rows would be larger.
+// Up to so many records stay in one row, even if a picture of two rows would be larger.
 const BESIDE = 4;
 const MOST_NAMED = 8;
 // Records and the tail's box grow for names that threads were given, up to so much.
@@ -81,17 +75,18 @@ const TAIL_BOX = { left: 70, width: 86, widest: 170 };
 // Between records there is room for "no link".
 const gapNow = () => (looks.hall ? RECORD.wideGap : RECORD.gap);
 
-function valueText(word, value, names) {
-  if (isLocked(word)) return String(value);
-  return value === 0n ? NIL : names.short(named(value));
+function valueText(word, value, { run, names }) {
+  if (run.owned.at(word)?.field === 'locked') return String(value);
+  const named = run.owned.named(value);
+  return named === undefined ? NIL : names.short(named);
 }
 
-function wordName(word, names) {
-  if (word === TAIL) return 'tail';
-  return `${names.short(ownerOf(word))}.${isLocked(word) ? 'locked' : 'next'}`;
+function wordName(word, { run, names }) {
+  const owner = run.owned.at(word);
+  return owner ? `${names.short(owner.thread)}.${owner.field}` : 'tail';
 }
 
-// Who is drawn: the queue in its order, then who is in a call, then who rests, where there is
+// Who is drawn: the queue in its order, then who is in a call, then who rests, if there is
 // room.
 function order(view, state, most) {
   const { run, move } = view;
@@ -143,7 +138,7 @@ function layOut(view, state) {
 }
 
 function recordField(view, y, label, word, state, width) {
-  const value = valueText(word, state.word(word), view.names);
+  const value = valueText(word, state.word(word), view);
   const use = useOf(view.run, view.marked, word);
   return html`<text class="mono field" x="14" y="${y + 19}">${label}</text>
     ${wordBox(FIELD.left, y, width - FIELD.left - FIELD.right, value, use)}`;
@@ -172,6 +167,7 @@ function headName(names, thread, standing, width) {
 }
 
 function record(view, state, thread, place, width) {
+  const { begun } = view.run;
   const standing = standingOf(view.run, view.move, thread);
   const label = texts.standing[standing];
   const name = headName(view.names, thread, standing, width);
@@ -184,8 +180,8 @@ function record(view, state, thread, place, width) {
       height="23" rx="6"/>`}
     <text class="name" x="${HEAD.left}" y="21">${name}</text>
     <text class="standing" x="${width - HEAD.right}" y="21" text-anchor="end">${label}</text>
-    ${recordField(view, 40, 'next', nextOf(thread), state, width)}
-    ${recordField(view, 73, 'locked', lockedOf(thread), state, width)}
+    ${recordField(view, 40, 'next', begun.nextWord(thread), state, width)}
+    ${recordField(view, 73, 'locked', begun.lockedWord(thread), state, width)}
     ${ownVariable(view, state, thread, width)}</g>`;
 }
 
@@ -204,13 +200,14 @@ function link(from, to, width, linked) {
       text-anchor="middle">${T.noLink}</text>`;
 }
 
-const isLinked = (state, before, after) => named(state.word(nextOf(before))) === after;
+// Whether the record before a thread's names it.
+const isLinked = ({ run, move }, thread) => !unlinkedAfter(run, run.lastMoveOf(thread, move));
 
 function links(view, state, layout) {
   return state.queue.slice(1).map((after, i) => {
     const before = state.queue[i];
     const [from, to] = [before, after].map((thread) => layout.places.get(thread));
-    return from !== to && link(from, to, layout.width, isLinked(state, before, after));
+    return from !== to && link(from, to, layout.width, isLinked(view, after));
   });
 }
 
@@ -228,19 +225,21 @@ const tailPath = (right, x, y) => (x < right + 4
   ? `M${x} 52V${y}` : `M${right} 38H${x - 10}q10 0 10 10V${y}`);
 
 function tail(view, state, layout) {
-  const place = layout.places.get(named(state.word(TAIL)));
-  const value = valueText(TAIL, state.word(TAIL), view.names);
+  const { owned } = view.run;
+  const held = state.word(owned.tail);
+  const place = layout.places.get(owned.named(held));
+  const value = valueText(owned.tail, held, view);
   const { left, widest } = TAIL_BOX;
   const wide = Math.min(widest, Math.max(TAIL_BOX.width, valueWidth(view.names)));
   const path = place && tailPath(left + wide, place.x + layout.width / 2, place.y - 4);
   return html`<text class="mono word-name strong" x="24" y="43">tail</text>
-    ${wordBox(left, 24, wide, value, useOf(view.run, view.marked, TAIL))}
+    ${wordBox(left, 24, wide, value, useOf(view.run, view.marked, owned.tail))}
     ${path && !covers(view) && html`<path class="link" d="${path}"/>`}`;
 }
 
 function caption(view, state) {
   const { queue } = state;
-  const gap = queue.findIndex((after, i) => i > 0 && !isLinked(state, queue[i - 1], after));
+  const gap = queue.findIndex((after, i) => i > 0 && !isLinked(view, after));
   if (gap > 0) {
     return { missing: true, text: say(captions.missing, {
       before: view.names.of(queue[gap - 1]), after: view.names.of(queue[gap]) }) };
@@ -279,22 +278,23 @@ function restingNote(view, hidden) {
 
 // A release that finds no successor has a sentence of its own.
 function variant(run, move, phase) {
-  return phase === PHASE.ReadNext && run.records.found(move) === 0n ? 'nil' : null;
+  const named = run.owned.named(run.records.found(move));
+  return phase === PHASE.ReadNext && named === undefined ? 'nil' : null;
 }
 
 function values(view, move, phase) {
   const { run, names } = view;
-  const found = run.records.found(move);
-  const foundName = found === 0n ? NIL : names.of(named(found));
+  const named = run.owned.named(run.records.found(move));
+  const foundName = named === undefined ? NIL : names.of(named);
   const other = [PHASE.LinkTo, PHASE.Grant].includes(phase)
     ? names.of(Number(run.phaseNumberBefore(move))) : '';
   return { foundName, foundWhose: `${foundName}’s`, other, otherWhose: `${other}’s` };
 }
 
 // Below a lane's mark: what the move found.
-function mark(run, move, names) {
-  const word = run.records.touched(move);
-  return valueText(word, run.records.found(move), names);
+function mark(view, move) {
+  const { records } = view.run;
+  return valueText(records.touched(move), records.found(move), view);
 }
 
 export const mcs = {

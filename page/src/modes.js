@@ -15,7 +15,7 @@ export class Modes {
 
   set(mode) {
     this.mode = mode;
-    this.page.draw();
+    this.page.fit();
   }
 
   // A lesson with a fault is shown as a text, and any other has no use for the text's panel.
@@ -46,8 +46,7 @@ export class Modes {
     if (!given) return;
     quiz.check(session, given);
     session.go(session.place + 1);
-    this.page.moved = true;
-    this.page.draw();
+    this.page.fit();
     byId('forward').focus();
   }
 }

@@ -11,7 +11,7 @@ export class Names {
 
   has(thread) { return this.given.has(thread); }
   of(thread) { return this.given.get(thread) ?? texts.thread(thread); }
-  // For a small mark: the number, or a name's first letter where no other name begins with it.
+  // For a small mark: the number, or a name's first letter if no other name begins with it.
   mark(thread) {
     const name = this.given.get(thread);
     if (!name) return String(thread);

@@ -1,4 +1,4 @@
-// The nearest of some words to one that is none of them, or null where none is near.
+// The nearest of some words to one that is none of them, or null if none is near.
 
 function distance(one, other) {
   let row = Array.from({ length: other.length + 1 }, (_, i) => i);

@@ -1,5 +1,5 @@
 // The move just made: its outcome, one sentence on what it did, what it wrote, who holds, who is
-// in line, and the report's own line.
+// in the queue, and the report's own line.
 
 import { OUTCOMES, wordOf } from './codes.js';
 import { folding, movingThread } from './folding.js';
@@ -43,7 +43,7 @@ function holdersList(view, state) {
 const LINK = html`<span class="gap">→</span>`;
 const GAP = html`<span class="gap missing" title="${texts.notLinked}">⇢</span>`;
 
-// Between two in line: an arrow, or a gap where the link is not written yet.
+// Between two in the queue: an arrow, or a gap if the link is not written yet.
 function queueList(view, state) {
   if (!state.queue.length) return dash;
   return listed(view, state.queue, (thread) => (

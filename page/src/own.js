@@ -20,7 +20,7 @@ export function adviceOf(session) {
   return { line: facts.line, say: facts.said, refused: facts };
 }
 
-// The verdict on the text: the report's last line, and in words what is wrong and what could stand
+// The verdict on the text: the report's last line, and in words what is wrong and what could be
 // there.
 export function verdictView(session, advice) {
   const { run } = session;
@@ -50,8 +50,9 @@ function staleView({ stale }) {
 }
 
 // Where there is no lock to show: what a schedule looks like.
-export const nothingView = (verdict) => html`${verdict}<p>${T.begins}</p>
-  <pre class="mono">${T.template}</pre><p class="hint">${T.forms(LOCK_NAMES.join(', '))}</p>`;
+export const nothingView = (verdict, { threads }) => html`${verdict}<p>${T.begins}</p>
+  <pre class="mono">${T.template}</pre>
+  <p class="hint">${T.forms(LOCK_NAMES.join(', '), threads)}</p>`;
 
 // A file's bytes; of a long one just enough to show that it is too long.
 export async function bytesOfFile(file) {

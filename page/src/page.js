@@ -110,6 +110,11 @@ export class Page {
   // Another move, or another text: its answer is not shown yet.
   show() {
     this.answered = false;
+    this.fit();
+  }
+
+  // The parts may have other sizes: what counts is brought into view again.
+  fit() {
     this.moved = true;
     this.draw();
   }

@@ -54,8 +54,9 @@ export function drawPictures(page, view, state, sizes) {
   page.moved = false;
 }
 
-// The sentences on a move in smaller letters, where they do not fit otherwise.
-const EDGE = 10;
+// What is left free below the code.
+const EDGE = 4;
+// The sentences on a move in smaller letters, if they do not fit otherwise.
 const FITS = ['', '1', '2', '3', '4'];
 
 function fitNow() {
@@ -156,7 +157,7 @@ function drawSlider(view, width) {
   write(byId('position'), refused ? word : position(move, count));
 }
 
-// Scrolls a part of the page so that what counts is in view, in its middle where it was not.
+// Scrolls a part of the page so that what counts is in view, in its middle if it was not.
 function revealIn(box, selector) {
   const all = [...box.querySelectorAll(selector)];
   if (box.scrollHeight <= box.clientHeight || !all.length) return;

@@ -52,7 +52,7 @@ export function playView(session, state, every) {
     <ul class="threads">${threads.map(row)}</ul>`;
 }
 
-// The header of a new schedule. Whether it may stand so the machine says.
+// The header of a new schedule. Whether it is one the machine says.
 export function newHeader(form) {
   const { lock, threads, bits } = Object.fromEntries(new FormData(form));
   return `lock ${lock} threads ${threads}${bits === '64' ? '' : ` bits ${bits}`}\n`;

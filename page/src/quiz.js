@@ -83,7 +83,7 @@ export class Quiz {
 // An answer as the report would write it.
 export const normalised = (text) => text.toLowerCase().replace(/\s+/g, '') || '-';
 
-// What the form says; nothing where nothing was chosen or typed.
+// What the form says; nothing if nothing was chosen or typed.
 export function givenOf(form) {
   const { outcome, answer } = Object.fromEntries(new FormData(form));
   return outcome ?? (answer.trim() && normalised(answer));

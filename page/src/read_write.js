@@ -15,7 +15,7 @@ const T = translated('readWrite', {
   wants: {
     TryRead: 'wants to read', LeaveRead: 'wants to stop reading', TryWrite: 'wants to write',
     AwaitReaders: 'announced, awaits the readers', LeaveWrite: 'wants to stop writing',
-    TryDowngrade: 'wants to go on as a reader',
+    TryDowngrade: 'wants to become a reader',
   },
   captions: {
     readers: '{readers} inside, {words}.', writer: '{writer} writes, {words}.',
@@ -43,7 +43,7 @@ const SPACE = 32;
 const inRoomRow = (width) => Math.max(1, Math.floor((width - 20) / SPACE));
 const ROOM_ROWS = 2;
 
-// How tall a room of this width is; of many readers some are folded where space is short.
+// How tall a room of this width is; of many readers some are folded if space is short.
 export function roomHeight(view, state, width) {
   const rows = Math.max(1, Math.ceil(state.holders.length / inRoomRow(width)));
   return 44 + SPACE * (view.tight ? Math.min(ROOM_ROWS, rows) : rows);
@@ -85,7 +85,7 @@ function callerRow(view, state, thread, x, at) {
     ${failed && html`<text class="note" x="${x + 36}" y="${at + 14}">${T.pollFailed}</text>`}`;
 }
 
-// As many callers as have room from `y` on, where space is short.
+// As many callers as have room from `y` on, if space is short.
 function callersShown(view, state, y) {
   const most = Math.max(2, Math.floor((view.height - y - 22) / MONITOR_ROW));
   const moving = movingThread(view);
@@ -133,7 +133,7 @@ export function readersCaption(names) {
 
 // Below a lane's mark: the word that the section changed, and its new value.
 export function sectionMark(shortNames) {
-  return (run, move) => {
+  return ({ run }, move) => {
     const name = shortNames[run.records.touched(move)];
     return name ? `${name} ${run.records.left(move)}` : '';
   };

@@ -59,13 +59,13 @@ function sentences(session) {
 
 // The word of memory that the thread's last move found, and from which its due step follows.
 function foundWord(session, move) {
-  const { run, names } = session;
+  const { run } = session;
   const { records } = run;
   const word = records.touched(move);
   if (word === NO_WORD) return '';
   const lock = lockOf(run);
-  return texts.wordBecomes(lock.wordName(word, names),
-    lock.valueText(word, records.found(move), names));
+  return texts.wordBecomes(lock.wordName(word, session),
+    lock.valueText(word, records.found(move), session));
 }
 
 // What decided it: a word of the header, or the thread's last move and the word that it found.

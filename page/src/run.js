@@ -2,11 +2,14 @@
 
 import { ANSWER, CALLS, FAULTS, MOST_BYTES, MOST_MOVES, PHASE, REFUSALS } from './codes.js';
 import { Records } from './machine.js';
-import { beforeLine, lineOf } from './bytes.js';
+import { Moment } from './moment.js';
+import { Owned } from './owned.js';
+import { joinedByMove, movesByThread, movesByWord } from './history.js';
+import { lastUpTo } from './ascending.js';
+import { beforeLine, lineOf, throughLine } from './bytes.js';
 
 const RLOCK = CALLS.indexOf('rlock');
-const STATES_KEPT = 256;
-// Faults before which moves may stand.
+// Faults that moves may come before.
 const LATE_FAULTS = ['BadLine', 'TooManyMoves'];
 
 export class Run {
@@ -15,7 +18,6 @@ export class Run {
     this.machine = machine;
     this.text = text;
     this.played = text;
-    this.states = new Map();
     let answer = machine.play(text, MOST_MOVES, true);
     this.known = answer.state !== null;
     this.fault = this.known && answer.state.answer === ANSWER.fault ? faultOf(answer.state) : null;
@@ -36,38 +38,30 @@ export class Run {
   get kind() { return this.end.kind; }
   get threads() { return this.end.threads; }
   get bits() { return this.end.bits; }
+  // The state in the beginning, as the machine has it.
+  get begun() { return (this.first ??= this.replayed(0)); }
   // Whether one can hold the lock as a reader: at the beginning the machine accepts the call.
-  get hasReaders() {
-    const { machine, played } = this;
-    const begun = () => machine.play(played, 0, false, this.count ? this.bytesFor(1) : undefined);
-    return (this.readers ??= begun().state.allows(0, RLOCK));
-  }
-  // The last place to step to: the last move, or the refused one behind it.
+  get hasReaders() { return this.begun.allows(0, RLOCK); }
+  // Whose the words of an MCS lock are.
+  get owned() { return (this.owners ??= new Owned(this.begun)); }
+  get movesOfWord() { return (this.touches ??= movesByWord(this.records)); }
+  get joined() { return (this.joins ??= joinedByMove(this.records)); }
+  // The last place to step to: the last move, or the refused one after it.
   get last() { return this.count + (this.refusal ? 1 : 0); }
 
-  // The machine's state after so many moves; the last few asked for are kept.
-  state(moves) {
-    let state = this.states.get(moves);
-    if (!state) {
-      state = this.machine.play(this.played, moves, false, this.bytesFor(moves)).state;
-      if (this.states.size >= STATES_KEPT) this.states.delete(this.states.keys().next().value);
-      this.states.set(moves, state);
-    }
-    return state;
-  }
+  // The state after so many moves.
+  state(moves) { return new Moment(this, moves); }
 
-  // How many bytes so many moves need: up to the end of the last one's line.
-  bytesFor(moves) {
-    if (!moves) return this.played.length;
-    this.ends ??= lineEnds(this.played);
-    return this.ends[this.records.line(moves) - 1];
+  // The same as the machine has it: of fewer moves than all it plays them again, of the text up to
+  // the line of the last one, or of the first one, by which the header has been read.
+  replayed(moves) {
+    if (moves === this.count) return this.end;
+    const { length } = throughLine(this.played, this.records.line(Math.max(1, moves)));
+    return this.machine.play(this.played, moves, false, length).state;
   }
 
   // The last move of the thread up to `move`, or 0.
-  lastMoveOf(thread, move) {
-    const moves = this.movesOf.get(thread);
-    return moves ? moves[placeAfter(moves, move) - 1] ?? 0 : 0;
-  }
+  lastMoveOf(thread, move) { return lastUpTo(this.movesOf.get(thread), move); }
 
   // The phase in which the move found its thread.
   phaseBefore(move) {
@@ -97,34 +91,4 @@ function playablePart(text, fault) {
     return most.subarray(0, most.lastIndexOf(10) + 1);
   }
   return LATE_FAULTS.includes(fault.name) ? beforeLine(text, fault.line) : new Uint8Array();
-}
-
-// The place behind each line feed, and the text's end.
-function lineEnds(text) {
-  const ends = [];
-  for (let at = text.indexOf(10); at >= 0; at = text.indexOf(10, at + 1)) ends.push(at + 1);
-  if (ends[ends.length - 1] !== text.length) ends.push(text.length);
-  return ends;
-}
-
-function movesByThread(records) {
-  const moves = new Map();
-  for (let move = 1; move <= records.count; move += 1) {
-    const thread = records.thread(move);
-    if (!moves.has(thread)) moves.set(thread, []);
-    moves.get(thread).push(move);
-  }
-  return moves;
-}
-
-// How many of the ascending numbers are at most `most`.
-export function placeAfter(numbers, most) {
-  let low = 0;
-  let high = numbers.length;
-  while (low < high) {
-    const middle = (low + high) >> 1;
-    if (numbers[middle] <= most) low = middle + 1;
-    else high = middle;
-  }
-  return low;
 }

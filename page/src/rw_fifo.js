@@ -1,5 +1,5 @@
 // The FIFO read-write lock: what is said of its sections, and its memory: both counts of readers,
-// on a wheel where words are narrow, the flag, who is inside, and who is at the monitor.
+// on a wheel if words are narrow, the flag, who is inside, and who is at the monitor.
 
 import { translated } from './language.js';
 import { html } from './markup.js';
@@ -16,7 +16,7 @@ const T = translated('rwFifo', {
   says: {
     TryWrite: {
       waits: '{who} polls and waits: the flag is set. {who} is not in the queue.',
-      moved: '{who} sets the flag, and so is announced: no reader comes in any more. The '
+      moved: '{who} sets the flag, and so is announced: no reader enters any more. The '
         + 'counts are {acquires} and {releases}, so {who} waits for the readers.',
       entered: '{who} sets the flag, finds the counts equal, and writes.',
     },
@@ -26,7 +26,7 @@ const T = translated('rwFifo', {
       entered: '{who} finds the counts equal, {acquires} and {releases}: no reader is inside, '
         + 'and {who} writes.',
     },
-    wraps: 'After {found} comes {left}: the count has gone round.',
+    wraps: 'After {found} comes {left}: the count wraps around.',
   },
 });
 const says = { ...sectionsSay('readAcquires', 'readReleases'), ...T.says };
@@ -36,7 +36,7 @@ const ACQUIRES = 0;
 const RELEASES = 1;
 const FLAG = 2;
 
-// What the hands are: beside the words, or below the wheel where the picture is narrow.
+// What the hands are: beside the words, or below the wheel if the picture is narrow.
 const LEGEND_BESIDE = 640;
 const legendAt = ({ width }) => (width >= LEGEND_BESIDE ? [400, 46] : [36, 250]);
 
@@ -91,7 +91,7 @@ const leastWidth = (view) => (hasWheel(view.run.bits) ? 494 : 380);
 export const rwFifo = {
   ...readWrite, name: 'rw-fifo', title: T.title, lesson: 'fifo',
   signs: ['inCall', 'line', 'reads', 'writes', 'ended'],
-  says, goesRound: ['TryRead', 'LeaveRead', 'TryDowngrade'],
+  says, wraps: ['TryRead', 'LeaveRead', 'TryDowngrade'],
   mark: sectionMark(['acq.', 'rel.', 'flag']), values,
   wordName: (word) => WORDS[word], draw, caption, leastWidth,
 };

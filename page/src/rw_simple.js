@@ -26,7 +26,7 @@ const FLAG = 1;
 
 const BESIDE = 600;
 
-// The monitor is beside the room, or below it where the picture is narrow.
+// The monitor is beside the room, or below it if the picture is narrow.
 function draw(view, state) {
   const box = (word, x) => wordBox(x, 40, 108, String(state.word(word)),
     useOf(view.run, view.marked, word), WORDS[word]);

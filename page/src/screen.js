@@ -48,7 +48,8 @@ function drawSide(page) {
   const advice = adviceOf(session);
   const verdict = verdictView(session, advice);
   show(byId('verdict'), verdict);
-  const nothing = !session.run.hasLock && nothingView(mode === 'lessons' && verdict);
+  const nothing = !session.run.hasLock
+    && nothingView(mode === 'lessons' && verdict, session.machine.ranges);
   show(byId('nothing-verdict'), html`${nothing}`);
   if (mode !== 'lessons') drawText(page, advice);
 }
@@ -70,9 +71,10 @@ export function drawTheme() {
   byId('theme').firstChild.data = `${isDark() ? texts.tools.light : texts.tools.dark} `;
 }
 
-export function toggleTheme() {
+export function toggleTheme({ address }) {
   switchTheme();
   drawTheme();
+  address.writeSoon();
 }
 
 export function zoom(page, by) {

@@ -20,13 +20,13 @@ export function sentence(view, move) {
     who, whom: who, whose: `${who}’s`, found, left, ...lock.values(view, move, phase),
   };
   const text = say(lock.says[PHASES[phase]][key], values);
-  const round = lock.goesRound?.includes(PHASES[phase]) && left < found;
-  return round ? `${text} ${say(lock.says.wraps, values)}` : text;
+  const wraps = lock.wraps?.includes(PHASES[phase]) && left < found;
+  return wraps ? `${text} ${say(lock.says.wraps, values)}` : text;
 }
 
 // What the move wrote, as `word = value`, and what was there; a section may write two.
 export function writtenWords(view, move, useOf) {
-  const { run, names } = view;
+  const { run } = view;
   const { records } = run;
   const lock = lockOf(run);
   const words = [
@@ -34,6 +34,6 @@ export function writtenWords(view, move, useOf) {
     [records.alsoChanged(move), records.alsoLeft(move), records.alsoFound(move)],
   ];
   return words.filter(([word]) => word !== NO_WORD && useOf(run, move, word) === 'changed')
-    .map(([word, left, found]) => texts.wrote(lock.wordName(word, names),
-      ...[left, found].map((value) => lock.valueText(word, value, names))));
+    .map(([word, left, found]) => texts.wrote(lock.wordName(word, view),
+      ...[left, found].map((value) => lock.valueText(word, value, view))));
 }

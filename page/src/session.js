@@ -1,13 +1,14 @@
-// What is shown: one schedule, the move at which it stands, and everything derived from the two.
+// What is shown: one schedule, the move that is shown, and everything derived from the two.
 
 import { arrowsOf } from './arrows.js';
+import { placeAfter } from './ascending.js';
 import { Bound, withoutLines } from './bound.js';
 import { lettersOf, throughLine } from './bytes.js';
 import { awaitedLines, codeLine } from './locks_code.js';
 import { LOCK_NAMES, lockOf } from './locks.js';
 import { Names } from './names.js';
 import { remarksOf } from './remarks.js';
-import { placeAfter, Run } from './run.js';
+import { Run } from './run.js';
 
 const NO_ARROWS = { arrows: [], arrowEnds: [] };
 
@@ -72,12 +73,12 @@ export class Session {
   arrowsNow() {
     const { run } = this;
     const words = Array.from({ length: run.end.wordCount },
-      (_, word) => lockOf(run).wordName(word, this.names));
+      (_, word) => lockOf(run).wordName(word, this));
     const arrows = arrowsOf(run, awaitedLines(this.lines[run.kind]), words);
     return { arrows, arrowEnds: arrows.map(({ to }) => to) };
   }
 
-  // To a move, or to the refused one behind the last.
+  // To a move, or to the refused one after the last.
   go(move) {
     this.place = Math.min(this.run.last, Math.max(0, Math.trunc(move) || 0));
     this.move = Math.min(this.run.count, this.place);
@@ -90,7 +91,7 @@ export class Session {
     return { run, move, names, remarks, place, refused, marked, ...this.arrows, ...extra };
   }
 
-  // The line of the text in which the current move stands; before the first move the header's.
+  // The line of the text of the current move; before the first move the header's.
   line() {
     return this.move ? this.run.records.line(this.move) : this.headerLine();
   }

@@ -43,7 +43,7 @@ export const foldedToken = (x, y, view, folded) => html`<g class="fold">
 export const BOX_EDGES = 12;
 
 // A word of memory as a box: plain, read by this move, or changed by it. A name that is too long
-// for it is cut, and shown whole where one points at it.
+// for it is cut, and shown whole if one points at it.
 export function wordBox(x, y, width, value, use, label = '') {
   return html`${label && html`<text class="mono word-name" x="${x}" y="${y - 7}">${label}</text>`}
     <g><title>${value}</title>

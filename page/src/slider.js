@@ -1,4 +1,4 @@
-// The slider, and over it where questions stand and where threads enter or a compare-and-swap
+// The slider, and over it where questions are and where threads enter or a compare-and-swap
 // fails.
 
 import { OUTCOME } from './codes.js';
@@ -26,7 +26,7 @@ function ticks(view, width) {
   const seen = new Map();
   const put = (kind, move) => {
     const x = Math.round(placeOf(run, width, move) / 2) * 2;
-    if (!seen.has(kind + x)) seen.set(kind + x, { x, kind, drawn: TICKS[kind](x) });
+    if (!seen.has(kind + x)) seen.set(kind + x, { move, kind, drawn: TICKS[kind](x) });
   };
   for (const move of remarks.ask.keys()) if (move <= run.count) put('ask', move);
   for (let move = 1; !view.hidden && move <= run.count; move += 1) {
@@ -44,8 +44,8 @@ export function sliderPicture(view, width) {
     drawn = { run: view.run, width, hidden: view.hidden, ticks: ticks(view, width) };
   }
   const x = placeOf(view.run, width, view.place);
-  const ticksShown = drawn.ticks.filter((one) => view.future || one.kind === 'ask' || one.x <= x)
-    .map((one) => one.drawn);
+  const isShown = ({ kind, move }) => view.future || kind === 'ask' || move <= view.place;
+  const ticksShown = drawn.ticks.filter(isShown).map((one) => one.drawn);
   return html`<svg width="${width}" height="42" viewBox="0 0 ${width} 42" aria-hidden="true">
     <path class="track" d="M${EDGE} 21H${width - EDGE}"/>
     <path class="track done" d="M${EDGE} 21H${x}"/>

@@ -1,12 +1,9 @@
-// What a thread was doing between its moves: in a call, in line, holding, in line and not linked.
+// What a thread was doing between its moves: in a call, in the queue, holding, not linked.
 // All of it is read off the records that the machine wrote; a stretch of moves is found by
 // bisection.
 
-import { AS_WRITER, HOLDS, IN_LINE, OUTCOME, PHASE } from './codes.js';
-import { placeAfter } from './run.js';
-
-const UNLINKED = [PHASE.SetLocked, PHASE.LinkTo];
-const IN_A_CALL = [OUTCOME.called, OUTCOME.moved, OUTCOME.waits];
+import { AS_WRITER, HOLDS, IN_LINE } from './codes.js';
+import { placeAfter } from './ascending.js';
 
 // One of holds, reads, writes, line, call, rest.
 export function standingAfter(run, move) {
@@ -17,10 +14,10 @@ export function standingAfter(run, move) {
     return run.hasReaders ? 'reads' : 'holds';
   }
   if (standing & IN_LINE) return 'line';
-  return IN_A_CALL.includes(run.records.outcome(move)) ? 'call' : 'rest';
+  return run.records.due(move) ? 'call' : 'rest';
 }
 
-export const unlinkedAfter = (run, move) => move > 0 && UNLINKED.includes(run.records.phase(move));
+export const unlinkedAfter = (run, move) => move > 0 && run.records.isUnlinked(move);
 
 // Stretches {kind, from, to} of one thread over moves `from` to `to`, where something is the same
 // from move to move. One that began before `from` begins there.

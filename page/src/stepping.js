@@ -26,7 +26,7 @@ export class Stepping {
     if (page.quiz.asks(page.session)) page.modes.askFocus();
   }
 
-  // Asks for the next move, where there is one.
+  // Asks for the next move, if there is one.
   askNext() {
     const { quiz, session, modes } = this.page;
     if (quiz.result) {
@@ -71,7 +71,7 @@ export class Stepping {
 
   toggleAnswer() {
     this.page.answered = !this.page.answered;
-    this.page.draw();
+    this.page.fit();
   }
 
   toggleRunning() {
@@ -94,7 +94,7 @@ export class Stepping {
     this.setSpeed((options[selectedIndex + by] ?? options[selectedIndex]).value);
   }
 
-  // Stops where a question is asked, and at the end.
+  // Stops when a question is asked, and at the end.
   runOn() {
     this.step(1);
     const { quiz, session } = this.page;

@@ -1,5 +1,6 @@
 // What the machine answered when the page was built, for a browser that cannot run it: the
-// lessons' texts with their records, and each state as what differs from the one before.
+// lessons' texts with their records, and of the states in the beginning and at the end what differs
+// from the one before.
 
 import { ANSWER } from './codes.js';
 import { State, STATE_BYTES } from './machine.js';

@@ -1,4 +1,4 @@
-// The ticket lock: what is said of its steps, and its memory: both counters, on a wheel where words
+// The ticket lock: what is said of its steps, and its memory: both counters, on a wheel if words
 // are narrow, and who has which ticket.
 
 import { PHASES } from './codes.js';
@@ -18,11 +18,11 @@ const OWN_VARIABLE = {
 };
 const T = translated('ticket', {
   title: 'Ticket lock', memory: 'Memory: who has which ticket', next: 'next',
-  strip: 'The tickets that are out, in the order of the queue, and the next one',
+  strip: 'The tickets in use, in the order of the queue, and the next one',
   stripShort: 'Tickets in the order of the queue',
   says: {
     TakeTicket: {
-      moved: '{who} draws ticket {found}, and is in the queue from here on. next_ticket is now '
+      moved: '{who} takes ticket {found}, and is in the queue from here on. next_ticket is now '
         + '{left}.',
     },
     AwaitTurn: {
@@ -31,12 +31,12 @@ const T = translated('ticket', {
     },
     ReadServing: { moved: '{who} reads now_serving, to pass it on: it is {found}.' },
     PassOn: { left: '{who} writes {left} into now_serving, and has left.' },
-    wraps: 'After {found} comes {left}: the numbers have gone round.',
+    wraps: 'After {found} comes {left}: the numbers wrap around.',
   },
   captions: {
-    nobody: 'No ticket is out: the next one is {next}.',
-    line: 'Served is {serving}; the next ticket is {next}.',
-    wraps: 'The tickets have gone round: {first} is served before {last}.',
+    nobody: 'No ticket is in use: the next one is {next}.',
+    line: 'Ticket {serving} is served; the next ticket is {next}.',
+    wraps: 'The tickets have wrapped around: {first} is served before {last}.',
   },
 });
 const { says, captions } = T;
@@ -59,13 +59,13 @@ function words(view, state, x, beside) {
   return html`${box(NEXT_TICKET, x, 40)}${box(NOW_SERVING, ...(beside ? [x + 128, 40] : [x, 96]))}`;
 }
 
-// The tickets, of which those between are folded where there are more than have room.
+// The tickets, of which those between are folded if there are more than have room.
 function tickets(view, state, most) {
   const moving = movingThread(view);
   return folding(holdersOfTickets(state), ({ thread }) => thread === moving, most);
 }
 
-// A thread's own variable, which is no word of memory.
+// A thread's own variable, which is not a word of memory.
 const ownBox = (x, y, width, text) => html`<rect class="own" x="${x}" y="${y}" width="${width}"
     height="28" rx="8"/>
   <text class="mono value" x="${x + width / 2}" y="${y + 19}" text-anchor="middle">${text}</text>`;
@@ -179,7 +179,7 @@ function caption(view, state) {
   return { text: wraps ? `${text} ${wraps}` : text };
 }
 
-const mark = (run, move) => String(run.records.found(move));
+const mark = ({ run }, move) => String(run.records.found(move));
 const values = (view, move) => ({ number: view.run.phaseNumberBefore(move) });
 
 const leastWidth = (view) => (hasWheel(view.run.bits) ? 466 : 446);
@@ -187,6 +187,6 @@ const leastWidth = (view) => (hasWheel(view.run.bits) ? 466 : 446);
 export const ticket = {
   name: 'ticket', title: T.title, lesson: 'ticket', memory: T.memory,
   signs: ['inCall', 'line', 'holds', 'ended'],
-  says, goesRound: ['TakeTicket', 'PassOn'], mark, values,
+  says, wraps: ['TakeTicket', 'PassOn'], mark, values,
   wordName, valueText, draw, caption, leastWidth,
 };

@@ -1,4 +1,4 @@
-// Words of few bits as a wheel: 2^B places, with hands for the counters. Numbers go round
+// Words of few bits as a wheel: 2^B places, with hands for the counters. Numbers wrap around
 // clockwise.
 
 import { html } from './markup.js';
@@ -22,7 +22,7 @@ function hand(wheel, value, style) {
   return html`<path class="hand ${style.name}" d="M${from.x} ${from.y}L${to.x} ${to.y}"/>`;
 }
 
-// `hands` is a list of {value, style}; `tokens` draws what stands at a place, outside the rim.
+// `hands` is a list of {value, style}; `tokens` draws what is at a place, outside the rim.
 export function wheelOf(wheel, hands, tokens) {
   const numbers = Array.from({ length: wheel.places }, (_, place) => {
     const at = spoke(wheel, place, wheel.radius);
@@ -45,7 +45,7 @@ export const HANDS = {
   outer: { name: 'outer', from: 0.54, to: 0.8 },
 };
 
-// What a hand stands for.
+// What a hand is for.
 export const handLegend = (x, y, name, label) => html`<path class="hand ${name}"
     d="M${x} ${y}h26"/><text class="note" x="${x + 36}" y="${y + 4}">${label}</text>`;
 

@@ -1,4 +1,4 @@
-"""The page by keys alone, read aloud, at 200 %, on a phone, and in the colours of the system."""
+"""The page by keys alone, read aloud, at 200 %, and on a phone."""
 from both import KEYS
 from looks import contrast
 
@@ -160,32 +160,6 @@ def contrast_of_numbers_and_words(browser):
         assert contrast(shown["word"], shown["card"]) >= 3, (theme, shown)
 
 
-BARS = """
-const bars = [...document.querySelectorAll('.code-line')].map((one) => [
-  one.classList.contains('here'), getComputedStyle(one).borderLeftColor]);
-const back = getComputedStyle(document.getElementById('code')).backgroundColor;
-return { here: bars.filter(([is]) => is).map(([, colour]) => colour !== back),
-  others: bars.filter(([is]) => !is).map(([, colour]) => colour !== back),
-  moves: getComputedStyle(document.querySelector('.record')).transitionDuration };
-"""
-
-
-def colours_of_the_system(browser):
-    """With forced colours one line of code has the bar; with less motion nothing slides. Only
-    Chromium can be told both."""
-    if not hasattr(browser, "driver"):
-        return
-    features = [
-        {"name": "forced-colors", "value": "active"},
-        {"name": "prefers-reduced-motion", "value": "reduce"},
-    ]
-    browser.driver.execute_cdp_cmd("Emulation.setEmulatedMedia", {"features": features})
-    browser.open("#lesson=mcs-late-link&move=9")
-    shown = browser.run(BARS)
-    assert shown["here"] == [True] and not any(shown["others"]), shown
-    assert shown["moves"] == "0s", shown
-
-
 CHECKS = [
     by_tab_to_everything,
     lanes_are_chosen,
@@ -193,5 +167,4 @@ CHECKS = [
     at_two_hundred_per_cent,
     on_a_phone,
     contrast_of_numbers_and_words,
-    colours_of_the_system,
 ]

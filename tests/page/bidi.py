@@ -1,6 +1,7 @@
 """Debian's Firefox, headless, spoken to by WebDriver BiDi over its own web socket."""
 import contextlib
 import json
+import pathlib
 import re
 import subprocess
 import tempfile
@@ -105,8 +106,12 @@ class Firefox:
 
 
 @contextlib.contextmanager
-def firefox():
+def firefox(preferences=None):
+    """A browser of its own profile, with these preferences, closed at the end."""
     with tempfile.TemporaryDirectory(ignore_cleanup_errors=True) as profile:
+        lines = [f'user_pref("{name}", {json.dumps(value)});\n'
+                 for name, value in (preferences or {}).items()]
+        pathlib.Path(profile, "user.js").write_text("".join(lines))
         process = subprocess.Popen(
             [
                 "firefox-esr",

@@ -89,14 +89,25 @@ class InFirefox:
         return self.tab.until(script, value)
 
 
+# What Firefox calls that a system asks for forced colours, or for less motion.
+IN_PREFERENCES = {
+    ("forced-colors", "active"): ("browser.display.document_color_use", 2),
+    ("prefers-reduced-motion", "reduce"): ("ui.prefersReducedMotion", 1),
+}
+
+
 @contextlib.contextmanager
-def opened(name):
-    """The browser of this name, to be driven by a check."""
+def opened(name, media=()):
+    """The browser of this name, to be driven by a check. `media` are features, as pairs of a name
+    and a value, that the system asks for."""
     if name == "firefox":
-        with firefox() as tab:
+        with firefox(dict(IN_PREFERENCES[feature] for feature in media)) as tab:
             yield InFirefox(tab)
     else:
         with chromium_browser.chromium() as driver:
+            features = [{"name": what, "value": value} for what, value in media]
+            if features:
+                driver.execute_cdp_cmd("Emulation.setEmulatedMedia", {"features": features})
             yield InChromium(driver)
 
 

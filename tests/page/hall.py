@@ -115,6 +115,17 @@ def parts_are_chosen(browser):
     assert browser.run(IN_VIEW)["parts"] == ["time", "memory", "now"]
 
 
+def the_line_stays_in_view(browser):
+    """If a panel opens beside the code or an answer above it, or if the window is made lower."""
+    for key in ["g", "e", "a"]:
+        browser.resize(1280, 720)
+        browser.open("#lesson=mcs-late-link&move=9")
+        browser.press(key)
+        assert browser.run(IN_VIEW)["line"], key
+        browser.resize(1280, 600)
+        browser.until(IN_VIEW.replace("return {", "const seen = {") + "return seen.line;")
+
+
 STORY = """
 return {
   story: Boolean(document.querySelector('.story[open]')),
@@ -165,6 +176,8 @@ def a_theme_in_the_link(browser):
     browser.open("#lesson=mcs-late-link&move=9&theme=dark")
     theme = "return document.documentElement.dataset.theme"
     assert browser.run(theme) == "dark"
+    # What opening writes into the address is written by then.
+    browser.run("window.lockreplay.page.address.flush()")
     browser.press("d")
     browser.until("return location.hash.endsWith('&theme=light')")
     browser.open("#lesson=mcs-late-link&move=9")
@@ -175,6 +188,7 @@ CHECKS = [
     letters_are_large,
     by_key,
     parts_are_chosen,
+    the_line_stays_in_view,
     nothing_is_given_away,
     a_frame_for_a_slide,
     a_theme_in_the_link,

@@ -41,7 +41,7 @@ def compare(shown, move, line, report):
 
 
 def shown_at(driver, position):
-    """What is shown, once the page stands there."""
+    """What is shown, once the page shows it."""
 
     def there(_):
         shown = run(driver, SHOWN)
@@ -75,7 +75,7 @@ def each_lesson(driver, _):
 
 
 def questions_are_asked(driver, _):
-    """A question stands at its move alone, its answer is hidden until it is asked for."""
+    """A question is at its move alone, its answer is hidden until it is asked for."""
     open_page(driver, "#lesson=mcs-late-link&move=8")
     body = driver.find_element(By.TAG_NAME, "body")
     body.send_keys("n")

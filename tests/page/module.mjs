@@ -4,23 +4,30 @@
 //     node tests/page/module.mjs MODULE.wasm
 //
 // Of each example: the whole report, as it was written by hand; the words that a record names,
-// against the states before and after it; each thread's allowed calls and due step, against what
-// is answered to the same moves with that one behind them. Then what `play` answers to a text that
-// is too long, to a state that is too short, and where there is room for one record of two.
+// against the states before and after it; the states that the page reads off the records, with
+// allowed calls, against those that the machine writes; who waits, against what is answered to the
+// same moves with the due step after them, and so each thread's allowed calls and due step at the
+// end. Then where words and names of an MCS lock are, from which to which number a header goes,
+// and what `play` answers to a text that is too long, to a state that is too short, and where
+// there is room for one record of two.
 
 import assert from 'node:assert/strict';
 import { readFileSync, readdirSync } from 'node:fs';
 import { dirname, join } from 'node:path';
 import { fileURLToPath } from 'node:url';
 import { setFlagsFromString } from 'node:v8';
-import { ANSWER, AS_WRITER, CALLS, HOLDS, IN_LINE, STEPS } from '../../page/src/codes.js';
-import { Machine, RECORD_BYTES, STATE_BYTES } from '../../page/src/machine.js';
+import { rangesOf } from '../../page/build/ranges.mjs';
+import {
+  ANSWER, AS_WRITER, CALLS, HOLDS, IN_LINE, OUTCOME, STEPS, UNLINKED, WAITS,
+} from '../../page/src/codes.js';
+import { Machine, Records, RECORD_BYTES, STATE_BYTES } from '../../page/src/machine.js';
 import { reportOf } from '../../page/src/report.js';
 import { Run } from '../../page/src/run.js';
 
 const EXAMPLES = join(dirname(fileURLToPath(import.meta.url)), '..', '..', 'examples');
 const MOST_WORDS = 129;
 const A_WRITER = 3;
+const MCS = 1;
 
 const bytesOf = (text) => new TextEncoder().encode(text);
 
@@ -57,11 +64,53 @@ function checkThread(records, move, after) {
   const writes = holds && after.holderKind === A_WRITER;
   const standing = (holds ? HOLDS : 0) + (after.queue.includes(thread) ? IN_LINE : 0)
     + (writes ? AS_WRITER : 0);
-  assert.deepEqual([records.phase(move), records.phaseNumber(move), records.standing(move)],
+  const kept = records.standing(move) & ~UNLINKED & ~WAITS;
+  assert.deepEqual([records.phase(move), records.phaseNumber(move), kept],
     [after.phase(thread), after.phaseNumber(thread), standing]);
+  assert.equal(records.due(move), after.dueStep(thread));
 }
 
-// Each call and each step, played behind the moves so far.
+// Who waits has just polled in vain, or is in the queue and would poll in vain now.
+function checkWaits(machine, text, run, move, after) {
+  const { records } = run;
+  const thread = records.thread(move);
+  const due = after.dueStep(thread);
+  const before = bytesOf(`${textUpTo(text, records.line(move))}\n${thread} ${STEPS[due]}\n`);
+  const next = due ? machine.play(before, move + 1, true) : null;
+  const vain = next !== null && new Records(next.records).outcome(move + 1) === OUTCOME.waits;
+  const waits = records.outcome(move) === OUTCOME.waits
+    || (vain && after.queue.includes(thread));
+  assert.equal(records.waits(move), waits, `whether ${thread} waits after move ${move}`);
+}
+
+const textUpTo = (text, line) => new TextDecoder('latin1').decode(text).split('\n')
+  .slice(0, line).join('\n');
+
+// Who is not linked is in the queue, and the `next` of the thread before it does not name it.
+function checkLinks(run, move, after) {
+  if (after.kind !== MCS) return;
+  after.queue.slice(1).forEach((thread, i) => {
+    const next = after.word(after.nextWord(after.queue[i]));
+    const last = run.lastMoveOf(thread, move);
+    const name = BigInt(after.recordName(thread));
+    assert.equal(run.records.isUnlinked(last), next !== name, `${move}: ${thread}`);
+  });
+}
+
+// What is read off the records of the state after a move, and what the machine says of it.
+function checkMoment(run, move) {
+  const threads = Array.from({ length: run.threads }, (_, thread) => thread);
+  const words = Array.from({ length: MOST_WORDS }, (_, index) => index);
+  const [read, said] = [run.state(move), run.replayed(move)].map((state) => ({
+    holders: [state.holderKind, ...state.holders], queue: state.queue,
+    threads: threads.map((one) => [state.phase(one), state.dueStep(one), state.phaseNumber(one)]),
+    calls: threads.map((one) => CALLS.filter((_, call) => state.allows(one, call))),
+    words: words.map((index) => state.word(index)),
+  }));
+  assert.deepEqual(read, said, `after move ${move}`);
+}
+
+// Each call and each step, played after the moves so far.
 function checkNext(machine, text, moves, state) {
   const accepts = (thread, word) => {
     const longer = new Uint8Array([...text, ...bytesOf(`\n${thread} ${word}\n`)]);
@@ -79,11 +128,47 @@ function checkNext(machine, text, moves, state) {
 function checkExample(machine, text, report) {
   const run = new Run(machine, text);
   assert.equal(reportOf(run), report);
+  for (let move = 0; run.hasLock && move <= run.count; move += 1) checkMoment(run, move);
   for (let move = 1; !run.fault && move <= run.count; move += 1) {
-    checkWords(run.records, move, run.state(move - 1), run.state(move));
-    checkThread(run.records, move, run.state(move));
+    const [before, after] = [run.replayed(move - 1), run.replayed(move)];
+    checkWords(run.records, move, before, after);
+    checkThread(run.records, move, after);
+    checkWaits(machine, text, run, move, after);
+    checkLinks(run, move, after);
   }
   if (!run.fault && !run.refusal) checkNext(machine, text, run.count, run.end);
+}
+
+// All threads of an MCS lock queue up one after another. A thread first writes its own next, swaps
+// its name into the tail, and writes its own locked and the next of the thread before it.
+function checkOwned(machine, order) {
+  const words = (i) => ['acquire', 'write', 'swap', ...(i ? ['write', 'write'] : [])];
+  const lines = order.flatMap((thread, i) => words(i).map((word) => `${thread} ${word}\n`));
+  const { records, owned, begun } = new Run(machine,
+    bytesOf(`lock mcs threads ${order.length}\n${lines.join('')}`));
+  assert.equal(records.count, lines.length);
+  order.slice(1).forEach((thread, i) => {
+    const [clears, swaps, locks, links] = [5, 6, 7, 8].map((move) => move + 5 * i);
+    const [next, locked, before] = [begun.nextWord(thread), begun.lockedWord(thread), order[i]];
+    const name = BigInt(begun.recordName(thread));
+    assert.deepEqual([clears, swaps, locks, links].map((move) => records.touched(move)),
+      [next, owned.tail, locked, begun.nextWord(before)]);
+    assert.deepEqual([swaps, links].map((move) => records.left(move)), [name, name]);
+    assert.deepEqual([owned.at(next), owned.at(locked), owned.named(name)],
+      [{ thread, field: 'next' }, { thread, field: 'locked' }, thread]);
+  });
+}
+
+// Where no lock has records, and what docs/SCHEDULE.md says of headers.
+function checkNumbers(machine, bytes) {
+  for (const lock of ['ticket', 'rw-simple', 'rw-fifo']) {
+    const { state } = machine.play(bytesOf(`lock ${lock} threads 2\n`), 0, false);
+    for (const thread of [0, 1]) {
+      assert.deepEqual([state.nextWord(thread), state.lockedWord(thread),
+        state.recordName(thread)], [0, 0, 0]);
+    }
+  }
+  assert.deepEqual(rangesOf(bytes), { threads: [1, 64], bits: [2, 64], thread: [0, 255] });
 }
 
 function checkRoom(machine) {
@@ -111,5 +196,9 @@ for (const file of files) {
   const report = readFileSync(join(EXAMPLES, file.replace(/schedule$/, 'report')), 'utf8');
   checkExample(machine, text, report);
 }
+const threads = Array.from({ length: 64 }, (_, thread) => thread);
+checkOwned(machine, threads);
+checkOwned(machine, threads.toReversed());
+checkNumbers(machine, module);
 checkRoom(machine);
 console.log(`module: ${files.length} examples as their reports say`);

@@ -21,7 +21,7 @@ page.openOwn(new TextEncoder().encode(arguments[0]));
 """
 HEADER = "lock ticket threads 2\n"
 
-# A text, the line that is marked, what is said of it, and how many moves stand before it.
+# A text, the line that is marked, what is said of it, and how many moves come before it.
 FAULTS = [
     (
         "lock MCS threads 2\n0 acquire\n",
@@ -31,16 +31,16 @@ FAULTS = [
     ),
     ("lock clh threads 2\n", 1, ["Unknown lock clh", "ticket, mcs, rw-simple, rw-fifo"], 0),
     ("lock rw_fifo threads 2\n", 1, ["Did you mean “rw-fifo”?"], 0),
-    ("lock ticket thread 2\n", 1, ["Behind the lock’s name stands “threads”"], 0),
+    ("lock ticket thread 2\n", 1, ["After the lock’s name comes “threads”"], 0),
     (
         "lock ticket threads 65\n",
         1,
-        ["“65” is no number of threads", "from 1 to 64", "BadThreads"],
+        ["“65” is not a number of threads", "from 1 to 64", "BadThreads"],
         0,
     ),
     ("lock ticket threads 02\n", 1, ["no leading zero", "BadThreads"], 0),
-    ("lock ticket threads 2 bits 1\n", 1, ["“1” is no number of bits", "from 2 to 64"], 0),
-    ("lock ticket threads 2 bit 8\n", 1, ["may stand “bits”"], 0),
+    ("lock ticket threads 2 bits 1\n", 1, ["“1” is not a number of bits", "from 2 to 64"], 0),
+    ("lock ticket threads 2 bit 8\n", 1, ["only “bits” may follow"], 0),
     (
         "lock ticket threads 4 bits 2\n",
         1,
@@ -56,7 +56,7 @@ FAULTS = [
     ("lock ticket threads 2 \n", 1, ["blank at the line’s end"], 0),
     ("", 1, ["There is no header", "lock NAME threads N", "NoHeader"], 0),
     ("# a\n\n", 3, ["There is no header"], 0),
-    ("0 acquire\n", 1, ["This is no header"], 0),
+    ("0 acquire\n", 1, ["This is not a header"], 0),
     (
         HEADER + "0 acquire\n0 addd\n",
         3,
@@ -72,14 +72,14 @@ FAULTS = [
     (HEADER + "0 acquire\n0\u00a0add\n", 3, ["no-break space", "Write “0 add”"], 1),
     (HEADER + "0 acquire\n0 a\u200bdd\n", 3, ["U+200B", "Write “0 add”"], 1),
     (HEADER + "0 acquire\n0 a\0dd\n", 3, ["U+0000", "Write “0 add”"], 1),
-    (HEADER + "0 \u0430cquire\n", 2, ["“\u0430” is no letter of ASCII, but U+0430"], 0),
+    (HEADER + "0 \u0430cquire\n", 2, ["“\u0430” is not an ASCII character, but U+0430"], 0),
     ("lock mcs threads 2\r0 acquire\r", 1, ["carriage returns (CR) alone"], 0),
     ("l\0o\0c\0k\0", 1, ["UTF-16"], 0),
     (HEADER + "0 acquire\n00 add\n", 3, ["no leading zero"], 1),
-    (HEADER + "256 acquire\n", 2, ["“256” is no thread’s number", "from 0 to 255"], 0),
-    (HEADER + "acquire\n", 2, ["This is no move"], 0),
-    (HEADER + "0: acquire\n", 2, ["This is no move", "Did you mean “0 acquire”?"], 0),
-    (HEADER + "0 acquire 1\n", 2, ["This is no move", "Write “0 acquire”"], 0),
+    (HEADER + "256 acquire\n", 2, ["“256” is not a thread’s number", "from 0 to 255"], 0),
+    (HEADER + "acquire\n", 2, ["This is not a move"], 0),
+    (HEADER + "0: acquire\n", 2, ["This is not a move", "Did you mean “0 acquire”?"], 0),
+    (HEADER + "0 acquire 1\n", 2, ["This is not a move", "Write “0 acquire”"], 0),
     (
         "lock mcs threads 2\n0 lock\n",
         2,
@@ -95,20 +95,20 @@ FAULTS = [
 ]
 REFUSALS = [
     (HEADER + "2 acquire\n", 2, ["There is no thread 2", "2 threads", "NoSuchThread"], 0),
-    (HEADER + "0 rlock\n", 2, ["“rlock” is none of the moves of this lock", "call “acquire”"], 0),
-    (HEADER + "0 acquire\n0 acquire\n", 3, ["in the middle of a call", "make the step “add”"], 1),
-    (HEADER + "0 release\n", 2, ["gives back what it does not hold", "call “acquire”"], 0),
+    (HEADER + "0 rlock\n", 2, ["“rlock” is not a move of this lock", "call “acquire”"], 0),
+    (HEADER + "0 acquire\n0 acquire\n", 3, ["has a pending call", "make the step “add”"], 1),
+    (HEADER + "0 release\n", 2, ["does not hold what it would release", "call “acquire”"], 0),
     (
         HEADER + "0 acquire\n0 add\n0 read\n0 acquire\n",
         5,
         ["holds the lock already", "call “release”"],
         3,
     ),
-    (HEADER + "0 add\n", 2, ["in no call", "call “acquire”"], 0),
+    (HEADER + "0 add\n", 2, ["has no pending call", "call “acquire”"], 0),
     (
         HEADER + "0 acquire\n0 read\n",
         3,
-        ["another one", "make the step “add”", "WrongStep next add"],
+        ["not the next step of thread 0", "make the step “add”", "WrongStep next add"],
         1,
     ),
 ]

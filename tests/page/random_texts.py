@@ -1,4 +1,7 @@
-"""The page's report of random schedules and texts is the program's, byte for byte."""
+"""The page's report of random schedules and texts is the program's, byte for byte.
+
+And the states that the page reads off the records are those that the machine writes.
+"""
 import base64
 import os
 import random
@@ -58,4 +61,30 @@ def two_thousand(driver, program):
     compare(driver, texts, reports)
 
 
-CHECKS = [two_thousand]
+STATES = """
+const { page, fromBase64 } = window.lockreplay;
+const parts = (run, state) => JSON.stringify([state.holderKind, state.holders, state.queue,
+  Array.from({ length: run.threads }, (_, one) => [state.phase(one), state.dueStep(one),
+    String(state.phaseNumber(one))]),
+  Array.from({ length: run.end.wordCount }, (_, word) => String(state.word(word)))]);
+const session = page.session.twin();
+const different = (text) => {
+  session.open(fromBase64(text));
+  const { run } = session;
+  const moves = run.hasLock ? Array.from({ length: run.count + 1 }, (_, move) => move) : [];
+  return moves.filter((move) => parts(run, run.state(move)) !== parts(run, run.replayed(move)));
+};
+return arguments[0].map(different);
+"""
+STATES_OF = 200
+
+
+def states_off_the_records(driver, _):
+    open_page(driver)
+    texts = texts_drawn(STATES_OF, seed=3)
+    coded = [base64.b64encode(text).decode("ascii") for text in texts]
+    for text, different in zip(texts, run(driver, STATES, coded)):
+        assert not different, (text, different)
+
+
+CHECKS = [two_thousand, states_off_the_records]

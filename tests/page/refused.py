@@ -15,14 +15,15 @@ LESSONS = [
         "busy",
         1,
         "refused line 4 Busy",
-        ["in the middle of a call", "Due is the step “add”, in line 2 of the code: "
+        ["has a pending call", "The next step is “add”, in line 2 of the code: "
          "“ticket := add(next_ticket, 1)”.", "make the step “add”", "move 1: 0 acquire"],
     ),
     (
         "no-call",
         0,
         "refused line 3 NoCall",
-        ["in no call", "Nobody holds the lock.", "call “acquire”", "no move of thread 0 yet"],
+        ["has no pending call", "Nobody holds the lock.", "call “acquire”",
+         "no move of thread 0 yet"],
     ),
     (
         "no-such-thread",
@@ -34,26 +35,26 @@ LESSONS = [
         "not-holder",
         0,
         "refused line 3 NotHolder",
-        ["gives back what it does not hold", "Nobody holds the lock.", "call “acquire”"],
+        ["does not hold what it would release", "Nobody holds the lock.", "call “acquire”"],
     ),
     (
         "wrong-lock",
         0,
         "refused line 3 WrongLock",
-        ["“rlock” is none of the moves of this lock", "call “acquire”",
+        ["“rlock” is not a move of this lock", "call “acquire”",
          "Line 2: lock ticket threads 1"],
     ),
     (
         "wrong-step",
         1,
         "refused line 4 WrongStep next add",
-        ["Due is the step “add”, in line 2 of the code", "make the step “add”"],
+        ["The next step is “add”, in line 2 of the code", "make the step “add”"],
     ),
 ]
 FAULTS = [
     ("bad-header", "fault line 2 BadHeader", ["Unknown lock clh", "lock clh threads 2"]),
     ("bad-line", "fault line 5 BadLine", ["Unknown move “looks”", "0 looks"]),
-    ("bad-threads", "fault line 2 BadThreads", ["“65” is no number of threads"]),
+    ("bad-threads", "fault line 2 BadThreads", ["“65” is not a number of threads"]),
     ("no-header", "fault line 3 NoHeader", ["There is no header"]),
     ("words-too-narrow", "fault line 2 WordsTooNarrow", ["threads need wider words"]),
 ]
@@ -120,9 +121,9 @@ document.querySelector(`#choices [data-thread="${value[0]}"][data-word="${value[
 """
 
 
-# The line behind that of move 8: six comments are left, the header, and eight moves.
+# The line after that of move 8: six comments are left, the header, and eight moves.
 WRONG_LINE = 16
-WRONG_PARTS = ["Due is the step “cas”", "found Ann.next = nil"]
+WRONG_PARTS = ["The next step is “cas”", "found Ann.next = nil"]
 
 
 def a_wrong_step_in_play(browser):

@@ -1,7 +1,7 @@
 #!/usr/bin/python3
 """Tests of page/lockreplay.html in real browsers: tests/page/run.py PROGRAM [MODULE...]
 
-Each module has its browser, three at a time; a name with `@firefox` or `@chromium` behind it is
+Each module has its browser, three at a time; a name with `@firefox` or `@chromium` after it is
 run in that one. After each, the browser's log must have no error,
 and no request may have left the page. Needs what packages.txt has for browsers.
 """
@@ -34,6 +34,9 @@ IN_BOTH = [
     "hall",
     "many",
     "access",
+    "system",
+    "faint",
+    "wrote",
     "refused",
     "branches",
     "keeping",
@@ -69,9 +72,9 @@ def in_chromium(name, program):
 
 
 def in_browser(name, which):
-    """The checks of a module in one of the browsers."""
+    """The checks of a module in one of the browsers, with what its system asks for."""
     module = importlib.import_module(name)
-    with opened(which) as browser:
+    with opened(which, getattr(module, "MEDIA", ())) as browser:
         for check in module.CHECKS:
             check(browser)
 

@@ -21,7 +21,7 @@ window.lockreplay.page.go(3);
 SHOTS = [
     ("late-link", "#lesson=mcs-late-link&move=9", False, ANSWER),
     ("out-of-order-dark", "#lesson=mcs-third-linked-before-second&move=12", True, ANSWER),
-    ("tickets-go-round", "#lesson=ticket-wraps-at-2-bits&move=23", False, ""),
+    ("tickets-wrap-around", "#lesson=ticket-wraps-at-2-bits&move=23", False, ""),
     ("announced-writer", "#lesson=fifo-counts-wrap-at-2-bits&move=16", False, ""),
     ("hall", "#lesson=mcs-late-link&move=9&hall", False, ANSWER),
     ("play", "#lesson=mcs-late-link&move=9", False, PLAY),
