@@ -8,7 +8,8 @@ and then runs each example in each mode. Of a right lock every run has to be acc
 a run whose order is known, and the order that is found for the logs of its threads; and threads
 have to have waited. Of a lock with a mistake, the trace of a seeded run has to be refused at the
 line where the mistake is first seen, which recording_rust_mistakes.py finds by itself, or the run
-hangs, in as many runs as are due there. The last line counts the cases; the status is 1 where one
+hangs, in as many runs as are due there. recording_rust_searches.py has what is due of runs that are
+explored and of schedules that are followed. The last line counts the cases; the status is 1 if one
 failed.
 """
 import os
@@ -23,6 +24,7 @@ from pathlib import Path
 import wanted
 from recording_mistakes import moves_of
 from recording_rust_mistakes import MISTAKES
+from recording_rust_searches import EXPLORED, Searches
 from tally import Tally
 
 CRATE = Path(__file__).resolve().parent.parent / "record" / "rust"
@@ -30,9 +32,10 @@ TOOLS = Path("/usr/bin")  # Debian's, which are as old as any that the crate is 
 CARGO, CLIPPY = ["cargo"], ["cargo-clippy", "clippy"]
 EXAMPLES = ["ticket", "mcs", "rw_simple", "rw_fifo"]
 SEEDS = range(1, 51)
-COUNTS = {"seed": ["3", "100"], "ordered": ["4", "500"], "free": ["4", "5000"],
-          "noise": ["4", "500"]}  # threads and rounds
+COUNTS = {"seed": ["3", "100"], "pct": ["3", "100"], "ordered": ["4", "500"],
+          "free": ["4", "5000"], "noise": ["4", "500"]}  # threads and rounds
 HAS_TRACE = ["seed", "ordered"]
+PRIORITIES = range(1, 21)  # seeds
 NUMBERS = {"seed": SEEDS, "ordered": range(3), "free": range(3), "noise": range(5)}
 COMPLETE, HANGS = 0, 1
 UNUSED = "#![allow(unused)]\n\nmod driver;"  # a mistake may leave something that is not used
@@ -130,6 +133,17 @@ def fault_of_right(runs, example, mode, number):
     return fault or (f"order: status {status}" if status else runs.fault_of(trace))
 
 
+def fault_of_priorities(runs, example):
+    """What is wrong with runs of a right lock by drawn priorities. In few of them somebody waits,
+    since a thread goes on as long as it can."""
+    faults = []
+    for seed in PRIORITIES:
+        target, status = runs.run(example, "pct", seed)
+        faults.append(runs.fault_of(target / "run.trace") if status == COMPLETE else f"{status}")
+    others = [fault for fault in faults if fault not in ("", "nobody waited")]
+    return others[0] if others else "" if "" in faults else "nobody ever waited"
+
+
 def fault_of_seed_again(runs, example):
     """The same seed gives the same run, and another seed another one."""
     folders = [runs.run(example, "seed", number)[0] for number in ["7", "07", "8"]]
@@ -149,6 +163,18 @@ def shows(runs, mistake, seed):
     if due and not fault and runs.ordered(target)[1] != 1:
         fault = "its logs have an order"
     return due is not None, fault
+
+
+def search(cases, searches):
+    """What nothing is left to chance in: of right locks, and of those with a mistake."""
+    for example in EXAMPLES:
+        cases.fault(f"{example} follows", searches.fault_of_followed(example))
+        cases.many(f"{example} explored",
+                   lambda counts: searches.fault_of_explored(example, counts), EXPLORED)
+    cases.many("explored with a mistake", lambda mistake: searches.fault_of_explored_mistake(
+        name_of(mistake), mistake.explored), MISTAKES)
+    cases.many("follows with a mistake", lambda mistake: searches.fault_of_followed_mistake(
+        name_of(mistake), mistake.example, mistake.followed), MISTAKES)
 
 
 class Cases(Tally):
@@ -186,6 +212,8 @@ def main(locktrace):
                 cases.many(f"{example} {mode}",
                            lambda number: fault_of_right(runs, example, mode, number), numbers)
             cases.fault(f"{example} seed again", fault_of_seed_again(runs, example))
+            cases.fault(f"{example} pct", fault_of_priorities(runs, example))
+        search(cases, Searches(runs, ran))
         for mistake in MISTAKES:
             answers = list(cases.pool.map(lambda seed: shows(runs, mistake, seed), SEEDS))
             for seed, (_, fault) in zip(SEEDS, answers):

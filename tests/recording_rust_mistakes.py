@@ -105,25 +105,28 @@ def reads_beside_a_writer(moves):
 
 
 # `shown` is in how many of the 50 runs of SEEDS, by 3 threads of ROUNDS, the mistake shows in a
-# line; a mistake without a sign shows by a run that hangs.
-Mistake = namedtuple("Mistake", "example name old new sign shown")
+# line; a mistake without a sign shows by a run that hangs. `explored` is how many preemptions a run
+# of 3 threads with a round each needs to show it: none, if each run of a thread alone does, and one
+# for what takes a thread that is held up; None, if counters have to wrap. `followed` is whether a
+# tour notices it: not if counters have to wrap, if it is in signals, or inside an operation.
+Mistake = namedtuple("Mistake", "example name old new sign shown explored followed")
 
 MISTAKES = [
     Mistake("ticket", "waits_while_less",
             "self.now_serving.load(SeqCst) != ticket", "self.now_serving.load(SeqCst) < ticket",
-            enters_at_another_ticket, 50),
+            enters_at_another_ticket, 50, None, False),
     Mistake("ticket", "serves_the_next_ticket",
             "served.wrapping_add(1)", "self.next_ticket.peek(SeqCst)",
-            serves_another_ticket, 50),
+            serves_another_ticket, 50, 1, True),
     Mistake("ticket", "masks_its_ticket",
             "self.now_serving.load(SeqCst) != ticket",
             "self.now_serving.load(SeqCst) != ticket & 0x7F",
-            polls_again, 50),
+            polls_again, 50, None, False),
     Mistake("ticket", "adds_in_two_steps",
             "let ticket = self.next_ticket.fetch_add(1, SeqCst);",
             "let ticket = self.next_ticket.load(SeqCst);\n"
             "        self.next_ticket.store(ticket.wrapping_add(1), SeqCst);",
-            first_of("read", "next_ticket"), 50),
+            first_of("read", "next_ticket"), 50, 0, True),
     Mistake("ticket", "notes_two_steps_as_an_add",
             "let ticket = self.next_ticket.fetch_add(1, SeqCst);",
             "let ticket = self.unnoted.load(SeqCst);\n"
@@ -132,41 +135,41 @@ MISTAKES = [
             "        lockreplay_record::note(\n"
             "            lockreplay_record::Step::add(Word::NextTicket, found).with_left(left),\n"
             "        );",
-            loses_a_write("next_ticket"), 50),
+            loses_a_write("next_ticket"), 50, 1, False),
     Mistake("mcs", "links_before_locked",
             "own.locked.store(true, SeqCst);\n"
             "            before.next.store(pointer_to(own), SeqCst);",
             "before.next.store(pointer_to(own), SeqCst);\n"
             "            own.locked.store(true, SeqCst);",
-            links_unlocked, 50),
+            links_unlocked, 50, 1, True),
     Mistake("mcs", "grants_to_the_last",
             "if let Some(next) = self.record(next) {",
             "if let Some(next) = self.record(self.tail.peek(SeqCst)) {",
-            grants_to_another, 50),
+            grants_to_another, 50, 1, True),
     Mistake("mcs", "swaps_in_two_steps",
             "let before = self.tail.swap(pointer_to(own), SeqCst);",
             "let before = self.tail.load(SeqCst);\n"
             "        self.tail.store(pointer_to(own), SeqCst);",
-            first_of("read", "tail"), 50),
+            first_of("read", "tail"), 50, 0, True),
     Mistake("mcs", "releases_without_comparing",
             "if self.tail.compare_exchange(pointer_to(own), nil, SeqCst, SeqCst).is_ok() {\n"
             "                return;\n            }\n            next = Self::linked(own);",
             "self.tail.store(nil, SeqCst);\n            return;",
-            first_of("write", "tail"), 50),
+            first_of("write", "tail"), 50, 0, True),
     Mistake("mcs", "keeps_its_next",
             "        own.next.store(ptr::null_mut(), SeqCst);\n", "",
-            clears_nothing, 50),
+            clears_nothing, 50, 0, True),
     Mistake("rw_simple", "writes_beside_readers",
             "while state.readers > 0 || state.writer {", "while state.writer {",
-            writes_beside_another, 50),
+            writes_beside_another, 50, 1, True),
     Mistake("rw_simple", "waits_once",
             "while state.readers > 0 || state.writer {", "if state.readers > 0 || state.writer {",
-            writes_beside_another, 50),
+            writes_beside_another, 50, 1, True),
     Mistake("rw_simple", "tells_nobody",
             "state.readers -= 1;\n        state.note(Outcome::Left);\n"
             "        self.changed.notify_all();",
             "state.readers -= 1;\n        state.note(Outcome::Left);",
-            None, 15),  # where no other writer comes, whose unlock wakes whoever waits
+            None, 15, 1, False),  # where no other writer comes, whose unlock wakes whoever waits
     Mistake("rw_fifo", "passes_a_writer",
             "while state.writer {\n            state.note(Outcome::Waits);\n"
             "            state = self.changed.wait(state);\n        }\n"
@@ -175,17 +178,17 @@ MISTAKES = [
             "            state.note(Outcome::Waits);\n"
             "            state = self.changed.wait(state);\n        }\n"
             "        state.read_acquires += 1;",
-            passes_a_writer, 50),
+            passes_a_writer, 50, 1, True),
     Mistake("rw_fifo", "reader_does_not_wait",
             "while state.writer {\n            state.note(Outcome::Waits);\n"
             "            state = self.changed.wait(state);\n        }\n"
             "        state.read_acquires += 1;",
             "state.read_acquires += 1;",
-            reads_beside_a_writer, 50),
+            reads_beside_a_writer, 50, 1, True),
     Mistake("rw_fifo", "wakes_one",
             "state.read_releases += 1;\n        state.note(Outcome::Left);\n"
             "        self.changed.notify_all();",
             "state.read_releases += 1;\n        state.note(Outcome::Left);\n"
             "        self.changed.notify_one();",
-            None, 50),
+            None, 50, 1, False),
 ]

@@ -10,6 +10,7 @@ use std::ptr;
 use std::sync::atomic::Ordering::SeqCst;
 use std::thread;
 
+use driver::Tested;
 use lockreplay_record::{call, own_record, AtomicBool, AtomicPtr, Call, Lock, Word};
 
 const MOST_THREADS: usize = 64;
@@ -35,14 +36,16 @@ struct McsLock {
     records: Vec<Record>,
 }
 
-impl McsLock {
-    fn new() -> McsLock {
+impl Default for McsLock {
+    fn default() -> McsLock {
         McsLock {
             tail: AtomicPtr::new(ptr::null_mut()).noted(Word::Tail),
             records: (0..MOST_THREADS).map(|_| Record::new()).collect(),
         }
     }
+}
 
+impl McsLock {
     /// The record that a pointer of this lock is to, or nothing if it is nil.
     fn record(&self, pointer: *mut Record) -> Option<&Record> {
         // SAFETY: `tail` and `next` are private, and only `pointer_to` makes what is stored there:
@@ -97,11 +100,18 @@ fn pointer_to(record: &Record) -> *mut Record {
     record as *const Record as *mut Record
 }
 
+impl Tested for McsLock {
+    const LOCK: Lock = Lock::Mcs;
+    const BITS: u32 = 64;
+
+    fn make(&self, thread: usize, call: Call) {
+        match call {
+            Call::Acquire => self.acquire(thread),
+            _ => self.release(thread),
+        }
+    }
+}
+
 fn main() -> ExitCode {
-    let lock = McsLock::new();
-    driver::drive(Lock::Mcs, 64, |thread, round| {
-        lock.acquire(thread);
-        driver::inside(thread, round);
-        lock.release(thread);
-    })
+    driver::drive::<McsLock>()
 }

@@ -4,13 +4,12 @@
 //! A writer sets the flag first, and then waits for the readers that are inside.
 
 mod driver;
-mod read_write;
 
 use std::num::Wrapping;
 use std::process::ExitCode;
 
+use driver::Tested;
 use lockreplay_record::{call, Call, Condvar, Lock, Mutex, Outcome};
-use read_write::ReadWrite;
 
 #[derive(Default)]
 struct State {
@@ -31,7 +30,7 @@ struct FifoLock {
     changed: Condvar,
 }
 
-impl ReadWrite for FifoLock {
+impl FifoLock {
     fn read_lock(&self) {
         let _call = call(Call::ReadLock);
         let mut state = self.state.lock();
@@ -88,7 +87,21 @@ impl ReadWrite for FifoLock {
     }
 }
 
+impl Tested for FifoLock {
+    const LOCK: Lock = Lock::RwFifo;
+    const BITS: u32 = 8;
+
+    fn make(&self, _thread: usize, call: Call) {
+        match call {
+            Call::ReadLock => self.read_lock(),
+            Call::ReadUnlock => self.read_unlock(),
+            Call::WriteLock => self.write_lock(),
+            Call::Downgrade => self.downgrade(),
+            _ => self.write_unlock(),
+        }
+    }
+}
+
 fn main() -> ExitCode {
-    let lock = FifoLock::default();
-    driver::drive(Lock::RwFifo, 8, |thread, round| read_write::round(&lock, thread, round))
+    driver::drive::<FifoLock>()
 }

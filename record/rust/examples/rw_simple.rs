@@ -3,12 +3,11 @@
 //! After Herlihy and Shavit, "The Art of Multiprocessor Programming", chapter 8, with a downgrade.
 
 mod driver;
-mod read_write;
 
 use std::process::ExitCode;
 
+use driver::Tested;
 use lockreplay_record::{call, Call, Condvar, Lock, Mutex, Outcome};
-use read_write::ReadWrite;
 
 #[derive(Default)]
 struct State {
@@ -22,7 +21,7 @@ struct SimpleLock {
     changed: Condvar,
 }
 
-impl ReadWrite for SimpleLock {
+impl SimpleLock {
     fn read_lock(&self) {
         let _call = call(Call::ReadLock);
         let mut state = self.state.lock();
@@ -71,7 +70,21 @@ impl ReadWrite for SimpleLock {
     }
 }
 
+impl Tested for SimpleLock {
+    const LOCK: Lock = Lock::RwSimple;
+    const BITS: u32 = 64;
+
+    fn make(&self, _thread: usize, call: Call) {
+        match call {
+            Call::ReadLock => self.read_lock(),
+            Call::ReadUnlock => self.read_unlock(),
+            Call::WriteLock => self.write_lock(),
+            Call::Downgrade => self.downgrade(),
+            _ => self.write_unlock(),
+        }
+    }
+}
+
 fn main() -> ExitCode {
-    let lock = SimpleLock::default();
-    driver::drive(Lock::RwSimple, 64, |thread, round| read_write::round(&lock, thread, round))
+    driver::drive::<SimpleLock>()
 }

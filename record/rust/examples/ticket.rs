@@ -1,4 +1,4 @@
-//! A ticket lock whose counters have 8 bits, so that they go round every 256 tickets.
+//! A ticket lock whose counters have 8 bits, so that they wrap around every 256 tickets.
 //!
 //! After Mellor-Crummey and Scott (ACM TOCS 9(1), 1991). Sequentially consistent, so that the logs
 //! of free threads have an order on every machine.
@@ -9,6 +9,7 @@ use std::process::ExitCode;
 use std::sync::atomic::Ordering::SeqCst;
 use std::thread;
 
+use driver::Tested;
 use lockreplay_record::{call, AtomicU8, Call, Lock, Word};
 
 struct TicketLock {
@@ -16,14 +17,16 @@ struct TicketLock {
     now_serving: AtomicU8,
 }
 
-impl TicketLock {
-    const fn new() -> TicketLock {
+impl Default for TicketLock {
+    fn default() -> TicketLock {
         TicketLock {
             next_ticket: AtomicU8::new(0).noted(Word::NextTicket),
             now_serving: AtomicU8::new(0).noted(Word::NowServing),
         }
     }
+}
 
+impl TicketLock {
     fn acquire(&self) {
         let _call = call(Call::Acquire);
         let ticket = self.next_ticket.fetch_add(1, SeqCst);
@@ -39,11 +42,18 @@ impl TicketLock {
     }
 }
 
+impl Tested for TicketLock {
+    const LOCK: Lock = Lock::Ticket;
+    const BITS: u32 = 8;
+
+    fn make(&self, _thread: usize, call: Call) {
+        match call {
+            Call::Acquire => self.acquire(),
+            _ => self.release(),
+        }
+    }
+}
+
 fn main() -> ExitCode {
-    let lock = TicketLock::new();
-    driver::drive(Lock::Ticket, 8, |thread, round| {
-        lock.acquire();
-        driver::inside(thread, round);
-        lock.release();
-    })
+    driver::drive::<TicketLock>()
 }

@@ -162,7 +162,7 @@ impl<A: Plain> Atomic<A> {
         let left = self.value(&turn, new);
         let result = self.plain.compare_exchange_weak(old, new, success, failure);
         if result == Err(old) {
-            current::unnoted(false);
+            current::unnoted(self.address(), false);
         } else {
             self.note_exchange(&turn, owner, result, left);
         }
@@ -186,6 +186,10 @@ impl<A: Plain> Atomic<A> {
         self.name.value(value)
     }
 
+    fn address(&self) -> usize {
+        (self as *const Self).cast::<u8>() as usize
+    }
+
     /// The value in a trace, if it is needed.
     fn value(&self, turn: &Turn, value: A::Value) -> u64 {
         if turn.is_recorded() && self.name.word().is_some() {
@@ -198,11 +202,9 @@ impl<A: Plain> Atomic<A> {
     /// Lets others go first. The record that the word is in is looked for before the operation:
     /// afterwards its thread may have left it.
     fn begin(&self) -> (Turn, Option<usize>) {
-        let turn = current::turn();
+        let turn = current::turn(self.name.word().is_some());
         let owner = match self.name.word() {
-            Some(Word::Next | Word::Locked) => {
-                current::other_owner_of((self as *const Self).cast::<u8>() as usize)
-            }
+            Some(Word::Next | Word::Locked) => current::other_owner_of(self.address()),
             _ => None,
         };
         (turn, owner)
@@ -218,7 +220,7 @@ impl<A: Plain> Atomic<A> {
     ) {
         match self.name.word() {
             _ if !turn.is_recorded() => {}
-            None => current::unnoted(changed),
+            None => current::unnoted(self.address(), changed),
             Some(word) => {
                 for step in steps(word) {
                     current::note(owner.map_or(step, |owner| step.of(owner)));

@@ -10,10 +10,12 @@ use std::sync::Arc;
 use std::thread;
 
 use crate::draw::Draw;
+use crate::kind::Kind;
 use crate::moves::{Call, Move, Outcome, Step, Word};
 use crate::noise;
 use crate::run::Shared;
 use crate::tape::Tape;
+use crate::turns::Place;
 
 /// The word that an atomic is, and its values in a trace.
 pub(crate) struct Name<V> {
@@ -52,7 +54,10 @@ pub(crate) struct Recorder {
     pub(crate) tape: Tape,
     pub(crate) noise: Option<Draw>,
     /// How many turns are taken, one inside another.
-    pub(crate) depth: usize,
+    depth: usize,
+    /// How many monitors the thread is in, and whether it is in a call.
+    monitors: usize,
+    in_call: bool,
 }
 
 thread_local! {
@@ -84,17 +89,28 @@ pub(crate) fn remove() -> Option<Recorder> {
 }
 
 impl Recorder {
-    pub(crate) fn note(&mut self, made: Move) {
-        let added = self.tape.add(made);
-        self.shared.turns.noted(self.thread, added);
+    pub(crate) fn of(
+        shared: Arc<Shared>,
+        thread: usize,
+        tape: Tape,
+        noise: Option<Draw>,
+    ) -> Recorder {
+        Recorder { shared, thread, tape, noise, depth: 0, monitors: 0, in_call: false }
     }
 
-    fn take_turn(&mut self) {
+    fn note(&mut self, made: Move) {
+        let added = self.tape.add(made);
+        self.shared.turns.noted(self.thread, Kind::of_move(&made), added);
+    }
+
+    fn take_turn(&mut self, may_be_step: bool) {
         if self.depth == 0 {
             if let Some(draw) = &mut self.noise {
                 noise::make(draw);
             }
-            self.shared.turns.take(self.thread);
+            let is_step = may_be_step && self.in_call;
+            let place = Place { is_step, in_monitor: self.monitors > 0 };
+            self.shared.turns.take(self.thread, place);
         }
         self.depth += 1;
     }
@@ -113,14 +129,14 @@ pub(crate) struct Turn {
     is_recorded: bool,
 }
 
-/// Lets others go first, and begins an operation.
-pub(crate) fn turn() -> Turn {
-    Turn { is_recorded: with(Recorder::take_turn).is_some() }
+/// Lets others go first, and begins an operation. It may be a step of the lock, or is none.
+pub(crate) fn turn(may_be_step: bool) -> Turn {
+    Turn { is_recorded: with(|recorder| recorder.take_turn(may_be_step)).is_some() }
 }
 
 /// Lets others go first.
 pub(crate) fn pause() {
-    let _turn = turn();
+    let _turn = turn(false);
 }
 
 impl Turn {
@@ -154,13 +170,17 @@ pub struct InCall(());
 /// # acquire();
 /// ```
 pub fn call(call: Call) -> InCall {
-    let _turn = turn();
-    with(|recorder| recorder.note(Move::Call(call)));
+    let _turn = turn(true);
+    with(|recorder| {
+        recorder.note(Move::Call(call));
+        recorder.in_call = true;
+    });
     InCall(())
 }
 
 impl Drop for InCall {
     fn drop(&mut self) {
+        with(|recorder| recorder.in_call = false);
         switch();
     }
 }
@@ -168,12 +188,12 @@ impl Drop for InCall {
 /// Another thread may have its turn here, though no step was taken.
 pub fn switch() {
     pause();
-    unnoted(true);
+    with(|recorder| recorder.shared.turns.switched());
 }
 
-/// Something was done that is not noted. What changed nothing may be a poll.
-pub(crate) fn unnoted(changed: bool) {
-    with(|recorder| recorder.shared.turns.unnoted(changed));
+/// Something was done at an address that is not noted. What changed nothing may be a poll.
+pub(crate) fn unnoted(address: usize, changed: bool) {
+    with(|recorder| recorder.shared.turns.unnoted(recorder.thread, address, changed));
 }
 
 /// Writes a step that the atomics cannot know of. It belongs right behind its operation, and both
@@ -202,7 +222,7 @@ pub fn note(step: Step) {
 ///
 /// It must not wait for another thread.
 pub fn operation<R>(parts: impl FnOnce() -> R) -> R {
-    let _turn = turn();
+    let _turn = turn(true);
     parts()
 }
 
@@ -224,6 +244,27 @@ impl Sections {
     }
 }
 
+/// A monitor that the thread is in, until this is dropped.
+#[derive(Debug)]
+pub(crate) struct Held(());
+
+impl Held {
+    /// The thread waits in the monitor, and is out of it meanwhile.
+    pub(crate) fn end(self) {}
+}
+
+/// The thread has got a monitor.
+pub(crate) fn hold() -> Held {
+    with(|recorder| recorder.monitors += 1);
+    Held(())
+}
+
+impl Drop for Held {
+    fn drop(&mut self) {
+        with(|recorder| recorder.monitors = recorder.monitors.saturating_sub(1));
+    }
+}
+
 /// Notes the end of a monitor's section.
 pub(crate) fn section(sections: &mut Sections, outcome: Outcome) {
     sections.0 += 1;
@@ -231,12 +272,12 @@ pub(crate) fn section(sections: &mut Sections, outcome: Outcome) {
     with(|recorder| recorder.note(Move::Section { count, outcome }));
 }
 
-/// `Seed`: waits until the thread is woken at an address.
+/// By turns: waits until the thread is woken at an address.
 pub(crate) fn sleep(address: usize) {
     with(|recorder| recorder.shared.turns.sleep(recorder.thread, address));
 }
 
-/// `Seed`: wakes the threads that wait at an address, or one of them.
+/// By turns: wakes the threads that wait at an address, or one of them.
 pub(crate) fn wake(address: usize, all: bool) {
     with(|recorder| recorder.shared.turns.wake(address, all));
 }
@@ -247,8 +288,8 @@ pub(crate) fn is_recorded() -> bool {
 }
 
 /// Whether one thread runs at a time.
-pub(crate) fn is_seeded() -> bool {
-    with(|recorder| recorder.shared.turns.is_seeded()).unwrap_or(false)
+pub(crate) fn is_by_turns() -> bool {
+    with(|recorder| recorder.shared.turns.is_by_turns()).unwrap_or(false)
 }
 
 /// Unwinds if the run was stopped.

@@ -23,10 +23,16 @@ impl Draw {
         mixed ^ (mixed >> 31)
     }
 
+    /// A number below this one, which is not 0.
+    pub(crate) fn below(&mut self, limit: usize) -> usize {
+        (self.next() % limit as u64) as usize
+    }
+
     /// One of the items, or nothing if there is none.
     pub(crate) fn one_of<T: Copy>(&mut self, items: &[T]) -> Option<T> {
-        let count = u64::try_from(items.len()).ok().filter(|&count| count > 0)?;
-        let index = usize::try_from(self.next() % count).ok()?;
-        items.get(index).copied()
+        if items.is_empty() {
+            return None;
+        }
+        items.get(self.below(items.len())).copied()
     }
 }

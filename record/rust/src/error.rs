@@ -7,7 +7,7 @@ use std::path::PathBuf;
 
 use crate::lock::{Lock, MOST_BITS, MOST_THREADS};
 
-/// Why a run was not opened, not entered or not saved.
+/// Why a run was not opened, not entered or not saved, or a schedule not read.
 #[derive(Debug)]
 #[non_exhaustive]
 pub enum Error {
@@ -46,6 +46,25 @@ pub enum Error {
     Stopped,
     /// A thread could not be started.
     Start(io::Error),
+    /// A line of a text is none of a schedule.
+    NoSchedule {
+        /// Its number, from 1.
+        line: usize,
+    },
+    /// A schedule is of another lock, or of other threads or counters, than the run.
+    OtherRun {
+        /// What the run is of, as the header of its trace.
+        run: String,
+    },
+    /// In a run that is explored a thread did not do what it had done after the same turns.
+    Strayed,
+    /// A file could not be read.
+    Read {
+        /// The file.
+        path: PathBuf,
+        /// The system's reason.
+        error: io::Error,
+    },
     /// A file could not be written.
     Save {
         /// The file, or the folder.
@@ -89,7 +108,12 @@ impl fmt::Display for Error {
                 write!(out, "the run was stopped before all of its threads had come")
             }
             Error::Start(error) => write!(out, "a thread was not started: {error}"),
-            Error::Save { path, error } => write!(out, "{}: {error}", path.display()),
+            Error::NoSchedule { line } => write!(out, "line {line} is no line of a schedule"),
+            Error::OtherRun { run } => write!(out, "the schedule is not of this run: {run}"),
+            Error::Strayed => out.write_str("the driver does not do the same after the same turns"),
+            Error::Read { path, error } | Error::Save { path, error } => {
+                write!(out, "{}: {error}", path.display())
+            }
         }
     }
 }
@@ -97,7 +121,9 @@ impl fmt::Display for Error {
 impl error::Error for Error {
     fn source(&self) -> Option<&(dyn error::Error + 'static)> {
         match self {
-            Error::Start(error) | Error::Save { error, .. } => Some(error),
+            Error::Start(error) | Error::Read { error, .. } | Error::Save { error, .. } => {
+                Some(error)
+            }
             _ => None,
         }
     }

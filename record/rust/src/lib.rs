@@ -72,6 +72,11 @@
 //! as they like, and `locktrace order` finds the order of their logs; [`Mode::Noise`] holds them up
 //! at times, so that more of them meet. [`Mode::Ordered`] is between the two.
 //!
+//! [`Mode::Pct`] draws few changes of the turn, so that a thread may be held up for long. Two ways
+//! leave nothing to chance. With [`Mode::Follow`] the lock follows a schedule, and a run
+//! ends where a move is not that of its line. [`Setup::explore`] makes all runs of a few threads
+//! with few preemptions. Each run's [trace](Run::trace) is for `locktrace check`.
+//!
 //! A run that hangs ends all the same: a seeded one when nothing but failed polls was seen for
 //! 20,000 turns, others when their time is over. The threads unwind at their next operation on an
 //! atomic, without a message, and their logs end there. That needs `panic = "unwind"`, as tests
@@ -113,9 +118,17 @@ mod moves;
 mod plain;
 
 #[cfg(feature = "record")]
+mod chooser;
+#[cfg(feature = "record")]
 mod draw;
 #[cfg(feature = "record")]
 mod error;
+#[cfg(feature = "record")]
+mod explore;
+#[cfg(feature = "record")]
+mod follow;
+#[cfg(feature = "record")]
+mod kind;
 #[cfg(feature = "record")]
 mod lock;
 #[cfg(feature = "record")]
@@ -123,11 +136,17 @@ mod mode;
 #[cfg(feature = "record")]
 mod noise;
 #[cfg(feature = "record")]
+mod path;
+#[cfg(feature = "record")]
+mod priorities;
+#[cfg(feature = "record")]
 mod records;
 #[cfg(feature = "record")]
 mod run;
 #[cfg(feature = "record")]
 mod save;
+#[cfg(feature = "record")]
+mod schedule;
 #[cfg(feature = "record")]
 mod stage;
 #[cfg(feature = "record")]
@@ -144,7 +163,10 @@ pub use moves::{Call, Outcome, Step, Word};
 #[cfg(feature = "record")]
 pub use {
     error::Error,
+    explore::Explore,
+    follow::Departure,
     lock::Lock,
     mode::Mode,
     run::{Ending, Log, Run, Setup},
+    schedule::Schedule,
 };

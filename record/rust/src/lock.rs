@@ -7,7 +7,7 @@ use crate::error::Error;
 
 /// The threads that a run can have at most.
 pub(crate) const MOST_THREADS: usize = 64;
-/// The width of the widest counters, and of those that never go round.
+/// The width of the widest counters, and of those that never wrap around.
 pub(crate) const MOST_BITS: u32 = 64;
 
 /// A lock whose runs `locktrace` can check.

@@ -1,5 +1,7 @@
 //! How the threads of a run are scheduled, and what that gives.
 
+use crate::schedule::Schedule;
+
 /// How the threads run, and whether the order of their moves is known.
 ///
 /// | Mode | Who runs | What [`Run::save`](crate::Run::save) writes | Checked by |
@@ -8,7 +10,11 @@
 /// | `Noise` | all, and they are held up at times | the same | `locktrace order` |
 /// | `Ordered` | all, one operation at a time | the same, and `run.trace` | `locktrace check` |
 /// | `Seed` | one at a time, by turns | the same, and `run.trace` | `locktrace check` |
-#[derive(Clone, Copy, Debug, PartialEq, Eq)]
+/// | `Pct` | one at a time, by priorities | the same, and `run.trace` | `locktrace check` |
+/// | `Follow` | one at a time, as a schedule says | the same, and `run.trace` | `locktrace check` |
+///
+/// [`Setup::explore`](crate::Setup::explore) makes all runs with few preemptions.
+#[derive(Clone, Debug, PartialEq, Eq)]
 pub enum Mode {
     /// The threads run as they like, and each writes into memory of its own: recording adds no
     /// synchronization.
@@ -24,11 +30,29 @@ pub enum Mode {
     /// number of this seed says which thread is next. The same seed gives the same run, as long as
     /// nothing else in it depends on time or chance.
     Seed(u64),
+    /// As `Seed`, but threads have drawn priorities, and the running thread gets the lowest at
+    /// `depth - 1` drawn turns. So a thread may be held up for long. If `depth` orderings between
+    /// steps are enough for a mistake, a run of n threads and k turns notices it with a probability
+    /// of at least 1 / (n k^(depth - 1)) (Burckhardt and others, ASPLOS 2010).
+    Pct {
+        /// What is drawn is of this seed.
+        seed: u64,
+        /// How many orderings are enough for the mistakes that are looked for; 1 or more.
+        depth: usize,
+        /// About how many turns a run has, the k above: [`Run::turns`](crate::Run::turns).
+        steps: usize,
+    },
+    /// Each line of this schedule is the turn of its thread, and has to be the move that the thread
+    /// makes. [`Log::next_call`](crate::Log::next_call) gives each thread its calls, so one driver
+    /// serves every schedule. A move that is not the line's [ends](crate::Ending::Departed) the
+    /// run. Each poll is written, and notifications decide nothing: a thread that waits in a
+    /// monitor looks again when the schedule says so.
+    Follow(Schedule),
 }
 
 impl Mode {
     /// Whether the moves of all threads are in one order.
-    pub(crate) fn has_order(self) -> bool {
-        matches!(self, Mode::Ordered | Mode::Seed(_))
+    pub(crate) fn has_order(&self) -> bool {
+        !matches!(self, Mode::Free | Mode::Noise(_))
     }
 }

@@ -6,7 +6,7 @@ use std::sync::atomic::{AtomicUsize, Ordering};
 use std::sync::{self, PoisonError, TryLockError};
 use std::time::Duration;
 
-use crate::current::{self, Sections};
+use crate::current::{self, Held, Sections};
 use crate::moves::Outcome;
 
 /// How often a thread that waits looks whether its run was stopped.
@@ -51,12 +51,13 @@ struct Counted<T> {
 pub struct MutexGuard<'a, T> {
     plain: sync::MutexGuard<'a, Counted<T>>,
     mutex: &'a Mutex<T>,
+    held: Held,
 }
 
 /// A condition variable for a [`Mutex`].
 ///
 /// In a seeded run a thread that waits runs again when it is notified, and not before. So a run in
-/// which a notification is missing stands still.
+/// which a notification is missing hangs.
 #[derive(Debug, Default)]
 pub struct Condvar {
     plain: sync::Condvar,
@@ -72,12 +73,12 @@ impl<T> Mutex<T> {
 
     /// Waits until no other thread has the mutex, and takes it.
     pub fn lock(&self) -> MutexGuard<'_, T> {
-        while current::is_seeded() {
-            let _turn = current::turn();
+        while current::is_by_turns() {
+            let _turn = current::turn(true);
             match self.plain.try_lock() {
                 Ok(plain) => return self.guard(plain),
                 Err(TryLockError::Poisoned(error)) => return self.guard(error.into_inner()),
-                Err(TryLockError::WouldBlock) => current::unnoted(false),
+                Err(TryLockError::WouldBlock) => current::unnoted(self.address(), false),
             }
         }
         current::pause();
@@ -85,7 +86,11 @@ impl<T> Mutex<T> {
     }
 
     fn guard<'a>(&'a self, plain: sync::MutexGuard<'a, Counted<T>>) -> MutexGuard<'a, T> {
-        MutexGuard { plain, mutex: self }
+        MutexGuard { plain, mutex: self, held: current::hold() }
+    }
+
+    fn address(&self) -> usize {
+        (self as *const Mutex<T>).cast::<u8>() as usize
     }
 }
 
@@ -106,8 +111,9 @@ impl Condvar {
 
     /// Leaves the mutex, waits until another thread notifies, and takes the mutex again.
     pub fn wait<'a, T>(&self, guard: MutexGuard<'a, T>) -> MutexGuard<'a, T> {
-        let MutexGuard { plain, mutex } = guard;
-        if current::is_seeded() {
+        let MutexGuard { plain, mutex, held } = guard;
+        held.end();
+        if current::is_by_turns() {
             drop(plain);
             current::sleep(self.address());
             return mutex.lock();

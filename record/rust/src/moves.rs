@@ -2,6 +2,9 @@
 
 use std::fmt;
 
+#[cfg(feature = "record")]
+use crate::kind::Kind;
+
 /// A call of a lock.
 #[derive(Clone, Copy, Debug, PartialEq, Eq)]
 pub enum Call {
@@ -120,6 +123,17 @@ impl Step {
         Step { left: Some(left), ..self }
     }
 
+    #[cfg(feature = "record")]
+    pub(crate) const fn kind(&self) -> Kind {
+        match self.operation {
+            Operation::Read => Kind::Read,
+            Operation::Write => Kind::Write,
+            Operation::Swap => Kind::Swap,
+            Operation::Add => Kind::Add,
+            Operation::Cas { .. } => Kind::Cas,
+        }
+    }
+
     const fn new(operation: Operation, word: Word) -> Step {
         Step { operation, word, owner: None, found: None, left: None }
     }
@@ -150,9 +164,22 @@ impl Move {
     }
 }
 
-impl fmt::Display for Call {
-    fn fmt(&self, out: &mut fmt::Formatter<'_>) -> fmt::Result {
-        out.write_str(match self {
+impl Call {
+    /// All calls.
+    #[cfg(feature = "record")]
+    pub(crate) const ALL: [Call; 7] = [
+        Call::Acquire,
+        Call::Release,
+        Call::ReadLock,
+        Call::ReadUnlock,
+        Call::WriteLock,
+        Call::WriteUnlock,
+        Call::Downgrade,
+    ];
+
+    /// The call's word in a trace.
+    pub(crate) fn name(self) -> &'static str {
+        match self {
             Call::Acquire => "acquire",
             Call::Release => "release",
             Call::ReadLock => "rlock",
@@ -160,7 +187,13 @@ impl fmt::Display for Call {
             Call::WriteLock => "wlock",
             Call::WriteUnlock => "wunlock",
             Call::Downgrade => "downgrade",
-        })
+        }
+    }
+}
+
+impl fmt::Display for Call {
+    fn fmt(&self, out: &mut fmt::Formatter<'_>) -> fmt::Result {
+        out.write_str(self.name())
     }
 }
 

@@ -44,6 +44,19 @@ impl Sections {
     }
 }
 
+/// A monitor that the thread is in.
+pub(crate) struct Held;
+
+impl Held {
+    #[inline]
+    pub(crate) fn end(self) {}
+}
+
+#[inline]
+pub(crate) fn hold() -> Held {
+    Held
+}
+
 /// An operation.
 pub(crate) struct Turn;
 
@@ -84,7 +97,7 @@ pub fn operation<R>(parts: impl FnOnce() -> R) -> R {
 pub fn own_record<T: ?Sized>(_record: &T) {}
 
 #[inline]
-pub(crate) fn turn() -> Turn {
+pub(crate) fn turn(_may_be_step: bool) -> Turn {
     Turn
 }
 
@@ -92,7 +105,7 @@ pub(crate) fn turn() -> Turn {
 pub(crate) fn pause() {}
 
 #[inline]
-pub(crate) fn unnoted(_changed: bool) {}
+pub(crate) fn unnoted(_address: usize, _changed: bool) {}
 
 #[inline]
 pub(crate) fn section(_sections: &mut Sections, _outcome: Outcome) {}
@@ -109,7 +122,7 @@ pub(crate) fn is_recorded() -> bool {
 }
 
 #[inline]
-pub(crate) fn is_seeded() -> bool {
+pub(crate) fn is_by_turns() -> bool {
     false
 }
 

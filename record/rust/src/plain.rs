@@ -26,7 +26,7 @@ pub trait Plain: Debug {
     ) -> Result<Self::Value, Self::Value>;
 }
 
-/// An atomic that can be added to. Sums go round.
+/// An atomic that can be added to. Sums wrap around.
 pub trait Counter: Plain {
     fn fetch_add(&self, amount: Self::Value, order: Ordering) -> Self::Value;
     fn fetch_sub(&self, amount: Self::Value, order: Ordering) -> Self::Value;

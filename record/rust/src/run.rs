@@ -1,5 +1,6 @@
 //! A run: its threads, their logs, and how it ends.
 
+use std::cell::Cell;
 use std::io;
 use std::marker::PhantomData;
 use std::panic;
@@ -8,20 +9,27 @@ use std::sync::{Arc, Mutex, MutexGuard, PoisonError};
 use std::thread::{self, Builder, ScopedJoinHandle};
 use std::time::Duration;
 
+use crate::chooser::Chooser;
 use crate::current::{self, Recorder};
 use crate::draw::Draw;
 use crate::error::Error;
+use crate::explore::Explore;
+use crate::follow::{Departure, Following};
 use crate::lock::{Header, Lock, MOST_BITS};
 use crate::mode::Mode;
+use crate::moves::Call;
+use crate::path::{Path as Choices, Way};
+use crate::priorities::Priorities;
 use crate::records::Records;
 use crate::save;
-use crate::tape::Tape;
-use crate::turns::{Stopped, Turns};
+use crate::tape::{Tape, POLLS_WRITTEN};
+use crate::turns::{Rule, Stopped, Turns};
 
 /// What all threads of a run share.
 #[derive(Debug)]
 pub(crate) struct Shared {
     pub(crate) header: Header,
+    /// Of a run that is explored `Ordered`: nothing but its moves says how it can be had again.
     pub(crate) mode: Mode,
     pub(crate) turns: Turns,
     pub(crate) records: Records,
@@ -51,7 +59,7 @@ impl Setup {
         Setup { mode, ..self }
     }
 
-    /// The width of the lock's counters; 64, if nothing goes round.
+    /// The width of the lock's counters; 64, if nothing wraps around.
     pub fn bits(self, bits: u32) -> Setup {
         Setup { header: Header { bits, ..self.header }, ..self }
     }
@@ -67,17 +75,75 @@ impl Setup {
     ///
     /// # Errors
     ///
-    /// The threads or the bits are such as no run has, or memory was refused.
+    /// The threads or the bits are such as no run has, the schedule that is to be followed is of
+    /// another lock, or memory was refused.
     pub fn open(self) -> Result<Run, Error> {
+        let (rule, chooser) = match &self.mode {
+            Mode::Free | Mode::Noise(_) => (Rule::AtOnce, Chooser::Seed(Draw::new(0))),
+            Mode::Ordered => (Rule::Alone, Chooser::Seed(Draw::new(0))),
+            Mode::Seed(seed) => (Rule::ByTurns, Chooser::Seed(Draw::new(*seed))),
+            Mode::Pct { seed, depth, steps } => {
+                let drawn = Priorities::of(*seed, self.header.threads, *depth, *steps);
+                (Rule::ByTurns, Chooser::Priorities(drawn))
+            }
+            Mode::Follow(schedule) if !schedule.is_of(&self.header) => {
+                return Err(Error::OtherRun { run: self.header.to_string() });
+            }
+            Mode::Follow(schedule) => {
+                (Rule::ByLines, Chooser::Lines(Following::of(schedule.clone())))
+            }
+        };
+        self.open_by(rule, chooser)
+    }
+
+    /// All runs in which at most so many times another thread takes the turn of one that could go
+    /// on: so many *preemptions*. The threads run by turns, whatever the mode. A thread that polled
+    /// in vain, which found twice in a row the same in one atomic, cannot go on until another one
+    /// made a step.
+    ///
+    /// Runs with fewer preemptions come first. Each has to be run before the next one is asked for,
+    /// with a new lock. If none is refused and none hangs, no run of these threads with so
+    /// few preemptions is wrong. Begin with two threads and a round each: there are many runs.
+    ///
+    /// ```
+    /// use lockreplay_record::{AtomicU8, Ending, Error, Lock, Run};
+    /// use std::{sync::atomic::Ordering::SeqCst, time::Duration};
+    ///
+    /// let mut counts = Vec::new();
+    /// for run in Run::of(Lock::Ticket, 2).explore(1) {
+    ///     let count = AtomicU8::new(0);
+    ///     let ending = run?.threads(Duration::from_secs(10), |_log| {
+    ///         count.store(count.load(SeqCst) + 1, SeqCst);
+    ///     })?;
+    ///     assert_eq!(ending, Ending::Complete);
+    ///     counts.push(count.load(SeqCst));
+    /// }
+    /// assert_eq!(counts[..2], [2, 2]); // one thread after the other
+    /// assert!(counts[2..].contains(&1)); // and one between the other's load and store
+    /// # Ok::<(), Error>(())
+    /// ```
+    #[must_use]
+    pub fn explore(self, preemptions: usize) -> Explore {
+        Explore::new(self.mode(Mode::Ordered), preemptions)
+    }
+
+    /// Opens a run that is explored, which begins with these choices.
+    pub(crate) fn open_on(self, way: Way) -> Result<Run, Error> {
+        self.open_by(Rule::ByTurns, Chooser::Path(Choices::of(way)))
+    }
+
+    fn open_by(self, rule: Rule, chooser: Chooser) -> Result<Run, Error> {
         let Setup { header, mode, room } = self;
         let Header { threads, .. } = header.checked()?;
         let refused = |_| Error::OutOfMemory { logs: threads, room };
-        let turns = Turns::new(mode, threads, room.saturating_mul(threads)).map_err(refused)?;
-        let tapes: Result<Vec<_>, _> = (0..threads)
-            .map(|_| Tape::with_room(room).map(|tape| Mutex::new(Some(tape))).map_err(refused))
-            .collect();
+        let polls = if rule == Rule::ByLines { u32::MAX } else { POLLS_WRITTEN };
+        let moves = room.saturating_mul(threads);
+        let turns = Turns::new(rule, chooser, threads, moves).map_err(refused)?;
+        let new_tape = |_| Tape::with_room(room, polls).map(Some).map(Mutex::new);
+        let tapes: Result<Vec<_>, _> = (0..threads).map(new_tape).collect();
+        let tapes = tapes.map_err(refused)?;
         let records = Records::of(threads);
-        Ok(Run(Arc::new(Shared { header, mode, turns, records, tapes: tapes? })))
+        Ok(Run(Arc::new(Shared { header, mode, turns, records, tapes })))
     }
 }
 
@@ -86,8 +152,12 @@ impl Setup {
 pub enum Ending {
     /// All threads came to their end.
     Complete,
-    /// These threads did not: the run stood still, or its time was over. Their logs end there.
+    /// These threads did not: the run hung, its time was over, or the schedule that it followed
+    /// ends in the middle of their calls. Their logs end there.
     Stopped(Vec<usize>),
+    /// The lock left the schedule that the run followed. The move that it made is the last one of
+    /// the run.
+    Departed(Departure),
 }
 
 /// A run of a lock. Its clones are the same run.
@@ -119,7 +189,7 @@ impl Run {
     }
 
     /// Starts the run's threads, does the work on each, and waits until all have ended. If they
-    /// stand still, or do not end in time, they are stopped: each unwinds at its next operation on
+    /// hang, or do not end in time, they are stopped: each unwinds at its next operation on
     /// an atomic of this crate.
     ///
     /// # Errors
@@ -149,8 +219,24 @@ impl Run {
             self.wait(limit);
             started?.into_iter().try_for_each(ended)
         })?;
-        let missing = self.0.turns.stage().missing();
-        Ok(if missing.is_empty() { Ending::Complete } else { Ending::Stopped(missing) })
+        let stage = self.0.turns.stage();
+        let missing = stage.missing();
+        Ok(match stage.departure() {
+            Some(departure) => Ending::Departed(departure.clone()),
+            None if missing.is_empty() => Ending::Complete,
+            None => Ending::Stopped(missing),
+        })
+    }
+
+    /// How many turns the run had, if one thread ran at a time: for [`Mode::Pct`].
+    #[must_use]
+    pub fn turns(&self) -> usize {
+        self.0.turns.stage().turns
+    }
+
+    /// Looks at the decisions of a run that is explored.
+    pub(crate) fn with_path<R>(&self, look: impl FnOnce(&Choices) -> R) -> Option<R> {
+        self.0.turns.stage().path().map(look)
     }
 
     /// Begins to record on the thread that calls, as this thread of the run. It waits until all
@@ -176,9 +262,10 @@ impl Run {
         };
         let tape = tape.ok_or(Error::ThreadTaken(thread))?;
         let shared = Arc::clone(&self.0);
-        current::install(Recorder { shared, thread, tape, noise, depth: 0 });
+        current::install(Recorder::of(shared, thread, tape, noise));
         let shared = Arc::clone(&self.0);
-        let mut log = Log { shared, thread, has_begun: false, of_this_thread: PhantomData };
+        let (next_line, of_this_thread) = (Cell::new(0), PhantomData);
+        let mut log = Log { shared, thread, next_line, has_begun: false, of_this_thread };
         self.0.turns.start(thread)?;
         log.has_begun = true;
         Ok(log)
@@ -232,6 +319,8 @@ fn ended(handle: ScopedJoinHandle<'_, Result<(), Error>>) -> Result<(), Error> {
 pub struct Log {
     shared: Arc<Shared>,
     thread: usize,
+    /// At which line of the schedule the next call is looked for.
+    next_line: Cell<usize>,
     has_begun: bool,
     /// A log stays on its thread.
     of_this_thread: PhantomData<*const ()>,
@@ -242,6 +331,41 @@ impl Log {
     #[must_use]
     pub fn thread(&self) -> usize {
         self.thread
+    }
+
+    /// The thread's next call in the schedule that the run follows. Nothing after its last, and in
+    /// other modes.
+    ///
+    /// ```
+    /// use lockreplay_record::{call, AtomicU8, Call, Ending, Error, Mode, Run, Schedule, Word};
+    /// use std::{sync::atomic::Ordering::SeqCst, time::Duration};
+    ///
+    /// let schedule: Schedule = "lock ticket threads 2\n0 acquire\n1 acquire\n0 add\n".parse()?;
+    /// let next = AtomicU8::new(0).noted(Word::NextTicket);
+    /// let setup = Run::of(schedule.lock(), schedule.threads()).bits(8);
+    /// let run = setup.mode(Mode::Follow(schedule)).open()?;
+    /// let ending = run.threads(Duration::from_secs(10), |log| {
+    ///     while let Some(due) = log.next_call() {
+    ///         let _call = call(due);
+    ///         next.load(SeqCst); // this lock is wrong
+    ///     }
+    /// })?;
+    /// match ending {
+    ///     Ending::Departed(departure) => {
+    ///         assert_eq!(departure.to_string(), "line 4 is '0 add', and thread 0 made 'read'");
+    ///     }
+    ///     other => panic!("{other:?}"),
+    /// }
+    /// # Ok::<(), Error>(())
+    /// ```
+    pub fn next_call(&self) -> Option<Call> {
+        let schedule = match &self.shared.mode {
+            Mode::Follow(schedule) => schedule,
+            _ => return None,
+        };
+        let (next, call) = schedule.call_of(self.thread, self.next_line.get())?;
+        self.next_line.set(next);
+        Some(call)
     }
 }
 

@@ -33,7 +33,11 @@ pub(crate) fn save(run: &Shared, folder: &Path) -> Result<(), Error> {
         return Ok(());
     }
     let path = folder.join(TRACE);
-    write_file(&path, |out| write_trace(run, out)).map_err(|error| refused(&path, error))
+    let written = write_file(&path, |out| {
+        write_trace(run, out)?;
+        write_ends(run, out)
+    });
+    written.map_err(|error| refused(&path, error))
 }
 
 fn remove(path: &Path) -> io::Result<()> {
@@ -56,13 +60,23 @@ fn write_file(
 fn write_header(run: &Shared, out: &mut impl Write) -> io::Result<()> {
     match run.mode {
         Mode::Seed(seed) => writeln!(out, "# seed {seed}")?,
+        Mode::Pct { seed, depth, steps } => {
+            writeln!(out, "# seed {seed} depth {depth} steps {steps}")?;
+        }
         Mode::Noise(seed) => writeln!(out, "# noise {seed}")?,
-        Mode::Free | Mode::Ordered => {}
+        Mode::Free | Mode::Ordered | Mode::Follow(_) => {}
     }
     write!(out, "{}", run.header)
 }
 
-/// A thread's log. It has a last line if the thread came to its end.
+/// Which threads have ended, in comments after a trace's last move.
+fn write_ends(run: &Shared, out: &mut impl Write) -> io::Result<()> {
+    let stage = run.turns.stage();
+    (0..run.header.threads)
+        .try_for_each(|thread| writeln!(out, "# thread {thread} {}", stage.end_of(thread)))
+}
+
+/// A thread's log. It has a last line if the thread came to its end, else a comment that says so.
 fn write_log(run: &Shared, thread: usize, out: &mut impl Write) -> io::Result<()> {
     write_header(run, out)?;
     writeln!(out, " thread {thread}")?;
@@ -71,6 +85,10 @@ fn write_log(run: &Shared, thread: usize, out: &mut impl Write) -> io::Result<()
         tape.moves().iter().try_for_each(|made| writeln!(out, "{made}"))?;
         if tape.ended {
             writeln!(out, "dropped {}", tape.dropped())?;
+        } else if tape.dropped() == 0 && !run.mode.has_order() {
+            writeln!(out, "# thread {thread} has not ended")?;
+        } else {
+            writeln!(out, "# thread {thread} {}", run.turns.stage().end_of(thread))?;
         }
     }
     Ok(())

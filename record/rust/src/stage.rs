@@ -1,12 +1,12 @@
 //! The state of a run that its threads share: who is inside, whose turn it is, and the order of the
 //! moves. Nothing here waits; that is in `turns`.
 
-use crate::draw::Draw;
+use crate::chooser::Chooser;
 use crate::error::Error;
+use crate::follow::Departure;
+use crate::kind::Kind;
+use crate::path::{Effect, Path};
 use crate::tape::Added;
-
-/// So many turns in vain, one after another, and the run stands still.
-const PATIENCE: u32 = 20_000;
 
 /// Where a thread is.
 #[derive(Clone, Copy, Debug, PartialEq, Eq)]
@@ -17,6 +17,8 @@ pub(crate) enum Phase {
     Inside,
     /// It waits for a notification of the condition variable at this address.
     Asleep(usize),
+    /// Its call has a step left after the last line of the schedule that the run follows.
+    Halted,
     /// It came to its end.
     Ended,
     /// It was stopped, or it panicked.
@@ -37,25 +39,33 @@ pub(crate) enum Next {
 pub(crate) struct Stage {
     phases: Vec<Phase>,
     pub(crate) holder: Option<usize>,
-    draw: Draw,
+    chooser: Chooser,
+    pub(crate) turns: usize,
     in_vain: u32,
+    /// Where each thread looked last without a note, if nobody has made a step since.
+    looks: Vec<Option<usize>>,
     order: Vec<u8>,
     is_cut: bool,
+    /// Nobody got on, by turns that no schedule gave.
+    has_hung: bool,
 }
 
 impl Stage {
     /// A stage with memory for the order of so many moves.
-    pub(crate) fn new(threads: usize, moves: usize, seed: u64) -> Result<Stage, Error> {
+    pub(crate) fn new(threads: usize, moves: usize, chooser: Chooser) -> Result<Stage, Error> {
         let mut order = Vec::new();
         let refused = Error::OutOfMemory { logs: 1, room: moves };
         order.try_reserve_exact(moves).map_err(|_| refused)?;
         Ok(Stage {
             phases: vec![Phase::Absent; threads],
             holder: None,
-            draw: Draw::new(seed),
+            chooser,
+            turns: 0,
             in_vain: 0,
+            looks: vec![None; threads],
             order,
             is_cut: false,
+            has_hung: false,
         })
     }
 
@@ -82,36 +92,136 @@ impl Stage {
         self.threads_that(|phase| phase != Phase::Ended)
     }
 
-    /// Draws who is next of the threads that can run.
-    pub(crate) fn draw_next(&mut self) -> Next {
+    /// Chooses who is next of the threads that can run.
+    pub(crate) fn next(&mut self) -> Next {
+        self.turns += 1;
         let ready = self.threads_that(|phase| phase == Phase::Inside);
-        match self.draw.one_of(&ready) {
-            Some(thread) if self.in_vain < PATIENCE => Next::Thread(thread),
+        match self.chooser.choose(self.holder, &ready) {
+            Some(thread) if self.is_patient() => Next::Thread(thread),
             None if self.all_have_gone() => Next::Nobody,
-            _ => Next::StandsStill,
+            _ => {
+                self.has_hung = !matches!(self.chooser, Chooser::Lines(_));
+                Next::StandsStill
+            }
         }
+    }
+
+    /// What is said of a thread's end. Of a run that was stopped nobody knows whether it would have
+    /// gone on.
+    pub(crate) fn end_of(&self, thread: usize) -> &'static str {
+        match self.phase(thread) {
+            Some(Phase::Ended) => "has ended",
+            _ if self.has_hung && !self.is_cut => "has not ended",
+            _ => "was stopped",
+        }
+    }
+
+    /// Whether the run goes on, though its last turns were in vain.
+    fn is_patient(&self) -> bool {
+        self.in_vain < self.chooser.patience()
+    }
+
+    /// Whether a turn is over since the move of its line was made. If it is, the next one begins.
+    pub(crate) fn ends_line(&mut self) -> bool {
+        match &mut self.chooser {
+            Chooser::Lines(following) => following.ends_turn(),
+            _ => false,
+        }
+    }
+
+    /// A thread comes to an operation in its line's turn: whether it may make it.
+    pub(crate) fn goes_on(&mut self, thread: usize) -> bool {
+        self.in_vain += 1;
+        if !self.is_patient() {
+            self.made_nothing(thread);
+        }
+        self.is_patient()
     }
 
     /// A move was made: it takes its place in the order, up to the first that was dropped.
-    pub(crate) fn noted(&mut self, thread: usize, added: Added) {
+    pub(crate) fn noted(&mut self, thread: usize, kind: Kind, added: Added) {
         match added {
-            Added::Written if !self.is_cut => self.order.extend(u8::try_from(thread)),
-            Added::Written => {}
-            Added::Again => return self.in_vain += 1,
+            Added::Written | Added::Repeated if !self.is_cut => {
+                self.order.extend(u8::try_from(thread));
+            }
             Added::Dropped => self.is_cut = true,
+            _ => {}
         }
-        self.in_vain = 0;
+        self.in_vain = if added == Added::Again { self.in_vain + 1 } else { 0 };
+        self.looks.fill(None);
+        self.chooser.made(thread, kind, added);
     }
 
-    /// An operation was made that is not noted.
-    pub(crate) fn unnoted(&mut self, changed: bool) {
-        self.in_vain = if changed { 0 } else { self.in_vain + 1 };
+    /// Something was done at an address that is not noted. A second look is in vain if nobody has
+    /// made a step since the first one: then it finds the same.
+    pub(crate) fn unnoted(&mut self, thread: usize, address: usize, changed: bool) {
+        let last = self.looks.get_mut(thread).and_then(|look| look.replace(address));
+        let effect = match last {
+            _ if changed => Effect::Step,
+            Some(last) if last == address => Effect::Again,
+            _ => Effect::Look,
+        };
+        self.took_effect(thread, effect);
+    }
+
+    /// An operation was made that is not noted, or a thread has ended.
+    pub(crate) fn took_effect(&mut self, thread: usize, effect: Effect) {
+        if let Chooser::Lines(_) = self.chooser {
+            return; // it is no move
+        }
+        if effect == Effect::Step {
+            self.looks.fill(None);
+        }
+        self.chooser.took_effect(thread, effect);
+        self.in_vain = if effect == Effect::Step { 0 } else { self.in_vain + 1 };
+    }
+
+    /// A thread could have had its turn, though nothing was done. It gets on all the same.
+    pub(crate) fn switched(&mut self) {
+        if let Chooser::Seed(_) | Chooser::Priorities(_) = self.chooser {
+            self.in_vain = 0;
+        }
+    }
+
+    /// The time is over: a thread has its turn, and does not give it back.
+    pub(crate) fn is_late(&mut self) {
+        if let Some(thread) = self.holder {
+            self.made_nothing(thread);
+        }
+    }
+
+    fn made_nothing(&mut self, thread: usize) {
+        if let Chooser::Lines(following) = &mut self.chooser {
+            following.made_nothing(thread);
+        }
+    }
+
+    /// Whether the schedule that is followed has no line left.
+    pub(crate) fn is_at_end(&self) -> bool {
+        matches!(&self.chooser, Chooser::Lines(following) if following.is_at_end())
+    }
+
+    /// Where the lock left the schedule that it was to follow, if it did.
+    pub(crate) fn departure(&self) -> Option<&Departure> {
+        match &self.chooser {
+            Chooser::Lines(following) => following.departure(),
+            _ => None,
+        }
+    }
+
+    /// The decisions of a run that is explored.
+    pub(crate) fn path(&self) -> Option<&Path> {
+        match &self.chooser {
+            Chooser::Path(path) => Some(path),
+            _ => None,
+        }
     }
 
     /// Wakes the threads that wait at an address, or one of them.
     pub(crate) fn wake(&mut self, address: usize, all: bool) {
         let asleep = self.threads_that(|phase| phase == Phase::Asleep(address));
-        let woken = if all { asleep } else { Vec::from_iter(self.draw.one_of(&asleep)) };
+        let one = |chooser: &mut Chooser| Vec::from_iter(chooser.choose_waiter(&asleep));
+        let woken = if all { asleep.clone() } else { one(&mut self.chooser) };
         for thread in woken {
             self.set_phase(thread, Phase::Inside);
         }

@@ -1,4 +1,4 @@
-//! The turns of a run's threads: who waits for whom, and how a run that stands still is stopped.
+//! The turns of a run's threads: who waits for whom, and how a run that hangs is stopped.
 //!
 //! A thread that was stopped leaves its lock by unwinding, at its next operation on an atomic. It
 //! is no panic: nothing is printed.
@@ -8,8 +8,10 @@ use std::sync::atomic::{AtomicBool, Ordering};
 use std::sync::{Condvar, Mutex, MutexGuard, PoisonError};
 use std::time::{Duration, Instant};
 
+use crate::chooser::Chooser;
 use crate::error::Error;
-use crate::mode::Mode;
+use crate::kind::Kind;
+use crate::path::Effect;
 use crate::stage::{Next, Phase, Stage};
 use crate::tape::Added;
 
@@ -17,13 +19,34 @@ use crate::tape::Added;
 #[derive(Debug)]
 pub(crate) struct Stopped;
 
+/// When a thread may make its next operation.
+#[derive(Clone, Copy, Debug, PartialEq, Eq)]
+pub(crate) enum Rule {
+    /// At once.
+    AtOnce,
+    /// If no other thread makes one.
+    Alone,
+    /// In its turn, which may be another one's before each operation.
+    ByTurns,
+    /// In its turn, which ends with the move of its line.
+    ByLines,
+}
+
+/// Where a thread comes to an operation.
+#[derive(Clone, Copy, Debug)]
+pub(crate) struct Place {
+    /// It is in a call, and the operation may be a step of it.
+    pub(crate) is_step: bool,
+    pub(crate) in_monitor: bool,
+}
+
 #[derive(Debug)]
 pub(crate) struct Turns {
-    mode: Mode,
+    rule: Rule,
     stage: Mutex<Stage>,
-    /// `Seed`: a thread's turn has come.
+    /// By turns: a thread's turn has come.
     own: Vec<Condvar>,
-    /// `Ordered`: nobody has the turn.
+    /// `Alone`: nobody makes an operation.
     free: Condvar,
     /// A thread has come or gone.
     changed: Condvar,
@@ -31,12 +54,17 @@ pub(crate) struct Turns {
 }
 
 impl Turns {
-    pub(crate) fn new(mode: Mode, threads: usize, moves: usize) -> Result<Turns, Error> {
-        let seed = if let Mode::Seed(seed) = mode { seed } else { 0 };
-        let ordered = if mode.has_order() { moves } else { 0 };
+    /// The turns of so many threads, with memory for the order of so many moves.
+    pub(crate) fn new(
+        rule: Rule,
+        chooser: Chooser,
+        threads: usize,
+        moves: usize,
+    ) -> Result<Turns, Error> {
+        let ordered = if rule == Rule::AtOnce { 0 } else { moves };
         Ok(Turns {
-            mode,
-            stage: Mutex::new(Stage::new(threads, ordered, seed)?),
+            rule,
+            stage: Mutex::new(Stage::new(threads, ordered, chooser)?),
             own: (0..threads).map(|_| Condvar::new()).collect(),
             free: Condvar::new(),
             changed: Condvar::new(),
@@ -49,8 +77,9 @@ impl Turns {
         self.stage.lock().unwrap_or_else(PoisonError::into_inner)
     }
 
-    pub(crate) fn is_seeded(&self) -> bool {
-        matches!(self.mode, Mode::Seed(_))
+    /// Whether one thread runs at a time.
+    pub(crate) fn is_by_turns(&self) -> bool {
+        matches!(self.rule, Rule::ByTurns | Rule::ByLines)
     }
 
     pub(crate) fn is_stopped(&self) -> bool {
@@ -98,7 +127,7 @@ impl Turns {
         let mut stage = self.stage();
         stage.set_phase(thread, if ended { Phase::Ended } else { Phase::Cut });
         if ended {
-            stage.unnoted(true);
+            stage.took_effect(thread, Effect::Step);
             self.hand_on(&mut stage);
         } else {
             self.stop(&stage);
@@ -106,62 +135,98 @@ impl Turns {
         self.changed.notify_all();
     }
 
-    /// Before an operation: the turn goes to whom the seed draws, or is taken once it is free.
-    pub(crate) fn take(&self, thread: usize) {
-        match self.mode {
-            Mode::Free | Mode::Noise(_) => {}
-            Mode::Ordered => {
-                let mut stage = self.stage();
-                while stage.holder.is_some() && !self.is_stopped() {
-                    stage = self.free.wait(stage).unwrap_or_else(PoisonError::into_inner);
-                }
-                if !self.is_stopped() {
-                    stage.holder = Some(thread);
-                }
-            }
-            Mode::Seed(_) => {
+    /// Before an operation: the turn goes to whose it is, or is taken once it is free.
+    pub(crate) fn take(&self, thread: usize, place: Place) {
+        match self.rule {
+            Rule::AtOnce => {}
+            Rule::Alone => self.take_alone(thread),
+            Rule::ByTurns => {
                 let mut stage = self.stage();
                 self.hand_on(&mut stage);
                 drop(self.own_turn(stage, thread));
             }
+            Rule::ByLines => self.take_line(thread, place),
         }
         self.go_on();
     }
 
+    fn take_alone(&self, thread: usize) {
+        let mut stage = self.stage();
+        while stage.holder.is_some() && !self.is_stopped() {
+            stage = self.free.wait(stage).unwrap_or_else(PoisonError::into_inner);
+        }
+        if !self.is_stopped() {
+            stage.holder = Some(thread);
+        }
+    }
+
+    /// `ByLines`: a turn ends after the line's move, outside of its monitor. After the last line a
+    /// thread comes to its end, unless its call has a step left: then it stops there.
+    fn take_line(&self, thread: usize, place: Place) {
+        let mut stage = self.stage();
+        if !place.in_monitor && stage.ends_line() {
+            self.hand_on(&mut stage);
+            stage = self.own_turn(stage, thread);
+        }
+        if !stage.goes_on(thread) {
+            self.stop(&stage);
+        } else if place.is_step && !place.in_monitor && stage.is_at_end() && !self.is_stopped() {
+            stage.set_phase(thread, Phase::Halted);
+            self.hand_on(&mut stage);
+            drop(self.own_turn(stage, thread));
+        }
+    }
+
     /// After an operation and its note.
     pub(crate) fn give(&self) {
-        if self.mode == Mode::Ordered {
+        if self.rule == Rule::Alone {
             self.stage().holder = None;
             self.free.notify_one();
         }
     }
 
-    /// A move of the thread was noted.
-    pub(crate) fn noted(&self, thread: usize, added: Added) {
-        if self.mode.has_order() {
-            self.stage().noted(thread, added);
+    /// A move of the thread was noted. If it is not that of its line, the run ends there.
+    pub(crate) fn noted(&self, thread: usize, kind: Kind, added: Added) {
+        if self.rule == Rule::AtOnce {
+            return;
         }
-    }
-
-    /// Something was done that is not noted. What changed nothing may be a poll.
-    pub(crate) fn unnoted(&self, changed: bool) {
-        if self.is_seeded() {
-            self.stage().unnoted(changed);
-        }
-    }
-
-    /// `Seed`: the thread waits until it is woken at this address, and for its turn.
-    pub(crate) fn sleep(&self, thread: usize, address: usize) {
         let mut stage = self.stage();
-        stage.set_phase(thread, Phase::Asleep(address));
-        self.hand_on(&mut stage);
-        drop(self.own_turn(stage, thread));
+        stage.noted(thread, kind, added);
+        if stage.departure().is_some() {
+            self.stop(&stage);
+            drop(stage);
+            self.go_on();
+        }
+    }
+
+    /// Something was done at an address that is not noted. What changed nothing may be a poll.
+    pub(crate) fn unnoted(&self, thread: usize, address: usize, changed: bool) {
+        if self.is_by_turns() {
+            self.stage().unnoted(thread, address, changed);
+        }
+    }
+
+    /// Another thread could have had its turn, though nothing was done.
+    pub(crate) fn switched(&self) {
+        if self.is_by_turns() {
+            self.stage().switched();
+        }
+    }
+
+    /// `ByTurns`: the thread waits until it is woken at this address, and for its turn.
+    pub(crate) fn sleep(&self, thread: usize, address: usize) {
+        if self.rule == Rule::ByTurns {
+            let mut stage = self.stage();
+            stage.set_phase(thread, Phase::Asleep(address));
+            self.hand_on(&mut stage);
+            drop(self.own_turn(stage, thread));
+        }
         self.go_on();
     }
 
-    /// `Seed`: wakes the threads that sleep at an address, or one of them.
+    /// `ByTurns`: wakes the threads that sleep at an address, or one of them.
     pub(crate) fn wake(&self, address: usize, all: bool) {
-        if self.is_seeded() {
+        if self.is_by_turns() {
             self.stage().wake(address, all);
         }
     }
@@ -173,6 +238,7 @@ impl Turns {
         while !stage.all_have_gone() && !self.is_stopped() {
             let left = limit.saturating_sub(begun.elapsed());
             if left.is_zero() {
+                stage.is_late();
                 self.stop(&stage);
             }
             let woken = self.changed.wait_timeout(stage, left);
@@ -190,12 +256,12 @@ impl Turns {
         self.changed.notify_all();
     }
 
-    /// `Seed`: draws whose turn is next.
+    /// By turns: chooses whose turn is next.
     fn hand_on(&self, stage: &mut MutexGuard<'_, Stage>) {
-        if !self.is_seeded() {
+        if !self.is_by_turns() {
             return;
         }
-        stage.holder = match stage.draw_next() {
+        stage.holder = match stage.next() {
             Next::Thread(thread) => Some(thread),
             Next::Nobody => None,
             Next::StandsStill => {
@@ -208,10 +274,10 @@ impl Turns {
         }
     }
 
-    /// `Seed`: waits for the own turn, or until the run is stopped.
+    /// By turns: waits for the own turn, or until the run is stopped.
     fn own_turn<'a>(&self, stage: MutexGuard<'a, Stage>, thread: usize) -> MutexGuard<'a, Stage> {
         match self.own.get(thread) {
-            Some(turn) if self.is_seeded() => turn
+            Some(turn) if self.is_by_turns() => turn
                 .wait_while(stage, |stage| stage.holder != Some(thread) && !self.is_stopped())
                 .unwrap_or_else(PoisonError::into_inner),
             _ => stage,

@@ -1,4 +1,4 @@
-//! What each mode does: seeds, noise, runs that stand still, and threads that were started
+//! What each mode does: seeds, noise, runs that hang, and threads that were started
 //! elsewhere.
 #![cfg(feature = "record")]
 
@@ -12,6 +12,8 @@ use lockreplay_record::{
 };
 
 const LIMIT: Duration = Duration::from_secs(60);
+/// On a loaded machine too a thread with nothing to do has ended by then.
+const LONG: Duration = Duration::from_secs(2);
 
 struct TicketLock {
     next_ticket: AtomicU8,
@@ -56,9 +58,66 @@ fn the_same_seed_gives_the_same_run() -> Result<(), Error> {
     Ok(())
 }
 
+/// Additions of two threads that lose one of them if a thread is held up in its own: one change of
+/// priority is enough, so a run of k turns loses one with a probability of at least 1 / 2k.
+#[test]
+fn few_changes_of_priority_are_enough() -> Result<(), Error> {
+    let runs = 400;
+    let lost = |depth, steps| -> Result<(usize, usize), Error> {
+        let (mut lost, mut turns) = (0, 0);
+        for seed in 0..runs {
+            let count = AtomicU8::new(0);
+            let mode = Mode::Pct { seed, depth, steps };
+            let run = Run::of(Lock::Ticket, 2).bits(8).room(0).mode(mode).open()?;
+            let ending = run.threads(LIMIT, |_| count.store(count.load(SeqCst) + 1, SeqCst))?;
+            assert_eq!(ending, Ending::Complete);
+            lost += usize::from(count.load(SeqCst) == 1);
+            turns = turns.max(run.turns());
+        }
+        Ok((lost, turns))
+    };
+    let (lost_of_one, turns) = lost(1, 12)?;
+    assert_eq!(lost_of_one, 0);
+    let (lost_of_two, _) = lost(2, turns)?;
+    assert!(lost_of_two * 2 * turns >= 400, "{lost_of_two} of {turns} turns");
+    Ok(())
+}
+
+/// Without a change the thread goes first that has the greatest priority. Each has it by some seed.
+#[test]
+fn priorities_are_drawn() -> Result<(), Error> {
+    let orders = (0..40).map(|seed| -> Result<String, Error> {
+        let word = AtomicU8::new(0).noted(Word::NextTicket);
+        let mode = Mode::Pct { seed, depth: 1, steps: 12 };
+        let run = Run::of(Lock::Ticket, 3).bits(8).room(2).mode(mode).open()?;
+        run.threads(LIMIT, |_| {
+            word.fetch_add(1, SeqCst);
+            word.fetch_add(1, SeqCst);
+        })?;
+        Ok(run.trace()?.lines().skip(2).map(|line| &line[..1]).collect())
+    });
+    let mut orders = orders.collect::<Result<Vec<String>, Error>>()?;
+    orders.sort_unstable();
+    orders.dedup();
+    assert_eq!(orders, ["001122", "002211", "110022", "112200", "220011", "221100"]);
+    Ok(())
+}
+
+/// The thread with the greatest priority polls, and is passed over until it can go on.
+#[test]
+fn a_poll_in_vain_has_no_priority() -> Result<(), Error> {
+    let mode = |seed| Mode::Pct { seed, depth: 3, steps: 100 };
+    for seed in 0..20 {
+        assert_eq!(trace_of(mode(seed))?, trace_of(mode(seed))?);
+    }
+    let header = "# seed 5 depth 3 steps 100\nlock ticket threads 3 bits 8\n";
+    assert!(trace_of(mode(5))?.starts_with(header));
+    Ok(())
+}
+
 #[test]
 fn the_order_is_that_of_the_operations() -> Result<(), Error> {
-    for mode in [Mode::Ordered, Mode::Seed(3)] {
+    for mode in [Mode::Ordered, Mode::Seed(3), Mode::Pct { seed: 3, depth: 5, steps: 900 }] {
         let trace = trace_of(mode)?;
         let tickets: Vec<&str> =
             trace.lines().filter_map(|line| line.split(" add next_ticket found ").nth(1)).collect();
@@ -106,8 +165,8 @@ fn threads_that_poll_for_ever_are_stopped() -> Result<(), Error> {
     let begun = Instant::now();
     for mode in [Mode::Seed(1), Mode::Free, Mode::Noise(1), Mode::Ordered] {
         let open = AtomicBool::new(false);
-        let run = Run::of(Lock::Mcs, 3).mode(mode).open()?;
-        let limit = if mode == Mode::Seed(1) { LIMIT } else { Duration::from_millis(50) };
+        let limit = if mode == Mode::Seed(1) { LIMIT } else { LONG };
+        let run = Run::of(Lock::Mcs, 3).mode(mode.clone()).open()?;
         let ending = run.threads(limit, |log| {
             while log.thread() != 1 && !open.load(SeqCst) {
                 thread::yield_now();
@@ -124,8 +183,8 @@ fn threads_that_poll_for_ever_are_stopped() -> Result<(), Error> {
 fn a_missing_notification_is_seen() -> Result<(), Error> {
     for mode in [Mode::Seed(1), Mode::Seed(2), Mode::Free, Mode::Ordered] {
         let (open, changed) = (Mutex::new(false), Condvar::new());
-        let run = Run::of(Lock::RwSimple, 2).mode(mode).open()?;
-        let limit = if matches!(mode, Mode::Seed(_)) { LIMIT } else { Duration::from_millis(300) };
+        let limit = if matches!(mode, Mode::Seed(_)) { LIMIT } else { LONG };
+        let run = Run::of(Lock::RwSimple, 2).mode(mode.clone()).open()?;
         let is_asleep = AtomicBool::new(false);
         let ending = run.threads(limit, |log| {
             let mut state = open.lock();

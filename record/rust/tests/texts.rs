@@ -168,14 +168,42 @@ fn a_full_log_counts_what_it_drops() -> Result<(), Error> {
     let log = fs::read_to_string(path.join("thread-0.log")).expect("it was saved");
     assert_eq!(log, format!("{header} thread 0\n{moves}dropped 3\n"));
     let trace = fs::read_to_string(path.join("run.trace")).expect("it was saved");
-    assert_eq!(trace, format!("{header}\n{}", moves.replace("add", "0 add")));
+    let ends = "# thread 0 has ended\n";
+    assert_eq!(trace, format!("{header}\n{}{ends}", moves.replace("add", "0 add")));
     // a later run of free threads leaves nothing of this one
     let run = Run::of(Lock::Mcs, 1).open()?;
     run.save(&path)?;
     let log = fs::read_to_string(path.join("thread-0.log")).expect("it was saved");
-    assert_eq!(log, "lock mcs threads 1 bits 64 thread 0\n");
+    assert_eq!(log, "lock mcs threads 1 bits 64 thread 0\n# thread 0 has not ended\n");
     assert!(!path.join("run.trace").exists());
     fs::remove_dir_all(&path).expect("the folder was made");
+    Ok(())
+}
+
+/// Thread 0 polls for ever, and thread 1 ends. A run that hangs says so; one that is stopped after
+/// its time does not, since it might have gone on.
+#[test]
+fn a_saved_run_says_who_has_ended() -> Result<(), Error> {
+    let poll = "read now_serving found 0\n";
+    for (mode, limit, end) in [
+        (Mode::Seed(1), LIMIT, "has not ended"),
+        (Mode::Ordered, Duration::from_secs(1), "was stopped"),
+        (Mode::Free, Duration::from_secs(1), "has not ended"),
+    ] {
+        let word = AtomicU8::new(0).noted(Word::NowServing);
+        let path = folder("ends");
+        let run = Run::of(Lock::Ticket, 2).mode(mode.clone()).open()?;
+        run.threads(limit, |log| while log.thread() == 0 && word.load(SeqCst) == 0 {})?;
+        run.save(&path)?;
+        let read = |name: &str| fs::read_to_string(path.join(name)).unwrap_or_default();
+        let log = read("thread-0.log");
+        assert!(log.ends_with(&format!("{poll}# thread 0 {end}\n")), "{mode:?}: {log}");
+        assert!(read("thread-1.log").ends_with("dropped 0\n"), "{mode:?}");
+        let ends = format!("{poll}# thread 0 {end}\n# thread 1 has ended\n");
+        let trace = read("run.trace");
+        assert_eq!(trace.ends_with(&ends), mode != Mode::Free, "{mode:?}: {trace}");
+        fs::remove_dir_all(&path).expect("the folder was made");
+    }
     Ok(())
 }
 

@@ -1,86 +1,143 @@
 //! What runs each example: threads that take its lock and give it back.
 //!
-//!     EXAMPLE free|noise|ordered|seed THREADS ROUNDS SEED FOLDER [SECONDS]
+//!     EXAMPLE free|noise|ordered|seed|pct THREADS ROUNDS SEED FOLDER [SECONDS]
+//!     EXAMPLE follow SCHEDULES FOLDER
+//!     EXAMPLE explore THREADS ROUNDS PREEMPTIONS FOLDER [RUNS]
 //!
-//! The logs go to FOLDER. Status: 0 all threads ended; 1 some hang, after SECONDS (60) or where a
-//! seeded run stands still, and their logs end there; 2 usage; 3 memory, a thread or a write was
-//! refused.
+//! The logs go to FOLDER. Of schedules that are followed and of runs that are explored, the traces
+//! do. Status: 0 all threads ended, every schedule was followed; 1 some threads hang, after SECONDS
+//! (60) or if a run hangs, and their logs end there, or a schedule was not followed;
+//! 2 usage; 3 memory, a thread, a read or a write was refused.
+
+mod explore;
+mod follow;
+mod rounds;
 
 use std::env;
+use std::fs;
+use std::io;
+use std::path::Path;
 use std::process::ExitCode;
 use std::str::FromStr;
-use std::thread;
 use std::time::Duration;
 
-use lockreplay_record::{switch, Ending, Error, Lock, Mode, Run};
+use lockreplay_record::{Call, Ending, Error, Lock, Log, Mode, Run, Setup};
 
-const USAGE: &str = "usage: EXAMPLE free|noise|ordered|seed THREADS ROUNDS SEED FOLDER [SECONDS]";
+const USAGE: &str =
+    "usage: EXAMPLE free|noise|ordered|seed|pct THREADS ROUNDS SEED FOLDER [SECONDS]
+       EXAMPLE follow SCHEDULES FOLDER
+       EXAMPLE explore THREADS ROUNDS PREEMPTIONS FOLDER [RUNS]";
 /// A log has room for so many moves a round.
 const MOST_MOVES: usize = 256;
 
-/// What the command line asks for.
-struct Words {
-    mode: Mode,
-    threads: usize,
-    rounds: usize,
-    folder: String,
-    limit: Duration,
+/// A lock under test. Its default is a new one.
+pub trait Tested: Default + Sync {
+    const LOCK: Lock;
+    /// The width of its counters.
+    const BITS: u32;
+
+    /// Makes one call of the lock.
+    fn make(&self, thread: usize, call: Call);
 }
 
-/// The command line, if it is one.
-fn words() -> Option<Words> {
-    let mut words = env::args().skip(1);
-    let name = words.next()?;
-    let threads = number(words.next())?;
-    let rounds = number(words.next())?;
-    let seed = number(words.next())?;
-    let mode = match name.as_str() {
+/// What came of the runs: the status, and a sentence.
+type Told = (u8, String);
+
+/// The words of the command line.
+struct Words(Vec<String>);
+
+impl Words {
+    fn text(&self, place: usize) -> Option<&str> {
+        self.0.get(place).map(String::as_str)
+    }
+
+    fn number<T: FromStr>(&self, place: usize) -> Option<T> {
+        self.text(place)?.parse().ok()
+    }
+
+    /// A number that may be missing.
+    fn number_or<T: FromStr>(&self, place: usize, otherwise: T) -> Option<T> {
+        match self.text(place) {
+            Some(word) => word.parse().ok(),
+            None => Some(otherwise),
+        }
+    }
+
+    fn count(&self) -> usize {
+        self.0.len()
+    }
+}
+
+/// Does what the command line says.
+pub fn drive<L: Tested>() -> ExitCode {
+    let words = Words(env::args().skip(1).collect());
+    let told = match words.text(0) {
+        Some("follow") if words.count() == 3 => follow::from_words::<L>(&words),
+        Some("explore") if (5..=6).contains(&words.count()) => explore::from_words::<L>(&words),
+        Some(mode) if (5..=6).contains(&words.count()) => record::<L>(mode, &words),
+        _ => None,
+    };
+    let (status, said) = match told {
+        Some(Ok(told)) => told,
+        Some(Err(error)) => (3, error.to_string()),
+        None => (2, USAGE.to_owned()),
+    };
+    if !said.is_empty() {
+        eprintln!("{said}");
+    }
+    ExitCode::from(status)
+}
+
+/// Records one run in a mode; nothing, if the words do not say which.
+fn record<L: Tested>(mode: &str, words: &Words) -> Option<Result<Told, Error>> {
+    let (threads, rounds): (usize, usize) = (words.number(1)?, words.number(2)?);
+    let seed = words.number(3)?;
+    let mode = match mode {
         "free" => Mode::Free,
         "noise" => Mode::Noise(seed),
         "ordered" => Mode::Ordered,
         "seed" => Mode::Seed(seed),
+        "pct" => Mode::Pct { seed, depth: 3, steps: 1000 },
         _ => return None,
     };
-    let folder = words.next()?;
-    let limit = Duration::from_secs(words.next().map_or(Some(60), |word| word.parse().ok())?);
-    words.next().is_none().then_some(Words { mode, threads, rounds, folder, limit })
+    let folder = words.text(4)?;
+    let limit = Duration::from_secs(words.number_or(5, 60)?);
+    let is_real = !matches!(mode, Mode::Seed(_) | Mode::Pct { .. });
+    let run = setup::<L>(threads, rounds).mode(mode).open();
+    Some(run.and_then(|run| {
+        let work = |lock: &L, log: &Log| rounds::of_thread(lock, log.thread(), rounds, is_real);
+        let ending = run_new(&run, limit, work)?;
+        run.save(folder)?;
+        Ok(told(&ending))
+    }))
 }
 
-fn number<T: FromStr>(word: Option<String>) -> Option<T> {
-    word?.parse().ok()
+fn setup<L: Tested>(threads: usize, rounds: usize) -> Setup {
+    Run::of(L::LOCK, threads).bits(L::BITS).room(rounds.saturating_mul(MOST_MOVES))
 }
 
-fn record(
-    lock: Lock,
-    bits: u32,
-    words: &Words,
-    one_round: impl Fn(usize, usize) + Sync,
+/// Makes one run with a new lock.
+fn run_new<L: Tested>(
+    run: &Run,
+    limit: Duration,
+    work: impl Fn(&L, &Log) + Sync,
 ) -> Result<Ending, Error> {
-    let room = words.rounds.saturating_mul(MOST_MOVES);
-    let run = Run::of(lock, words.threads).bits(bits).mode(words.mode).room(room).open()?;
-    let ending = run.threads(words.limit, |log| {
-        (0..words.rounds).for_each(|round| one_round(log.thread(), round));
-    })?;
-    run.save(&words.folder)?;
-    Ok(ending)
+    let lock = L::default();
+    run.threads(limit, |log| work(&lock, log))
 }
 
-/// Records so many threads of the lock, each of which makes so many rounds of a thread and a round.
-pub fn drive(lock: Lock, bits: u32, one_round: impl Fn(usize, usize) + Sync) -> ExitCode {
-    let (status, said) = match words().map(|words| record(lock, bits, &words, one_round)) {
-        Some(Ok(Ending::Complete)) => return ExitCode::SUCCESS,
-        Some(Ok(Ending::Stopped(threads))) => (1, format!("threads {threads:?} hang")),
-        Some(Err(error)) => (3, error.to_string()),
-        None => (2, USAGE.to_owned()),
-    };
-    eprintln!("{said}");
-    ExitCode::from(status)
-}
-
-/// What a thread does while it has the lock: nothing, but that others get their turns meanwhile.
-pub fn inside(thread: usize, round: usize) {
-    if (round * 7 + thread) % 3 == 0 {
-        thread::yield_now();
+fn told(ending: &Ending) -> Told {
+    match ending {
+        Ending::Complete => (0, String::new()),
+        Ending::Stopped(threads) => (1, format!("threads {threads:?} hang")),
+        Ending::Departed(departure) => (1, departure.to_string()),
     }
-    switch();
+}
+
+/// Writes the trace of a run into a folder.
+fn save_trace(run: &Run, folder: &Path, name: &str) -> Result<(), Error> {
+    let path = folder.join(format!("{name}.trace"));
+    let refused = |error: io::Error| Error::Save { path: path.clone(), error };
+    fs::create_dir_all(folder).map_err(refused)?;
+    fs::write(&path, run.trace()?).map_err(refused)
 }

@@ -1,0 +1,44 @@
+//! Makes all runs of a few threads and rounds with at most so many preemptions.
+
+use std::path::Path;
+use std::time::Duration;
+
+use lockreplay_record::{Ending, Error, Explore, Log};
+
+use super::{rounds, run_new, save_trace, setup, told, Tested, Told, Words};
+
+const LIMIT: Duration = Duration::from_secs(10);
+const MOST_RUNS: usize = 1_000_000;
+
+/// What `explore THREADS ROUNDS PREEMPTIONS FOLDER [RUNS]` does.
+pub(super) fn from_words<L: Tested>(words: &Words) -> Option<Result<Told, Error>> {
+    let (threads, rounds) = (words.number(1)?, words.number(2)?);
+    let (preemptions, folder) = (words.number(3)?, words.text(4)?);
+    let most = words.number_or(5, MOST_RUNS)?;
+    let runs = setup::<L>(threads, rounds).explore(preemptions);
+    Some(explore::<L>(runs, rounds, most, Path::new(folder)))
+}
+
+/// Saves the trace of each run, up to the first that hangs.
+fn explore<L: Tested>(
+    mut runs: Explore,
+    rounds: usize,
+    most: usize,
+    folder: &Path,
+) -> Result<Told, Error> {
+    let (mut made, mut ending) = (0, Ending::Complete);
+    let is_complete = loop {
+        let run = match runs.next() {
+            _ if made == most || ending != Ending::Complete => break false,
+            None => break true,
+            Some(run) => run?,
+        };
+        let work = |lock: &L, log: &Log| rounds::of_thread(lock, log.thread(), rounds, false);
+        ending = run_new(&run, LIMIT, work)?;
+        made += 1;
+        save_trace(&run, folder, &format!("{made:07}"))?;
+    };
+    let all = if is_complete { "all of them" } else { "not all of them" };
+    println!("{made} runs with up to {} preemptions, {all}", runs.preemptions());
+    Ok(told(&ending))
+}

@@ -1,0 +1,73 @@
+//! Who says whose turn is next, where one thread runs at a time.
+
+use crate::draw::Draw;
+use crate::follow::Following;
+use crate::kind::Kind;
+use crate::path::{Effect, Path};
+use crate::priorities::Priorities;
+use crate::tape::Added;
+
+/// So many turns in vain, one after another, and the run hangs.
+const PATIENCE: u32 = 20_000;
+/// The same if all runs are explored, since there no draw can leave out a thread that gets on.
+const PATIENCE_OF_A_PATH: u32 = 1_000;
+
+/// Who says whose turn is next.
+#[derive(Debug)]
+pub(crate) enum Chooser {
+    /// The numbers of a seed.
+    Seed(Draw),
+    /// Priorities that a seed draws.
+    Priorities(Priorities),
+    /// The choices of a run that is explored.
+    Path(Path),
+    /// The lines of a schedule.
+    Lines(Following),
+}
+
+impl Chooser {
+    pub(crate) fn patience(&self) -> u32 {
+        match self {
+            Chooser::Path(_) => PATIENCE_OF_A_PATH,
+            _ => PATIENCE,
+        }
+    }
+
+    /// One of those who are ready, after the one whose turn it was.
+    pub(crate) fn choose(&mut self, holder: Option<usize>, ready: &[usize]) -> Option<usize> {
+        match self {
+            Chooser::Seed(draw) => draw.one_of(ready),
+            Chooser::Priorities(priorities) => priorities.choose(holder, ready),
+            Chooser::Path(path) => path.choose(holder, ready),
+            Chooser::Lines(following) => following.choose(ready),
+        }
+    }
+
+    /// Which of those who wait for a notification is woken.
+    pub(crate) fn choose_waiter(&mut self, waiters: &[usize]) -> Option<usize> {
+        match self {
+            Chooser::Seed(draw) => draw.one_of(waiters),
+            Chooser::Priorities(priorities) => priorities.choose_waiter(waiters),
+            Chooser::Path(path) => path.choose_waiter(waiters),
+            Chooser::Lines(_) => waiters.first().copied(),
+        }
+    }
+
+    /// A move was noted.
+    pub(crate) fn made(&mut self, thread: usize, kind: Kind, added: Added) {
+        match (self, added) {
+            (Chooser::Lines(following), _) => following.made(thread, kind),
+            (other, Added::Again | Added::Repeated) => other.took_effect(thread, Effect::Again),
+            (other, _) => other.took_effect(thread, Effect::Step),
+        }
+    }
+
+    /// An operation was made that is no move of a schedule.
+    pub(crate) fn took_effect(&mut self, thread: usize, effect: Effect) {
+        match self {
+            Chooser::Path(path) => path.made(thread, effect),
+            Chooser::Priorities(priorities) => priorities.made(thread, effect),
+            Chooser::Seed(_) | Chooser::Lines(_) => {}
+        }
+    }
+}

@@ -1,0 +1,64 @@
+//! Turns by priorities, which change at few drawn turns.
+//!
+//! After Burckhardt, Kothari, Musuvathi and Nagarakatte, "A randomized scheduler with probabilistic
+//! guarantees of finding bugs" (ASPLOS 2010). What is different here: a thread that polled in vain
+//! is passed over until another one made a step, as if it were blocked.
+
+use crate::draw::Draw;
+use crate::path::{after, Effect, Stuck};
+
+/// The priorities of a run's threads.
+#[derive(Debug)]
+pub(crate) struct Priorities {
+    draw: Draw,
+    /// Of each thread; the greatest goes first.
+    of: Vec<usize>,
+    /// At which turns the thread that runs becomes the last.
+    changes: Vec<usize>,
+    turns: usize,
+    stuck: Stuck,
+}
+
+impl Priorities {
+    /// Draws an order of the threads, and `depth - 1` turns of the first so many.
+    pub(crate) fn of(seed: u64, threads: usize, depth: usize, steps: usize) -> Priorities {
+        let mut draw = Draw::new(seed);
+        let mut of = Vec::with_capacity(threads);
+        for thread in 0..threads {
+            of.push(depth + thread);
+            of.swap(thread, draw.below(thread + 1));
+        }
+        let changes = (1..depth).map(|_| draw.below(steps.max(1)) + 1).collect();
+        Priorities { draw, of, changes, turns: 0, stuck: Stuck::default() }
+    }
+
+    /// Who of those who are ready goes on.
+    pub(crate) fn choose(&mut self, holder: Option<usize>, ready: &[usize]) -> Option<usize> {
+        self.turns += 1;
+        self.lower(holder);
+        let free = self.stuck.free(ready);
+        if free.is_empty() {
+            return after(ready, holder);
+        }
+        free.into_iter().max_by_key(|&thread| self.of.get(thread).copied())
+    }
+
+    pub(crate) fn choose_waiter(&mut self, waiters: &[usize]) -> Option<usize> {
+        self.draw.one_of(waiters)
+    }
+
+    pub(crate) fn made(&mut self, thread: usize, effect: Effect) {
+        self.stuck.made(thread, effect);
+    }
+
+    /// At a drawn turn the thread that runs gets a priority below all that were drawn, and below
+    /// those that an earlier change of the list gives.
+    fn lower(&mut self, holder: Option<usize>) {
+        let turns = self.turns;
+        let lowest = (0..self.changes.len()).rev().zip(&self.changes);
+        let now = lowest.filter(|(_, &turn)| turn == turns).map(|(priority, _)| priority).last();
+        if let (Some(priority), Some(place)) = (now, holder.and_then(|it| self.of.get_mut(it))) {
+            *place = priority;
+        }
+    }
+}

@@ -1,0 +1,143 @@
+//! Runs that are explored: which there are, in which order, and where they end.
+#![cfg(feature = "record")]
+
+use std::sync::atomic::{AtomicUsize, Ordering::SeqCst};
+use std::time::Duration;
+
+use lockreplay_record::{AtomicBool, AtomicU8, Condvar, Ending, Error, Lock, Mutex, Run, Word};
+
+const LIMIT: Duration = Duration::from_secs(60);
+
+/// Whose turns the runs of two threads are that add twice each, and how many preemptions they have.
+fn runs_of_two_additions(preemptions: usize) -> Result<Vec<(usize, String)>, Error> {
+    let mut explored = Run::of(Lock::Ticket, 2).explore(preemptions);
+    let mut found = Vec::new();
+    while let Some(run) = explored.next() {
+        let (run, word) = (run?, AtomicU8::new(0).noted(Word::NextTicket));
+        let ending = run.threads(LIMIT, |_| {
+            word.fetch_add(1, SeqCst);
+            word.fetch_add(1, SeqCst);
+        })?;
+        assert_eq!(ending, Ending::Complete);
+        let turns = run.trace()?.lines().skip(1).map(|line| &line[..1]).collect();
+        found.push((explored.preemptions(), turns));
+    }
+    Ok(found)
+}
+
+/// Of the six interleavings two switch at a thread's end alone, two once more, and two at each
+/// step.
+#[test]
+fn each_run_comes_once_and_those_with_fewer_preemptions_first() -> Result<(), Error> {
+    let by_preemptions = [["0011", "1100"], ["0110", "1001"], ["0101", "1010"]];
+    for most in [0, 1, 2, 9] {
+        let found = runs_of_two_additions(most)?;
+        assert!(found.windows(2).all(|two| two[0].0 <= two[1].0), "{found:?}");
+        for (preemptions, due) in by_preemptions.iter().enumerate() {
+            let here = found.iter().filter(|(count, _)| *count == preemptions);
+            let mut turns: Vec<&str> = here.map(|(_, turns)| turns.as_str()).collect();
+            turns.sort_unstable();
+            assert_eq!(turns, if preemptions <= most { due.to_vec() } else { Vec::new() });
+        }
+        assert_eq!(found.len(), 2 * (most + 1).min(3));
+    }
+    Ok(())
+}
+
+/// A thread that waits is passed over until the other one has done what it waits for, so each run
+/// ends. If nobody does it, no run does.
+#[test]
+fn a_poll_in_vain_is_passed_over() -> Result<(), Error> {
+    for opens in [true, false] {
+        let (mut runs, mut complete) = (0, 0);
+        for run in Run::of(Lock::Ticket, 2).explore(2) {
+            let open = AtomicBool::new(false);
+            let ending = run?.threads(LIMIT, |log| match log.thread() {
+                0 => while !open.load(SeqCst) {},
+                _ => open.store(opens, SeqCst),
+            })?;
+            runs += 1;
+            complete += usize::from(ending == Ending::Complete);
+        }
+        // before the store thread 0 looks not at all, once, or twice and is stuck
+        assert!(runs >= 3, "{runs}");
+        assert_eq!(complete, if opens { runs } else { 0 });
+    }
+    Ok(())
+}
+
+/// Thread 0 has looked twice in vain, and gets on as soon as the other one has made a step: it adds
+/// before thread 1 does.
+#[test]
+fn a_step_frees_those_who_polled_in_vain() -> Result<(), Error> {
+    let mut is_found = false;
+    for run in Run::of(Lock::Ticket, 2).explore(1) {
+        let (run, looks, open) = (run?, AtomicUsize::new(0), AtomicBool::new(false));
+        let word = AtomicU8::new(0).noted(Word::NextTicket);
+        run.threads(LIMIT, |log| {
+            if log.thread() == 0 {
+                while !open.load(SeqCst) {
+                    looks.fetch_add(1, SeqCst);
+                }
+            } else {
+                open.store(true, SeqCst);
+            }
+            word.fetch_add(1, SeqCst);
+        })?;
+        is_found |= looks.into_inner() == 2 && run.trace()?.contains("\n0 add next_ticket found 0");
+    }
+    assert!(is_found);
+    Ok(())
+}
+
+/// Two wait for a notification, and each of them is woken in some run.
+#[test]
+fn who_is_woken_is_explored() -> Result<(), Error> {
+    let woken = [AtomicUsize::new(0), AtomicUsize::new(0)];
+    for run in Run::of(Lock::RwSimple, 3).explore(0) {
+        let (waiting, changed) = (Mutex::new(0), Condvar::new());
+        let ending = run?.threads(LIMIT, |log| {
+            if let Some(own) = woken.get(log.thread()) {
+                let mut state = waiting.lock();
+                *state += 1;
+                drop(changed.wait(state));
+                own.fetch_add(1, SeqCst);
+            } else if *waiting.lock() == 2 {
+                changed.notify_one();
+            }
+        })?;
+        assert_ne!(ending, Ending::Complete); // one of them waits for ever
+    }
+    let [first, second] = woken.map(AtomicUsize::into_inner);
+    assert!(first > 0 && first == second, "{first} {second}");
+    Ok(())
+}
+
+/// Threads that do less in each later run: a choice that is due does not come up.
+#[test]
+fn a_driver_that_changes_is_noticed() -> Result<(), Error> {
+    let runs = AtomicUsize::new(0);
+    let mut explored = Run::of(Lock::Ticket, 2).explore(1);
+    let said = loop {
+        match explored.next().expect("it is noticed before the end") {
+            Err(error) => break error.to_string(),
+            Ok(run) => {
+                let word = AtomicU8::new(0);
+                let steps = 3_usize.saturating_sub(runs.fetch_add(1, SeqCst));
+                run.threads(LIMIT, |_| (0..steps).for_each(|_| word.store(1, SeqCst)))?;
+            }
+        }
+    };
+    assert_eq!(said, "the driver does not do the same after the same turns");
+    assert!(explored.next().is_none());
+    Ok(())
+}
+
+#[test]
+fn the_trace_names_no_seed() -> Result<(), Error> {
+    let run = Run::of(Lock::Mcs, 1).explore(0).next().expect("there is a first run")?;
+    let word = AtomicU8::new(0).noted(Word::Tail);
+    run.threads(LIMIT, |_| word.store(1, SeqCst))?;
+    assert_eq!(run.trace()?, "lock mcs threads 1 bits 64\n0 write tail left 1\n");
+    Ok(())
+}
