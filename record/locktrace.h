@@ -9,7 +9,7 @@
        struct lt_step step;
        lt_open(&run, text, length, steps, room);      // steps: an array of room records
        while (lt_next(&run, &step)) ..
-       if (run.answer.fault) ..       // lt_fault_text tells what it is, in line answer.line
+       if (run.answer.fault) ..       // lt_fault_text says what it is, in line answer.line
 
    Moves for which there is no room are checked too, and are not stepped through. */
 #ifndef LOCKTRACE_H
@@ -21,6 +21,8 @@
 #ifdef __cplusplus
 extern "C" {
 #endif
+
+#define LT_VERSION "1.0.0"
 
 #define LT_NO_WORD UINT32_MAX
 

@@ -97,14 +97,14 @@ def explored(said):
     made."""
     runs, preemptions = re.match(r"(\d+) runs with up to (\d+)", said).groups()
     if "refused" in said:
-        return f"run {runs}, {preemptions}"
-    return "none" if "preemptions, all of them" in said else f"none of {MOST}"
+        return f"{runs}, {preemptions}"
+    return "none" if "preemptions, all of them" in said else f"none/{MOST}"
 
 
 def followed(said):
     """How many schedules of a tour are refused."""
     schedules, refused = re.match(r"(\d+) schedules of \d+ moves, (\d+) not", said).groups()
-    return f"{refused} of {schedules}"
+    return f"{refused}/{schedules}"
 
 
 def compare(tally, found, rows):
@@ -114,7 +114,7 @@ def compare(tally, found, rows):
             tally.check(f"{key} {mode}", said, rows.get(key, {}).get(mode))
         if key[1] == "none":
             blamed = [mode for mode, said in noticed.items()
-                      if not re.match(r"(0|none|(0|none) of \d+)$", said)]
+                      if not re.match(r"(0|none)(/\d+)?$", said)]
             tally.check(f"{key} is right", blamed, [])
     enough = sum(in_all(row) for (_, name), row in rows.items() if name != "none")
     tally.check("noticed in all runs of a mode", enough, lambda count: count >= ENOUGH)

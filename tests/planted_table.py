@@ -9,8 +9,7 @@ RUNS = "60"
 def in_all(row):
     """Whether a mistake is noticed in all runs of a mode. A search is one run."""
     said = [row.get(mode, "") for mode in MODES]
-    return any(cell == RUNS or cell.startswith("run ")
-               or re.match(r"[1-9]\d* of \d+$", cell) for cell in said)
+    return any(cell == RUNS or re.match(r"\d+, \d+$|[1-9]\d*/\d+$", cell) for cell in said)
 
 
 def table(lock, mistakes, found, before):

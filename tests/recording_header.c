@@ -196,7 +196,8 @@ static void a_log_that_has_not_ended_says_so(void)
     lr_run *run = one_thread("ticket", 64, 2);
     LR_CALL(lr_log_of(run, 0), acquire);
     check("one thread is missing", lr_await(run, 0) == 1);
-    check_log("a log without its end", run, "lock ticket threads 1 bits 64 thread 0\nacquire\n");
+    check_log("a log without its end", run,
+              "lock ticket threads 1 bits 64 thread 0\nacquire\n# thread 0 has not ended\n");
 }
 
 static void what_cannot_be_opened_or_saved(void)

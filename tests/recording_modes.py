@@ -50,9 +50,9 @@ CALLS = [
      "thread T has its turn and does not give it back: it blocks, or it has ended without "
      "lr_end, or it polls without a note"),
     ("start(waits_for_ever, 2); return (int)lr_await(run, 20);", "SEED", 2,
-     "the run stands still: thread 0 waits for a signal, thread 1 waits for a signal"),
+     "the run hangs: thread 0 waits for a signal, thread 1 waits for a signal"),
     ("start(polls_for_ever, 2); return (int)lr_await(run, 20);", "SEED", 2,
-     "the run stands still: thread 0 polls, thread 1 polls"),
+     "the run hangs: thread 0 polls, thread 1 polls"),
     ("start(wakes_one, 2); return (int)lr_await(run, 20);", "SEED", 0, ""),
     ("start(waits_for_ever, 2); return (int)lr_await(run, 20);", "SEED -DLR_SPURIOUS=1", 0, ""),
     ("return lr_open(\"MCS\", 1, 64, 1, 1) ? 0 : 1;", "VALUES SEED", 1,

@@ -2,16 +2,42 @@
 # A recorded lock follows every schedule of a folder, and each trace is checked with all its values.
 #
 #     conform.sh LIBRARY LOCK FOLDER [FLAG...]
+#     conform.sh LOCKTRACE LOCK.rs FOLDER
 #
-# LOCK is a file of this folder, without `.c`, and LIBRARY is liblk_trace_c.a. The flags are the
-# compiler's. Prints how many schedules were not followed; the status is 1 if one was not.
+# LOCK is a file of this folder, without `.c`, LIBRARY is liblk_trace_c.a, and the flags are the
+# compiler's. LOCK.rs is an example of record/rust, which cargo builds, and LOCKTRACE is the program
+# that checks its traces. tests/tour.py writes a folder of schedules. Prints how many schedules were
+# not followed; the status is 1 if one was not, or a trace is refused.
 #
 # SPDX-License-Identifier: Apache-2.0 OR MIT
 set -eu
 [ $# -ge 3 ] || { sed -n 's/^# *\(conform.sh .*\)/usage: \1/p' "$0" >&2 && exit 2; }
-library=$1 source=$(dirname "$0")/$2.c schedules=$3
+checks=$1 lock=$2 schedules=$3
 shift 3
+here=$(dirname "$0")
 work=$(mktemp -d)
 trap 'rm -rf "$work"' EXIT
-cc -O2 -pthread -DLR_FOLLOW -DLR_CHECK "$@" "$source" "$library" -o "$work/follow"
-"$work/follow" "$schedules" "$work"
+
+say() {
+    echo "conform.sh: $1" >&2
+    exit 3
+}
+
+follow_in_c() {
+    cc -O2 -pthread -DLR_FOLLOW -DLR_CHECK "$@" "$here/$lock.c" "$checks" -o "$work/follow"
+    "$work/follow" "$schedules" "$work"
+}
+
+follow_in_rust() {
+    CARGO_TARGET_DIR=${CARGO_TARGET_DIR:-$work/target} cargo run --quiet --release \
+        --manifest-path "$here/../../record/rust/Cargo.toml" --example "${lock%.rs}" -- \
+        follow "$schedules" "$work/traces"
+    "$checks" check "$work"/traces/*.trace
+}
+
+find "$schedules" -name '*.schedule' 2> /dev/null | grep -q . ||
+    say "$schedules has no schedules: write some with tests/tour.py LOCK THREADS FOLDER"
+case $lock in
+*.rs) follow_in_rust ;;
+*) follow_in_c "$@" ;;
+esac

@@ -8,7 +8,7 @@
    includes this file; then it defines `open_lock`, which makes its lock new, `one_round`: a call
    that takes the lock, `inside`, and a call that gives it back, and with LR_FOLLOW `one_call`. The
    logs go to DIRECTORY. Status: 0 all threads ended, every schedule was followed, no run was
-   refused; 1 some threads hang, after SECONDS (60) or if a run stands still, and their logs end
+   refused; 1 some threads hang, after SECONDS (60) or if a run hangs, and their logs end
    there, or a schedule was not followed, or a run was refused; 2 usage; 3 memory, a thread or a
    write was refused.
 
@@ -28,9 +28,13 @@ enum { MOST_MOVES = 128, MOST_THREADS = 64 };
 static void open_lock(void);
 static void one_round(unsigned thread, unsigned round LR_ONLY(, lr_log *log));
 
-/* What a thread does while it has the lock: nothing, but that others get their turns meanwhile. */
+/* What a thread does while it has the lock: nothing, but that others get their turns meanwhile.
+   Free threads stay long in their first round, since the others may not have been woken yet. */
 static void inside(unsigned thread, unsigned round LR_ONLY(, lr_log *log))
 {
+#ifdef LR_VALUES
+    for (int yields = 0; round == 0 && yields < 5000; yields++) sched_yield();
+#endif
     if ((round * 7 + thread) % 3 == 0) sched_yield();
     LR_SWITCH(log);
 }

@@ -1,9 +1,9 @@
-/* A ticket lock with counters of 4 bits, so that they go round every 16 tickets.
+/* A ticket lock with counters of 4 bits, so that they wrap around every 16 tickets.
 
    After Mellor-Crummey and Scott (ACM TOCS 9(1), 1991). Two mistakes can be planted:
      -DLESS_THAN              waits while the served ticket is less than its own: right until the
-                              counters go round
-     -DRELEASES_WRONG_TICKET  serves the ticket that is handed out next, not the one behind its own:
+                              counters wrap around
+     -DRELEASES_WRONG_TICKET  serves the ticket that is handed out next, not the one after its own:
                               right while nobody waits
 
    SPDX-License-Identifier: Apache-2.0 OR MIT */

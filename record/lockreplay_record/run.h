@@ -91,7 +91,7 @@ typedef struct lr_run {
     uint64_t parked; /* those that wait for a condition */
     uint64_t stuck;  /* those that polled in vain, and nobody moved since */
     size_t turns, in_vain; /* in_vain: how many of the last turns made no step but polls */
-    int stands_still;
+    int hangs;
     unsigned char *order; /* whose each move is, up to the first that was dropped */
     size_t ordered;
     int is_cut; /* a move was dropped */

@@ -67,14 +67,26 @@ static inline void lr_print_head(lr_text *text, const lr_run *run)
     lr_put(text, "lock %s threads %u bits %u", run->lock, run->threads, run->bits);
 }
 
-/* A log whose thread has not ended has no last line. */
+/* What is said of a thread's end. Of a run that was stopped, as by the end of a schedule or for
+   want of room, nobody knows whether it would have gone on. */
+static inline const char *lr_end_of(const lr_run *run, const lr_log *log)
+{
+    if (lr_count_of(log->ended)) return "has ended";
+    int was_stopped = run->is_cut || (LR_TURNS && !run->hangs) || lr_count_of(log->dropped);
+    return was_stopped ? "was stopped" : "has not ended";
+}
+
+/* A log whose thread has not ended has a comment in the place of its last line. */
 static inline void lr_print_log(lr_text *text, const lr_log *log)
 {
     int ended = lr_count_of(log->ended);
     size_t count = lr_count_of(log->count);
     lr_put(text, " thread %u\n", log->thread);
     for (size_t i = 0; i < count; i++) lr_print_move(text, &log->moves[i]);
-    if (ended) lr_put(text, "dropped %zu\n", lr_count_of(log->dropped));
+    if (ended)
+        lr_put(text, "dropped %zu\n", lr_count_of(log->dropped));
+    else
+        lr_put(text, "# thread %u %s\n", log->thread, lr_end_of(log->run, log));
 }
 
 static inline void lr_print_moves(lr_text *text, const lr_run *run)
@@ -95,8 +107,7 @@ static inline void lr_print_trace(lr_text *text, const lr_run *run)
     lr_print_moves(text, run);
     lr_put(text, "# turns %zu\n", run->turns);
     for (unsigned t = 0; t < run->threads; t++)
-        lr_put(text, "# thread %u %s\n", t,
-                lr_count_of(run->logs[t].ended) ? "has ended" : "has not ended");
+        lr_put(text, "# thread %u %s\n", t, lr_end_of(run, &run->logs[t]));
     if (run->is_cut) lr_put(text, "%s", "# cut where a log was full\n");
     if (run->said[0]) lr_put(text, "# %s\n", run->said);
 }

@@ -32,15 +32,15 @@ static inline unsigned lr_after(uint64_t threads, unsigned current)
 }
 
 /* Says of each thread that is left what it does; nobody moves any more. */
-static inline void lr_stand_still(lr_run *run)
+static inline void lr_hang(lr_run *run)
 {
-    int length = snprintf(run->said, LR_SAID, "the run stands still:");
+    int length = snprintf(run->said, LR_SAID, "the run hangs:");
     for (unsigned t = 0; t < run->threads && length < LR_SAID - 40; t++)
         if (run->inside >> t & 1)
             length += snprintf(run->said + length, LR_SAID - (size_t)length, " thread %u %s%s", t,
                                run->parked >> t & 1 ? "waits for a signal" : "polls",
                                run->inside >> t >> 1 ? "," : "");
-    run->stands_still = 1;
+    run->hangs = 1;
 }
 
 /* Who is next, or LR_NOBODY. */
@@ -53,8 +53,8 @@ static inline unsigned lr_next(lr_run *run, unsigned current)
     run->turns++;
     run->in_vain++;
 #ifndef LR_FOLLOW
-    if (run->inside && (!ready || run->in_vain > LR_PATIENCE)) lr_stand_still(run);
-    if (!ready || run->stands_still) return LR_NOBODY;
+    if (run->inside && (!ready || run->in_vain > LR_PATIENCE)) lr_hang(run);
+    if (!ready || run->hangs) return LR_NOBODY;
 #endif
     return lr_choose(run, ready, current);
 }

@@ -1,7 +1,7 @@
 /* Takes the place of examples/recording/driver.h for planted mistakes.
 
        LOCK THREADS ROUNDS SEEDS             LR_SEED: prints how many of the runs by the seeds from
-                                             1 on are refused or stand still
+                                             1 on are refused or hang
        LOCK THREADS ROUNDS SEED DIRECTORY    LR_VALUES: status 1 if nothing is noted for 0.4 seconds
                                              though some thread has not ended
 
