@@ -1,9 +1,10 @@
 #!/bin/sh
 # Writes dist/lockreplay_VERSION_ARCHITECTURE.deb: what `make install` installs below /usr, and what
-# Debian wants beside it. What the programs need is found by dpkg-shlibdeps.
+# Debian wants beside it, by one call of dpkg-deb and without debhelper. What the programs need is
+# found by dpkg-shlibdeps.
 set -eu
 cd "$(dirname "$0")/.."
-. packaging/release.sh
+. packaging/common.sh
 ROOT=$STAGE/root DOCUMENTS=$STAGE/root/usr/share/doc/lockreplay
 MAINTAINER='lockreplay maintainers <maintainers@users.noreply.wepuchay.example>'
 

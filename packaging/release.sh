@@ -1,34 +1,36 @@
-# shellcheck shell=sh disable=SC2034
-# What the scripts that package share: the version, day and machine of the release, and a folder to
-# fill. Read by `. packaging/release.sh` in the top folder; not run by itself.
+#!/bin/sh
+# Makes a release in dist/: the source, the tarball and the Debian package, the list of their
+# contents in the form of SPDX 2.3, and SHA256SUMS of these four. It changes nothing else.
 #
-# The same contents have to give the same bytes on every machine. So names are sorted, root owns
-# all, and all files have one time: the day that CHANGELOG.md gives the version. git is not asked,
-# nor the environment: both differ between a clone, an archive and a container.
-umask 022
-export LC_ALL=C TZ=UTC0
-VERSION=$(cat VERSION)
-DAY=$(sed -n "s/^## \[$VERSION\] - \([0-9-]*\)\$/\1/p" CHANGELOG.md)
-if [ -z "$DAY" ]; then
-    echo "CHANGELOG.md has no line '## [$VERSION] - YEAR-MONTH-DAY'" >&2
+#   packaging/release.sh
+#
+# What is released has to be built, and to be what is committed: else it says what is in the way
+# and ends with status 1, with nothing made. CONTRIBUTING.md says what comes before and after.
+set -eu
+cd "$(dirname "$0")/.."
+. packaging/common.sh
+
+refuse() {
+    echo "no release: $1" >&2
     exit 1
-fi
-SOURCE_DATE_EPOCH=$(date --date="$DAY" +%s)
-export SOURCE_DATE_EPOCH
-# what `rt` builds for, whatever machine packages it
-SYSTEM=linux MACHINE=x86_64 ARCHITECTURE=amd64 MULTIARCH=x86_64-linux-gnu
-STAGE=$(mktemp -d)
-trap 'rm -rf "$STAGE"' EXIT
-
-# dated FOLDER: gives everything in it the time of the release
-dated() {
-    find "$1" -exec touch --no-dereference --date="@$SOURCE_DATE_EPOCH" {} +
 }
 
-# publish FILE: brings a file of STAGE into dist/ whole, since it may be made by several at once
-publish() {
-    mkdir -p dist
-    cp "$STAGE/$1" "dist/$1.$$"
-    mv "dist/$1.$$" "dist/$1"
-    echo "dist/$1"
+# The lines of CHANGELOG.md under [Unreleased].
+unreleased() {
+    sed -n '/^## \[Unreleased\]/,/^## \[[0-9]/{/^## /d;/./p}' CHANGELOG.md
 }
+
+[ -z "$(unreleased)" ] || refuse "CHANGELOG.md has changes under [Unreleased]"
+[ -z "$(git status --porcelain)" ] || refuse "what is here is not what is committed"
+tests/versions.py > "$STAGE/versions" || refuse "$(cat "$STAGE/versions")"
+
+SOURCE=$(packaging/source.sh)
+TARBALL=$(packaging/dist.sh)
+PACKAGE=$(packaging/deb.sh)
+CONTENTS=lockreplay-$VERSION.spdx.json
+packaging/contents.py "$SOURCE" "$TARBALL" "$PACKAGE" > "$STAGE/$CONTENTS"
+publish "$CONTENTS" > "$STAGE/published"
+(cd dist && sha256sum "${SOURCE#dist/}" "${TARBALL#dist/}" "${PACKAGE#dist/}" "$CONTENTS") \
+    > "$STAGE/SHA256SUMS"
+publish SHA256SUMS > "$STAGE/published"
+cat dist/SHA256SUMS

@@ -9,7 +9,7 @@ TREE     = $(DESTDIR)$(PREFIX)
 PAGE  := page/lockreplay.html
 BUILT := $(PROGRAM) $(TRACER) $(LIBRARY) $(PAGE)
 
-.PHONY: install install-built uninstall dist deb release-checks test-reproducible
+.PHONY: install install-built uninstall dist deb release release-checks test-reproducible
 
 ## install [PREFIX=] [DESTDIR=] | builds and installs what packaging/contents.txt lists
 install: $(BUILT)
@@ -32,6 +32,11 @@ dist: $(BUILT)
 deb: $(BUILT)
 	tests/wanted.sh deb
 	packaging/deb.sh
+
+## release | source, tarball, package, SPDX list of contents and SHA256SUMS, in dist/
+release: $(BUILT) tools
+	tests/wanted.sh deb
+	packaging/release.sh
 
 $(PAGE): $(MODULE) VERSION docs/LOCKS.md $(wildcard page/build.mjs page/build/* page/src/*.* \
 	page/src/style/* examples/*.schedule examples/README.md)

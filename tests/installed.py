@@ -111,7 +111,7 @@ def try_files(tally, tree):
     tally.check("files", files(tree), due_files())
     for file in sorted(files(tree)):
         mode = (tree / file).stat().st_mode & 0o777
-        is_program = file.startswith("bin/") or file.endswith((".sh", ".py"))
+        is_program = file.startswith("bin/") or (tree / file).read_bytes().startswith(b"#!")
         tally.check(f"mode of {file}", oct(mode), "0o755" if is_program else "0o644")
 
 
@@ -146,9 +146,11 @@ def try_words(tally, tree, name, commands, due):
 def try_programs(tally, tree):
     try_words(tally, tree, "lockreplay", [["replay"], ["batch"]],
               {"replay", "batch", "help", "workers"})
-    try_words(tally, tree, "locktrace", [["check"], ["explain"], ["order"], ["schedule"]],
-              {"check", "explain", "order", "schedule", "help", "version", "format", "summary",
-               "jobs", "moves", "names"})
+    try_words(tally, tree, "locktrace", [["check"], ["explain"], ["order"], ["schedule"], ["find"],
+                                         ["space"], ["cover"]],
+              {"check", "explain", "order", "schedule", "find", "space", "cover", "help", "version",
+               "format", "color", "summary", "quiet", "jobs", "moves", "names", "rounds", "bits",
+               "limit", "require"})
     for word in ("--version", "-V"):
         tally.check(f"locktrace {word}", output(tree / "bin" / "locktrace", word).split(),
                     ["locktrace", VERSION])

@@ -11,11 +11,15 @@ due was made by hand. Programs in C and Python are built on the header and the l
 library that is asked for has to be one that Debian 12 has. The last line counts the cases; the
 status is 1 where one failed.
 """
+import hashlib
+import io
+import json
 import os
 import re
 import shutil
 import subprocess
 import sys
+import tarfile
 import tempfile
 from pathlib import Path
 
@@ -28,6 +32,9 @@ TOP = Path(__file__).resolve().parent.parent
 VERSION = (TOP / "VERSION").read_text().strip()
 DEBIAN_12 = (2, 36)  # its version of glibc
 PROGRAMS = ("lockreplay", "locktrace")
+# What is built and in no commit.
+BUILT = ("crates/lockreplay/out/lockreplay", "crates/locktrace/out/locktrace",
+         "crates/lk_trace_c/out/liblk_trace_c.a")
 REFUSED = b"lock ticket threads 2\n0 release\n"
 EXPLAINED = ("6: 0 swap: entered, tail 0 to 1; left finds nobody in the queue: it holds the lock; "
              "held by 0; queue 0\n")
@@ -165,6 +172,85 @@ def try_undated(tally, folder):
                     "status 1: CHANGELOG.md has no line '## [9.9.9] - YEAR-MONTH-DAY'\n")
 
 
+class Release:
+    """A clone of this tree as it is now, with what was built, in which a release is made."""
+
+    def __init__(self, folder):
+        self.tree = folder
+        listed = output("git", "ls-files", "-co", "--exclude-standard", cwd=TOP).splitlines()
+        for name in [*filter(lambda name: (TOP / name).is_file(), listed), *BUILT]:
+            (folder / name).parent.mkdir(parents=True, exist_ok=True)
+            shutil.copy(TOP / name, folder / name)
+        log = folder / "CHANGELOG.md"
+        log.write_text(re.sub(r"(## \[Unreleased\]\n).*?(?=^## \[\d)", r"\1\n", log.read_text(),
+                              flags=re.MULTILINE | re.DOTALL))
+        self.git("init", "--quiet")
+        self.commit()
+
+    def git(self, *words):
+        return output("git", "-c", "user.name=A", "-c", "user.email=a@b.example", *words,
+                      cwd=self.tree)
+
+    def commit(self):
+        self.git("add", "--all")
+        self.git("commit", "--quiet", "--message=All")
+
+    def make(self):
+        return output(self.tree / "packaging" / "release.sh")
+
+    def files(self):
+        return {file.name: file.read_bytes() for file in (self.tree / "dist").iterdir()}
+
+    def refused(self, file, text):
+        """What a release says while a file has other text."""
+        kept = (self.tree / file).read_text()
+        (self.tree / file).write_text(text + kept)
+        told = self.make()
+        (self.tree / file).write_text(kept)
+        return told
+
+
+def try_contents(tally, files):
+    """The list names each file of the tarball with its sums, and each crate whose code is there."""
+    listed = json.loads(files[f"lockreplay-{VERSION}.spdx.json"])
+    tarball = next(name for name in files if name.endswith("x86_64.tar.gz"))
+    with tarfile.open(fileobj=io.BytesIO(files[tarball])) as packed:
+        due = {"./" + it.name.partition("/")[2]:
+               hashlib.sha256(packed.extractfile(it).read()).hexdigest()
+               for it in packed if it.isfile()}
+    found = {it["fileName"]: it["checksums"][1]["checksumValue"] for it in listed["files"]}
+    tally.check("contents: files", found, due)
+    named = [it["name"] for it in listed["packages"]]
+    tally.check("contents: artifacts", set(named) & set(files),
+                set(files) - {"SHA256SUMS", f"lockreplay-{VERSION}.spdx.json"})
+    tally.check("contents: crates", [name for name in ("strsim", "memchr", "thiserror", "itoa",
+                "arrayvec", "fast-float2") if name not in named], [])
+    ids = [it["SPDXID"] for it in (*listed["packages"], *listed["files"])]
+    tally.check("contents: each once", len(ids), len(set(ids)))
+    tally.check("contents: form", listed["spdxVersion"], "SPDX-2.3")
+
+
+def try_release(tally, folder):
+    """A release has its five files, with their sums, the same bytes twice, and what is not
+    committed or not released is refused."""
+    folder.mkdir()
+    release = Release(folder)
+    tally.check("release", release.make(), lambda text: len(text.splitlines()) == 4)
+    files = release.files()
+    tally.check("release: files", len(files), 5)
+    tally.check("release: sums", output("sha256sum", "--check", "--quiet", "SHA256SUMS",
+                                        cwd=folder / "dist"), "")
+    try_contents(tally, files)
+    shutil.rmtree(folder / "dist")
+    release.make()
+    tally.check("release: made again", release.files() == files, True)
+    tally.check("release: not committed", release.refused("README.md", "more\n"),
+                "status 1: no release: what is here is not what is committed\n")
+    told = release.refused("CHANGELOG.md", "## [Unreleased]\n\n- A\n")
+    tally.check("release: not released", told,
+                "status 1: no release: CHANGELOG.md has changes under [Unreleased]\n")
+
+
 def main():
     wanted.install("tools", "deb", "packages", "installed")
     tally = Tally()
@@ -186,6 +272,7 @@ def main():
             built.mkdir()
             try_compiled(tally, tree.tree, built)
         try_undated(tally, Path(folder, "undated"))
+        try_release(tally, Path(folder, "release"))
     try_control(tally, package)
     try_again(tally, "dist", tarball)
     try_again(tally, "deb", package)
