@@ -29,7 +29,7 @@ class Block:
             elif found:
                 found[-1][1].append(line)
             else:
-                raise BadDocument(f"line {self.first}: output stands above the first command")
+                raise BadDocument(f"line {self.first}: output is above the first command")
         return found
 
 

@@ -2,7 +2,7 @@
 
 A name in backticks that looks like a file has to be one; a word in capitals stands for any part of
 it. `A::b` has to be public. A word with an underscore, or with a capital inside, has to be defined
-in some source. Any other word has to stand somewhere in a source or in an example.
+in some source. Any other word has to be somewhere in a source or in an example.
 """
 import fnmatch
 import os
@@ -115,7 +115,7 @@ class Names:
                    for part in re.findall(r"\w+", name))
 
     def is_there(self, name, document):
-        """Whether what stands in backticks is there, as far as it is a name."""
+        """Whether what is in backticks is there, as far as it is a name."""
         words = name.split()
         if "make" in words[:2]:
             return self.is_command(words[words.index("make") + 1:])

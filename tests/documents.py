@@ -28,7 +28,8 @@ from document_blocks import BadDocument, blocks_of, without_blocks
 from document_names import Names
 
 TOP = pathlib.Path(__file__).resolve().parent.parent
-DOCUMENTS = ("*.md", "docs/*.md", "*/README.md", "examples/recording/README.md")
+DOCUMENTS = ("*.md", "docs/*.md", "*/README.md", "page/MODULE.md",
+             "examples/recording/README.md")
 # What a document may need besides `lockreplay`.
 OTHERS = {"locktrace": TOP / "crates/locktrace/out/locktrace",
           "liblk_trace_c.a": TOP / "crates/lk_trace_c/out/liblk_trace_c.a"}
