@@ -34,8 +34,7 @@ demo: $(PROGRAM)
 ## test | the one test command: proves all from nothing, then tries what is built
 test:
 	tests/wanted.sh --all
-	$(MAKE) --no-print-directory gate
-	$(MAKE) --no-print-directory test-built
+	+tests/parts.sh gate $(PARTS)
 
 gate:
 	tests/wanted.sh rt gate
@@ -46,7 +45,7 @@ PARTS := tried release-checks test-refused test-page test-library test-traces
 
 ## test-built | what `make test` does after the proofs
 test-built:
-	+for part in $(PARTS); do $(MAKE) --no-print-directory $$part || exit; done
+	+tests/parts.sh $(PARTS)
 
 test-parts:
 	@echo $(PARTS)
@@ -95,6 +94,9 @@ tried-layout:
 	tests/packages_list.py
 	tests/wanted_cases.py
 	tests/mutant_cases.py
+	tests/versions.py
+	tests/quotes.py
+	tests/figures.py
 tried-spaces:
 	tests/search_counts.py
 	tests/search_sketches.py
@@ -128,12 +130,15 @@ test-library: $(LIBRARY) tools
 ## test-traces | tries locktrace on texts, random traces and logs, and recorded locks
 test-traces: $(TRACER) $(PROGRAM) $(LIBRARY) tools
 	tests/locktrace.py $(TRACER)
+	tests/searches.py $(TRACER) $(PROGRAM)
+	tests/search_counts.py $(TRACER)
+	tests/search_sketches.py $(TRACER)
 	tests/trace_values.py $(TRACER)
 	tests/order_search.py $(TRACER)
 	tests/recording.py $(TRACER) $(PROGRAM)
 	tests/recording_rust.py $(TRACER)
 	tests/recording_modes.py $(LIBRARY)
-	tests/conform.py $(LIBRARY)
+	tests/conform.py $(LIBRARY) $(TRACER)
 
 .PHONY: test-planted conform
 
@@ -145,8 +150,8 @@ LOCK    :=
 THREADS := 3
 ROUNDS  := 1
 ## conform [LOCK=NAME] [THREADS=3] [ROUNDS=1] | recorded locks follow schedules that take every transition
-conform: $(LIBRARY) tools
-	tests/conform.py $(LIBRARY) $(LOCK) --threads $(THREADS) --rounds $(ROUNDS)
+conform: $(LIBRARY) $(TRACER) tools
+	tests/conform.py $(LIBRARY) $(TRACER) $(LOCK) --threads $(THREADS) --rounds $(ROUNDS)
 
 ## mutants CRATE=NAME [MISTAKE=NAME] | a crate's mutants are refused, their right twins proved
 mutants: tools

@@ -27,7 +27,7 @@ part() {
     local name=$1 from=$SECONDS
     shift
     "$@" || return
-    echo "gate.sh: $name: $((SECONDS - from)) s"
+    printf '%7d    %s\n' $((SECONDS - from)) "$name" | tee -a "${PARTS_TABLE:-/dev/null}"
 }
 
 build() {
