@@ -16,7 +16,7 @@ class Made(NamedTuple):
     kind: str
     word: object
     found: int  # the word's value before the step
-    left: int  # and behind it
+    left: int  # and after it
     outcome: str
 
 
@@ -122,7 +122,7 @@ class Machine:
 
     def _enter(self, thread, call):
         self.held[thread] = call
-        assert not self.queue or self.queue[0] == thread, "another is first in line"
+        assert not self.queue or self.queue[0] == thread, "another is the head of the queue"
         assert len(self.held) == 1 or self.sign() == HOLDING[call].sign == "r", "another is inside"
 
     def sign(self):

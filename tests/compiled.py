@@ -1,5 +1,6 @@
 """Programs and a binding that use what a tree has installed, built as a user would build them."""
 import os
+import re
 import subprocess
 import sys
 from pathlib import Path
@@ -23,7 +24,7 @@ ACCEPTED = "lock ticket threads 1\n0 acquire\n0 add next_ticket found 0\n"
 
 
 def output(*words, **how):
-    """What a command prints, on either output, behind its status where that is not 0."""
+    """What a command prints, on either output, after its status if that is not 0."""
     try:
         ran = subprocess.run(words, stdout=subprocess.PIPE, stderr=subprocess.STDOUT, text=True,
                              check=False, **how)
@@ -66,6 +67,24 @@ def try_binding(tally, tree, folder):
                 lambda got: got.startswith("status 2: Checks a trace") and "Traceback" not in got)
 
 
+def try_conform(tally, tree, folder):
+    """A tour is written, and a lock of the examples follows it. Without one a sentence says so."""
+    documents, tour = tree / "share/doc/lockreplay", folder / "tour"
+    [libraries] = asked(tree, "--variable=libdir", "locktrace")
+    words = [documents / "examples/recording/conform.sh", f"{libraries}/liblk_trace_c.a", "ticket"]
+    tour.mkdir()
+    tally.check("conform without schedules", output(*words, tour),
+                f"status 3: conform.sh: {tour} has no schedules: write some with tests/tour.py "
+                "LOCK THREADS FOLDER\n")
+    tour.rmdir()
+    written = output(documents / "tests/tour.py", "ticket", "2", tour,
+                     env={**os.environ, "PYTHONDONTWRITEBYTECODE": "1"})
+    counts = re.match(r"(\d+) schedules of (\d+) moves take", written)
+    tally.check("a tour is written", counts is not None, True)
+    tally.check("conform", output(*words, tour),
+                f"{counts[1]} schedules of {counts[2]} moves, 0 not followed\n" if counts else "")
+
+
 def try_compiled(tally, tree, folder):
     """Both headers, the library, and a lock of the examples that records a run."""
     for name in ("lockreplay-record", "locktrace"):
@@ -82,3 +101,4 @@ def try_compiled(tally, tree, folder):
     tally.check("a recorded lock runs", output(folder / "mcs", "3", "20", "17", logs), "")
     tally.check("its logs", sorted(file.name for file in logs.iterdir()),
                 ["run.trace", "thread-0.log", "thread-1.log", "thread-2.log"])
+    try_conform(tally, tree, folder)

@@ -4,9 +4,10 @@
     tests/completions.py TREE
 
 TREE is what `make install` filled, where each shell finds the completion by its own rules. Each
-case is a line, and what stands on it when Tab was pressed behind it: the same in all three
-shells. The line is then written to a file by a key that is bound to that. The last line counts
-the cases; the status is 1 where one failed.
+case is a line, and what is on it when Tab was pressed after it: the same in all three
+shells. The line is then written to a file by a key that is bound to that. A completion's
+function may work and not be found by the shell, so it is not called by itself. The last line counts
+the cases; the status is 1 if one failed.
 """
 import os
 import pty
@@ -48,16 +49,29 @@ CASES = [
     ("locktrace --v", "locktrace --version "),
     ("locktrace check --su", "locktrace check --summary "),
     ("locktrace check --format j", "locktrace check --format json "),
+    ("locktrace check --color ne", "locktrace check --color never "),
+    ("locktrace check --qu", "locktrace check --quiet "),
     ("locktrace check hand", "locktrace check handed-on.schedule "),
     ("locktrace check --summary a.schedule hand",
      "locktrace check --summary a.schedule handed-on.schedule "),
     ("locktrace explain --mo", "locktrace explain --moves "),
     ("locktrace explain hand", "locktrace explain handed-on.schedule "),
+    ("locktrace order --format j", "locktrace order --format json "),
+    ("locktrace order --qu", "locktrace order --quiet "),
     ("locktrace order hand", "locktrace order handed-on.schedule "),
     ("locktrace help ord", "locktrace help order "),
+    ("locktrace fi", "locktrace find "),
+    ("locktrace find rw-s", "locktrace find rw-simple "),
+    ("locktrace find hand", "locktrace find handed-on.schedule "),
+    ("locktrace find --ro", "locktrace find --rounds "),
+    ("locktrace space m", "locktrace space mcs "),
+    ("locktrace space --format j", "locktrace space --format json "),
+    ("locktrace cover --re", "locktrace cover --require "),
+    ("locktrace cover hand", "locktrace cover handed-on.schedule "),
+    ("locktrace help sp", "locktrace help space "),
 ]
 
-# What each shell is told first. Control-T then writes the line as it stands.
+# What each shell reads first. Control-T then writes the line as it is.
 SHELLS = {
     "bash": (["bash", "--norc", "--noprofile", "-i"], """
         . /usr/share/bash-completion/bash_completion

@@ -3,8 +3,8 @@
 
 A file of specs/ says in its first line whether it is "Definitions", which a reader has to believe,
 or "Invariants", which nobody has to. Each file of definitions has to be named under "What a reader
-must believe", in the part of its crate, and no other file may stand in a table there. Prints
-`N passed, M failed`, and ends with 1 where one failed.
+must believe", in the item of its crate, and no other name may be in backticks there. Prints
+`N passed, M failed`, and ends with 1 if one failed.
 """
 import pathlib
 import re
@@ -26,10 +26,11 @@ def kinds_of(crate):
 
 
 def parts_of(document):
-    """The text about each crate, in the section about what to believe."""
+    """The item of each crate's list, in the section about what to believe."""
     section = document.split("\n## What a reader must believe\n")[1].split("\n## ")[0]
     pieces = PART.split(section)
-    return dict(zip(pieces[1::2], pieces[2::2]))
+    items = (re.split(r"\n- |\n\n", piece)[0] for piece in pieces[2::2])
+    return dict(zip(pieces[1::2], items))
 
 
 def main():
@@ -39,11 +40,10 @@ def main():
     for crate in crates:
         kinds, text = kinds_of(crate), parts.get(crate, "")
         named = set(re.findall(r"`(\w+)`", text))
-        rows = set(re.findall(r"^\| `(\w+)` \|", text, re.MULTILINE))
         wrong = [f"{name} opens with neither word" for name in kinds if kinds[name] == "neither"]
         wrong += [f"{name} is not named" for name in kinds
                   if kinds[name] == "Definitions" and name not in named]
-        wrong += [f"{name} is no file of definitions" for name in rows
+        wrong += [f"{name} is no file of definitions" for name in sorted(named)
                   if kinds.get(name) != "Definitions"]
         faults += [f"FAILED {crate}/specs: {it}" for it in sorted(wrong)]
         passed += len(kinds) - len(wrong)

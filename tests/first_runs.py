@@ -21,8 +21,7 @@ from document_blocks import blocks_of
 
 TOP = Path(__file__).resolve().parent.parent
 INSTALLED = "/usr/share/doc/lockreplay"
-DOCUMENTS = ("docs/GUIDE.md", "docs/PROGRAM.md", "docs/LOCKTRACE.md",
-             "examples/recording/README.md")
+DOCUMENTS = ("docs/GUIDE.md", "docs/REPORT.md", "docs/TRACE.md", "examples/recording/README.md")
 COMPILER = ("gcc", "libc6-dev")
 ALONE = """mkdir -p /root/alone/logs && cd /root/alone && cat > try.c &&
 gcc -O2 -Wall -Wextra -Werror -pthread -DLR_SEED try.c -o try && ./try 17 &&

@@ -1,10 +1,14 @@
 """A part of locktrace.py: logs that have no order or end early, and lines without their end or with
 too many bytes.
 
-What is said of each is worked out by hand from docs/ORDER.md, docs/TRACE.md and docs/LOCKTRACE.md.
+What is said of each is worked out by hand from docs/TRACE.md and packaging/man/locktrace.1.
 """
-MORE = "{0}: warning: cut off, without its last line\nlocktrace: ordered up to there: {1} steps\n"
-STUCK = "{0}: cannot be placed: {1}\n{0}: note: {2} steps placed; {3}\n"
+MORE = ("{0}: warning: cut off, without its last line\n"
+        "locktrace: note: ordered up to there: {1} steps\n")
+# The step that cannot be placed, the next step of the other thread, if it has one, and the end.
+STUCK = "{0}: cannot be placed: {1}\n{4}{0}: note: {2} steps placed; {3}\n"
+NEXT = "{0}.log:{1}: note: thread {0}'s next step is '{2}': {3}\n"
+WAITS = "a step of another thread has to come before"
 BAD_HEADER = "1.log:1: not a log's header: lock NAME threads N thread T (BadHeader)\n"
 BAD_MOVE = "1.log:{}: not a move (BadLine)\n"
 WHOLE = ["dropped 0"]
@@ -20,35 +24,42 @@ RETURNED = ["release", "read next found 0", "cas tail done", *SWAPPED[:2], "swap
 ENDINGS = [
     ("a wrong step beside a cut log", "mcs", SWAPPED,
      ["acquire", "write next left 0", "swap tail found 1 left 1", *WHOLE], 1,
-     STUCK.format("1.log:4", "left 1 in tail, where the lock leaves 2", 5, "held by 0; queue 0")),
+     STUCK.format("1.log:4", "thread 1's swap left 1 in tail, and the lock leaves 2", 5,
+                  "held by 0; queue 0", "")),
     ("a value that a cut log may explain", "mcs", SWAPPED, [*AWAITED, *WHOLE], 0,
      MORE.format("0.log", 9)),
     ("a value that no log explains", "mcs", [*SWAPPED, *WHOLE], [*AWAITED, *WHOLE], 1,
-     STUCK.format("1.log:8", "found 0 in locked of 1, where the lock has 1", 9,
-                  "held by 0; queue 0,1")),
+     STUCK.format("1.log:8", "thread 1's read found 0 in locked of 1, and the lock has 1", 9,
+                  "held by 0; queue 0,1", "")),
     ("an outcome that a cut log may explain", "rw-simple", ["wlock", "section 1 entered"],
      ["rlock", "section 3 entered", *WHOLE], 0, MORE.format("0.log", 3)),
     ("an outcome that no log explains", "rw-simple", ["wlock", "section 1 entered", *WHOLE],
      ["rlock", "section 3 entered", *WHOLE], 1,
-     STUCK.format("1.log:3", "'entered' came of the section, where the lock gives 'waits'", 3,
-                  "written by 0")),
+     STUCK.format("1.log:3", "thread 1's section came to 'entered', and the lock's to 'waits'", 3,
+                  "written by 0", "")),
     ("a value is less certain than a step that waits", "mcs",
      [*SWAPPED, "release", "read next found 2", *WHOLE],
      ["acquire", "write next found 5 left 0", SWAPPED[2], *RETURNED, *WHOLE], 1,
-     STUCK.format("1.log:3", "found 5 in next of 1, where the lock has 0", 3,
-                  "held by nobody; queue empty")),
+     STUCK.format("1.log:3", "thread 1's write found 5 in next of 1, and the lock has 0", 3,
+                  "held by nobody; queue empty", NEXT.format(0, 4, "0 swap tail found 0", WAITS))),
 ]
-# Of two wrong steps the second is named, whichever thread makes it. `{t}` is its thread.
+# Of two wrong steps the second is named, whichever thread makes it. `{t}` is its thread, and `{o}`
+# the other one, of which the line and the next step follow.
 SUSPECTS = [
     ("a refused step and a value", "ticket", ["acquire", "add next_ticket found 5"],
      ["acquire", "read now_serving found 0"],
      "'{t} read', but thread {t}'s next step is 'add' (WrongStep)", 2,
-     "held by nobody; queue empty"),
+     "held by nobody; queue empty",
+     (3, "{o} add next_ticket found 5",
+      "thread {o}'s add found 5 in next_ticket, and the lock has 0")),
     ("an outcome and a count", "rw-simple",
      ["rlock", "section 1 entered", "runlock", "section 1 left"], ["wlock", "section 2 entered"],
-     "'entered' came of the section, where the lock gives 'waits'", 4, "read by {other}"),
+     "thread {t}'s section came to 'entered', and the lock's to 'waits'", 4, "read by {o}",
+     (5, "{o} section 1 left", "thread {o}'s section has the count 1, after the count 1")),
     ("two outcomes", "rw-simple", ["wlock", "section 2 waits"], ["rlock", "section 1 waits"],
-     "'waits' came of the section, where the lock gives 'entered'", 2, "held by nobody"),
+     "thread {t}'s section came to 'waits', and the lock's to 'entered'", 2, "held by nobody",
+     (3, "{o} section 2 waits",
+      "thread {o}'s section came to 'waits', and the lock's to 'entered'")),
 ]
 TAKEN = "acquire\nadd next_ticket found 0\nread now_serving found 0\ndropped 0\n"
 # What follows the header of thread 1's log, its bytes as they are; the status, and what is said.
@@ -59,7 +70,7 @@ TEXTS = [
     ("a last line without its end", "acquire\ndropped 0", 0, ""),
     ("dropped moves", "acquire\ndropped 18446744073709551615\n", 0,
      "1.log: warning: 18446744073709551615 moves were dropped\n"
-     "locktrace: ordered up to there: 4 steps\n"),
+     "locktrace: note: ordered up to there: 4 steps\n"),
     ("too many dropped moves", "acquire\ndropped 18446744073709551616\n", 4, BAD_MOVE.format(3)),
 ]
 
@@ -78,14 +89,15 @@ def logs_without_an_order(program):
         write(program, *("\n".join([f"lock {lock} threads 2 thread {t}", *moves, ""])
                          for t, moves in enumerate((first, second))))
         case(program, name, status, error)
-    for name, lock, less, more, said, placed, standing in SUSPECTS:
+    for name, lock, less, more, said, placed, standing, (at, step, wrong) in SUSPECTS:
         for t in (0, 1):
             logs = (less, more) if t else (more, less)
             write(program, *("\n".join([f"lock {lock} threads 2 thread {u}", *moves, *WHOLE, ""])
                              for u, moves in enumerate(logs)))
             line = f"{t}.log:{len(more) + 1}"
             case(program, f"{name}, thread {t}", 1,
-                 STUCK.format(line, said.format(t=t), placed, standing.format(other=1 - t)))
+                 STUCK.format(line, said.format(t=t), placed, standing.format(o=1 - t),
+                              NEXT.format(1 - t, at, step.format(o=1 - t), wrong.format(o=1 - t))))
 
 
 def texts_of_logs(program):

@@ -5,10 +5,10 @@
 
 The hosts are two sshd of this machine (hosts.py). 200 random schedules are replayed here and on
 both: the reports come in the order of the files, and the statuses are right. Of 40 on the hosts,
-nothing is lost where one goes away in the middle. A run that was ended in the middle goes on where
+nothing is lost if one goes away in the middle. A run that was ended in the middle goes on where
 it was. Reports and statuses that are due are the oracle's. The commands are taken from the document
-as they stand there, and their logs stay where the next one finds them. The last line counts the
-cases; the status is 1 where one failed.
+as they are there, and their logs stay for the next one to find. The last line counts the
+cases; the status is 1 if one failed.
 """
 import os
 import random
@@ -35,7 +35,7 @@ FEW = 40
 LONGEST = 60  # moves
 SEED = 1991
 PATIENCE = 100  # seconds
-# The commands are the document's own, in the order in which they stand there.
+# The commands are the document's own, in their order there.
 (ONE_MACHINE, LINES_OF_THE_LOG, AS_A_BATCH, RESUMED_HERE, SEVERAL_HOSTS, HOST_GOES_AWAY, RESUMED,
  IN_GROUPS) = re.findall(r"```sh\n(.*?)\n```", (TOP / "docs/PARALLEL.md").read_text(), re.DOTALL)
 IN_GROUP = int(re.search(r"--max-args (\d+)", IN_GROUPS)[1])

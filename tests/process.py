@@ -36,7 +36,7 @@ EMPTY_REPORT = b"end 0\n"
 REFUSED = b"lock ticket threads 2\n0 release\n"
 REFUSED_REPORT = b"refused line 2 NotHolder\n"
 
-# A thread that spins to the limit of moves, behind one that never enters.
+# A thread that spins to the limit of moves, after one that never enters.
 SPINS = 65_532
 SPINNING = b"lock ticket threads 2\n0 acquire\n0 add\n1 acquire\n1 add\n" + b"1 read\n" * SPINS
 SPINNING_REPORT = (
@@ -48,7 +48,7 @@ SPINNING_REPORT = (
     + b"end 65536\n"
 )
 
-# The longest report but for the numerals: 64 threads in line, and the last of them spins.
+# The longest report but for the numerals: 64 threads in the queue, and the last of them spins.
 CROWD = b",".join(b"%d" % thread for thread in range(64))
 CROWDED = (
     b"lock ticket threads 64\n"
@@ -150,7 +150,7 @@ def standard_input():
     os.close(folder)
     case("a pipe that ends in a move", ["replay"], 1, b"fault line 2 BadLine\n",
          stdin=HANDED_ON[:27])
-    case("a pipe that ends behind a move", ["replay"], 0, HANDED_ON_REPORT[:34] + b"end 1\n",
+    case("a pipe that ends after a move", ["replay"], 0, HANDED_ON_REPORT[:34] + b"end 1\n",
          stdin=HANDED_ON[:31])
     with open("/dev/zero", "rb") as endless:
         case("input without end", ["replay"], 1, b"fault TooLong\n", stdin=endless)

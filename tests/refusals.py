@@ -73,7 +73,7 @@ class Refusing:
             if not is_due(*answer) and not (refused and answer == MEMORY):
                 return f"request {number}, refused: {refused}: {str(answer)[:300]}"
             if not refused:
-                return None if refusals else "want of memory was never answered"
+                return None if refusals else "out of memory was never answered"
         return "a request was refused each time"
 
 
@@ -90,7 +90,7 @@ def replayed(report, status):
 
 
 def due(row, before):
-    """Whether an answer is the row's report behind the line before it."""
+    """Whether an answer is the row's report after the line before it."""
     return lambda output, error, status: (output.startswith(before) and error == b""
                                           and row.is_met_by(output[len(before):])
                                           and status == row.status())

@@ -4,7 +4,7 @@
     short_memory.py PROGRAM
 
 Each faulty text is replayed under ever wider limits of memory, and so is a text of the same length
-whose fault is a bad line behind its header. The second needs memory for its moves and the first
+whose fault is a bad line after its header. The second needs memory for its moves and the first
 needs none: there are limits under which the one is reported and the other is not. Under each limit
 the program reports the fault or ends with `out of memory`. Prints `N passed, M failed` last, and
 ends with 1 where one failed.

@@ -1,11 +1,11 @@
 #!/usr/bin/env python3
-"""Counts what breaks the rules of layout, and ends with 1 where something does.
+"""Counts what breaks the rules of layout, and ends with 1 if something does.
 
     style.py [FILE...]
 
 - A line has at most 100 columns. Rows of tables and lines of links in documents may be longer, and
   in a proof the path of a module.
-- A file has at most 400 lines, and the body of a function at most 40.
+- A file of code has at most 400 lines, and the body of a function at most 40.
 - A file opens with what it is: a comment or a docstring. Lists of modules, and the answers and
   invariants of one function's proof, are named by their place.
 
@@ -22,7 +22,7 @@ TOP = pathlib.Path(__file__).resolve().parent.parent
 KINDS = {".rt", ".rs", ".antt", ".py", ".js", ".mjs", ".c", ".h", ".pml", ".sh", ".md"}
 COLUMNS, LINES, BODY = 100, 400, 40
 
-# What a file of each kind opens with, behind a line `#!`.
+# What a file of each kind opens with, after a line `#!`.
 HEADS = {
     ".rt": ("//!", "//"), ".antt": ("--",), ".py": ('"""',), ".sh": ("#",), ".md": ("# ",),
     ".js": ("//", "/*"), ".mjs": ("//", "/*"), ".c": ("/*", "//"), ".h": ("/*", "//"),
@@ -58,8 +58,8 @@ def long_lines(path, lines):
 
 
 def long_file(path, lines):
-    """A file of too many lines."""
-    if len(lines) > LINES:
+    """A file of code with too many lines."""
+    if len(lines) > LINES and path.suffix != ".md":
         yield 1, f"{path.name} has {len(lines)} lines"
 
 
@@ -83,7 +83,7 @@ def opening(lines, first, indent):
 
 
 def bodies_in_braces(lines, pattern):
-    """The same where a body stands in braces, the last of which has the function's indent."""
+    """The same of bodies in braces, the last of which has the function's indent."""
     for first, line in enumerate(lines):
         found = pattern.match(line)
         opens = opening(lines, first, found.group(1)) if found else None

@@ -1,6 +1,6 @@
 """The worked rows: texts, and the reports that a person wrote down for them.
 
-They stand in three kinds of files:
+They are in three kinds of files:
 
     examples/NAME.schedule, NAME.report      lessons
     tests/rows/NAME.schedule, NAME.report    whole reports that are no lesson
@@ -8,7 +8,7 @@ They stand in three kinds of files:
                                              texts.txt says how they are written
 
 The two texts of examples/ that are too large to lie there are printed by examples/limits.sh. Rows
-that a rule makes stand in no file: `mcs_queue_of_64`, `most_moves`, and the many of `short_rows`.
+that a rule makes are in no file: `mcs_queue_of_64`, `most_moves`, and the many of `short_rows`.
 `rows.py` replays all of them, and `refusals.py` all but the short ones, with each request for
 memory refused.
 """
@@ -20,7 +20,7 @@ from typing import NamedTuple
 TOP = pathlib.Path(__file__).resolve().parent.parent
 EXAMPLES, ROWS = TOP / "examples", TOP / "tests" / "rows"
 TABLES = ["texts", "refusals", "limits"]
-EARLIER = b"..\n"  # stands for the lines of a report that a row does not tell
+EARLIER = b"..\n"  # stands for the lines of a report that a row does not have
 ESCAPES = {"|": "\n", r"\r": "\r", r"\0": "\0"}
 
 
@@ -109,7 +109,7 @@ def mcs_queue_of_64():
 
 
 def most_moves():
-    """65,536 moves: two threads wait behind one another and the second polls."""
+    """65,536 moves: two threads in the queue, of which the second polls."""
     text = b"lock ticket threads 2\n0 acquire\n0 add\n1 acquire\n1 add\n"
     report = ["1 0 acquire called hold - queue -", "2 0 add moved hold - queue 0",
               "3 1 acquire called hold - queue 0", "4 1 add moved hold - queue 0,1"]
@@ -158,7 +158,7 @@ def cuts():
 
 
 def last_bytes():
-    """A move and one byte behind it, which ends the line or makes another word of it."""
+    """A move and one byte after it, which ends the line or makes another word of it."""
     for byte in range(256):
         due = b"fault line 2 BadLine\n"
         if byte == 10:
