@@ -41,7 +41,10 @@ fn ticket_waits_for_a_round(rt: HostRuntime) -> Result<(), Fail> {
         (0, "0 read now_serving found 1"),
         (0, "1 read now_serving found 1"),
     ];
-    assert_eq!(rt; shortest(rt.alloc(), LockKind::Ticket, 1, 1, &lines)?, Some(9));
+    assert_eq!(rt;
+        shortest(rt.alloc(), LockKind::Ticket, 1, 1, &lines)?,
+        Some(9)
+    );
     Ok(())
 }
 
@@ -72,7 +75,10 @@ fn writer_waits_and_enters(rt: HostRuntime) -> Result<(), Fail> {
         (1, "0 section waits"),
         (2, "0 section entered"),
     ];
-    assert_eq!(rt; shortest(rt.alloc(), LockKind::RwSimple, 1, 3, &lines)?, Some(7));
+    assert_eq!(rt;
+        shortest(rt.alloc(), LockKind::RwSimple, 1, 3, &lines)?,
+        Some(7)
+    );
     Ok(())
 }
 
@@ -85,7 +91,10 @@ fn announced_writer_enters(rt: HostRuntime) -> Result<(), Fail> {
         (1, "0 section entered"),
         (1, "1 section entered"),
     ];
-    assert_eq!(rt; shortest(rt.alloc(), LockKind::RwFifo, 1, 2, &lines)?, Some(7));
+    assert_eq!(rt;
+        shortest(rt.alloc(), LockKind::RwFifo, 1, 2, &lines)?,
+        Some(7)
+    );
     Ok(())
 }
 
