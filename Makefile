@@ -91,6 +91,7 @@ tried-layout:
 	tests/page_codes.py
 	tests/definitions.py
 	tests/style.py
+	tests/formatted.py
 	tests/packages_list.py
 	tests/wanted_cases.py
 	tests/mutant_cases.py

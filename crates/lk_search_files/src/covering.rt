@@ -1,10 +1,9 @@
 //! The job of counting which kinds of transition traces took.
 
-use crate::coverage::Coverage;
 use crate::endings::Ending;
-use crate::kinds::{LOCKS, Transition};
 use crate::listing::{Format, put_coverage, put_missing};
 use lk_locks::LockKind;
+use lk_search::{Coverage, LOCKS, Transition};
 use lk_trace::{Event, Made, TextFault, TraceLine, TraceReader};
 use lk_trace_files::{Line, Lines, Summary};
 use std::alloc::{AllocError, Global};

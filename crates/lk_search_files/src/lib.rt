@@ -7,12 +7,10 @@
 
 mod admitting;
 mod asked;
-mod coverage;
 mod covering;
 mod endings;
 mod faults;
 mod finding;
-mod kinds;
 mod listing;
 mod numbers;
 mod reading;
@@ -24,7 +22,7 @@ pub use asked::{Asked, Shape, Source};
 pub use covering::{CoverJob, cover_traces};
 pub use endings::Ending;
 pub use finding::find_run;
-pub use kinds::is_kind;
 pub use listing::Format;
+pub use lk_search::is_kind;
 pub use sketches::{Sketch, SketchFault};
 pub use spaces::count_space;

@@ -1,11 +1,10 @@
 //! The counts of kinds of transition, as text and as JSON, and which of the required ones are
 //! missing.
 
-use crate::coverage::Coverage;
-use crate::kinds::{Kind, kinds_of};
 use crate::numbers::Moves;
 use lk_locks::LockKind;
 use lk_replay::parts::lock_text;
+use lk_search::{Coverage, Kind, kinds_of};
 use std::alloc::AllocError;
 use std::fmt;
 use std::fmt::Write;
