@@ -231,7 +231,8 @@ def a_long_word_stays_inside(browser):
     """Whatever is found in a line is broken where the panel ends."""
     browser.resize(1440, 900)
     browser.open()
-    for text in [f"{HEADER}0 {'x' * 5000}\n", f"lock {'y' * 900} threads 2\n", f"{'9' * 300} add\n"]:
+    lock, word = "y" * 900, "x" * 5000
+    for text in [f"{HEADER}0 {word}\n", f"lock {lock} threads 2\n", f"{'9' * 300} add\n"]:
         browser.run(OPEN, text)
         assert not browser.run(WIDE), text[:40]
 

@@ -1,6 +1,7 @@
 """Print: strips of moves, memory and code, and the table, in light colours whatever the theme; with
 answers or with blanks, and never on more than twelve sheets."""
 import re
+import zlib
 
 from browser import TOP
 from reports import moves_of
@@ -31,7 +32,8 @@ document.documentElement.dataset.theme = 'dark';
 // As the style is for a printer: rules for the screen are off, those for paper are on.
 for (const { cssRules } of document.styleSheets) {
   for (const { media } of cssRules) {
-    if (media) media.mediaText = media.mediaText.replace('screen', 'speech').replace('print', 'all');
+    const text = media?.mediaText.replace('screen', 'speech').replace('print', 'all');
+    if (media) media.mediaText = text;
   }
 }
 const shows = (id) => getComputedStyle(document.getElementById(id)).display !== 'none';
@@ -56,8 +58,10 @@ MOST_SHEETS = 12
 
 
 def sheets(data):
-    """How many pages a PDF has."""
-    return len(re.findall(rb"/Type\s*/Page[^s]", data))
+    """How many pages a PDF has; some of its objects may be packed."""
+    packed = re.findall(rb"/ObjStm.*?stream\r?\n(.*?)endstream", data, re.DOTALL)
+    parts = [data, *(zlib.decompressobj().decompress(part) for part in packed)]
+    return sum(len(re.findall(rb"/Type\s*/Page[^s]", part)) for part in parts)
 
 
 def turns(threads, count):

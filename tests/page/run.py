@@ -46,7 +46,7 @@ IN_BOTH = [
     "faults",
     "plays",
     "guide",
-    "typing",
+    "edits",
 ]
 # Measured, so by itself.
 ALONE = ["large"]

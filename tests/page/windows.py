@@ -60,7 +60,8 @@ def the_line_and_the_question(browser):
 
 LINE = """
 const line = [...document.querySelectorAll('#code-lines .here')].at(-1).getBoundingClientRect();
-return [line.top >= 0 && line.bottom <= document.querySelector('footer').getBoundingClientRect().top,
+const foot = document.querySelector('footer').getBoundingClientRect();
+return [line.top >= 0 && line.bottom <= foot.top,
   document.documentElement.scrollHeight > innerHeight];
 """
 
