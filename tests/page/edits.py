@@ -1,7 +1,7 @@
 """An edit of a long text is settled soon, and what Undo keeps has a bound."""
 LONG = "lock ticket threads 2\\n0 acquire\\n0 add\\n1 acquire\\n1 add\\n"
-# A text of 354,000 bytes, of which a letter is typed at the end. What the browser needs to set a new
-# value of the field is not counted, and of five rounds the least is.
+# A text of 354,000 bytes, at whose end a letter is typed. To set the field is the browser's, and is
+# not counted; of five rounds the least is.
 EDITED = f"""
 const {{ page }} = window.lockreplay;
 page.openOwn(new TextEncoder().encode('{LONG}' + '1 read\\n'.repeat(50560)));
