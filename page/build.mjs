@@ -3,7 +3,7 @@
 // proved module:
 //
 //     node page/build.mjs MODULE.wasm            writes the page
-//     node page/build.mjs MODULE.wasm --check    fails where the page is not what this would write
+//     node page/build.mjs MODULE.wasm --check    fails if the page is not what this would write
 //
 // It needs Node alone and fetches nothing. The same sources and module give the same bytes
 // anywhere.
@@ -16,7 +16,7 @@ import { setFlagsFromString } from 'node:v8';
 import { bundle } from './build/bundle.mjs';
 import { lessonsOf, storedOf } from './build/lessons.mjs';
 import { rangesOf } from './build/ranges.mjs';
-import { codeOf } from './src/locks_code.js';
+import { codeOf, wordsOf } from './src/locks_code.js';
 
 const HERE = dirname(fileURLToPath(import.meta.url));
 const PAGE = join(HERE, 'lockreplay.html');
@@ -30,7 +30,7 @@ const asScript = (data) => JSON.stringify(data).replaceAll('<', '\\u003c');
 const style = () => readdirSync(join(SOURCES, 'style')).sort()
   .map((name) => read('src', 'style', name)).join('').trimEnd();
 
-// A script runs only where its bytes are these.
+// A script runs only if its bytes are these.
 function policy(script) {
   const hash = createHash('sha256').update(script).digest('base64');
   return `default-src 'none'; script-src 'sha256-${hash}' 'wasm-unsafe-eval'; `
@@ -39,10 +39,10 @@ function policy(script) {
 
 function build(module) {
   const lessons = lessonsOf(join(HERE, '..', 'examples'));
-  const code = codeOf(read('..', 'docs', 'LOCKS.md'));
+  const locks = read('..', 'docs', 'LOCKS.md');
   const data = {
-    module: module.toString('base64'), code, lessons, stored: storedOf(module, lessons),
-    ranges: rangesOf(module),
+    module: module.toString('base64'), code: codeOf(locks), words: wordsOf(locks), lessons, 
+    stored: storedOf(module, lessons), ranges: rangesOf(module),
   };
   const script = `${bundle(SOURCES, 'main.js')}\nstart(${asScript(data)});`;
   // Functions, so that no `$` of a source is taken for a sign of the replacement.

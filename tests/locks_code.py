@@ -5,8 +5,9 @@ Each line names a phase and the kind of step that is due in it. The definitions 
 `after_call` of crates/lk_locks/specs say the same of every phase of a queue lock. The calls of the
 read-write locks are in a file that they share; which phases each of these has, its own `step`
 tells, and each of them takes a section. Both must name the same phases with the same kinds, and the
-same calls. Each model of bench/spin has a label for each phase, and no other. Prints `N passed, M
-failed`, and ends with 1 where one failed.
+same calls. The table above a lock's code has the numbers of its words, from which the page takes
+them: they are those of the definitions. Each model of bench/spin has a label for each phase, and no
+other. Prints `N passed, M failed`, and ends with 1 if one failed.
 """
 import pathlib
 import re
@@ -26,6 +27,8 @@ CALLS = {"Acquire": "acquire", "Release": "release", "ReadLock": "rlock", "ReadU
 KINDS = {"Read": "read", "Write": "write", "Swap": "swap", "CompareAndSwap": "cas",
          "FetchAndAdd": "add"}
 LINE = re.compile(r"-- (\w+) (\w+)(?: looks at .*)?$", re.MULTILINE)
+NUMBERED = re.compile(r"^\| (\d+) \| `(\w+)` \|$", re.MULTILINE)
+WORD = re.compile(r"^abbrev pub (\w+) : ℕ\n\1 = (\d+)$", re.MULTILINE)
 LABEL = re.compile(r"^(\w+):", re.MULTILINE)
 STEP = re.compile(r"^step .*?\(?\b([A-Z]\w+)[^=]*=", re.MULTILINE)
 
@@ -51,6 +54,20 @@ def in_definitions(lock):
             | {("inside", phase) for phase in inside if phase != "Idle"})
 
 
+def words_in_document(lock):
+    """The number of each word that has one of its own."""
+    above = (TOP / "docs" / "LOCKS.md").read_text().split(f"\n```{lock}\n")[0]
+    table = NUMBERED.findall(above.rsplit("\n## ", 1)[1])
+    return {re.sub("[A-Z]", lambda big: f"_{big[0].lower()}", name): int(number)
+            for number, name in table}
+
+
+def words_in_definitions(lock):
+    """The same by the definitions."""
+    text = (SPECS / f"{lock.replace('-', '_')}.antt").read_text()
+    return {name: int(number) for name, number in WORD.findall(text)}
+
+
 def labels(lock):
     """The labels of a lock's model."""
     return set(LABEL.findall((MODELS / f"{lock.replace('-', '_')}.pml").read_text()))
@@ -61,6 +78,7 @@ def main():
     for lock in LOCKS:
         written, defined = in_document(lock), in_definitions(lock)
         phases = {phase for kind, phase in written if kind != "call"}
+        tally.check(f"{lock}: words", words_in_document(lock), words_in_definitions(lock))
         tally.check(f"{lock}: labels of the model", labels(lock), phases | {"end_Idle"})
         for place in sorted(written | defined):
             tally.fault(f"{lock}: {' '.join(place)}",

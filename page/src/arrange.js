@@ -15,7 +15,7 @@ const PHONE = 600;
 const TOOLS = { all: 1720, most: 1181, few: 600, none: 0 };
 // The share of the height that lanes may take, and in a low window.
 const LANES = { wide: 0.29, medium: 0.245, tall: 0.2, phone: 0.145, row: 0.29, column: 0.24 };
-const LOW = { height: 800, share: 0.26 };
+const LOW = { wide: { height: 800, share: 0.26 }, medium: { height: 600, share: 0.2 } };
 const LANES_LEAST = 100;
 
 export function zoomNow() {
@@ -35,8 +35,9 @@ function arrangementOf(width, height, parts) {
 export function lanesHeight() {
   const height = innerHeight / zoomNow();
   const { layout } = document.body.dataset;
-  const low = layout === 'wide' && height < LOW.height;
-  return Math.max(LANES_LEAST, height * (low ? LOW.share : LANES[layout]));
+  const low = LOW[layout];
+  const share = height < low?.height ? low.share : LANES[layout];
+  return Math.max(LANES_LEAST, height * share);
 }
 
 function hideParts(parts, hasLock) {

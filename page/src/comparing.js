@@ -48,7 +48,7 @@ export class Comparing {
     const session = this.page.session.twin();
     let at = (move) => Math.min(move, session.run.last);
     let { title } = origin;
-    if (this.kind === 'origin') session.open(origin.run.text);
+    if (this.kind === 'origin') session.open(origin.run.text, null, 0, origin.run);
     else {
       const there = onOtherLock(session.machine, run);
       session.open(there.text);

@@ -19,6 +19,18 @@ export function codeOf(document) {
   }));
 }
 
+const WORD = /^\| (?<number>\d+) \| `(?<name>\w+)` \|$/gm;
+
+// The names of each lock's words by their numbers, as the table above its block has them.
+export function wordsOf(document) {
+  return Object.fromEntries(LOCK_NAMES.map((lock) => {
+    const above = document.split(`\n\`\`\`${lock}\n`)[0].split('\n## ').pop();
+    const names = [];
+    for (const { groups } of above.matchAll(WORD)) names[groups.number] = groups.name;
+    return [lock, names];
+  }));
+}
+
 // The waiting lines by phase.
 export function awaitedLines(lines) {
   return new Map(lines.filter(({ code }) => code.trimStart().startsWith('await'))

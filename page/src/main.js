@@ -14,6 +14,7 @@ import { linesOf, Session } from './session.js';
 import { StoredMachine } from './stored.js';
 import { frameOf, pictureOf, pngOf } from './take.js';
 import { texts } from './texts.js';
+import { learnWords } from './words.js';
 
 // The machine if the browser can run it, else what it answered when the page was built.
 function runOrStored(data) {
@@ -42,6 +43,7 @@ function writeTexts() {
 }
 
 export function start(data) {
+  learnWords(data.words);
   const machine = machineOf(data);
   const lessons = data.lessons.map((lesson) => ({ ...lesson, text: fromBase64(lesson.text) }));
   writeTexts();

@@ -49,7 +49,7 @@ function staleView({ stale }) {
     <button type="button" data-keep="true">${T.keep}</button></p>`;
 }
 
-// Where there is no lock to show: what a schedule looks like.
+// If there is no lock to show: what a schedule looks like.
 export const nothingView = (verdict, { threads }) => html`${verdict}<p>${T.begins}</p>
   <pre class="mono">${T.template}</pre>
   <p class="hint">${T.forms(LOCK_NAMES.join(', '), threads)}</p>`;

@@ -182,4 +182,13 @@ function reveal(page, view) {
   revealIn(byId('code-lines'), '.here');
   revealIn(byId('memory-picture'), '[data-moving]');
   if (page.mode === 'play') revealIn(byId('choices'), '[data-here]');
+  revealOnPage();
+}
+
+// In a window too low for the page, its scrolling stops above the foot.
+function revealOnPage() {
+  const { scrollHeight, clientHeight } = document.documentElement;
+  if (scrollHeight <= clientHeight) return;
+  const lines = document.querySelectorAll('#code-lines .here');
+  lines[lines.length - 1]?.scrollIntoView({ block: 'nearest' });
 }

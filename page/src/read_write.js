@@ -8,6 +8,7 @@ import { fitted } from './fitting.js';
 import { folding, movingThread } from './folding.js';
 import { foldedToken, standingOf, token, tokensAt } from './shapes.js';
 import { say, texts } from './texts.js';
+import { wordNames } from './words.js';
 
 const T = translated('readWrite', {
   memory: 'Memory: who is where', inside: 'inside', nobody: 'nobody',
@@ -104,13 +105,13 @@ export function monitor(view, state, x, y) {
     ${rows.length ? rows : nobody}`;
 }
 
-// Where the monitor ends that begins at `y`.
+// How far down a monitor goes that begins at `y`.
 export function monitorEnd(view, state, y) {
   return y + 28 + MONITOR_ROW * Math.max(1, callersShown(view, state, y).length);
 }
 
-const wordsText = (names, state) => names.map((name, word) => `${name} ${state.word(word)}`)
-  .join(', ');
+const wordsText = (lock, state) => wordNames(lock)
+  .map((name, word) => `${name} ${state.word(word)}`).join(', ');
 
 const counting = (text, coming, going) => text.replaceAll('{coming}', coming)
   .replaceAll('{going}', going);
@@ -121,9 +122,9 @@ export const sectionsSay = (coming, going) => Object.fromEntries(
     Object.entries(outcomes).map(([name, text]) => [name, counting(text, coming, going)]))]));
 
 // Below the picture: who is inside, and the words.
-export function readersCaption(names) {
+export function readersCaption(lock) {
   return (view, state) => {
-    const words = wordsText(names, state);
+    const words = wordsText(lock, state);
     if (!state.holders.length) return { text: say(captions.nobody, { words }) };
     const inside = view.names.few(state.holders);
     const text = state.holderKind === WRITER ? captions.writer : captions.readers;
@@ -131,11 +132,12 @@ export function readersCaption(names) {
   };
 }
 
-// Below a lane's mark: the word that the section changed, and its new value.
-export function sectionMark(shortNames) {
-  return ({ run }, move) => {
-    const name = shortNames[run.records.touched(move)];
-    return name ? `${name} ${run.records.left(move)}` : '';
+// Below a lane's mark: the word that the section changed, by its short name if it has one, and its
+// new value.
+export function sectionMark(lock, shortNames) {
+  return ({ run: { records } }, move) => {
+    const name = wordNames(lock)[records.touched(move)];
+    return name ? `${shortNames[name] ?? name} ${records.left(move)}` : '';
   };
 }
 

@@ -1,6 +1,6 @@
 // One schedule text as the machine plays it: its records, its states, and where it ends.
 
-import { ANSWER, CALLS, FAULTS, MOST_BYTES, MOST_MOVES, PHASE, REFUSALS } from './codes.js';
+import { ANSWER, CALLS, FAULTS, MOST_BYTES, MOST_MOVES, REFUSALS } from './codes.js';
 import { Records } from './machine.js';
 import { Moment } from './moment.js';
 import { Owned } from './owned.js';
@@ -65,13 +65,15 @@ export class Run {
 
   // The phase in which the move found its thread.
   phaseBefore(move) {
-    const before = this.lastMoveOf(this.records.thread(move), move - 1);
-    return before ? this.records.phase(before) : PHASE.Idle;
+    const thread = this.records.thread(move);
+    const before = this.lastMoveOf(thread, move - 1);
+    return before ? this.records.phase(before) : this.begun.phase(thread);
   }
 
   phaseNumberBefore(move) {
-    const before = this.lastMoveOf(this.records.thread(move), move - 1);
-    return before ? this.records.phaseNumber(before) : 0n;
+    const thread = this.records.thread(move);
+    const before = this.lastMoveOf(thread, move - 1);
+    return before ? this.records.phaseNumber(before) : this.begun.phaseNumber(thread);
   }
 }
 

@@ -9,6 +9,7 @@ import {
 import { picture, useOf, wordBox } from './shapes.js';
 import { say } from './texts.js';
 import { handLegend, HANDS, hasWheel, wheelOf, wheelPlaced } from './wheel.js';
+import { wordNamed, wordNames } from './words.js';
 
 const T = translated('rwFifo', {
   title: 'FIFO read-write lock',
@@ -31,10 +32,11 @@ const T = translated('rwFifo', {
 });
 const says = { ...sectionsSay('readAcquires', 'readReleases'), ...T.says };
 
-const WORDS = ['readAcquires', 'readReleases', 'flag'];
-const ACQUIRES = 0;
-const RELEASES = 1;
-const FLAG = 2;
+const NAME = 'rw-fifo';
+const ACQUIRES = 'readAcquires';
+const RELEASES = 'readReleases';
+const FLAG = 'flag';
+const held = (state, name) => state.word(wordNamed(NAME, name));
 
 // What the hands are: beside the words, or below the wheel if the picture is narrow.
 const LEGEND_BESIDE = 640;
@@ -45,11 +47,11 @@ const wheelHeight = ({ width }) => (width >= LEGEND_BESIDE ? 246 : 280);
 function counts(view, state) {
   const [x, y] = legendAt(view);
   const wheel = wheelPlaced(view.run.bits, 104, 160, 58);
-  const hands = [{ value: state.word(RELEASES), style: HANDS.inner },
-    { value: state.word(ACQUIRES), style: HANDS.outer }];
+  const hands = [{ value: held(state, RELEASES), style: HANDS.inner },
+    { value: held(state, ACQUIRES), style: HANDS.outer }];
   return html`${wheelOf(wheel, hands, [])}
-    ${handLegend(x, y, 'outer', WORDS[ACQUIRES])}
-    ${handLegend(x, y + 20, 'inner', WORDS[RELEASES])}`;
+    ${handLegend(x, y, 'outer', ACQUIRES)}
+    ${handLegend(x, y + 20, 'inner', RELEASES)}`;
 }
 
 // The widths of the room, and of the callers, which are beside it or below it.
@@ -58,8 +60,8 @@ const CALLERS = 280;
 const GAP = 24;
 
 function draw(view, state) {
-  const box = (word, x, width) => wordBox(x, 40, width, String(state.word(word)),
-    useOf(view.run, view.marked, word), WORDS[word]);
+  const box = (name, x, width) => wordBox(x, 40, width, String(held(state, name)),
+    useOf(view.run, view.marked, wordNamed(NAME, name)), name);
   const wheel = hasWheel(view.run.bits);
   const left = wheel ? 214 : 24;
   const below = 104 + roomHeight(view, state, ROOM);
@@ -72,7 +74,7 @@ function draw(view, state) {
       ${monitor(view, state, x, y)}`);
 }
 
-const plain = readersCaption(WORDS);
+const plain = readersCaption(NAME);
 
 function caption(view, state) {
   const { text } = plain(view, state);
@@ -83,15 +85,15 @@ function caption(view, state) {
 
 function values(view, move) {
   const state = view.run.state(move);
-  return { acquires: state.word(ACQUIRES), releases: state.word(RELEASES) };
+  return { acquires: held(state, ACQUIRES), releases: held(state, RELEASES) };
 }
 
 const leastWidth = (view) => (hasWheel(view.run.bits) ? 494 : 380);
 
 export const rwFifo = {
-  ...readWrite, name: 'rw-fifo', title: T.title, lesson: 'fifo',
+  ...readWrite, name: NAME, title: T.title, lesson: 'fifo',
   signs: ['inCall', 'line', 'reads', 'writes', 'ended'],
   says, wraps: ['TryRead', 'LeaveRead', 'TryDowngrade'],
-  mark: sectionMark(['acq.', 'rel.', 'flag']), values,
-  wordName: (word) => WORDS[word], draw, caption, leastWidth,
+  mark: sectionMark(NAME, { [ACQUIRES]: 'acq.', [RELEASES]: 'rel.' }), values,
+  wordName: (word) => wordNames(NAME)[word], draw, caption, leastWidth,
 };

@@ -7,6 +7,7 @@ import {
   monitor, monitorEnd, readersCaption, readWrite, room, roomHeight, sectionMark, sectionsSay,
 } from './read_write.js';
 import { picture, useOf, wordBox } from './shapes.js';
+import { wordNamed, wordNames } from './words.js';
 
 const T = translated('rwSimple', {
   title: 'Simple read-write lock',
@@ -20,16 +21,17 @@ const T = translated('rwSimple', {
 });
 const says = { ...sectionsSay('readers', 'readers'), ...T.says };
 
-const WORDS = ['readers', 'flag'];
-const READERS = 0;
-const FLAG = 1;
+const NAME = 'rw-simple';
+const READERS = 'readers';
+const FLAG = 'flag';
+const held = (state, name) => state.word(wordNamed(NAME, name));
 
 const BESIDE = 600;
 
 // The monitor is beside the room, or below it if the picture is narrow.
 function draw(view, state) {
-  const box = (word, x) => wordBox(x, 40, 108, String(state.word(word)),
-    useOf(view.run, view.marked, word), WORDS[word]);
+  const box = (name, x) => wordBox(x, 40, 108, String(held(state, name)),
+    useOf(view.run, view.marked, wordNamed(NAME, name)), name);
   const beside = view.width >= BESIDE;
   const roomWidth = Math.min(272, beside ? view.width * 0.44 : view.width - 48);
   const inside = 104 + roomHeight(view, state, roomWidth);
@@ -39,18 +41,18 @@ function draw(view, state) {
     ${room(view, state, 24, 104, roomWidth)}${monitor(view, state, x, y)}`);
 }
 
-const caption = readersCaption(WORDS);
+const caption = readersCaption(NAME);
 
 function values(view, move) {
   const state = view.run.state(move);
-  return { readers: state.word(READERS), flag: state.word(FLAG) };
+  return { readers: held(state, READERS), flag: held(state, FLAG) };
 }
 
 const leastWidth = () => 420;
 
 export const rwSimple = {
-  ...readWrite, name: 'rw-simple', title: T.title, lesson: 'simple',
+  ...readWrite, name: NAME, title: T.title, lesson: 'simple',
   signs: ['inCall', 'reads', 'writes', 'ended'],
-  says, mark: sectionMark(['readers', 'flag']), values,
-  wordName: (word) => WORDS[word], draw, caption, leastWidth,
+  says, mark: sectionMark(NAME, { [READERS]: 'read.' }), values,
+  wordName: (word) => wordNames(NAME)[word], draw, caption, leastWidth,
 };

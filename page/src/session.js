@@ -28,10 +28,10 @@ export class Session {
     return new Session(this.machine, this.lines);
   }
 
-  // A text of its own.
-  open(text, lesson = null, move = 0) {
+  // A text of its own; `run` if it has been played before.
+  open(text, lesson = null, move = 0, run = null) {
     this.bound = new Bound();
-    this.load(text, lesson, move);
+    this.load(text, lesson, move, run);
     this.origin = { run: this.run, title: this.remarks.title || lesson };
   }
 
@@ -49,17 +49,17 @@ export class Session {
   restore({ text, lesson, place, bound, origin }) {
     this.bound = bound;
     this.origin = origin;
-    this.load(text, lesson, place);
+    this.load(text, lesson, place, origin.run.text === text ? origin.run : null);
   }
 
   // The remarks hold as they are.
   keepRemarks() {
     this.bound = new Bound();
-    this.load(this.run.text, this.lesson, this.place);
+    this.load(this.run.text, this.lesson, this.place, this.run);
   }
 
-  load(text, lesson, move) {
-    this.run = new Run(this.machine, text);
+  load(text, lesson, move, run = null) {
+    this.run = run ?? new Run(this.machine, text);
     this.lesson = lesson;
     this.stale = this.bound.stale(this.run);
     // What is saved and linked.

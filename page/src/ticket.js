@@ -9,10 +9,11 @@ import { folding, movingThread } from './folding.js';
 import { foldedToken, picture, token, useOf, wordBox } from './shapes.js';
 import { say, texts } from './texts.js';
 import { handLegend, HANDS, hasWheel, wheelOf, wheelPlaced } from './wheel.js';
+import { wordNamed, wordNames } from './words.js';
 
-const NEXT_TICKET = 0;
-const NOW_SERVING = 1;
-const WORDS = ['next_ticket', 'now_serving'];
+const NAME = 'ticket';
+const NEXT_TICKET = 'next_ticket';
+const NOW_SERVING = 'now_serving';
 const OWN_VARIABLE = {
   AwaitTurn: 'ticket', TicketInside: 'ticket', ReadServing: 'ticket', PassOn: 'served',
 };
@@ -44,7 +45,8 @@ const { says, captions } = T;
 const CELL = 74;
 const CELL_ROW = 92;
 
-const wordName = (word) => WORDS[word];
+const wordName = (word) => wordNames(NAME)[word];
+const held = (state, name) => state.word(wordNamed(NAME, name));
 const valueText = (_, value) => String(value);
 
 // Who has a ticket, in the order of the queue that the machine names.
@@ -54,8 +56,8 @@ const holdersOfTickets = (state) => state.queue.map((thread) => ({
 
 // Both words, beside each other or one below the other.
 function words(view, state, x, beside) {
-  const box = (word, at, y) => wordBox(at, y, 112, String(state.word(word)),
-    useOf(view.run, view.marked, word), WORDS[word]);
+  const box = (name, at, y) => wordBox(at, y, 112, String(held(state, name)),
+    useOf(view.run, view.marked, wordNamed(NAME, name)), name);
   return html`${box(NEXT_TICKET, x, 40)}${box(NOW_SERVING, ...(beside ? [x + 128, 40] : [x, 96]))}`;
 }
 
@@ -82,8 +84,8 @@ function ownVariables(view, all, x, top) {
 }
 
 function legend(x, y) {
-  return html`${handLegend(x, y, 'outer', WORDS[NEXT_TICKET])}
-    ${handLegend(x, y + 24, 'inner', WORDS[NOW_SERVING])}`;
+  return html`${handLegend(x, y, 'outer', NEXT_TICKET)}
+    ${handLegend(x, y + 24, 'inner', NOW_SERVING)}`;
 }
 
 // From which widths on the words are beside each other, and what the hands are beside the tickets.
@@ -93,8 +95,8 @@ const LEGEND_BESIDE = 640;
 function narrow(view, state) {
   const middle = 150;
   const wheel = wheelPlaced(view.run.bits, middle, 132, 76);
-  const hands = [{ value: state.word(NOW_SERVING), style: HANDS.inner },
-    { value: state.word(NEXT_TICKET), style: HANDS.outer }];
+  const hands = [{ value: held(state, NOW_SERVING), style: HANDS.inner },
+    { value: held(state, NEXT_TICKET), style: HANDS.outer }];
   const beside = view.width >= BESIDE;
   const top = beside ? 116 : 156;
   const most = view.tight ? Math.max(3, Math.floor((view.height - top) / OWN_ROW)) : Infinity;
@@ -138,7 +140,7 @@ function strip(view, state, top) {
   const inRow = Math.max(1, Math.floor((view.width - 48) / CELL));
   const rows = Math.max(1, Math.floor((view.height - top - 24) / CELL_ROW));
   const all = tickets(view, state, view.tight ? Math.max(3, inRow * rows - 1) : Infinity);
-  const cells = [...all, { one: { number: state.word(NEXT_TICKET) } }];
+  const cells = [...all, { one: { number: held(state, NEXT_TICKET) } }];
   const drawn = cells.map(({ one, folded }, i) => {
     const at = [24 + CELL * (i % inRow), top + CELL_ROW * Math.floor(i / inRow)];
     return folded ? foldedCell(view, folded, ...at) : cell(view, one, ...at);
@@ -155,8 +157,8 @@ function served(view, state) {
 }
 
 function wide(view, state) {
-  const box = (word, x) => wordBox(x, 40, 120, String(state.word(word)),
-    useOf(view.run, view.marked, word), WORDS[word]);
+  const box = (name, x) => wordBox(x, 40, 120, String(held(state, name)),
+    useOf(view.run, view.marked, wordNamed(NAME, name)), name);
   const { drawn, height } = strip(view, state, 116);
   return picture(view, 140 + height, caption(view, state).text,
     html`${box(NOW_SERVING, 24)}${box(NEXT_TICKET, 160)}
@@ -168,8 +170,8 @@ function wide(view, state) {
 const draw = (view, state) => (hasWheel(view.run.bits) ? narrow(view, state) : wide(view, state));
 
 function caption(view, state) {
-  const next = state.word(NEXT_TICKET);
-  const serving = state.word(NOW_SERVING);
+  const next = held(state, NEXT_TICKET);
+  const serving = held(state, NOW_SERVING);
   if (!state.queue.length) return { text: say(captions.nobody, { next }) };
   const all = holdersOfTickets(state);
   const first = all[0].number;
@@ -185,7 +187,7 @@ const values = (view, move) => ({ number: view.run.phaseNumberBefore(move) });
 const leastWidth = (view) => (hasWheel(view.run.bits) ? 466 : 446);
 
 export const ticket = {
-  name: 'ticket', title: T.title, lesson: 'ticket', memory: T.memory,
+  name: NAME, title: T.title, lesson: 'ticket', memory: T.memory,
   signs: ['inCall', 'line', 'holds', 'ended'],
   says, wraps: ['TakeTicket', 'PassOn'], mark, values,
   wordName, valueText, draw, caption, leastWidth,

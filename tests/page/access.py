@@ -143,20 +143,26 @@ def on_a_phone(browser):
 
 COLOURS = """
 const colour = (selector, what) => getComputedStyle(document.querySelector(selector))[what];
-return { gutter: colour('#gutter', 'color'), back: colour('#gutter', 'backgroundColor'),
+const texts = ['#now .say', '#now .plain', '.facts dt', '.report-line', '.code-line.plain',
+  '#subtitle', 'kbd', '#memory-caption', '.legend', '#position', '.card h2', '.hint'];
+return { texts: texts.map((text) => colour(text, 'color')), page: colour('body', 'backgroundColor'),
+  gutter: colour('#gutter', 'color'), back: colour('#gutter', 'backgroundColor'),
   word: colour('#memory-picture .word:not(.read)', 'stroke'),
   card: colour('#now', 'backgroundColor') };
 """
 
 
-def contrast_of_numbers_and_words(browser):
-    """Line numbers have 4.5 : 1, and borders of words 3 : 1."""
+def contrast_of_letters_and_words(browser):
+    """Letters and line numbers have 4.5 : 1, and borders of words 3 : 1."""
     browser.resize(1440, 900)
     for theme in ["light", "dark"]:
         browser.open(f"#lesson=mcs-late-link&move=9&theme={theme}")
         browser.press("e")
         shown = browser.run(COLOURS)
         assert contrast(shown["gutter"], shown["back"]) >= 4.5, (theme, shown)
+        for letters in shown["texts"]:
+            for ground in [shown["card"], shown["page"]]:
+                assert contrast(letters, ground) >= 4.5, (theme, letters, ground)
         assert contrast(shown["word"], shown["card"]) >= 3, (theme, shown)
 
 
@@ -166,5 +172,5 @@ CHECKS = [
     what_is_read_aloud,
     at_two_hundred_per_cent,
     on_a_phone,
-    contrast_of_numbers_and_words,
+    contrast_of_letters_and_words,
 ]

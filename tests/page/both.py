@@ -1,5 +1,7 @@
 """One way to drive either browser, for checks that run in both."""
+import base64
 import contextlib
+import json
 
 from selenium.webdriver.common.action_chains import ActionChains
 from selenium.webdriver.common.keys import Keys
@@ -8,6 +10,7 @@ import browser as chromium_browser
 from bidi import firefox
 from browser import PAGE
 
+OWN = (PAGE.as_uri(), "about:", "data:", "blob:")
 WAITED = """
 return document.readyState === 'complete' && Boolean(window.lockreplay);
 """
@@ -43,6 +46,26 @@ class InChromium:
     def until(self, script, value=None):
         """Waits until the script gives something true, and gives that."""
         return chromium_browser.wait(self.driver, lambda _: self.run(script, value))
+
+    def before(self, script):
+        """Runs the script in each page before the page's own."""
+        self.driver.execute_cdp_cmd("Page.addScriptToEvaluateOnNewDocument", {"source": script})
+
+    def pdf(self):
+        """What the page prints."""
+        asked = {"preferCSSPageSize": True, "printBackground": True}
+        return base64.b64decode(self.driver.execute_cdp_cmd("Page.printToPDF", asked)["data"])
+
+    def strangers(self):
+        """What was asked of anybody, or went wrong unseen, since the last time."""
+        found = []
+        for entry in self.driver.get_log("performance"):
+            message = json.loads(entry["message"])["message"]
+            if message["method"] == "Network.requestWillBeSent":
+                found.append(message["params"]["request"]["url"])
+        errors = [one["message"] for one in self.driver.get_log("browser")
+                  if one["level"] == "SEVERE"]
+        return [url for url in found if not url.startswith(OWN)] + errors
 
 
 class InFirefox:
@@ -87,6 +110,18 @@ class InFirefox:
 
     def until(self, script, value=None):
         return self.tab.until(script, value)
+
+    def before(self, script):
+        self.tab.ask("script.addPreloadScript", {"functionDeclaration": f"() => {{ {script} }}"})
+
+    def pdf(self):
+        asked = {"context": self.tab.context, "background": True}
+        return base64.b64decode(self.tab.ask("browsingContext.print", asked)["data"])
+
+    def strangers(self):
+        """What was asked of anybody since the last time."""
+        found, self.tab.requests = self.tab.requests, []
+        return [url for url in found if not url.startswith(OWN)]
 
 
 # What Firefox calls that a system asks for forced colours, or for less motion.

@@ -124,6 +124,14 @@ DAMAGED = {
 }
 
 
+def a_link_from_disk(browser):
+    """Who copies it is told that it names a file of this disk."""
+    browser.open("#lesson=mcs-late-link&move=3")
+    browser.press("l")
+    told = "return document.getElementById('told').textContent"
+    assert "on your disk" in browser.until(told), browser.run(told)
+
+
 def damaged_links(browser):
     """It is said, and the address stays until another schedule is opened."""
     for fragment, part in DAMAGED.items():
@@ -151,6 +159,7 @@ CHECKS = [
     a_text_that_is_dropped,
     a_branch_and_back,
     a_long_schedule,
+    a_link_from_disk,
     damaged_links,
     foreign_bytes_survive_a_mend,
 ]

@@ -75,8 +75,6 @@ def each_lock(browser):
                     assert any(letter.isdigit() for letter in shown["note"]), where
 
 
-
-
 def idle_lanes_are_folded(browser):
     """Of twenty threads, all of which move once, only those that are busy in view have lanes."""
     browser.resize(*SCREEN)
@@ -89,4 +87,31 @@ def idle_lanes_are_folded(browser):
     assert shown["lanes"] <= 6 and shown["note"].startswith(f"{20 - shown['lanes']} threads"), shown
 
 
-CHECKS = [each_lock, idle_lanes_are_folded]
+CUT = """
+return [...document.querySelectorAll('#lanes .found, #memory-picture text')]
+  .map((one) => one.lastChild?.textContent ?? '').filter((text) => text.endsWith('…'));
+"""
+# A writer of each read-write lock polls ten times; and the ticket lock's widest numbers.
+LONG = {
+    "lock rw-simple threads 2": ["0 rlock", "0 section", "1 wlock", *["1 section"] * 10,
+                                 "0 runlock", "0 section", "1 section"] + ["0 rlock"]
+                                + ["0 section"] * 9,
+    "lock rw-fifo threads 2": ["0 rlock", "0 section", "1 wlock", *["1 section"] * 10,
+                               "0 runlock", "0 section", "1 section"] + ["0 rlock"]
+                              + ["0 section"] * 9,
+    "lock ticket threads 2": ["0 acquire", "0 add", "0 read", "1 acquire", "1 add"]
+                             + ["1 read"] * 20,
+}
+
+
+def no_value_is_cut(browser):
+    """Below the marks of many moves, and in memory beside the choices of Play."""
+    browser.resize(*SCREEN)
+    browser.open()
+    for header, moves in LONG.items():
+        for mode in ["lessons", "play"]:
+            browser.run(OPEN, ["\n".join([header, *moves]) + "\n", mode, len(moves)])
+            assert not browser.run(CUT), (header, mode, browser.run(CUT))
+
+
+CHECKS = [each_lock, idle_lanes_are_folded, no_value_is_cut]

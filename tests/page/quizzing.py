@@ -16,6 +16,7 @@ return {
   future: document.querySelectorAll('#lanes .future').length,
   position: text('#position'), score: text('#now .score'), why: text('#now .why'),
   place: window.lockreplay.page.session.place,
+  choices: [...form?.querySelectorAll('[type=radio]') ?? []].map((one) => one.value),
 };
 """
 ANSWER = """
@@ -26,6 +27,8 @@ else form.querySelector('input[name=answer]').value = value;
 form.requestSubmit();
 """
 TRUTH = {"outcome": 2, "holders": 3, "queue": 4}
+# Answers that need no thought: always the same, or what is now.
+ALWAYS = ["moved", "waits", "entered", "left"]
 END = "window.lockreplay.page.go(Infinity)"
 
 
@@ -44,6 +47,8 @@ def all_right(browser):
     while (shown := asked(browser))["move"]:
         assert shown["place"] == shown["move"] - 1 and shown["future"] == 0, shown
         assert not shown["filled"], shown
+        # A call is not asked for, and no step is only called.
+        assert shown["choices"] == (ALWAYS if shown["kind"] == "outcome" else []), shown
         browser.run(ANSWER, moves[shown["move"] - 1][TRUTH[shown["kind"]]])
         right += 1
         score = browser.run(SHOWN)["score"]
@@ -68,8 +73,6 @@ def a_wrong_answer_is_told_why(browser):
     assert "A reader may not pass" in report and "\n- " in report, report
 
 
-# Answers that need no thought: always the same, or what is now.
-ALWAYS = ["moved", "waits", "entered", "left"]
 BLIND = """
 const [outcome, who] = value;
 const { page } = window.lockreplay;

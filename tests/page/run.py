@@ -2,35 +2,33 @@
 """Tests of page/lockreplay.html in real browsers: tests/page/run.py PROGRAM [MODULE...]
 
 Each module has its browser, three at a time; a name with `@firefox` or `@chromium` after it is
-run in that one. After each, the browser's log must have no error,
-and no request may have left the page. Needs what packages.txt has for browsers.
+run in that one. After each check no request may have left the page, and Chromium's log must have no
+error. Needs what packages.txt has for browsers.
 """
 import concurrent.futures
 import importlib
-import json
 import os
 import sys
 import time
 import traceback
 
-from both import opened
-from browser import PAGE, chromium
+from both import InChromium, opened
+from browser import chromium
 
 IN_FIREFOX = ["firefox"]
 IN_CHROMIUM = [
     "lessons",
-    "without_machine",
     "playing",
     "random_texts",
     "own_texts",
     "keyboard",
     "links",
     "looks",
-    "paper",
 ]
 # The same checks in both browsers.
 IN_BOTH = [
     "draws",
+    "windows",
     "hall",
     "many",
     "access",
@@ -43,24 +41,16 @@ IN_BOTH = [
     "quizzing",
     "taking",
     "languages",
+    "paper",
+    "without_machine",
+    "faults",
+    "plays",
+    "guide",
+    "edits",
 ]
 # Measured, so by itself.
 ALONE = ["large"]
 AT_ONCE = 3
-OWN = (PAGE.as_uri(), "about:blank", "data:", "blob:")
-
-
-def stays_silent(driver):
-    """Nothing was asked of anybody, and nothing went wrong unseen."""
-    for entry in driver.get_log("performance"):
-        message = json.loads(entry["message"])["message"]
-        if message["method"] == "Network.requestWillBeSent":
-            url = message["params"]["request"]["url"]
-            assert url.startswith(OWN), f"a request left the page: {url}"
-    errors = [
-        entry["message"] for entry in driver.get_log("browser") if entry["level"] == "SEVERE"
-    ]
-    assert not errors, errors
 
 
 def in_chromium(name, program):
@@ -68,15 +58,19 @@ def in_chromium(name, program):
     with chromium() as driver:
         for check in module.CHECKS:
             check(driver, program)
-            stays_silent(driver)
+            strangers = InChromium(driver).strangers()
+            assert not strangers, strangers
 
 
 def in_browser(name, which):
     """The checks of a module in one of the browsers, with what its system asks for."""
     module = importlib.import_module(name)
     with opened(which, getattr(module, "MEDIA", ())) as browser:
+        browser.strangers()
         for check in module.CHECKS:
             check(browser)
+            strangers = browser.strangers()
+            assert not strangers, strangers
 
 
 def run_module(name, program):

@@ -58,6 +58,13 @@ def the_frame(browser):
     assert "#lesson=mcs-late-link&amp;move=9&amp;embed&amp;show=memory,code" in frame, frame
 
 
+# A step has an open angle, and playing the full triangle.
+FILLS = """
+const fill = (path) => getComputedStyle(document.querySelector(path)).fill;
+return [fill('#back path'), fill('#forward path'), fill('#run .go') !== 'none'];
+"""
+
+
 def tips_and_speeds(browser):
     """Each control of the foot has a tooltip, and the speed is chosen by key."""
     browser.open("#lesson=mcs-late-link&move=0")
@@ -66,6 +73,7 @@ def tips_and_speeds(browser):
         ".map((one) => one.title)"
     )
     assert len(tips) == 6 and all(tips) and len(set(tips)) == 6, tips
+    assert browser.run(FILLS) == ["none", "none", True], browser.run(FILLS)
     browser.press(".", ".")
     assert browser.run("return document.getElementById('speed').value") == "4"
     browser.press(",")
@@ -100,9 +108,11 @@ def words_of_the_report(browser):
     browser.open("#lesson=mcs-late-link&move=9")
     shown = browser.run(
         "const now = document.getElementById('now');"
-        "return ['.outcome', '.plain'].map((part) => now.querySelector(part).textContent)"
+        "return ['.outcome', '.plain', '#code h2', 'dt:last-of-type']"
+        ".map((part) => (now.querySelector(part) ?? document.querySelector(part)).textContent)"
     )
-    assert shown == ["moved", "the compare-and-swap fails"], shown
+    assert shown[:2] == ["moved", "the compare-and-swap fails"], shown
+    assert [one.strip() for one in shown[2:]] == ["Code: this move and next steps", "Queue"], shown
 
 
 CHECKS = [
