@@ -1,5 +1,5 @@
-"""A part of locktrace.py: reports and runs that are longer than what the program lets wait before it
-writes (65,536 bytes) and than a schedule (65,536 moves), and names that JSON has to escape.
+"""A part of locktrace.py: reports that are longer than what the program lets wait before it writes
+(65,536 bytes), runs that are longer than a schedule (65,536 moves), and names that JSON escapes.
 
 What is due is worked out by hand from docs/TRACE.md and packaging/man/locktrace.1.
 """
@@ -73,7 +73,7 @@ def parts_of_a_run(program):
 
 
 def handed_over(polls):
-    """The logs of two threads that hand the lock over to each other: each has polled in vain before
+    """The logs of two threads that hand the lock over to each other: each has polled in vain when
     the other one leaves, so somebody is in a call all the time. The last one polls `polls` times
     more than that."""
     logs = [[], []]
@@ -97,7 +97,7 @@ def moves_left_out(program):
         program.case(f"{polls} polls more", ["order", "thread-0.log", "thread-1.log", "-o", "made"],
                      0, "", said)
         names, parts = schedules_in(program.folder / "made")
-        program.tally.check(f"{polls} polls more: schedules", (names, [len(part) for part in parts]),
+        program.tally.check(f"{polls} polls more: schedules", (names, [*map(len, parts)]),
                             (["run-0001.schedule"], [MOST]))
         program.case(f"{polls} polls more: its trace", ["check", "made/run.trace"], 0)
         shutil.rmtree(program.folder / "made")

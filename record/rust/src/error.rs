@@ -124,6 +124,18 @@ impl fmt::Display for Error {
                 write!(out, "the run was stopped before all of its threads had come")
             }
             Error::Start(error) => write!(out, "a thread was not started: {error}"),
+            Error::Read { path, error } | Error::Save { path, error } => {
+                write!(out, "{}: {error}", path.display())
+            }
+            other => other.fmt_of_moves(out),
+        }
+    }
+}
+
+impl Error {
+    /// What is wrong with the moves of a run, or with those of its schedule.
+    fn fmt_of_moves(&self, out: &mut fmt::Formatter<'_>) -> fmt::Result {
+        match self {
             Error::NoSchedule { line } => write!(out, "line {line} is no line of a schedule"),
             Error::OtherRun { run } => write!(out, "the schedule is not of this run: {run}"),
             Error::NoSeed => out.write_str("wakes for nothing are drawn by the seed of a mode"),
@@ -135,9 +147,7 @@ impl fmt::Display for Error {
                 write!(out, "thread {thread} goes on with a call that is over")
             }
             Error::Strayed => out.write_str("the driver does not do the same after the same turns"),
-            Error::Read { path, error } | Error::Save { path, error } => {
-                write!(out, "{}: {error}", path.display())
-            }
+            _ => Ok(()),
         }
     }
 }
