@@ -9,8 +9,8 @@ a run whose order is known, and the order that is found for the logs of its thre
 have to have waited. Of a lock with a mistake, the trace of a seeded run has to be refused at the
 line where the mistake is first seen, which recording_rust_mistakes.py finds by itself, or the run
 hangs, in as many runs as are due there. recording_rust_searches.py has what is due of runs that are
-explored and of schedules that are followed; with the feature `check` and the library, the examples
-check these by themselves, and refuse the same. The last line counts the cases; the status is 1 if one
+explored and of schedules that are followed; with the feature `check` and LIBRARY the examples check
+these by themselves, and refuse the same. The last line counts the cases; the status is 1 if one
 failed.
 """
 import os

@@ -84,8 +84,8 @@ class Searches:
         return done.returncode == 1 or bool(self.refused(traces))
 
     def fault_of_checked(self, name, preemptions):
-        """An example that checks its explored runs: of a right lock it makes all, and saves none. Of
-        a mistake, for which so many preemptions are enough, it saves the run that hangs or is
+        """An example that checks its explored runs. Of a right lock it makes all, and saves none.
+        Of a mistake, for which so many preemptions are enough, it saves the run that hangs or is
         refused, and says the line that `locktrace` says."""
         folder = self.runs.folder / f"{name}-checked"
         program = self.runs.crate.checked / "release" / "examples" / name
