@@ -137,7 +137,7 @@ test-traces: $(TRACER) $(PROGRAM) $(LIBRARY) tools
 	tests/trace_values.py $(TRACER)
 	tests/order_search.py $(TRACER)
 	tests/recording.py $(TRACER) $(PROGRAM)
-	tests/recording_rust.py $(TRACER)
+	tests/recording_rust.py $(TRACER) $(LIBRARY)
 	tests/recording_modes.py $(LIBRARY)
 	tests/conform.py $(LIBRARY) $(TRACER)
 

@@ -20,6 +20,7 @@ import tempfile
 import threading
 from pathlib import Path
 
+import locktrace_long
 import locktrace_rows
 import logs_by_hand
 from tally import Tally
@@ -390,7 +391,7 @@ def main(path):
             (program.folder / name).write_text(text)
         for part in (words_and_texts, summaries, explained, refusals_by_name, formats, by_threads,
                      devices, folders, memory, terminal, colors, pipes, orders, bad_logs,
-                     *logs_by_hand.PARTS, *locktrace_rows.PARTS):
+                     *logs_by_hand.PARTS, *locktrace_rows.PARTS, *locktrace_long.PARTS):
             part(program)
     return tally.end()
 

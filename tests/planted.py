@@ -1,15 +1,17 @@
 #!/usr/bin/env python3
 """Planted mistakes in the recorded locks: in how many runs each is noticed, in each mode.
 
-    planted.py LOCKTRACE LIBRARY [--modes MODE,..] [--only NAME,..] [--write]
+    planted.py LOCKTRACE LIBRARY [--modes MODE,..] [--only NAME,..] [--write] [--load N]
 
 Each mistake of tests/planted is an edit of a lock of examples/recording. The modes are tried that
 give the same each time, and compared with the tables of docs/PLANTED.md: of a right lock nothing
-may be refused. With --write the tables are written: what the modes tried say, and of others what
-was there. FOLLOW takes the tours of tour.py. Two processes run at a time. The last line counts the
-cases; the status is 1 if one failed.
+may be refused. With --write the tables are written after each mistake: what the modes tried say,
+and of others what was there. With --load N busy loops run beside the runs, on the same processors:
+no right lock may be blamed for that. FOLLOW takes the tours of tour.py. Two processes run at a
+time. The last line counts the cases; the status is 1 if one failed.
 """
 import argparse
+import contextlib
 import os
 import re
 import subprocess
@@ -23,12 +25,14 @@ from planted_locks import EXAMPLES, LOCKS, TOP, all_mistakes, build, planted, ri
 from planted_table import document, in_all
 from tally import Tally
 
+TABLES = TOP / "docs" / "PLANTED.md"
 RUNS = 60
 REAL = ("4", "100")  # threads and rounds
 SEEDED = ("3", "30")
 SHORT = ("3", "4")  # what LR_PCT is for
 EXPLORED = ("3", "1", "2")  # threads, rounds and preemptions
 MOST = "3000"  # runs that are explored
+FAILED = 3  # of a driver
 REAL_MODES = ("VALUES", "NOISE")
 SEARCHES = ("SEED", "ATOMICS", "PCT", "EXPLORE", "FOLLOW")
 ENOUGH = 38  # mistakes that have to be noticed in all runs of one mode
@@ -85,11 +89,17 @@ class Trials:
         return ran(program, *(SHORT if mode == "PCT" else SEEDED), RUNS).stdout.strip()
 
     def is_noticed(self, program, seed, logs):
-        """Whether a run by real threads hangs, or its logs have no order."""
-        if ran(program, *REAL, seed, logs).returncode != 0:
+        """Whether a run by real threads hangs or crashes, or its logs have no order."""
+        status = ran(program, *REAL, seed, logs).returncode
+        if status == FAILED:
+            raise OSError(f"{program} {seed}: memory, a thread or a write was refused")
+        if status != 0:
             return True
-        words = [self.locktrace, "order", *sorted(logs.glob("thread-*.log")), "-o", logs]
-        return ran(*words).returncode == 1
+        status = ran(self.locktrace, "order", "-q", *sorted(logs.glob("thread-*.log")), "-o",
+                     logs).returncode
+        if status > 1:
+            raise OSError(f"{program} {seed}: `order` answers {status}")
+        return status == 1
 
 
 def explored(said):
@@ -120,6 +130,32 @@ def compare(tally, found, rows):
     tally.check("noticed in all runs of a mode", enough, lambda count: count >= ENOUGH)
 
 
+@contextlib.contextmanager
+def busy(count):
+    """So many loops that take all the time that they get."""
+    loops = [subprocess.Popen([sys.executable, "-c", "while True: pass"]) for _ in range(count)]
+    try:
+        yield
+    finally:
+        for loop in loops:
+            loop.kill()
+            loop.wait()
+
+
+def try_all(trials, mistakes, tried, modes, is_written):
+    """What each mode says of each mistake; the tables are written as the mistakes are tried."""
+    found = {}
+    with ThreadPoolExecutor(2) as pool:
+        noticed = pool.map(lambda mistake: trials.noticed(mistake, modes), tried)
+        for mistake, row in zip(tried, noticed):
+            found[mistake.lock, mistake.name] = row
+            print(mistake.lock, mistake.name, *row.values(), sep=" | ", flush=True)
+            if is_written:
+                text = TABLES.read_text()
+                TABLES.write_text(document(text, mistakes, found, rows_of(text)))
+    return found
+
+
 def main():
     words = argparse.ArgumentParser(usage=__doc__)
     words.add_argument("locktrace", type=Path)
@@ -127,27 +163,20 @@ def main():
     words.add_argument("--modes", default=",".join(SEARCHES))
     words.add_argument("--only")
     words.add_argument("--write", action="store_true")
+    words.add_argument("--load", type=int, default=0)
     given = words.parse_args()
     wanted.install("recording")
     modes = given.modes.split(",")
     mistakes = [*map(right, LOCKS), *all_mistakes()]
     names = given.only.split(",") if given.only else [mistake.name for mistake in mistakes]
     tried = [mistake for mistake in mistakes if mistake.name in names]
-    with tempfile.TemporaryDirectory() as name, ThreadPoolExecutor(2) as pool:
+    with tempfile.TemporaryDirectory() as name, busy(given.load):
         trials = Trials(given.locktrace.resolve(), given.library.resolve(), Path(name))
         for lock in LOCKS if "FOLLOW" in modes else ():
             tour_of(lock, Path(name))
-        noticed = pool.map(lambda mistake: trials.noticed(mistake, modes), tried)
-        found = {}
-        for mistake, row in zip(tried, noticed):
-            found[mistake.lock, mistake.name] = row
-            print(mistake.lock, mistake.name, *row.values(), sep=" | ", flush=True)
-    tables = TOP / "docs" / "PLANTED.md"
-    if given.write:
-        text = tables.read_text()
-        tables.write_text(document(text, mistakes, found, rows_of(text)))
+        found = try_all(trials, mistakes, tried, modes, given.write)
     tally = Tally()
-    rows = rows_of(tables.read_text())
+    rows = rows_of(TABLES.read_text())
     tally.check("the mistakes of the tables", set(rows),
                 {(mistake.lock, mistake.name) for mistake in mistakes})
     compare(tally, found, rows)

@@ -70,7 +70,8 @@ def planted(mistake, folder):
         shutil.copytree(EXAMPLES, copy)
         (folder / "record").symlink_to(TOP / "record")
         (copy / "driver.h").rename(copy / "driver_of_one_run.h")
-        shutil.copy(EDITS / "driver.h", copy / "driver.h")
+        for name in ("driver.h", "stuck.h"):
+            shutil.copy(EDITS / name, copy / name)
     for file, old, new in mistake.hunks:
         text = (copy / file).read_text()
         if text.count(old) != 1:

@@ -1,7 +1,7 @@
 #!/usr/bin/env python3
 """The Rust crate that records, from the source to a checked run.
 
-    tests/recording_rust.py LOCKTRACE
+    tests/recording_rust.py LOCKTRACE LIBRARY
 
 Builds record/rust by Debian's cargo, offline and without a warning, runs its own tests and clippy,
 and then runs each example in each mode. Of a right lock every run has to be accepted: the trace of
@@ -9,7 +9,8 @@ a run whose order is known, and the order that is found for the logs of its thre
 have to have waited. Of a lock with a mistake, the trace of a seeded run has to be refused at the
 line where the mistake is first seen, which recording_rust_mistakes.py finds by itself, or the run
 hangs, in as many runs as are due there. recording_rust_searches.py has what is due of runs that are
-explored and of schedules that are followed. The last line counts the cases; the status is 1 if one
+explored and of schedules that are followed; with the feature `check` and LIBRARY the examples check
+these by themselves, and refuse the same. The last line counts the cases; the status is 1 if one
 failed.
 """
 import os
@@ -32,11 +33,12 @@ TOOLS = Path("/usr/bin")  # Debian's, which are as old as any that the crate is 
 CARGO, CLIPPY = ["cargo"], ["cargo-clippy", "clippy"]
 EXAMPLES = ["ticket", "mcs", "rw_simple", "rw_fifo"]
 SEEDS = range(1, 51)
-COUNTS = {"seed": ["3", "100"], "pct": ["3", "100"], "ordered": ["4", "500"],
+COUNTS = {"seed": ["3", "100"], "wakes": ["3", "100"], "pct": ["3", "100"], "ordered": ["4", "500"],
           "free": ["4", "5000"], "noise": ["4", "500"]}  # threads and rounds
-HAS_TRACE = ["seed", "ordered"]
+HAS_TRACE = ["seed", "ordered", "wakes"]
 PRIORITIES = range(1, 21)  # seeds
-NUMBERS = {"seed": SEEDS, "ordered": range(3), "free": range(3), "noise": range(5)}
+NUMBERS = {"seed": SEEDS, "wakes": range(5), "ordered": range(3), "free": range(3),
+           "noise": range(5)}
 COMPLETE, HANGS = 0, 1
 UNUSED = "#![allow(unused)]\n\nmod driver;"  # a mistake may leave something that is not used
 
@@ -49,12 +51,14 @@ def ran(*words, **options):
 class Crate:
     """A copy of the crate, with an example for each mistake, and where it is built."""
 
-    def __init__(self, folder):
+    def __init__(self, folder, library):
         self.source, self.target = folder / "crate", folder / "target"
+        self.checked = folder / "checked"  # where the examples are built that check themselves
         shutil.copytree(CRATE, self.source, ignore=shutil.ignore_patterns("target"))
         self.environment = {**wanted.environment(), "PATH": f"{TOOLS}:/bin",
                             "RUSTC": str(TOOLS / "rustc"), "CARGO_TARGET_DIR": str(self.target),
-                            "RUSTFLAGS": "-D warnings", "RUSTDOCFLAGS": "-D warnings"}
+                            "RUSTFLAGS": f"-D warnings -L native={library.parent}",
+                            "RUSTDOCFLAGS": f"-D warnings -L native={library.parent}"}
 
     def call(self, tool, *words):
         """What is wrong, if something is."""
@@ -173,6 +177,10 @@ def search(cases, searches):
                    lambda counts: searches.fault_of_explored(example, counts), EXPLORED)
     cases.many("explored with a mistake", lambda mistake: searches.fault_of_explored_mistake(
         name_of(mistake), mistake.explored), MISTAKES)
+    for name, preemptions in [*((name, None) for name in EXAMPLES),
+                              *((name_of(it), it.explored) for it in MISTAKES)]:
+        if name in EXAMPLES or preemptions is not None:
+            cases.fault(f"{name} checks itself", searches.fault_of_checked(name, preemptions))
     cases.many("follows with a mistake", lambda mistake: searches.fault_of_followed_mistake(
         name_of(mistake), mistake.example, mistake.followed), MISTAKES)
 
@@ -191,20 +199,23 @@ class Cases(Tally):
 
 def build(cases, crate):
     """The crate by itself, and then its examples, those with a mistake among them."""
-    for features in [[], ["--no-default-features"]]:
+    for features in [[], ["--no-default-features"], ["--features", "check"]]:
         cases.fault(f"cargo test {features}", crate.call(*CARGO, "test", *features))
         cases.fault(f"cargo clippy {features}", crate.call(*CLIPPY, "--all-targets", *features))
     cases.fault("cargo doc", crate.call(*CARGO, "doc", "--no-deps"))
     for mistake in MISTAKES:
         cases.fault(f"plant {name_of(mistake)}", crate.plant(mistake))
-    cases.fault("cargo build", crate.call(*CARGO, "build", "--release", "--examples"))
+    release = [*CARGO, "build", "--release", "--examples"]
+    cases.fault("cargo build", crate.call(*release))
+    cases.fault("cargo build, with checks", crate.call(*release, "--features", "check",
+                                                       "--target-dir", crate.checked))
 
 
-def main(locktrace):
+def main(locktrace, library):
     wanted.install("rust")
     cases = Cases()
     with tempfile.TemporaryDirectory() as name:
-        crate = Crate(Path(name))
+        crate = Crate(Path(name), Path(library).resolve())
         build(cases, crate)
         runs = Runs(Path(locktrace).resolve(), crate, Path(name) / "runs")
         for example in EXAMPLES:

@@ -83,6 +83,25 @@ class Searches:
         done, traces = self.made(name, "explore", *map(str, OF_MISTAKES), str(preemptions))
         return done.returncode == 1 or bool(self.refused(traces))
 
+    def fault_of_checked(self, name, preemptions):
+        """An example that checks its explored runs. Of a right lock it makes all, and saves none.
+        Of a mistake, for which so many preemptions are enough, it saves the run that hangs or is
+        refused, and says the line that `locktrace` says."""
+        folder = self.runs.folder / f"{name}-checked"
+        program = self.runs.crate.checked / "release" / "examples" / name
+        counts = (2, 1, 2) if preemptions is None else (*OF_MISTAKES, preemptions)
+        done = self.ran(program, "explore", *map(str, counts), folder)
+        traces = sorted(folder.glob("*.trace"))
+        if preemptions is None:
+            is_well = (done.returncode, done.stderr, traces) == (0, "", [])
+            return "" if is_well and ", all of them\n" in done.stdout else f"{done}"
+        if done.returncode != 1 or len(traces) != 1:
+            return f"{done} {traces}"
+        said = re.match(r"refused at line (\d+) of the trace: ", done.stderr)
+        refused = self.runs.refused_line(traces[0])
+        hangs = " hang\n" in done.stderr
+        return "" if (int(said[1]) == refused if said else hangs) else f"{done.stderr} {refused}"
+
     def fault_of_followed_mistake(self, name, example, due):
         done, traces = self.made(name, "follow", str(self.tour_of(example)))
         if not re.search(r"\d+ schedules of \d+ moves, \d+ not followed\n", done.stdout):

@@ -2,8 +2,8 @@
 
        LOCK THREADS ROUNDS SEEDS             LR_SEED: prints how many of the runs by the seeds from
                                              1 on are refused or hang
-       LOCK THREADS ROUNDS SEED DIRECTORY    LR_VALUES: status 1 if nothing is noted for 0.4 seconds
-                                             though some thread has not ended
+       LOCK THREADS ROUNDS SEED DIRECTORY    LR_VALUES: status 1 if threads are left, and each of
+                                             them is stuck (stuck.h)
 
    The other modes are those of the examples' own driver.
 
@@ -18,11 +18,10 @@
 #include <stdio.h>
 #include <stdlib.h>
 #include <string.h>
-#include <sys/select.h>
 
 #include "../../record/lockreplay_record.h"
 
-enum { MOST_MOVES = 128, MOST_THREADS = 64, LOOKS = 40 };
+enum { MOST_MOVES = 128, MOST_THREADS = 64 };
 
 static void open_lock(void);
 static void one_round(unsigned thread, unsigned round, lr_log *log);
@@ -63,6 +62,8 @@ static int try_runs(const lr_driver *driver, char **words)
     return 0;
 }
 #else
+#include "stuck.h"
+
 static size_t noted(lr_run *run)
 {
     size_t count = 0;
@@ -70,16 +71,15 @@ static size_t noted(lr_run *run)
     return count;
 }
 
-/* Whether all threads end: it looks every 10 ms whether something was noted. */
+/* Whether all threads end. */
 static int all_end(lr_run *run)
 {
+    static struct tasks tasks;
     size_t before = 0;
-    for (int looks = 0; lr_missing(run) && looks < LOOKS; looks++) {
-        struct timeval pause = {0, 10000};
+    for (int is_stuck = 0; lr_missing(run) && !is_stuck; pause_of_a_tick()) {
         size_t now = noted(run);
-        if (now != before) looks = 0;
+        is_stuck = are_stuck(&tasks, now != before);
         before = now;
-        select(0, NULL, NULL, NULL, &pause);
     }
     return !lr_missing(run);
 }

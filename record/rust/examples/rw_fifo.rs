@@ -4,12 +4,13 @@
 //! A writer sets the flag first, and then waits for the readers that are inside.
 
 mod driver;
+mod read_write;
 
 use std::num::Wrapping;
 use std::process::ExitCode;
 
-use driver::Tested;
 use lockreplay_record::{call, Call, Condvar, Lock, Mutex, Outcome};
+use read_write::ReadWrite;
 
 #[derive(Default)]
 struct State {
@@ -30,7 +31,10 @@ struct FifoLock {
     changed: Condvar,
 }
 
-impl FifoLock {
+impl ReadWrite for FifoLock {
+    const KIND: Lock = Lock::RwFifo;
+    const WIDTH: u32 = 8;
+
     fn read_lock(&self) {
         let _call = call(Call::ReadLock);
         let mut state = self.state.lock();
@@ -84,21 +88,6 @@ impl FifoLock {
         state.read_acquires += 1;
         state.note(Outcome::Entered);
         self.changed.notify_all();
-    }
-}
-
-impl Tested for FifoLock {
-    const LOCK: Lock = Lock::RwFifo;
-    const BITS: u32 = 8;
-
-    fn make(&self, _thread: usize, call: Call) {
-        match call {
-            Call::ReadLock => self.read_lock(),
-            Call::ReadUnlock => self.read_unlock(),
-            Call::WriteLock => self.write_lock(),
-            Call::Downgrade => self.downgrade(),
-            _ => self.write_unlock(),
-        }
     }
 }
 

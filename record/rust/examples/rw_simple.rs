@@ -3,11 +3,12 @@
 //! After Herlihy and Shavit, "The Art of Multiprocessor Programming", chapter 8, with a downgrade.
 
 mod driver;
+mod read_write;
 
 use std::process::ExitCode;
 
-use driver::Tested;
 use lockreplay_record::{call, Call, Condvar, Lock, Mutex, Outcome};
+use read_write::ReadWrite;
 
 #[derive(Default)]
 struct State {
@@ -21,7 +22,10 @@ struct SimpleLock {
     changed: Condvar,
 }
 
-impl SimpleLock {
+impl ReadWrite for SimpleLock {
+    const KIND: Lock = Lock::RwSimple;
+    const WIDTH: u32 = 64;
+
     fn read_lock(&self) {
         let _call = call(Call::ReadLock);
         let mut state = self.state.lock();
@@ -67,21 +71,6 @@ impl SimpleLock {
         state.readers += 1;
         state.note(Outcome::Entered);
         self.changed.notify_all();
-    }
-}
-
-impl Tested for SimpleLock {
-    const LOCK: Lock = Lock::RwSimple;
-    const BITS: u32 = 64;
-
-    fn make(&self, _thread: usize, call: Call) {
-        match call {
-            Call::ReadLock => self.read_lock(),
-            Call::ReadUnlock => self.read_unlock(),
-            Call::WriteLock => self.write_lock(),
-            Call::Downgrade => self.downgrade(),
-            _ => self.write_unlock(),
-        }
     }
 }
 

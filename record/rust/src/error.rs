@@ -7,7 +7,7 @@ use std::path::PathBuf;
 
 use crate::lock::{Lock, MOST_BITS, MOST_THREADS};
 
-/// Why a run was not opened, not entered or not saved, or a schedule not read.
+/// Why a run was not opened, not entered, not saved or not accepted, or a schedule not read.
 #[derive(Debug)]
 #[non_exhaustive]
 pub enum Error {
@@ -55,6 +55,22 @@ pub enum Error {
     OtherRun {
         /// What the run is of, as the header of its trace.
         run: String,
+    },
+    /// Wakes for nothing were asked for in a mode that has no seed.
+    NoSeed,
+    /// A run was to be checked whose moves have no known order.
+    NoOrder,
+    /// A trace is refused.
+    Refused {
+        /// The line of the trace, from 1.
+        line: u64,
+        /// What is wrong with it.
+        reason: String,
+    },
+    /// A thread that has come through its call, by the lock's machine, has not ended.
+    GoesOn {
+        /// The thread.
+        thread: usize,
     },
     /// In a run that is explored a thread did not do what it had done after the same turns.
     Strayed,
@@ -108,12 +124,30 @@ impl fmt::Display for Error {
                 write!(out, "the run was stopped before all of its threads had come")
             }
             Error::Start(error) => write!(out, "a thread was not started: {error}"),
-            Error::NoSchedule { line } => write!(out, "line {line} is no line of a schedule"),
-            Error::OtherRun { run } => write!(out, "the schedule is not of this run: {run}"),
-            Error::Strayed => out.write_str("the driver does not do the same after the same turns"),
             Error::Read { path, error } | Error::Save { path, error } => {
                 write!(out, "{}: {error}", path.display())
             }
+            other => other.fmt_of_moves(out),
+        }
+    }
+}
+
+impl Error {
+    /// What is wrong with the moves of a run, or with those of its schedule.
+    fn fmt_of_moves(&self, out: &mut fmt::Formatter<'_>) -> fmt::Result {
+        match self {
+            Error::NoSchedule { line } => write!(out, "line {line} is no line of a schedule"),
+            Error::OtherRun { run } => write!(out, "the schedule is not of this run: {run}"),
+            Error::NoSeed => out.write_str("wakes for nothing are drawn by the seed of a mode"),
+            Error::NoOrder => out.write_str("of free threads `locktrace order` finds the order"),
+            Error::Refused { line, reason } => {
+                write!(out, "refused at line {line} of the trace: {reason}")
+            }
+            Error::GoesOn { thread } => {
+                write!(out, "thread {thread} goes on with a call that is over")
+            }
+            Error::Strayed => out.write_str("the driver does not do the same after the same turns"),
+            _ => Ok(()),
         }
     }
 }

@@ -77,6 +77,10 @@
 //! ends where a move is not that of its line. [`Setup::explore`] makes all runs of a few threads
 //! with few preemptions. Each run's [trace](Run::trace) is for `locktrace check`.
 //!
+//! [`Setup::spurious`] wakes threads of a monitor for nothing, as a system may. With the feature
+//! `check`, `Run::check` checks a run in the process, by the library `liblk_trace_c.a`: without a
+//! file, so that many runs can be made.
+//!
 //! A run that hangs ends all the same: a seeded one when nothing but failed polls was seen for
 //! 20,000 turns, others when their time is over. The threads unwind at their next operation on an
 //! atomic, without a message, and their logs end there. That needs `panic = "unwind"`, as tests
@@ -105,7 +109,8 @@
 //! variable each. Without the feature `record`, which is on by default, the same types are those of
 //! the standard library in all but name: they are as large, and nothing of the notes is left. A
 //! lock's own crate depends on this one with `default-features = false`, and its tests with them.
-#![forbid(unsafe_code)]
+#![deny(unsafe_code)] // but for the two calls of a C library in `check`
+#![cfg_attr(not(feature = "check"), forbid(unsafe_code))]
 #![warn(missing_docs)]
 // The text above is about the crate with its feature.
 #![cfg_attr(not(feature = "record"), allow(rustdoc::broken_intra_doc_links))]
@@ -117,6 +122,8 @@ mod monitor;
 mod moves;
 mod plain;
 
+#[cfg(feature = "check")]
+mod check;
 #[cfg(feature = "record")]
 mod chooser;
 #[cfg(feature = "record")]
@@ -153,6 +160,8 @@ mod stage;
 mod tape;
 #[cfg(feature = "record")]
 mod turns;
+#[cfg(feature = "record")]
+mod wakes;
 
 pub use atomic::{
     Atomic, AtomicBool, AtomicPtr, AtomicU16, AtomicU32, AtomicU64, AtomicU8, AtomicUsize,

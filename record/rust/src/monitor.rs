@@ -56,8 +56,9 @@ pub struct MutexGuard<'a, T> {
 
 /// A condition variable for a [`Mutex`].
 ///
-/// In a seeded run a thread that waits runs again when it is notified, and not before. So a run in
-/// which a notification is missing hangs.
+/// In a seeded run a thread that waits runs again when it is notified, and not before, unless
+/// [wakes for nothing](crate::Setup::spurious) were asked for. So a run in which a notification is
+/// missing hangs.
 #[derive(Debug, Default)]
 pub struct Condvar {
     plain: sync::Condvar,

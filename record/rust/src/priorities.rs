@@ -56,8 +56,10 @@ impl Priorities {
     fn lower(&mut self, holder: Option<usize>) {
         let turns = self.turns;
         let lowest = (0..self.changes.len()).rev().zip(&self.changes);
-        let now = lowest.filter(|(_, &turn)| turn == turns).map(|(priority, _)| priority).last();
-        if let (Some(priority), Some(place)) = (now, holder.and_then(|it| self.of.get_mut(it))) {
+        let mut now = lowest.filter(|(_, &turn)| turn == turns).map(|(priority, _)| priority);
+        if let (Some(priority), Some(place)) =
+            (now.next_back(), holder.and_then(|it| self.of.get_mut(it)))
+        {
             *place = priority;
         }
     }

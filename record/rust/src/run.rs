@@ -24,6 +24,7 @@ use crate::records::Records;
 use crate::save;
 use crate::tape::{Tape, POLLS_WRITTEN};
 use crate::turns::{Rule, Stopped, Turns};
+use crate::wakes::Wakes;
 
 /// What all threads of a run share.
 #[derive(Debug)]
@@ -31,6 +32,8 @@ pub(crate) struct Shared {
     pub(crate) header: Header,
     /// Of a run that is explored `Ordered`: nothing but its moves says how it can be had again.
     pub(crate) mode: Mode,
+    /// At one turn in so many a thread is woken for nothing; at none if 0.
+    pub(crate) spurious: usize,
     pub(crate) turns: Turns,
     pub(crate) records: Records,
     /// The log of each thread, except while the thread itself has it.
@@ -51,6 +54,7 @@ pub struct Setup {
     header: Header,
     mode: Mode,
     room: usize,
+    spurious: usize,
 }
 
 impl Setup {
@@ -71,12 +75,19 @@ impl Setup {
         Setup { room: moves, ..self }
     }
 
+    /// By [`Mode::Seed`] and [`Mode::Pct`]: one turn in so many wakes a thread that waits for a
+    /// notification, though nobody gave it. None does if that is 0, or is not said. A thread that
+    /// does not look again after its wait is then seen.
+    pub fn spurious(self, one_in: usize) -> Setup {
+        Setup { spurious: one_in, ..self }
+    }
+
     /// Opens the run, with memory for all of its logs.
     ///
     /// # Errors
     ///
     /// The threads or the bits are such as no run has, the schedule that is to be followed is of
-    /// another lock, or memory was refused.
+    /// another lock, the mode has no seed for [wakes](Setup::spurious), or memory was refused.
     pub fn open(self) -> Result<Run, Error> {
         let (rule, chooser) = match &self.mode {
             Mode::Free | Mode::Noise(_) => (Rule::AtOnce, Chooser::Seed(Draw::new(0))),
@@ -133,17 +144,18 @@ impl Setup {
     }
 
     fn open_by(self, rule: Rule, chooser: Chooser) -> Result<Run, Error> {
-        let Setup { header, mode, room } = self;
+        let Setup { header, mode, room, spurious } = self;
         let Header { threads, .. } = header.checked()?;
         let refused = |_| Error::OutOfMemory { logs: threads, room };
         let polls = if rule == Rule::ByLines { u32::MAX } else { POLLS_WRITTEN };
         let moves = room.saturating_mul(threads);
-        let turns = Turns::new(rule, chooser, threads, moves).map_err(refused)?;
+        let wakes = Wakes::of(&mode, spurious)?;
+        let turns = Turns::new(rule, chooser, wakes, threads, moves).map_err(refused)?;
         let new_tape = |_| Tape::with_room(room, polls).map(Some).map(Mutex::new);
         let tapes: Result<Vec<_>, _> = (0..threads).map(new_tape).collect();
         let tapes = tapes.map_err(refused)?;
         let records = Records::of(threads);
-        Ok(Run(Arc::new(Shared { header, mode, turns, records, tapes })))
+        Ok(Run(Arc::new(Shared { header, mode, spurious, turns, records, tapes })))
     }
 }
 
@@ -179,13 +191,13 @@ pub enum Ending {
 /// # Ok::<(), Error>(())
 /// ```
 #[derive(Clone, Debug)]
-pub struct Run(Arc<Shared>);
+pub struct Run(pub(crate) Arc<Shared>);
 
 impl Run {
     /// A run of this lock by so many threads, 1 to 64.
     pub fn of(lock: Lock, threads: usize) -> Setup {
         let header = Header { lock, threads, bits: MOST_BITS };
-        Setup { header, mode: Mode::Free, room: 1 << 16 }
+        Setup { header, mode: Mode::Free, room: 1 << 16, spurious: 0 }
     }
 
     /// Starts the run's threads, does the work on each, and waits until all have ended. If they

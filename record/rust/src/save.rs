@@ -66,6 +66,9 @@ fn write_header(run: &Shared, out: &mut impl Write) -> io::Result<()> {
         Mode::Noise(seed) => writeln!(out, "# noise {seed}")?,
         Mode::Free | Mode::Ordered | Mode::Follow(_) => {}
     }
+    if run.spurious > 0 {
+        writeln!(out, "# spurious {}", run.spurious)?;
+    }
     write!(out, "{}", run.header)
 }
 

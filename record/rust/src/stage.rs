@@ -7,6 +7,7 @@ use crate::follow::Departure;
 use crate::kind::Kind;
 use crate::path::{Effect, Path};
 use crate::tape::Added;
+use crate::wakes::Wakes;
 
 /// Where a thread is.
 #[derive(Clone, Copy, Debug, PartialEq, Eq)]
@@ -40,6 +41,7 @@ pub(crate) struct Stage {
     phases: Vec<Phase>,
     pub(crate) holder: Option<usize>,
     chooser: Chooser,
+    wakes: Option<Wakes>,
     pub(crate) turns: usize,
     in_vain: u32,
     /// Where each thread looked last without a note, if nobody has made a step since.
@@ -52,7 +54,12 @@ pub(crate) struct Stage {
 
 impl Stage {
     /// A stage with memory for the order of so many moves.
-    pub(crate) fn new(threads: usize, moves: usize, chooser: Chooser) -> Result<Stage, Error> {
+    pub(crate) fn new(
+        threads: usize,
+        moves: usize,
+        chooser: Chooser,
+        wakes: Option<Wakes>,
+    ) -> Result<Stage, Error> {
         let mut order = Vec::new();
         let refused = Error::OutOfMemory { logs: 1, room: moves };
         order.try_reserve_exact(moves).map_err(|_| refused)?;
@@ -60,6 +67,7 @@ impl Stage {
             phases: vec![Phase::Absent; threads],
             holder: None,
             chooser,
+            wakes,
             turns: 0,
             in_vain: 0,
             looks: vec![None; threads],
@@ -95,6 +103,7 @@ impl Stage {
     /// Chooses who is next of the threads that can run.
     pub(crate) fn next(&mut self) -> Next {
         self.turns += 1;
+        self.wake_for_nothing();
         let ready = self.threads_that(|phase| phase == Phase::Inside);
         match self.chooser.choose(self.holder, &ready) {
             Some(thread) if self.is_patient() => Next::Thread(thread),
@@ -223,6 +232,17 @@ impl Stage {
         let one = |chooser: &mut Chooser| Vec::from_iter(chooser.choose_waiter(&asleep));
         let woken = if all { asleep.clone() } else { one(&mut self.chooser) };
         for thread in woken {
+            self.set_phase(thread, Phase::Inside);
+        }
+    }
+
+    /// Wakes a thread that nobody notified, if the seed says so.
+    fn wake_for_nothing(&mut self) {
+        if self.wakes.is_none() {
+            return;
+        }
+        let asleep = self.threads_that(|phase| matches!(phase, Phase::Asleep(_)));
+        if let Some(thread) = self.wakes.as_mut().and_then(|wakes| wakes.one_of(&asleep)) {
             self.set_phase(thread, Phase::Inside);
         }
     }

@@ -14,6 +14,7 @@ use crate::kind::Kind;
 use crate::path::Effect;
 use crate::stage::{Next, Phase, Stage};
 use crate::tape::Added;
+use crate::wakes::Wakes;
 
 /// What a stopped thread unwinds with.
 #[derive(Debug)]
@@ -58,13 +59,14 @@ impl Turns {
     pub(crate) fn new(
         rule: Rule,
         chooser: Chooser,
+        wakes: Option<Wakes>,
         threads: usize,
         moves: usize,
     ) -> Result<Turns, Error> {
         let ordered = if rule == Rule::AtOnce { 0 } else { moves };
         Ok(Turns {
             rule,
-            stage: Mutex::new(Stage::new(threads, ordered, chooser)?),
+            stage: Mutex::new(Stage::new(threads, ordered, chooser, wakes)?),
             own: (0..threads).map(|_| Condvar::new()).collect(),
             free: Condvar::new(),
             changed: Condvar::new(),

@@ -1,41 +1,19 @@
 //! Schedules that are followed: the moves of each turn, and where a lock leaves its schedule.
 #![cfg(feature = "record")]
 
+mod ticket;
+
 use std::sync::atomic::Ordering::SeqCst;
 use std::thread;
 use std::time::Duration;
 
 use lockreplay_record::{
     call, operation, switch, AtomicBool, AtomicU8, Call, Condvar, Ending, Error, Lock, Log, Mode,
-    Mutex, Outcome, Run, Schedule, Word,
+    Mutex, Outcome, Run, Schedule,
 };
+use ticket::TicketLock;
 
 const LIMIT: Duration = Duration::from_secs(60);
-
-struct TicketLock {
-    next_ticket: AtomicU8,
-    now_serving: AtomicU8,
-}
-
-impl TicketLock {
-    fn new() -> TicketLock {
-        TicketLock {
-            next_ticket: AtomicU8::new(0).noted(Word::NextTicket),
-            now_serving: AtomicU8::new(0).noted(Word::NowServing),
-        }
-    }
-
-    fn make(&self, due: Call) {
-        let _call = call(due);
-        if due == Call::Acquire {
-            let ticket = self.next_ticket.fetch_add(1, SeqCst);
-            while self.now_serving.load(SeqCst) != ticket {}
-        } else {
-            let served = self.now_serving.load(SeqCst);
-            self.now_serving.store(served.wrapping_add(1), SeqCst);
-        }
-    }
-}
 
 /// Follows a schedule with counters of 8 bits: how the run ended, and its trace.
 fn follow(text: &str, work: impl Fn(&Log) + Sync) -> Result<(Ending, String), Error> {

@@ -2,49 +2,31 @@
 //! elsewhere.
 #![cfg(feature = "record")]
 
+mod ticket;
+
 use std::sync::atomic::{AtomicUsize, Ordering::SeqCst};
 use std::thread;
 use std::time::{Duration, Instant};
 
 use lockreplay_record::{
-    call, operation, AtomicBool, AtomicU8, Call, Condvar, Ending, Error, Lock, Mode, Mutex, Run,
-    Word,
+    operation, switch, AtomicBool, AtomicU8, Call, Condvar, Ending, Error, Lock, Mode, Mutex,
+    Outcome, Run, Word,
 };
+use ticket::TicketLock;
 
 const LIMIT: Duration = Duration::from_secs(60);
 /// On a loaded machine too a thread with nothing to do has ended by then.
 const LONG: Duration = Duration::from_secs(2);
 
-struct TicketLock {
-    next_ticket: AtomicU8,
-    now_serving: AtomicU8,
-}
-
-impl TicketLock {
-    fn new() -> TicketLock {
-        TicketLock {
-            next_ticket: AtomicU8::new(0).noted(Word::NextTicket),
-            now_serving: AtomicU8::new(0).noted(Word::NowServing),
-        }
-    }
-
-    fn round(&self) {
-        {
-            let _call = call(Call::Acquire);
-            let ticket = self.next_ticket.fetch_add(1, SeqCst);
-            while self.now_serving.load(SeqCst) != ticket {
-                thread::yield_now();
-            }
-        }
-        let _call = call(Call::Release);
-        self.now_serving.fetch_add(1, SeqCst);
-    }
+fn round(lock: &TicketLock) {
+    lock.make(Call::Acquire);
+    lock.make(Call::Release);
 }
 
 fn trace_of(mode: Mode) -> Result<String, Error> {
     let lock = TicketLock::new();
     let run = Run::of(Lock::Ticket, 3).bits(8).mode(mode).open()?;
-    assert_eq!(run.threads(LIMIT, |_| (0..20).for_each(|_| lock.round()))?, Ending::Complete);
+    assert_eq!(run.threads(LIMIT, |_| (0..20).for_each(|_| round(&lock)))?, Ending::Complete);
     run.trace()
 }
 
@@ -231,6 +213,70 @@ fn one_or_all_are_woken() -> Result<(), Error> {
     Ok(())
 }
 
+/// Thread 0 waits once, and takes a wake for a change. Thread 1 comes later, by turns. Whether
+/// thread 0 saw what it waited for, and the trace.
+fn waits_once(seed: u64, spurious: usize) -> Result<(bool, String), Error> {
+    let (open, changed, has_seen) = (Mutex::new(false), Condvar::new(), AtomicBool::new(true));
+    let setup = Run::of(Lock::RwSimple, 2).mode(Mode::Seed(seed)).spurious(spurious);
+    let run = setup.open()?;
+    let ending = run.threads(LIMIT, |log| {
+        if log.thread() == 1 {
+            (0..20).for_each(|_| switch());
+            *open.lock() = true;
+            changed.notify_all();
+            return;
+        }
+        let mut state = open.lock();
+        if !*state {
+            state.note(Outcome::Waits);
+            state = changed.wait(state);
+        }
+        has_seen.store(*state, SeqCst);
+    })?;
+    assert_eq!(ending, Ending::Complete);
+    Ok((has_seen.load(SeqCst), run.trace()?))
+}
+
+#[test]
+fn a_wait_without_a_second_look_is_seen_by_a_wake_for_nothing() -> Result<(), Error> {
+    let mut missed = 0;
+    for seed in 0..20 {
+        assert!(waits_once(seed, 0)?.0);
+        let (has_seen, trace) = waits_once(seed, 2)?;
+        assert_eq!(waits_once(seed, 2)?, (has_seen, trace.clone()));
+        let header = format!("# seed {seed}\n# spurious 2\nlock rw-simple threads 2 bits 64\n");
+        assert!(trace.starts_with(&header), "{trace}");
+        missed += usize::from(!has_seen);
+    }
+    assert!(missed > 0);
+    Ok(())
+}
+
+/// With enough wakes for nothing nobody has to notify. Without them the run hangs.
+#[test]
+fn a_wake_for_nothing_takes_the_place_of_a_notification() -> Result<(), Error> {
+    for (spurious, due) in [(0, Ending::Stopped(vec![0, 1])), (1, Ending::Complete)] {
+        let (state, changed) = (Mutex::new(()), Condvar::new());
+        let setup = Run::of(Lock::RwSimple, 2).mode(Mode::Seed(1)).spurious(spurious);
+        let ending = setup.open()?.threads(LIMIT, |_| drop(changed.wait(state.lock())))?;
+        assert_eq!(ending, due);
+    }
+    Ok(())
+}
+
+#[test]
+fn wakes_for_nothing_need_a_seed() -> Result<(), Error> {
+    let opened = |mode| Run::of(Lock::RwSimple, 2).mode(mode).spurious(9).open();
+    assert!(opened(Mode::Pct { seed: 1, depth: 2, steps: 9 }).is_ok());
+    for mode in [Mode::Free, Mode::Noise(1), Mode::Ordered] {
+        let said = opened(mode).expect_err("it has no seed").to_string();
+        assert_eq!(said, "wakes for nothing are drawn by the seed of a mode");
+    }
+    let mut explored = Run::of(Lock::RwSimple, 2).spurious(9).explore(1);
+    assert!(matches!(explored.next(), Some(Err(Error::NoSeed))));
+    Ok(())
+}
+
 #[test]
 fn threads_of_ones_own_enter_a_run() -> Result<(), Error> {
     let run = Run::of(Lock::Ticket, 2).bits(8).mode(Mode::Seed(1)).open()?;
@@ -250,7 +296,7 @@ fn a_panic_of_the_work_goes_on() -> Result<(), Error> {
     let run = Run::of(Lock::Ticket, 2).bits(8).mode(Mode::Seed(1)).open()?;
     let caught = thread::spawn(move || {
         let _ = run.threads(LIMIT, |log| {
-            lock.round();
+            round(&lock);
             assert_eq!(log.thread(), 0, "as it is meant to be");
         });
     });

@@ -5,7 +5,7 @@ use std::time::Duration;
 
 use lockreplay_record::{Ending, Error, Explore, Log};
 
-use super::{rounds, run_new, save_trace, setup, told, Tested, Told, Words};
+use super::{judge, rounds, run_new, setup, told, Tested, Told, Words};
 
 const LIMIT: Duration = Duration::from_secs(10);
 const MOST_RUNS: usize = 1_000_000;
@@ -19,26 +19,27 @@ pub(super) fn from_words<L: Tested>(words: &Words) -> Option<Result<Told, Error>
     Some(explore::<L>(runs, rounds, most, Path::new(folder)))
 }
 
-/// Saves the trace of each run, up to the first that hangs.
+/// Makes each run, up to the first that hangs or is refused.
 fn explore<L: Tested>(
     mut runs: Explore,
     rounds: usize,
     most: usize,
     folder: &Path,
 ) -> Result<Told, Error> {
-    let (mut made, mut ending) = (0, Ending::Complete);
+    let (mut made, mut ending, mut refusal) = (0, Ending::Complete, None);
     let is_complete = loop {
         let run = match runs.next() {
-            _ if made == most || ending != Ending::Complete => break false,
+            _ if made == most || ending != Ending::Complete || refusal.is_some() => break false,
             None => break true,
             Some(run) => run?,
         };
         let work = |lock: &L, log: &Log| rounds::of_thread(lock, log.thread(), rounds, false);
         ending = run_new(&run, LIMIT, work)?;
         made += 1;
-        save_trace(&run, folder, &format!("{made:07}"))?;
+        let is_well = ending == Ending::Complete;
+        refusal = judge(&run, is_well, folder, &format!("{made:07}"))?;
     };
     let all = if is_complete { "all of them" } else { "not all of them" };
     println!("{made} runs with up to {} preemptions, {all}", runs.preemptions());
-    Ok(told(&ending))
+    Ok(refusal.map_or_else(|| told(&ending), |said| (1, said)))
 }

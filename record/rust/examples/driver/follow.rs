@@ -7,7 +7,7 @@ use std::time::Duration;
 
 use lockreplay_record::{Ending, Error, Log, Mode, Run, Schedule};
 
-use super::{run_new, save_trace, Tested, Told, Words};
+use super::{judge, run_new, Tested, Told, Words};
 
 const LIMIT: Duration = Duration::from_secs(10);
 
@@ -42,7 +42,7 @@ fn schedules_of(folder: &Path) -> io::Result<Vec<PathBuf>> {
     Ok(found)
 }
 
-/// Follows one schedule, and answers where the lock left it, if it did.
+/// Follows one schedule, and answers where the lock left it or why its run is refused.
 fn follow<L: Tested>(
     schedule: Schedule,
     path: &Path,
@@ -57,9 +57,10 @@ fn follow<L: Tested>(
     };
     let ending = run_new(&run, LIMIT, make_calls)?;
     let name = path.file_stem().unwrap_or_default().to_string_lossy();
-    save_trace(&run, folder, &name)?;
+    let is_well = !matches!(ending, Ending::Departed(_));
+    let refusal = judge(&run, is_well, folder, &name)?;
     Ok(match ending {
         Ending::Departed(departure) => Some(departure.to_string()),
-        _ => None,
+        _ => refusal,
     })
 }

@@ -1,12 +1,14 @@
 //! What runs each example: threads that take its lock and give it back.
 //!
-//!     EXAMPLE free|noise|ordered|seed|pct THREADS ROUNDS SEED FOLDER [SECONDS]
+//!     EXAMPLE free|noise|ordered|seed|pct|wakes THREADS ROUNDS SEED FOLDER [SECONDS]
 //!     EXAMPLE follow SCHEDULES FOLDER
 //!     EXAMPLE explore THREADS ROUNDS PREEMPTIONS FOLDER [RUNS]
 //!
-//! The logs go to FOLDER. Of schedules that are followed and of runs that are explored, the traces
-//! do. Status: 0 all threads ended, every schedule was followed; 1 some threads hang, after SECONDS
-//! (60) or if a run hangs, and their logs end there, or a schedule was not followed;
+//! `wakes` is `seed` with wakes for nothing. The logs go to FOLDER. Of schedules that are followed
+//! and of runs that are explored, the traces do; with the feature `check` these runs are checked
+//! here, and the trace of one that is not well is all that is saved. Status: 0 all threads ended,
+//! every schedule was followed, no run was refused; 1 some threads hang, after SECONDS (60) or if a
+//! run hangs, and their logs end there, or a schedule was not followed, or a run was refused;
 //! 2 usage; 3 memory, a thread, a read or a write was refused.
 
 mod explore;
@@ -24,11 +26,13 @@ use std::time::Duration;
 use lockreplay_record::{Call, Ending, Error, Lock, Log, Mode, Run, Setup};
 
 const USAGE: &str =
-    "usage: EXAMPLE free|noise|ordered|seed|pct THREADS ROUNDS SEED FOLDER [SECONDS]
+    "usage: EXAMPLE free|noise|ordered|seed|pct|wakes THREADS ROUNDS SEED FOLDER [SECONDS]
        EXAMPLE follow SCHEDULES FOLDER
        EXAMPLE explore THREADS ROUNDS PREEMPTIONS FOLDER [RUNS]";
 /// A log has room for so many moves a round.
 const MOST_MOVES: usize = 256;
+/// With `wakes`, one turn in so many wakes a thread for nothing.
+const WAKES_ONE_IN: usize = 4;
 
 /// A lock under test. Its default is a new one.
 pub trait Tested: Default + Sync {
@@ -92,18 +96,19 @@ pub fn drive<L: Tested>() -> ExitCode {
 fn record<L: Tested>(mode: &str, words: &Words) -> Option<Result<Told, Error>> {
     let (threads, rounds): (usize, usize) = (words.number(1)?, words.number(2)?);
     let seed = words.number(3)?;
+    let spurious = if mode == "wakes" { WAKES_ONE_IN } else { 0 };
     let mode = match mode {
         "free" => Mode::Free,
         "noise" => Mode::Noise(seed),
         "ordered" => Mode::Ordered,
-        "seed" => Mode::Seed(seed),
+        "seed" | "wakes" => Mode::Seed(seed),
         "pct" => Mode::Pct { seed, depth: 3, steps: 1000 },
         _ => return None,
     };
     let folder = words.text(4)?;
     let limit = Duration::from_secs(words.number_or(5, 60)?);
     let is_real = !matches!(mode, Mode::Seed(_) | Mode::Pct { .. });
-    let run = setup::<L>(threads, rounds).mode(mode).open();
+    let run = setup::<L>(threads, rounds).mode(mode).spurious(spurious).open();
     Some(run.and_then(|run| {
         let work = |lock: &L, log: &Log| rounds::of_thread(lock, log.thread(), rounds, is_real);
         let ending = run_new(&run, limit, work)?;
@@ -132,6 +137,27 @@ fn told(ending: &Ending) -> Told {
         Ending::Stopped(threads) => (1, format!("threads {threads:?} hang")),
         Ending::Departed(departure) => (1, departure.to_string()),
     }
+}
+
+/// Why a run is refused.
+#[cfg(feature = "check")]
+fn refusal(run: &Run) -> Option<String> {
+    run.check().err().map(|error| error.to_string())
+}
+
+/// `locktrace check` says later whether a run is refused.
+#[cfg(not(feature = "check"))]
+fn refusal(_run: &Run) -> Option<String> {
+    None
+}
+
+/// Answers why a run is refused, and saves its trace, unless it was checked and all is well.
+fn judge(run: &Run, is_well: bool, folder: &Path, name: &str) -> Result<Option<String>, Error> {
+    let refusal = refusal(run);
+    if !is_well || refusal.is_some() || !cfg!(feature = "check") {
+        save_trace(run, folder, name)?;
+    }
+    Ok(refusal)
 }
 
 /// Writes the trace of a run into a folder.
