@@ -176,8 +176,8 @@ impl LogReader {
         self.number
     }
 
-    /// Reads the next line, without its line feed. What comes after the last one has not `ended`, and
-    /// may be nothing: a move there was cut off while it was written, and is not looked at.
+    /// Reads the next line, without its line feed. What comes after the last one has not `ended`,
+    /// and may be nothing: a move there was cut off while it was written, and is not looked at.
     ///
     /// # Errors
     ///
