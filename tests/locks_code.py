@@ -6,7 +6,7 @@ Each line names a phase and the kind of step that is due in it. The definitions 
 read-write locks are in a file that they share; which phases each of these has, its own `step`
 tells, and each of them takes a section. Both must name the same phases with the same kinds, and the
 same calls. Each model of bench/spin has a label for each phase, and no other. Prints `N passed, M
-failed`, and ends with 1 where one failed.
+failed`, and ends with 1 if one failed.
 """
 import pathlib
 import re

@@ -1,4 +1,4 @@
-//! What no clause says: that an order is found where there is one, and which step is named where
+//! What no clause says: that an order is found if there is one, and which step is named where
 //! there is none. The runs are made by hand, from the definition of the algorithm.
 
 use lk_order::{Ending, Found, Log, LogReader, Pieces, Shelf, Stuck, Unfit, find_order};
