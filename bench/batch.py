@@ -13,7 +13,7 @@ Small files: 2,000 schedules of ten moves with 1 worker, beside bench/readall.c,
 reads the same files and does nothing with them.
 
 Figures are medians over the rounds, in which all that is compared takes turns. With --check it ends
-with 1 where on the schedules of all kinds 2 workers take more than 0.62 of 1 worker's time, or 1
+with 1 if on the schedules of all kinds 2 workers take more than 0.62 of 1 worker's time, or 1
 worker more than 1.1 times the time of handwritten.c; or the small files more than twice the time of
 readall. Each limit is passed only above a tenth more, because medians differ by as much on a
 machine with other work. What is past it is measured again, up to three times in all. Without two

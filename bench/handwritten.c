@@ -5,10 +5,10 @@
  *     ./handwritten batch FILE...         keeps all reports, and writes them in the end
  *
  * It keeps words and phases as the published algorithms do, and reads the whole text before it
- * replays. The text ` hold H queue Q` is kept between two lines, and made anew where it changed.
+ * replays. The text ` hold H queue Q` is kept between two lines, and made anew if it changed.
  * The queue's text is a window that grows at its end and shrinks at its front. Nothing is proved
  * here, and nothing but schedules without a fault is meant to be replayed: a fault ends with
- * status 2. Different from lockreplay: a move is printed as it is made, so where `replay` cannot
+ * status 2. Different from lockreplay: a move is printed as it is made, so if `replay` cannot
  * write, what follows was not replayed.
  */
 #include <fcntl.h>

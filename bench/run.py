@@ -20,7 +20,7 @@ machine may be fast in one round and slow in the next:
     extra MB   the program's peak memory less that of a schedule without a move, in 10^6 bytes, the
                most seen
 
-With --check it ends with 1 where a limit is passed: 1.2 times handwritten.c for each kind, 1.6
+With --check it ends with 1 if a limit is passed: 1.2 times handwritten.c for each kind, 1.6
 times cat on the two reports of 14 MB, 6 MB of memory. Memory is taken as it is. Time is given a
 tenth more: measured three times over on a machine with other work on all its cores, the ratios of
 one program differed by up to 8 %. A kind that is past a limit is measured again, up to five times

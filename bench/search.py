@@ -18,7 +18,7 @@ for one thread and one round: starting, and a table that is still empty. Printed
     bytes        what a state takes of the program's memory at its peak, less a byte for each word
                  and two for each thread's phase, its name and its value
 
-With --check it ends with 1 where a limit is passed: the time of `pan`, 2 seconds for a million
+With --check it ends with 1 if a limit is passed: the time of `pan`, 2 seconds for a million
 states and 0.1 for a small space, 64 bytes a state. Time is given a tenth more, as in run.py, and a
 space that is past a limit is measured again, up to three times in all.
 """

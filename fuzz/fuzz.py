@@ -6,7 +6,7 @@
 The stored texts are corpus/, which corpus.py tells of. Random texts are drawn from the seed,
 which is printed, and replayed in rounds: the whole round as one batch with 2 workers, those of
 the round that are accepted as another, and a few one by one by `replay`. Reports are compared
-byte for byte with those of oracle.py, and exit statuses with 0 where every report ends with `end
+byte for byte with those of oracle.py, and exit statuses with 0 if every report ends with `end
 K` and 1 otherwise. In each round one text is at a limit of size.
 
 Where a text's report differs, the text is shrunk for up to a minute while it still differs, both

@@ -32,7 +32,7 @@ class Machine:
         self.code = [None] * threads  # its generator; None in a copy
         self.held = {}  # threads that hold, and the call by which each does
         self.queue = []  # oldest first
-        self.shown = "hold - queue -"  # holders and queue in a report; None where to be made anew
+        self.shown = "hold - queue -"  # holders and queue in a report; None if to be made anew
 
     def copy(self):
         """The same state. Generators cannot be copied: `_start_code` makes them again."""

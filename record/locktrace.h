@@ -78,7 +78,7 @@ static inline uint32_t lt_open(struct lt_run *run, const char *text, size_t leng
     return fault;
 }
 
-/* The next move that was made: 1, or 0 where there is none. */
+/* The next move that was made: 1, or 0 if there is none. */
 static inline int lt_next(struct lt_run *run, struct lt_step *step)
 {
     if (run->at == run->count) return 0;

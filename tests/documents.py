@@ -15,7 +15,7 @@ that a later block finds what an earlier one wrote. A comment above the fence sa
 A shell's block of another language fails, and so does a command that is indented and not fenced,
 and one that leaves the reader in another folder: `(cd FOLDER && ..)` does not.
 `document_names.py` looks at links, and at names in backticks. Prints how many commands ran and how
-many were marked, `N passed, M failed` last, and ends with 1 where one failed.
+many were marked, `N passed, M failed` last, and ends with 1 if one failed.
 """
 import os
 import pathlib

@@ -2,7 +2,7 @@
 """Shows that documents.py fails on each kind of fault, and only there: documents_fail.py PROGRAM
 
 Each case is a document of its own, right or with one fault. Prints `N passed, M failed` last, and
-ends with 1 where one failed.
+ends with 1 if one failed.
 """
 import contextlib
 import io

@@ -6,7 +6,7 @@
 Makes a minimal Debian 12 with a C compiler and the package that `make deb` makes. For each of
 DOCUMENTS it copies the installed documents, runs in the copy what the document shows, as
 tests/documents.py does, and compares what is printed. The guide's lock is then built in a folder
-where there is nothing else. Prints `N passed, M failed` last, and ends with 1 where one failed.
+where there is nothing else. Prints `N passed, M failed` last, and ends with 1 if one failed.
 Only root may do this.
 """
 import re

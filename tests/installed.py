@@ -7,7 +7,7 @@ Every line of packaging/contents.txt has its file, and without one of those that
 is installed. Manual pages have no fault that mandoc finds, show the version, and name each word of
 the command line. pkg-config finds what users of the headers compile and link with; such programs
 are built and run. What documents name is installed. Completions are tried in their shells. The last
-line counts the cases; the status is 1 where one failed.
+line counts the cases; the status is 1 if one failed.
 """
 import os
 import re

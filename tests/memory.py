@@ -5,7 +5,7 @@
 
 A batch of 1,000 schedules of 64 threads and 65,536 moves, of which the first is refused: 721 MB of
 texts, and reports of one line each. Room for the longest report that such a text can have would be
-14 MB for each. The last line counts the cases; the status is 1 where one failed.
+14 MB for each. The last line counts the cases; the status is 1 if one failed.
 """
 
 import resource

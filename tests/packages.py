@@ -9,7 +9,7 @@ replays every example, and `locktrace` checks, explains, orders and writes sched
 environment; as root under `chroot`, where the folder and the C library are all there is. What is
 due was made by hand. Programs in C and Python are built on the header and the library. The C
 library that is asked for has to be one that Debian 12 has. The last line counts the cases; the
-status is 1 where one failed.
+status is 1 if one failed.
 """
 import hashlib
 import io

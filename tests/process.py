@@ -6,7 +6,7 @@ files or memory fail it.
 
 Each case gives the whole standard output, the whole standard error and the status that are wanted.
 They are written by hand from what the program promises; only the parser's own texts are known by
-their first words alone. The last line counts the cases; the status is 1 where one failed.
+their first words alone. The last line counts the cases; the status is 1 if one failed.
 """
 
 import os

@@ -9,7 +9,7 @@ by real threads. Of a right lock every run has to be accepted: the trace of a se
 found for the threads' logs, and each schedule of it; and threads have to have waited. Of a wrong
 one the trace has to be refused at the line where the mistake is first seen, which
 recording_mistakes.py finds by itself, and its logs have no order. The last line counts the cases;
-the status is 1 where one failed.
+the status is 1 if one failed.
 """
 import os
 import re
@@ -65,7 +65,7 @@ class Runs:
                             "-o", ordered)
 
     def unchecked(self, traces):
-        """What `check` says, which is silent and ends with 0 where all is accepted."""
+        """What `check` says, which is silent and ends with 0 if all is accepted."""
         done = ran(self.locktrace, "check", *traces)
         return "" if done.returncode == 0 and not done.stdout else f"check: {done.stdout[:300]}"
 

@@ -2,7 +2,7 @@
 
        recording_header DIRECTORY
 
-   Prints each check that fails, and ends with 1 where one did. */
+   Prints each check that fails, and ends with 1 if one did. */
 #define LR_VALUES
 #include "../record/lockreplay_record.h"
 

@@ -11,7 +11,7 @@ replayed from standard input and as a batch of one file; a batch of three files 
 eight workers. The requests made before a schedule is read are the same for every row, so they are
 refused with the command lines only.
 
-Prints `N passed, M failed` last, and ends with 1 where one failed.
+Prints `N passed, M failed` last, and ends with 1 if one failed.
 """
 import concurrent.futures
 import os

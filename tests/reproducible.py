@@ -7,7 +7,7 @@ Makes tarball and package in a minimal Debian 12 and a minimal Debian 13, each f
 without git, and a shallow clone that another user owns, there with another umask and time zone and
 on one processor. Then deletes what was built, and builds it over the kept proofs in the Debian 12.
 All of it is compared with what is here, byte for byte. Nothing is proved that was proved here. The
-last line counts the cases; the status is 1 where one failed. Only root may do this.
+last line counts the cases; the status is 1 if one failed. Only root may do this.
 """
 import shutil
 import subprocess

@@ -4,7 +4,7 @@
     rows.py PROGRAM     by `PROGRAM replay`, a process for each row
     rows.py             by the fuzzer's oracle, so that it is not judged by the program alone
 
-worked_rows.py says where the rows are. Prints `N passed, M failed` last, and ends with 1 where
+worked_rows.py says where the rows are. Prints `N passed, M failed` last, and ends with 1 if
 one failed.
 """
 import pathlib

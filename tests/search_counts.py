@@ -5,7 +5,7 @@
     search_counts.py LOCKTRACE     by `LOCKTRACE space`, states, transitions and depth alone
 
 bench/count.py compares the rows of spaces.txt with SPIN's search. Prints `N passed, M failed`, and
-ends with 1 where one failed.
+ends with 1 if one failed.
 """
 import json
 import subprocess

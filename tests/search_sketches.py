@@ -7,7 +7,7 @@
 The run that a row has, and the run that is found, are runs of the second replayer: each of their
 moves is accepted, they have the lines in their order, and are as long as the row says. If the row
 says that there is none, none is found, in so many states. Prints `N passed, M failed`, and ends
-with 1 where one failed.
+with 1 if one failed.
 """
 import re
 import subprocess

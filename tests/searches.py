@@ -212,7 +212,7 @@ TICKET = f"""ticket: 6 of 7 kinds of transition, in 54 moves
          9  release: called
          9  release: read the ticket served
          9  release: served the next ticket
-         2  the counter went round
+         2  the counter wrapped around
 """
 
 

@@ -7,7 +7,7 @@ Each faulty text is replayed under ever wider limits of memory, and so is a text
 whose fault is a bad line after its header. The second needs memory for its moves and the first
 needs none: there are limits under which the one is reported and the other is not. Under each limit
 the program reports the fault or ends with `out of memory`. Prints `N passed, M failed` last, and
-ends with 1 where one failed.
+ends with 1 if one failed.
 """
 import resource
 import subprocess

@@ -6,7 +6,7 @@
 LIBRARY is crates/lk_trace_c/out/liblk_trace_c.a. Builds tests/locktrace_library.c with it, without
 a warning, and runs it; then makes a shared library of it, and has examples/bindings/locktrace.py
 check a trace that is accepted and one that is refused. The last line counts the cases; the status
-is 1 where one failed.
+is 1 if one failed.
 """
 import subprocess
 import sys

@@ -7,7 +7,7 @@ The runs are those of random_runs.py, with what each step found and left. Each i
 it is. With one value changed it is refused at the line of that value, since the machine has
 another one there. A section's count alone may also be changed to one that is still in order,
 and is then accepted, or refused at the next count that is not above it. The last line counts
-the traces; the status is 1 where one failed.
+the traces; the status is 1 if one failed.
 """
 import json
 import random

@@ -9,7 +9,7 @@ more or less, and three times that; the text is made here from what each schedul
 
 Of a report of 14 MB, standard output is a file that has no room for the end of one of the first
 200 writes, or of some later one. It has to end up with as much of the report as it has room for.
-The last line counts the cases; the status is 1 where one failed.
+The last line counts the cases; the status is 1 if one failed.
 """
 import pathlib
 import resource

@@ -15,7 +15,7 @@ _lockreplay() {
     esac
 }
 
-# --workers stands once on the line; what is no option is a file.
+# --workers is given once; what is no option is a file.
 _lockreplay_batch() {
     if [[ $cur != -* ]]; then
         _filedir

@@ -4,7 +4,7 @@ set -l commands replay batch help
 set -l none "not __fish_seen_subcommand_from $commands"
 set -l help '__fish_seen_subcommand_from help'
 set -l batch "__fish_seen_subcommand_from batch; and not $help"
-# --workers stands once on the line, and its number behind it
+# --workers is given once, and its number comes after it
 set -l workers 'not __fish_contains_opt workers; or test (commandline -opc)[-1] = --workers'
 
 complete -c lockreplay -f

@@ -10,7 +10,7 @@
    In C++ `lr::atomic<T>` stands for `std::atomic<T>`; without LR_ATOMICS it is that.
 
    Include this header after all others: what is included after it has points too. With LR_VALUES
-   a point does nothing but make noise, where LR_NOISE is defined. */
+   a point does nothing but make noise, if LR_NOISE is defined. */
 #ifndef LR_ATOMICS_H
 #define LR_ATOMICS_H
 

@@ -10,7 +10,7 @@
 
 #include "../locktrace.h"
 
-/* Says in `said` why the text of a trace is refused: 1, or 0 where it is accepted. */
+/* Says in `said` why the text of a trace is refused: 1, or 0 if it is accepted. */
 static inline int lr_check_text(const char *text, size_t length, char *said, struct lt_step *steps,
                                 size_t room)
 {
@@ -38,7 +38,7 @@ static inline int lr_goes_on(lr_run *run, const struct lt_step *steps)
     return 0;
 }
 
-/* Checks a run: 0 where it is accepted; else 1, and `lr_said` has the reason. */
+/* Checks a run: 0 if it is accepted; else 1, and `lr_said` has the reason. */
 static inline int lr_check(lr_run *run)
 {
     lr_text text = {NULL, NULL, 0, 0, 0};

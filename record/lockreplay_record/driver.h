@@ -10,7 +10,7 @@
 typedef struct lr_driver {
     const char *lock;
     unsigned threads, bits; /* threads: of a schedule it is its own number */
-    void (*reset)(void);    /* makes the lock new; NULL where that is not needed */
+    void (*reset)(void);    /* makes the lock new; NULL if that is not needed */
     void (*work)(unsigned thread, lr_log *log); /* between lr_begin and lr_end */
 } lr_driver;
 

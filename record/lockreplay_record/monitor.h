@@ -1,7 +1,7 @@
 /* A monitor: its mutex, and its conditions, as far as they decide who may run.
    SPDX-License-Identifier: Apache-2.0 OR MIT
 
-   Where one thread runs at a time, the real wait is left out: a thread that waits for a condition
+   If one thread runs at a time, the real wait is left out: a thread that waits for a condition
    gets no turn until another one signals that condition or broadcasts it. So a signal that is
    missing makes the run hang. A turn may change before the mutex is taken and after it is
    given back, never between: nobody ever finds the mutex taken. */

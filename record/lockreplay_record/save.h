@@ -68,7 +68,7 @@ static inline void lr_print_head(lr_text *text, const lr_run *run)
 }
 
 /* What is said of a thread's end. Of a run that was stopped, as by the end of a schedule or for
-   want of room, nobody knows whether it would have gone on. */
+   lack of room, nobody knows whether it would have gone on. */
 static inline const char *lr_end_of(const lr_run *run, const lr_log *log)
 {
     if (lr_count_of(log->ended)) return "has ended";

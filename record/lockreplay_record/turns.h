@@ -22,7 +22,7 @@ static inline unsigned lr_choose_waiter(lr_run *run, uint64_t waiters);
 static inline void lr_wake_for_nothing(lr_run *run);
 #endif
 
-/* The first thread of a set after another one, or after nobody, going round. */
+/* The first thread of a set after another one, or after nobody; after the last comes the first. */
 static inline unsigned lr_after(uint64_t threads, unsigned current)
 {
     unsigned next = current < LR_THREADS ? current : LR_THREADS - 1;

@@ -21,10 +21,10 @@
  * the C library calls it when it starts a thread. Freeing and shrinking with realloc(p, 0) are no
  * requests.
  *
- * A test of a call that may want memory goes round for N = 1, 2, 3 and so on:
+ * A test of a call that may want memory is repeated for N = 1, 2, 3 and so on:
  *
  *     request ARM + N; make the call; request ASK
- *     ASK refused:  the answer is want of memory, or the answer with ample memory; go on with N + 1
+ *     ASK refused:  the answer is out of memory, or the answer with ample memory; go on with N + 1
  *     ASK granted:  the answer is the one with ample memory; end
  *
  * Where HERE is refused and the call is to take memory, N = 1 has to be refused: a test that ends

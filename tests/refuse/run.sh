@@ -6,7 +6,7 @@
 # fails where it ends with another status than 0, and also where no request was refused in it, be it
 # that the library was not loaded. A test with `no_request` in its name shows that a call asks for
 # nothing: it fails where the library was not asked. Before them the library itself is tried by
-# probe.c. Prints `N passed, M failed` last, and ends with 1 where one failed or none was found.
+# probe.c. Prints `N passed, M failed` last, and ends with 1 if one failed or none was found.
 set -euo pipefail
 
 here=$(dirname "$(realpath "$0")")

@@ -21,6 +21,7 @@ use Rattle.lk_locks.specs.declared.kinds.Outcome.{Outcome}
 use Rattle.lk_locks.specs.declared.kinds.Phase.{Phase}
 use Rattle.lk_locks.specs.declared.kinds.Phase.TheVariants.{Idle}
 
+-- what holds of both outcomes of a test holds of the step that makes the test
 pub either_way : {A : Type 0} (P : A → Type 0) (b : Bool) (x y : A) → P x → P y
     → P (if b then x else y)
 either_way P true x y p q = p

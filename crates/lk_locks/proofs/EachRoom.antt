@@ -7,6 +7,7 @@ use Rattle.lk_locks.proofs.invariants.ticket
 use Rattle.lk_locks.specs.declared.kinds.LockKind.{LockKind}
 use Rattle.lk_locks.specs.declared.kinds.LockKind.TheVariants.{Ticket, Mcs, RwSimple, RwFifo}
 
+-- each of the four locks is proved by its own room
 pub room_of : (kind : LockKind) → IsRoom kind
 room_of Ticket = ticket.room
 room_of Mcs = mcs.room

@@ -26,6 +26,7 @@ use Rattle.lk_locks.specs.declared.kinds.Move.{Move}
 use Rattle.lk_locks.specs.declared.kinds.Move.TheVariants.{Call, Step}
 use Rattle.lk_locks.specs.declared.kinds.Entry.{Entry}
 
+-- a move adds entries of its own thread alone
 pub entries_are_own : (kind : LockKind) (bits : ℕ) (ws : List ℕ) (t : ℕ) (p : Phase) (m : Move)
     → AreOf t (move_entries kind t p m (move_change kind bits ws t p m).outcome)
 entries_are_own kind bits ws t p (Call op) = (refl, tt)
@@ -49,6 +50,7 @@ turn_kept kind n bits ws es t p (Step k) f b r i =
     turn_of_step kind es _ t p _ (entries_are_own kind bits ws t p (Step k))
     ((room_of kind).goes_on bits t ws p) i
 
+-- after an accepted move the lock, its sequential lock and its history still belong together
 pub keeps : (s : State) (q : Sequential) (es : List Entry) (t : ℕ) (m : Move) → Kept s q es
     → Accepted s t m
     → Kept (next_state s t m) (after_entries q (entries_of s t m)) (es ++ entries_of s t m)

@@ -16,6 +16,7 @@ use Rattle.lk_locks.specs.declared.kinds.Phase.{Phase}
 use Rattle.lk_locks.specs.declared.kinds.Phase.TheVariants.{Idle}
 use Rattle.lk_locks.specs.declared.kinds.Move.{Move}
 
+-- a machine's state by its fields: of 64 phases, those of its threads
 abbrev seen : LockKind → ℕ → ℕ → List ℕ → List Phase → State
 seen kind bits n ws ps = record { kind = kind; bits = bits; words = ws; phases = take n ps }
 
@@ -27,6 +28,7 @@ pub seen_next : (kind : LockKind) (bits n : ℕ) (ws vs : List ℕ) (ps : List P
 seen_next kind bits n ws vs ps t p m h e f =
     rw (e, f, take-set-lt n ps t (change_of (seen kind bits n ws ps) t m).phase h) refl
 
+-- an accepted move leaves a machine with as many threads
 pub machine_kept : (n : ℕ) (s : State) (t : ℕ) (m : Move) → IsMachine n s → Accepted s t m
     → IsMachine n (next_state s t m)
 machine_kept n s t m k a = record {
@@ -50,6 +52,7 @@ well_new kind bits n ws w z = record {
       (λ i. elim (cases_lt i (length ws)) [ inl k ↦ z i k | inr k ↦ get_or_past ws i 0 k ]);
 }
 
+-- a new lock with clear words is a machine
 pub machine_new : (kind : LockKind) (bits n : ℕ) (ws : List ℕ) → n ≤ 64 → n < 2 ^ bits
     → word_count kind n ≤ length ws → ((i : ℕ) → i < length ws → slice_index ws i ≡ 0)
     → IsMachine n (start kind bits ws n)
@@ -65,6 +68,7 @@ Applied kind bits n vs ps t r now m =
     IsMachine n (seen kind bits n vs (set ps t r))
     × (seen kind bits n vs (set ps t r) ≡ after_move now t m)
 
+-- the words and the phase that a move leaves are the next state's
 applied_here : (kind : LockKind) (bits n : ℕ) (ws vs : List ℕ) (ps : List Phase) (t : ℕ)
     (p r : Phase) (m : Move) → refusal_of (seen kind bits n ws ps) t m ≡ None
     → p ≡ phase_at (take n ps) t → vs ≡ (move_change kind bits ws t p m).words
@@ -79,6 +83,7 @@ applied_here kind bits n ws vs ps t p r m h e f g k =
     seen_next kind bits n ws vs ps t r m below (rw e at f) (rw e at g) in
     (rw same (machine_kept n s t m k a), same ∙ sym (rw h refl))
 
+-- the same, if the state is known under another name
 pub applied : (kind : LockKind) (bits n : ℕ) (ws vs : List ℕ) (ps : List Phase) (t : ℕ)
     (p r : Phase) (m : Move) (now : State) → seen kind bits n ws ps ≡ now
     → refusal_of now t m ≡ None → p ≡ phase_at now.phases t
@@ -90,10 +95,12 @@ applied kind bits n ws vs ps t p r m now v h e f g k =
     → Applied kind bits n vs ps t r x m)
     v (λ h e. applied_here kind bits n ws vs ps t p r m h e f g k) h e
 
+-- a machine whose phases are all idle is a new lock
 pub seen_start : (kind : LockKind) (bits n : ℕ) (ws : List ℕ) → n ≤ 64
     → seen kind bits n ws (replicate 64 Idle) ≡ start kind bits ws n
 seen_start kind bits n ws h = rw (take-replicate n 64 Idle h) refl
 
+-- so such fields are a machine
 pub new_machine : (kind : LockKind) (bits n : ℕ) (ws : List ℕ) → n ≤ 64 → n < 2 ^ bits
     → word_count kind n ≤ length ws → ((i : ℕ) → i < length ws → slice_index ws i ≡ 0)
     → IsMachine n (seen kind bits n ws (replicate 64 Idle))

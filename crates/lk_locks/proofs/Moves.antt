@@ -21,17 +21,20 @@ use Rattle.lk_locks.specs.declared.kinds.Phase.{Phase}
 use Rattle.lk_locks.specs.declared.kinds.Refusal.{Refusal}
 use Rattle.lk_locks.specs.declared.kinds.Refusal.TheVariants.{NoSuchThread, WrongLock}
 
+-- a move keeps the number of words
 pub same_length : (kind : LockKind) (bits : ℕ) (ws : List ℕ) (t : ℕ) (p : Phase) (m : Move)
     → length (move_change kind bits ws t p m).words ≡ length ws
 same_length kind bits ws t p (Call op) = refl
 same_length kind bits ws t p (Step k) = (room_of kind).keeps_length bits t ws p
 
+-- a move leaves its thread in a phase of the lock
 new_phase_fits : (kind : LockKind) (n bits : ℕ) (ws : List ℕ) (t : ℕ) (p : Phase) (m : Move)
     → t < n → IsPhaseOf kind n p → AreLinks kind n ws
     → IsPhaseOf kind n (move_change kind bits ws t p m).phase
 new_phase_fits kind n bits ws t p (Call op) h f l = (room_of kind).call_fits n p op f
 new_phase_fits kind n bits ws t p (Step k) h f l = (room_of kind).step_fits n bits t ws p h f l
 
+-- a move leaves links that name threads, or nobody
 new_links_fit : (kind : LockKind) (n bits : ℕ) (ws : List ℕ) (t : ℕ) (p : Phase) (m : Move)
     → t < n → AreLinks kind n ws → AreLinks kind n (move_change kind bits ws t p m).words
 new_links_fit kind n bits ws t p (Call op) h l = l
@@ -43,6 +46,7 @@ pub record Accepted (s : State) (t : ℕ) (m : Move) : Type 0 where
   pub own : belongs s.kind m ≡ true
   pub fits : refusal_in s.kind (phase_at s.phases t) m ≡ None
 
+-- an accepted move leaves a lock that is well formed
 pub well_kept : (s : State) (t : ℕ) (m : Move) → WellFormed s → Accepted s t m
     → WellFormed (next_state s t m)
 well_kept s t m w a =
@@ -61,6 +65,7 @@ well_kept s t m w a =
           (phase_at s.phases t) m a.thread w.links_fit);
     }
 
+-- a move that is not refused is of a thread, and of a kind, that the lock has
 gate : (a b : Bool) (r : Option Refusal)
     → (if a then (if b then r else Some WrongLock) else Some NoSuchThread) ≡ None
     → (a ≡ true) × (b ≡ true) × (r ≡ None)
@@ -68,6 +73,7 @@ gate true true r h = (refl, refl, h)
 gate true false r h = cc
 gate false b r h = cc
 
+-- a move that is not refused is accepted
 pub accepted_of : (s : State) (t : ℕ) (m : Move) → refusal_of s t m ≡ None → Accepted s t m
 accepted_of s t m h =
     let g =
@@ -75,6 +81,7 @@ accepted_of s t m h =
     (phase_at s.phases t) m) h in
     record { thread = ltb-true t (length s.phases) g.0; own = g.1; fits = g.2 }
 
+-- an accepted move's acts may come, and lock and sequential lock agree after it
 pub agreed : (kind : LockKind) (bits : ℕ) (ws : List ℕ) (ps : List Phase) (q : Sequential) (t : ℕ)
     (m : Move)
     → let s : State = record { kind = kind; bits = bits; words = ws; phases = ps } in WellFormed s

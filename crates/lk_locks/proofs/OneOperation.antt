@@ -39,6 +39,7 @@ ticket_keeps TakeTicket ws (Found v) = refl
 ticket_keeps (ReadServing t) ws (Found v) = refl
 ticket_keeps p ws a = refl
 
+-- what an MCS step does after its operation changes no word
 mcs_keeps : (p : Phase) (ws : List ℕ) (a : Answer) → Keeps ws (mcs.after p ws a)
 mcs_keeps SwapTail ws (Found v) = either_way (Keeps ws) (v == 0) _ _ refl refl
 mcs_keeps AwaitGrant ws (Found v) = either_way (Keeps ws) (v == 0) _ _ refl refl
@@ -48,6 +49,7 @@ mcs_keeps CasTail ws (Swapped true) = refl
 mcs_keeps CasTail ws (Swapped false) = refl
 mcs_keeps p ws a = refl
 
+-- a step that is not refused is of the kind that the lock expects
 same : (a b : StepKind) → (if same_step a b then None else Some (WrongStep a)) ≡ None → a ≡ b
 same Read Read r = refl
 same Write Write r = refl
@@ -57,6 +59,7 @@ same Add Add r = refl
 same Section Section r = refl
 same a b r = cc
 
+-- a step that makes one operation changes the words as this operation does
 by_one : (after : Phase → List ℕ → Answer → Change)
     → ((p : Phase) (ws : List ℕ) (a : Answer) → Keeps ws (after p ws a)) → (kind : LockKind)
     (bits : ℕ) (ws : List ℕ) (p : Phase) (k : StepKind) (o : Option Operation)
@@ -72,11 +75,13 @@ ticket_kind : (bits : ℕ) (p : Phase)
 ticket_kind bits TakeTicket = refl
 ticket_kind bits p = refl
 
+-- the kind of an MCS step does not depend on whose step it is
 mcs_kind : (t : ℕ) (p : Phase)
     → option_map kind_of (mcs.operation 0 p) ≡ option_map kind_of (mcs.operation t p)
 mcs_kind t ClearNext = refl
 mcs_kind t p = refl
 
+-- each accepted step of a lock makes the operation that its table names
 made : (kind : LockKind) (bits : ℕ) (ws : List ℕ) (t : ℕ) (p : Phase) (k : StepKind)
     → refusal_in kind p (Step k) ≡ None
     → IsStepOf kind bits ws t p k (step_of kind bits ws t p).words
@@ -97,6 +102,7 @@ stepped after keeps bits ws p o operation e =
     ap (λ x. (step_by after bits ws p x).words) e
     ∙ keeps p (performed bits ws operation).words (performed bits ws operation).answer
 
+-- after a step the words are as its operation leaves them
 pub step_words : (kind : LockKind) (bits : ℕ) (ws : List ℕ) (t : ℕ) (p : Phase)
     (operation : Operation) → operation_of kind bits t p ≡ Some operation
     → (step_of kind bits ws t p).words ≡ (performed bits ws operation).words
@@ -107,12 +113,14 @@ step_words Mcs bits ws t p operation e =
 step_words RwSimple bits ws t p operation e = cc
 step_words RwFifo bits ws t p operation e = cc
 
+-- each accepted step of a queue lock is one operation on one word
 pub one_operation : (s : State) (t : ℕ) (m : Move) → refusal_of s t m ≡ None
     → IsOneOperation s t m (next_state s t m).words
 one_operation s t (Call op) r = refl
 one_operation s t (Step k) r =
     made s.kind s.bits s.words t (phase_at s.phases t) k (accepted_of s t (Step k) r).fits
 
+-- the word of an operation, or word 0 if there is none
 abbrev word_or : Option Operation → ℕ
 word_or None = 0
 word_or (Some o) = word_of o
@@ -136,6 +144,7 @@ within Mcs n bits t AwaitLink o e h f = rw (ap word_or (sym e)) (omega arith)
 within Mcs n bits t (Grant j) o e h f = rw (ap word_or (sym e)) (omega arith)
 within kind n bits t p o e h f = cc
 
+-- the word of an operation is one of the lock's
 pub operation_within : (s : State) (t : ℕ) (o : Operation) → WellFormed s → t < length s.phases
     → operation_of s.kind s.bits t (phase_at s.phases t) ≡ Some o → word_of o < length s.words
 operation_within s t o w h e =

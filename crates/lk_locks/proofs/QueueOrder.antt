@@ -14,16 +14,18 @@ use Rattle.lk_locks.specs.declared.kinds.Op.TheVariants.{Acquire, Release}
 use Rattle.lk_locks.specs.declared.kinds.Entry.{Entry}
 use Rattle.lk_locks.specs.declared.kinds.Entry.TheVariants.{Called, Announced, Acted, Returned}
 use Rattle.lk_locks.proofs.QueueLaws.{HeadHolds, HoldsAlong, holders_take_turns, in_order}
-use Rattle.lk_locks.proofs.QueueLaws.{this_same}
+use Rattle.lk_locks.proofs.QueueHeads.{this_same}
 
 -- the return of one acquire and of a later one
 
+-- holders that take turns in a history take turns in each later part of it
 held_later : (h : Option ℕ) (xs ys : List Entry) → IsHeldInTurn h (xs ++ ys)
     → IsHeldInTurn (holder_after h xs) ys
 held_later h [] ys i = i
 held_later h (x ∷ xs) ys i =
     rw (holder_append h (x ∷ []) xs) (held_later (holder_after h (x ∷ [])) xs ys i.1)
 
+-- until its release the holder holds, whatever others do
 unless_released : (t : ℕ) (middle more : List Entry) → IsHeldInTurn (Some t) (middle ++ more)
     → HasOne (λ e. e ≡ Acted t Release) middle ⊎ IsHeldInTurn (Some t) more
 unless_released t [] more i = inr i
@@ -33,6 +35,7 @@ unless_released t (Acted u Release ∷ es) more i =
 unless_released t (e ∷ es) more i =
     elim (unless_released t es more i.1) [ inl g ↦ inl (inr g) | inr g ↦ inr g ]
 
+-- the law: between two entries into a queue lock, the first holder has released it
 pub holders_are_apart : HoldersAreApart
 holders_are_apart kind n es l t u before middle after e =
     let all : IsHeldInTurn None (before ++ Returned t Acquire
@@ -48,6 +51,7 @@ holders_are_apart kind n es l t u before middle after e =
 
 -- the order of the requests
 
+-- a queue is its head and the rest
 head_split : (q : List ℕ) (t : ℕ) → is_head q t ≡ true → t ∷ drop 1 q ≡ q
 head_split [] t h = cc
 head_split (x ∷ q) t h = ap (λ y. y ∷ q) (eqb-true t x h)
@@ -56,11 +60,13 @@ abbrev AreServed : Option ℕ → List ℕ → List Entry → Type 0
 AreServed h queue es =
     (rest : List ℕ) × (one_or_none h ++ (entered es ++ rest) ≡ queue ++ requested es)
 
+-- whoever holds is the first of those who wait or hold
 served_now : (h : Option ℕ) (queue : List ℕ) → HeadHolds h queue → AreServed h queue []
 served_now None queue d = (queue, sym (append-nil queue))
 served_now (Some t) queue d =
     (drop 1 queue, head_split queue t (d t (this_same t)) ∙ sym (append-nil queue))
 
+-- the threads enter in the order in which they joined the queue
 served : (es : List Entry) (q : Sequential) (h : Option ℕ) → AreEnabled q es → HoldsAlong h q es
     → AreServed h q.queue es
 served [] q h a i = served_now h q.queue i
@@ -83,5 +89,6 @@ served (Announced t ∷ es) q h a i = served es (after_entry q (Announced t)) h 
 served (Acted t o ∷ es) q h a i = served es (after_entry q (Acted t o)) h a.1 i.2
 served (Returned t o ∷ es) q h a i = served es q h a.1 i.2
 
+-- the law: a queue lock is entered in the order of its acquires
 pub enters_in_order : EntersInOrder
 enters_in_order kind n es l = served es (nobody kind) None l.allowed (in_order kind n es l)

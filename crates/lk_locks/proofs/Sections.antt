@@ -7,6 +7,7 @@ use Rattle.lk_locks.specs.rw_simple
 use Rattle.lk_locks.specs.declared.kinds.Phase.{Phase}
 use Rattle.lk_locks.specs.declared.kinds.Phase.TheVariants.{AwaitReaders, TryRead, TryWrite}
 
+-- what holds of both outcomes of a test holds of two steps that make the same test
 either_both : {A : Type 0} (P : A → A → Type 0) (b : Bool) (x y z w : A) → P x z → P y w
     → P (if b then x else y) (if b then z else w)
 either_both P true x y z w p q = p
@@ -16,6 +17,7 @@ either_both P false x y z w p q = q
 abbrev pub two_back : List ℕ → List ℕ → List ℕ
 two_back ws left = set (set ws 0 (slice_index left 0)) 1 (slice_index left 1)
 
+-- the first three words of a list replaced by those of a copy
 abbrev pub three_back : List ℕ → List ℕ → List ℕ
 three_back ws left = set (two_back ws left) 2 (slice_index left 2)
 
@@ -26,11 +28,13 @@ pub record AsOnCopy (back : List ℕ → List ℕ → List ℕ) (ws : List ℕ) 
   pub phase : copy.phase ≡ whole.phase
   pub outcome : copy.outcome ≡ whole.outcome
 
+-- two changes with the same words, phase and outcome are the same change
 same : (back : List ℕ → List ℕ → List ℕ) (ws : List ℕ) (c d : Change)
     → back ws c.words ≡ d.words → c.phase ≡ d.phase → c.outcome ≡ d.outcome
     → AsOnCopy back ws c d
 same back ws c d w p o = record { words = w; phase = p; outcome = o }
 
+-- a section of the simple lock does on a copy of two words what it does on the lock's
 pub simple : (bits : ℕ) (ws : List ℕ) (p : Phase) → 2 ≤ length ws
     → AsOnCopy two_back ws
     (rw_simple.step bits (slice_index ws 0 ∷ slice_index ws 1 ∷ 0 ∷ []) p)
@@ -44,6 +48,7 @@ simple bits (a ∷ b ∷ ws) TryWrite h =
 simple bits (a ∷ b ∷ ws) p h = same _ _ _ _ refl refl refl
 simple bits ws p h = absurd (omega arith)
 
+-- a section of the FIFO lock does on a copy of three words what it does on the lock's
 pub fifo : (bits : ℕ) (ws : List ℕ) (p : Phase) → 3 ≤ length ws
     → AsOnCopy three_back ws
     (rw_fifo.step bits (slice_index ws 0 ∷ slice_index ws 1 ∷ slice_index ws 2 ∷ []) p)

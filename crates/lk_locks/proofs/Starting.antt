@@ -15,6 +15,7 @@ use Rattle.lk_locks.proofs.Threads.{all_idle}
 use Rattle.lk_locks.specs.declared.kinds.LockKind.{LockKind}
 use Rattle.lk_locks.specs.declared.kinds.Phase.TheVariants.{Idle}
 
+-- a new lock has the empty history
 pub kept_start : (kind : LockKind) (bits : ℕ) (ws : List ℕ) (n : ℕ) → n ≤ 64 → n < 2 ^ bits
     → word_count kind n ≤ length ws → ((i : ℕ) → i < length ws → slice_index ws i ≡ 0)
     → Kept (start kind bits ws n) (nobody kind) []

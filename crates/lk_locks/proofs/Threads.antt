@@ -13,13 +13,16 @@ use Rattle.lk_locks.specs.invariants.Threads.{EachOnce}
 use Rattle.lk_locks.specs.declared.kinds.Phase.{Phase}
 use Rattle.lk_locks.specs.declared.kinds.Phase.TheVariants.{Idle}
 
+-- a test is true or false
 pub bool_tells : (b : Bool) → (b ≡ true) ⊎ (b ≡ false)
 bool_tells true = inl refl
 bool_tells false = inr refl
 
+-- two threads that differ do not pass the test for equality
 pub not_eqb : (t u : ℕ) → t ≢ u → eqb u t ≡ false
 not_eqb t u h = elim (eqb_tells u t) [ inl e ↦ absurd (h (sym e.1)) | inr e ↦ e.0 ]
 
+-- who is in a list is its first or among the rest
 pub has_tells : (q : List ℕ) (u t : ℕ) → has (u ∷ q) t ≡ true → (t ≡ u) ⊎ (has q t ≡ true)
 has_tells q u t h =
     elim (eqb_tells t u) [
@@ -27,6 +30,7 @@ has_tells q u t h =
       | inr e ↦ inr (let g : has (u ∷ q) t ≡ true = h in rw e.0 at g)
     ]
 
+-- a thread that is not in a list may be appended, and each is in it once
 pub once_more : (q : List ℕ) (t : ℕ) → EachOnce q → has q t ≡ false → EachOnce (q ++ t ∷ [])
 once_more [] t o h = (refl, tt)
 once_more (u ∷ q) t o h = elim (eqb_tells t u) [
@@ -41,6 +45,7 @@ once_more (u ∷ q) t o h = elim (eqb_tells t u) [
 pub has_more : (q : List ℕ) (t u : ℕ) → has (q ++ t ∷ []) u ≡ (has q u || (eqb u t || false))
 has_more q t u = list_any-append (eqb u) q (t ∷ [])
 
+-- who is not in a list differs from each thread in it
 pub apart_of_has : (q : List ℕ) (t : ℕ) → has q t ≡ false → AllByRecursion (λ y. eqb t y ≡ false) q
 apart_of_has [] t h = tt
 apart_of_has (u ∷ q) t h = elim (eqb_tells t u) [
@@ -54,21 +59,26 @@ unfolding IsDistinct
 distinct_of_once [] o = tt
 distinct_of_once (t ∷ q) o = (apart_of_has q t o.0, distinct_of_once q o.1)
 
+-- a test or a false one is true only if the test is
 pub or_left : (b : Bool) → (b || false) ≡ true → b ≡ true
 or_left true h = refl
 or_left false h = h
 
+-- a test or a false one is false only if the test is
 pub or_left_false : (b : Bool) → (b || false) ≡ false → b ≡ false
 or_left_false true h = h
 or_left_false false h = refl
 
+-- a test or a true one is true
 pub or_right : (a : Bool) {b : Bool} → b ≡ true → (a || b) ≡ true
 or_right true h = refl
 or_right false h = h
 
+-- a thread whose phase is set has this phase
 pub at_same : (ps : List Phase) (t : ℕ) (p : Phase) → t < length ps → phase_at (set ps t p) t ≡ p
 at_same ps t p h = get_or-set_same ps t p Idle h
 
+-- each other thread keeps its phase
 pub at_other : (ps : List Phase) (t u : ℕ) (p : Phase) → u ≢ t
     → phase_at (set ps t p) u ≡ phase_at ps u
 at_other ps t u p h = get_or-set_other ps t u p Idle h

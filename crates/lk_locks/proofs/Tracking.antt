@@ -14,10 +14,12 @@ use Rattle.lk_locks.specs.declared.kinds.Move.TheVariants.{Call}
 use Rattle.lk_locks.specs.declared.kinds.Op.{Op}
 use Rattle.lk_locks.specs.declared.kinds.Entry.{Entry}
 
+-- the entries of an accepted move may come next in the history
 pub entries_may_come : (s : State) (q : Sequential) (t : ℕ) (m : Move) → IsTracked s q
     → refusal_of s t m ≡ None → AreEnabled q (entries_of s t m)
 entries_may_come s q t m k a = may_come s q k.0 t m k.1 (accepted_of s t m a)
 
+-- after an accepted move there is again a history that leads to the lock
 pub tracked_on : (s r : State) (q u : Sequential) (es : List Entry) (t : ℕ) (m : Move)
     → IsTracked s q → refusal_of s t m ≡ None → es ≡ entries_of s t m → r ≡ next_state s t m
     → u ≡ after_entries q es → IsTracked r u
@@ -32,6 +34,7 @@ tracked_by_call s q t op k a = (
   keeps s q k.0 t (Call op) k.1 (accepted_of s t (Call op) a),
 )
 
+-- a call changes the history, but not the sequential lock
 pub tracked_call : (s r : State) (q : Sequential) (t : ℕ) (m : Move) (op : Op) → IsTracked s q
     → refusal_of s t m ≡ None → m ≡ Call op → r ≡ next_state s t m → IsTracked r q
 tracked_call s r q t m op k a c e = rw (e, c) (tracked_by_call s q t op k

@@ -7,6 +7,7 @@ use Rattle.std.proofs.lemmas.Nat.{and_mask, pow_pos}
 use Rattle.std.proofs.Math.Pow.{mod-mod-pow}
 use Rattle.lk_locks.specs.Change.{plus_one}
 
+-- one more and then k more is k + 1 more, also if the word wraps around
 pub plus_one_plus : (bits x k : ℕ) → (plus_one bits x + k) % 2 ^ bits ≡ (x + (k + 1)) % 2 ^ bits
 plus_one_plus bits x k = mod-add-mod (x + 1) (2 ^ bits) k ∙ ap (λ n. n % 2 ^ bits) (omega arith)
 
@@ -17,6 +18,7 @@ no_round m a k h p q e = elim (cases_lt (a + k) m) [
   | inr f ↦ let g : a + k - m < m = omega arith in omega (arith, mod-eq-sub-mod f, mod-eq_of_lt g)
 ]
 
+-- one more is a word again
 pub plus_one-lt : (bits x : ℕ) → plus_one bits x < 2 ^ bits
 plus_one-lt bits x = mod-lt (x + 1) (pow_pos bits)
 

@@ -13,11 +13,13 @@ use Rattle.lk_locks.specs.declared.kinds.Op.TheVariants.{WriteLock, Downgrade}
 use Rattle.lk_locks.specs.declared.kinds.Entry.{Entry}
 use Rattle.lk_locks.specs.declared.kinds.Entry.TheVariants.{Called, Acted}
 
+-- what holds of thread 0 and of thread 1 holds of both threads
 two_threads : (P : ℕ → Type 0) → P 0 → P 1 → (t : ℕ) → t < 2 → P t
 two_threads P p q zero h = p
 two_threads P p q (suc zero) h = q
 two_threads P p q (suc (suc t)) h = absurd (omega arith)
 
+-- a ticket lock that is handed on from one thread to the other has a legal history
 pub ticket_legal : Legal Ticket 2 handed_on
 ticket_legal = record {
   allowed = (tt, (refl, (refl, (tt, (refl, (tt, (refl, (tt, (refl, tt)))))))));
@@ -25,6 +27,7 @@ ticket_legal = record {
   no_others = search rules;
 }
 
+-- so has an MCS lock
 pub mcs_legal : Legal Mcs 2 handed_on
 mcs_legal = record {
   allowed = (tt, (refl, (refl, (tt, (refl, (tt, (refl, (tt, (refl, tt)))))))));
@@ -32,6 +35,7 @@ mcs_legal = record {
   no_others = search rules;
 }
 
+-- two writers that take turns are legal in the simple lock
 pub simple_legal : Legal RwSimple 2 writers_in_turn
 simple_legal = record {
   allowed = (
@@ -59,6 +63,7 @@ simple_legal = record {
   no_others = search rules;
 }
 
+-- an announced writer that enters after the readers is legal in the FIFO lock
 pub fifo_legal : Legal RwFifo 2 announced_entered
 fifo_legal = record {
   allowed = (tt, (refl, (tt, (tt, (refl, (tt, (refl, (tt, (refl, (tt, tt))))))))));
@@ -66,17 +71,21 @@ fifo_legal = record {
   no_others = search rules;
 }
 
+-- whole calls do not begin with an act
 no_call : (ops : List Op) (rest : List Entry)
     → Acted 0 Acquire ∷ rest ≡ flat_map (whole_call Mcs 0) ops → ⊥
 no_call [] rest e = cc
 no_call (op ∷ ops) rest e = cc
 
+-- an act without a call is not legal
 pub not_legal : Legal Mcs 2 uncalled → ⊥
 not_legal l = let w = l.well_formed 0 (omega arith) in no_call w.0 w.1 w.2
 
+-- what an entry does not meet, a list of it alone does not have
 pub not_of_one : (P : Entry → Type 0) (x : Entry) → (P x → ⊥) → Any P (x ∷ []) → ⊥
 not_of_one P x f a = elim (one_of P (x ∷ []) a) [ inl d ↦ f d | inr n ↦ n ]
 
+-- what two entries do not meet, a list of the two does not have
 pub not_of_two : (P : Entry → Type 0) (x y : Entry) → (P x → ⊥) → (P y → ⊥)
     → Any P (x ∷ y ∷ []) → ⊥
 not_of_two P x y f g a = elim (one_of P (x ∷ y ∷ []) a) [
@@ -88,11 +97,13 @@ not_of_two P x y f g a = elim (one_of P (x ∷ y ∷ []) a) [
 abbrev IsCalled : ℕ → Op → List Entry → Type 0
 IsCalled t op es = Any (λ x. x ≡ Called t op) es
 
+-- a history in which a call was made has this call
 called_in : (t : ℕ) (op : Op) (start middle : List Entry)
     → HasOne (λ x. x ≡ Called t op) (start ++ Called t op ∷ middle)
 called_in t op [] middle = inl refl
 called_in t op (x ∷ start) middle = inr (called_in t op start middle)
 
+-- what a thread did since its only call is what it did after it
 since : (t : ℕ) (op : Op) (deeds rest start middle : List Entry) → (IsCalled t op rest → ⊥)
     → Called t op ∷ rest ≡ start ++ Called t op ∷ middle → subhistory t middle ≡ deeds
     → subhistory t rest ≡ deeds
@@ -106,9 +117,11 @@ pub since_call : (t : ℕ) (op : Op) (deeds rest : List Entry) → (IsCalled t o
     → HasDone t op deeds (Called t op ∷ rest) → subhistory t rest ≡ deeds
 since_call t op deeds rest n h = since t op deeds rest h.0 h.1 n h.2 h.3
 
+-- the empty history has no call
 none_in : (t : ℕ) (op : Op) (start middle : List Entry) → [] ≡ start ++ Called t op ∷ middle → ⊥
 none_in t op [] middle e = cc
 none_in t op (x ∷ start) middle e = cc
 
+-- in the empty history nobody has done anything
 pub nothing_done : (t : ℕ) (op : Op) (deeds : List Entry) → HasDone t op deeds [] → ⊥
 nothing_done t op deeds h = none_in t op h.0 h.1 h.2

@@ -25,7 +25,8 @@ use Rattle.lk_locks.specs.declared.kinds.Outcome.TheVariants.{Moved, Waits, Ente
 use Rattle.lk_locks.specs.declared.kinds.Entry.{Entry}
 use Rattle.lk_locks.specs.declared.kinds.Entry.TheVariants.{Acted, Returned}
 
--- the record of the last request, and of each thread its successor and whether it has to wait
+-- The place of each word among the lock's words: the one that names the thread of the last request,
+-- and of thread i the one that names its successor and the one that says whether it has to wait.
 abbrev pub tail : ℕ
 tail = 0
 

@@ -3,8 +3,8 @@
 --
 -- Mellor-Crummey and Scott, "Algorithms for Scalable Synchronization on Shared-Memory
 -- Multiprocessors", ACM TOCS 9(1), 1991, section 2.2. Different here: words have B bits, so tickets
--- go round; the pause between two reads of `now_serving` is no step; a release is two steps, a read
--- of `now_serving` and a write of the value read plus one.
+-- wrap around; the pause between two reads of `now_serving` is no step; a release is two steps, a
+-- read of `now_serving` and a write of the value read plus one.
 use Rattle.std.specs.Prelude.{ℕ, ◌==◌, List, [], ◌∷◌, Option, None, Some, if◌then◌else◌}
 use Rattle.lk_words.specs.declared.operation.Operation.{Operation}
 use Rattle.lk_words.specs.declared.operation.Operation.TheVariants.{Read, Write, FetchAndAdd}

@@ -1,4 +1,4 @@
--- All is placed where no thread has a next line.
+-- All is placed if no thread has a next line.
 use Rattle.std.proofs.Common.{◌≡◌, ℕ, ◌<◌, ◌≤◌, List, Some, None, length, get_or}
 use Rattle.std.proofs.Common.{◌∙◌, inl, inr, arith}
 use Rattle.std.specs.List.{slice_get}

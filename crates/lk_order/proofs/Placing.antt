@@ -1,4 +1,4 @@
--- An order with a line more is an order, where the line is the next of its thread's log and agrees
+-- An order with a line more is an order, if the line is the next of its thread's log and agrees
 -- with the lock.
 use Rattle.std.proofs.Common.{◌≡◌, ◌≢◌, ℕ, suc, ◌+◌, ◌<◌, ◌==◌, List, [], ◌∷◌, ◌++◌, Some, length}
 use Rattle.std.proofs.Common.{take, get_or, set, refl, sym, ap, ◌∙◌, subst, arith, inl, inr}

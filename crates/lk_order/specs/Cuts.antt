@@ -12,7 +12,7 @@ pub record Cut : Type 0 where
 
 -- from this moment on, and before that one, somebody is in a call or holds at each moment
 abbrev pub IsBusy : Ordered → ℕ → ℕ → Type 0
-IsBusy o first behind = (k : ℕ) → first ≤ k → k < behind → IsQuiet o k → ⊥
+IsBusy o first end = (k : ℕ) → first ≤ k → k < end → IsQuiet o k → ⊥
 
 -- a schedule has room for the moves up to the last moment at which nobody is in a call or holds
 pub record IsLastQuiet (o : Ordered) (first end : ℕ) : Type 0 where
@@ -24,7 +24,7 @@ pub record IsFull (o : Ordered) (first end : ℕ) : Type 0 where
   pub full : end ≡ first + 65536
   pub busy : IsBusy o (first + 1) (first + 65537)
 
--- a piece takes all moves that are left, where a schedule has room for them
+-- a piece takes all moves that are left, if a schedule has room for them
 pub record IsPieceEnd (o : Ordered) (first end : ℕ) : Type 0 where
   pub all : length o.trace ≤ first + 65536 → end ≡ length o.trace
   pub part : first + 65536 < length o.trace → IsLastQuiet o first end ⊎ IsFull o first end

@@ -14,7 +14,7 @@ use Rattle.lk_trace.specs.declared.line.TraceLine.{TraceLine}
 use Rattle.lk_trace.specs.declared.trace.TextFault.{TextFault}
 use Rattle.lk_order.specs.declared.log.reader.LogFault.{LogFault}
 use Rattle.lk_order.specs.declared.log.reader.LogFault.TheVariants.{NoHeader, BadHeader, BadMove}
-use Rattle.lk_order.specs.declared.log.reader.LogFault.TheVariants.{BehindTheEnd, TooLong}
+use Rattle.lk_order.specs.declared.log.reader.LogFault.TheVariants.{AfterTheEnd, TooLong}
 use Rattle.lk_order.specs.declared.log.reader.LogFault.TheVariants.{OutOfMemory}
 
 pub record ThreadLog : Type 0 where
@@ -41,7 +41,7 @@ pub record Reading : Type 0 where
   pub log : Option ThreadLog
   pub number : ℕ
 
--- the text before its last space, and the text behind that
+-- the text before its last space, and the text after it
 abbrev pub with_first : ℕ → List ℕ → Option (List ℕ × List ℕ) → Option (List ℕ × List ℕ)
 with_first b bs (Some cut) = Some (b ∷ cut.0, cut.1)
 with_first b bs None = if b == 32 then Some ([], bs) else None
@@ -67,11 +67,11 @@ abbrev pub with_cut : Option (List ℕ × List ℕ) → Option (Header × ℕ)
 with_cut (Some cut) = with_number cut.0 (number_of 0 63 cut.1)
 with_cut None = None
 
--- the header of a log, of at most 96 bytes: a trace's header, and `thread T` behind it
+-- the header of a log, of at most 96 bytes: a trace's header, and `thread T` after it
 abbrev pub log_header_of : List ℕ → Option (Header × ℕ)
 log_header_of line = if nat_lt 96 (length line) then None else with_cut (cut_last line)
 
--- how many moves were dropped, where the line is the last of a log
+-- how many moves were dropped, if the line is the last of a log
 abbrev pub dropped_of : List ℕ → Option ℕ
 dropped_of line =
     if starts_with nat_eq line (codes "dropped ") then whole_number (drop 8 line) else None
@@ -93,17 +93,17 @@ with_move log number (Some line) =
     Ok (record log { moves = log.moves ++ line ∷ []; lines = log.lines ++ number ∷ [] })
 with_move log number None = Err BadMove
 
--- a line behind the header that does not say how many were dropped: a move whose line has no end
+-- a line after the header that does not say how many were dropped: a move whose line has no end
 -- was cut off, and is not looked at
 abbrev pub with_dropped : ThreadLog → ℕ → Bool → List ℕ → Option ℕ → Result ThreadLog LogFault
 with_dropped log number ended line (Some count) = Ok (record log { dropped = Some count })
 with_dropped log number ended line None =
     if ended then with_move log number (short_log_line_of log.thread line) else Ok log
 
-abbrev pub behind_header : ThreadLog → ℕ → Bool → List ℕ → Result ThreadLog LogFault
-behind_header log number ended line =
+abbrev pub after_header : ThreadLog → ℕ → Bool → List ℕ → Result ThreadLog LogFault
+after_header log number ended line =
     if is_some log.dropped
-    then Err BehindTheEnd
+    then Err AfterTheEnd
     else with_dropped log number ended line (dropped_of line)
 
 abbrev pub begun : Option (Header × ℕ) → Result ThreadLog LogFault
@@ -112,7 +112,7 @@ begun None = Err BadHeader
 
 abbrev pub unskipped : Option ThreadLog → ℕ → Bool → List ℕ → Result ThreadLog LogFault
 unskipped None number ended line = begun (log_header_of line)
-unskipped (Some log) number ended line = behind_header log number ended line
+unskipped (Some log) number ended line = after_header log number ended line
 
 abbrev pub now_read : ℕ → Result ThreadLog LogFault → Result Reading LogFault
 now_read number (Ok log) = Ok (record { log = Some log; number = number })

@@ -84,7 +84,7 @@ abbrev pub unless_differs : Option Difference → Ordered → Ordered → Ordere
 unless_differs None next o = next
 unless_differs (Some difference) next o = o
 
--- a line is placed where it agrees with the lock
+-- a line is placed if it agrees with the lock
 abbrev pub after_next : Ordered → Option TraceLine → Ordered
 after_next o None = o
 after_next o (Some line) = unless_differs (difference_of o.lock line) (with_line o line) o

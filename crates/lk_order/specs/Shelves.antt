@@ -40,7 +40,7 @@ pub record IsTaken (old new : Shelved) (log : ThreadLog) : Type 0 where
     places = slice_set old.places log.thread (Some log);
   }
 
--- how many threads have a log where none is missing
+-- how many threads have a log if none is missing
 abbrev pub threads_of : Option (LockKind × ℕ × ℕ) → ℕ
 threads_of (Some lock) = lock.1
 threads_of None = 1

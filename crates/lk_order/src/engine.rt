@@ -3,10 +3,10 @@
 //!
 //! Steps are proposed in rounds. A look is a step that changes no word that another thread can
 //! read. Looks and calls come first, each as soon as the machine's word holds what it found:
-//! nothing is lost by it. Where none is left, a step that changes a word is proposed that nobody
+//! nothing is lost by it. When none is left, a step that changes a word is proposed that nobody
 //! has still to look at before. Last come the steps that end what others may look at: the release
 //! of a ticket lock, and a swap that finds nobody; of these the one whose chain has no end comes
-//! behind the others. A monitor's sections come in the order of their count.
+//! after the others. A monitor's sections come in the order of their count.
 //!
 //! A thread whose step was not placed sleeps until a step is placed that it may have waited for:
 //! one on its word, or the section before its own. So each step is asked for as often as its word
@@ -82,7 +82,7 @@ const ROUNDS: [Round; 5] = [
     Round::Endless,
 ];
 
-// The next step of a thread. None where its log ends.
+// The next step of a thread. None if its log has ended.
 fn next_of(order: &Order, t: u8) -> Option<Next> {
     let line = order.next(t)?;
     let phase = order.checker().phase(t)?;

@@ -18,7 +18,7 @@ use std::alloc::{AllocError, Global};
 pub struct Stuck {
     pub thread: u8,
     pub at: usize,
-    /// Where it differs from the lock behind the steps that are placed. None where it does not:
+    /// Where it differs from the lock after the steps that are placed. None if it does not differ:
     /// then a step of another thread has to come first.
     pub difference: Option<Difference>,
 }
@@ -42,7 +42,7 @@ pub struct Found {
     pub ending: Ending,
 }
 
-// How likely another step is to blame that cannot be placed: 0 where it is surely this one.
+// How likely another step is to blame that cannot be placed: 0 if it is surely this one.
 fn doubt(difference: Option<Difference>) -> u8 {
     match difference {
         Some(
@@ -62,7 +62,7 @@ struct Suspect {
     stuck: Stuck,
 }
 
-// The next step of a thread, where it has one.
+// The next step of a thread, if it has one.
 fn suspect_of(order: &Order, thread: u8) -> Option<Suspect>
     ensures { MatchOption result (next_line order.now thread ≡ None)
         (λ s. IsStuck order.now s.stuck) }
@@ -97,7 +97,7 @@ fn more_certain(first: Option<Suspect>, second: Option<Suspect>) -> Option<Suspe
     }
 }
 
-// The step that is most certainly wrong, where one is left.
+// The step that is most certainly wrong, if one is left.
 fn suspect_in(order: &Order) -> Option<Suspect>
     ensures stuck { IfSome result (λ s. IsStuck order.now s.stuck) }
     ensures none { result ≡ None → (t : ℕ) → t < order.now.threads → next_line order.now t ≡ None }
@@ -127,7 +127,7 @@ fn ends_where_cut(order: &Order) -> bool
     false
 }
 
-// How the order ends. A step that is certainly wrong is named also where a log is cut short.
+// How the order ends. A step that is certainly wrong is named also when a log is cut short.
 fn ending_of(order: &Order) -> Ending
     ensures order { IsOrder order.now }
     ensures ends { EndsAs order.now result }

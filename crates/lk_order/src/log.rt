@@ -84,14 +84,14 @@ impl Log {
         self.moves.as_slice()
     }
 
-    /// The line of the text in which a move stands, counted from 1.
+    /// The line of the text that has a move, counted from 1.
     pub fn line_of(&self, at: usize) -> Option<u32>
         ensures { result ≡ slice_get self.now.lines at }
     {
         self.lines.get(at).copied()
     }
 
-    /// How many further moves the thread made. None where the log ends without saying so.
+    /// How many further moves the thread made. None if the log ends without saying so.
     pub fn dropped(&self) -> Option<u64>
         ensures { result ≡ self.now.dropped }
     {

@@ -12,7 +12,7 @@ use std::marker::Model;
 /// downgrade`, so that a piece has fewer bytes than a schedule may have.
 pub const MOST_MOVES: usize = 65_536;
 
-/// Moves of an order, one behind the other: so many from the move `first` on, counted from 0.
+/// Moves of an order, one after the other: so many from the move `first` on, counted from 0.
 #[derive(Clone, Copy, PartialEq, Eq, Debug)]
 pub struct Piece {
     pub first: usize,
@@ -88,8 +88,8 @@ impl<'a> Pieces<'a> {
         }
     }
 
-    /// How many moves were left out so far: more than a schedule has room for stand between two
-    /// moments at which nobody is in a call.
+    /// How many moves were left out so far: those between two moments at which nobody is
+    /// in a call, if a schedule has no room for them.
     pub fn left_out(&self) -> usize
         ensures { result ≡ self.now.at - self.now.given }
     {

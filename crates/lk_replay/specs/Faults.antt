@@ -2,7 +2,7 @@
 use Rattle.std.specs.Prelude.{ℕ}
 
 -- What is wrong with a text, with the number of the line. The program's `ReadFault` has these and
--- want of memory.
+-- lack of memory.
 pub data Fault : Type 0 where
   TooLong : Fault
   NoHeader : ℕ → Fault

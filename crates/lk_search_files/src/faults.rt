@@ -8,7 +8,7 @@ use lk_trace_files::{Due, put_wrong, wrong_in_header, wrong_in_sketch};
 use std::alloc::{AllocError, Global};
 use std::fmt::Write;
 
-// Where a line stops to be one of a sketch. A thread's number is as long as `*`.
+// Where a line stops being one of a sketch. A thread's number is as long as `*`.
 fn wrong_in(alloc: Global, line: &[u8]) -> Result<Option<(usize, Due)>, AllocError> {
     let mut numbered = Vec::new(alloc);
     numbered.extend_from_slice(line)?;

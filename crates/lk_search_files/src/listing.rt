@@ -60,7 +60,7 @@ fn put_text(text: &mut String, coverage: &Coverage) -> Result<(), AllocError> {
     }
     if has_counter(lock) {
         let rounds = coverage.rounds();
-        writeln!(text, "{rounds:>10}  the counter went round")?;
+        writeln!(text, "{rounds:>10}  the counter wrapped around")?;
     }
     Ok(())
 }

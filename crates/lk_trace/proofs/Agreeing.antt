@@ -1,4 +1,4 @@
--- A line has no difference exactly where it agrees part by part.
+-- A line has no difference exactly if it agrees part by part.
 use Rattle.std.proofs.Common.{List, option_map, replicate, arith, ltb-true, lt-ltb, nat_lt, ◌<◌}
 use Rattle.std.proofs.Common.{◌≡◌, ℕ, ◌==◌, Option, Some, None, Bool, true, false, IfSome}
 use Rattle.std.proofs.Common.{if◌then◌else◌, refl, sym, ap, subst, length, not, ◌∙◌, ◌↔◌}

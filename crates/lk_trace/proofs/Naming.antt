@@ -1,4 +1,5 @@
--- A word's name leads back to its place, and the words of a name stand as its step's effect says.
+-- A word's name leads back to its place, and the words of a name have the values that its step's
+-- effect says.
 use Rattle.std.proofs.Common.{List, None, Option, Some, ap, arith, inl, inr, length, option_map}
 use Rattle.std.proofs.Common.{refl, slice_index, subst, sym, ℕ, ◌∙◌, ◌%◌, ◌<◌, ◌≡◌, nat_lt}
 use Rattle.std.proofs.lemmas.Bool.Decides.{eqb_tells}

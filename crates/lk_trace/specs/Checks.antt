@@ -93,7 +93,7 @@ outcome_other outcome None = None
 outcome_other outcome (Some given) =
     if same_outcome outcome given then None else Some (OtherOutcome outcome given)
 
--- what stands in a word, and what stands in it after a move
+-- the value of a word, and its value after a move
 abbrev pub stands : State → WordName → ℕ
 stands s word = slice_index s.words (place_of s.kind word)
 

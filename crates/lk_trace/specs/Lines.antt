@@ -22,13 +22,13 @@ use Rattle.lk_trace.specs.declared.line.TraceLine.{TraceLine}
 abbrev pub Words : Type 0
 Words = List (List ℕ)
 
--- the number that the text writes, where that is of at most 64 bits
+-- the number that the text writes, if that is of at most 64 bits
 unfoldable pub whole_number : List ℕ → Option ℕ
 whole_number text =
     if is_plain_number text && nat_le
     (value_from 0 text) 18446744073709551615 then Some (value_from 0 text) else None
 
--- a part that was read, and the words behind it
+-- a part that was read, and the words after it
 abbrev pub Read : Type 0 → Type 0
 Read A = Option (A × Words)
 
@@ -55,7 +55,7 @@ place_in thread (name ∷ rest) =
     (owner_of thread rest) else None))))
 place_in thread [] = None
 
--- a tag and its number, where the tag comes next
+-- a tag and its number, if the tag comes next
 abbrev pub tagged : List ℕ → Words → Read (Option ℕ)
 tagged tag (word ∷ number ∷ rest) =
     if bytes_eq word tag then option_map (λ n. (Some n, rest))
@@ -72,7 +72,7 @@ abbrev pub result_alone : StepKind → List ℕ → Option (Option Bool)
 result_alone Cas word = option_map Some (wrote word)
 result_alone kind word = None
 
--- whether a compare-and-swap wrote, where that is said, and nothing else
+-- whether a compare-and-swap wrote, if that is said, and nothing else
 abbrev pub result_of : StepKind → Words → Option (Option Bool)
 result_of kind [] = Some None
 result_of kind (word ∷ []) = result_alone kind word

@@ -75,7 +75,7 @@ impl Checker {
         &self.lock
     }
 
-    /// What a thread does, where there is such a thread.
+    /// What a thread does, if there is such a thread.
     pub fn phase(&self, t: u8) -> Option<Phase>
         ensures { SomeIff result (t < length self.now.lock.state.phases)
             (phase_at self.now.lock.state.phases t) }
@@ -96,7 +96,7 @@ impl Checker {
         first_difference(self.lock.machine(), self.sections, line)
     }
 
-    /// Makes the move of a line. It is accepted exactly where the machine accepts it and each part
+    /// Makes the move of a line. It is accepted exactly if the machine accepts it and each part
     /// that the line gives is the machine's.
     ///
     /// # Errors

@@ -13,39 +13,39 @@ pub enum Difference {
     #[error("{0}")]
     Refused(Refusal),
     /// The machine's step is on another word, or on none in particular.
-    #[error("on {given}, where the lock's is on {own}", own = Own(*.word))]
+    #[error("on {given}, and the lock's is on {own}", own = Own(*.word))]
     OtherWord {
         word: Option<WordName>,
         given: WordName,
     },
-    /// Something else stood in the word.
-    #[error("found {given} in {word}, where the lock has {found}")]
+    /// The word had another value.
+    #[error("found {given} in {word}, and the lock has {found}")]
     FoundOther {
         word: WordName,
         found: u64,
         given: u64,
     },
-    /// Something else stands in the word afterwards.
-    #[error("left {given} in {word}, where the lock leaves {left}")]
+    /// The word has another value afterwards.
+    #[error("left {given} in {word}, and the lock leaves {left}")]
     LeftOther {
         word: WordName,
         left: u64,
         given: u64,
     },
-    /// The compare-and-swap wrote where the line says that it failed, or failed where it says that
-    /// it wrote.
+    /// The compare-and-swap wrote although the line says that it failed, or failed although it says
+    /// that it wrote.
     #[error("the compare-and-swap {}", wrote_text(*.wrote))]
     WroteOther {
         wrote: bool,
     },
     /// The count of a monitor's section is not above those before it.
-    #[error("section {given} behind section {last}")]
+    #[error("section {given} after section {last}")]
     CountNotAbove {
         last: u64,
         given: u64,
     },
     /// Something else came of the section.
-    #[error("'{}' came of the section, where the lock gives '{}'", word(.given), word(.outcome))]
+    #[error("'{}' came of the section, and the lock gives '{}'", word(.given), word(.outcome))]
     OtherOutcome {
         outcome: Outcome,
         given: Outcome,
@@ -59,9 +59,9 @@ fn word(outcome: &Outcome) -> &'static str {
 // How the run's compare-and-swap ended, and how the machine's.
 fn wrote_text(wrote: bool) -> &'static str {
     if wrote {
-        "failed, where the lock's writes"
+        "failed, and the lock's writes"
     } else {
-        "wrote, where the lock's fails"
+        "wrote, and the lock's fails"
     }
 }
 

@@ -1,6 +1,6 @@
-//! Traces: schedules whose lines also say which word a step was on, and what stood in it.
+//! Traces: schedules whose lines also say which word a step was on, and what value it had.
 //!
-//! A trace is read line by line, and each move is made on the lock's machine. It is accepted where
+//! A trace is read line by line, and each move is made on the lock's machine. It is accepted if
 //! the machine accepts the move and each part that the line gives is the machine's. The memory does
 //! not grow with the run.
 #![tactic(auto)]

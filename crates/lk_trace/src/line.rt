@@ -19,7 +19,7 @@ pub const MOST_OF_A_LINE: usize = 96;
 #[derive(Clone, Copy, PartialEq, Eq, Debug)]
 pub enum Seen {
     Nothing,
-    /// The step was on this word. `found` stood in it, `left` stands in it afterwards; of a
+    /// The step was on this word. It had `found` before and has `left` afterwards; of a
     /// compare-and-swap, whether it wrote.
     OnWord {
         word: WordName,
@@ -42,10 +42,10 @@ pub struct TraceLine {
     pub seen: Seen,
 }
 
-/// What is left of a line behind a part of it.
+/// What is left of a line after a part of it.
 type Rest<'a> = Option<&'a [u8]>;
 
-// The first word of what is left of a line, and what is left behind it.
+// The first word of what is left of a line, and what is left after it.
 fn first_word(rest: Rest<'_>) -> Option<(&[u8], Rest<'_>)>
     ensures { MatchOption result (words_left rest.entry ≡ [])
         (λ cut. words_left rest.entry ≡ cut.0.now ∷ words_left cut.1) }
@@ -100,7 +100,7 @@ fn owner_of(rest: Rest<'_>, thread: u8) -> Option<(u8, Rest<'_>)>
     Some((owner, after))
 }
 
-// The number behind this word, where that is the next word.
+// The number after this word, if this word is the next one.
 fn tagged<'a>(rest: Rest<'a>, tag: &[u8]) -> Option<(Option<u64>, Rest<'a>)>
     ensures { MatchOption result (tagged tag.now (words_left rest.entry) ≡ None)
         (λ read. tagged tag.now (words_left rest.entry) ≡ Some (read.0, words_left read.1)) }
@@ -131,7 +131,7 @@ fn result_alone(kind: StepKind, word: &[u8]) -> Option<Option<bool>>
     }
 }
 
-// Whether a compare-and-swap wrote, where that is said. Nothing may follow.
+// Whether a compare-and-swap wrote, if that is said. Nothing may follow.
 fn result_of(rest: Rest<'_>, kind: StepKind) -> Option<Option<bool>>
     ensures { result ≡ result_of kind (words_left rest.entry) }
 {
@@ -144,7 +144,7 @@ fn result_of(rest: Rest<'_>, kind: StepKind) -> Option<Option<bool>>
     result_alone(kind, word)
 }
 
-// What a step saw of a word, where something is said.
+// What a step saw of a word, if something is said.
 fn values_of(rest: Rest<'_>, thread: u8, kind: StepKind) -> Option<Seen>
     ensures { result ≡ values_of thread kind (words_left rest.entry) }
 {
@@ -189,7 +189,7 @@ fn counted_and(count: &[u8], word: &[u8]) -> Option<Seen>
     })
 }
 
-// The count and the outcome of a section, where something is said.
+// The count and the outcome of a section, if something is said.
 fn section_of(rest: Rest<'_>) -> Option<Seen>
     ensures { result ≡ section_of (words_left rest.entry) }
 {

@@ -46,7 +46,7 @@ pub enum Event {
     Fault(TextFault),
 }
 
-/// A trace of which some lines were read. A contract sees the lock, where the header was read.
+/// A trace of which some lines were read. A contract sees the lock, if the header was read.
 #[derive(Drop)]
 pub struct TraceReader {
     checker: Option<Checker>,
@@ -99,7 +99,7 @@ impl TraceReader {
         TraceReader { checker: None }
     }
 
-    /// The lock as it is now, where the header was read.
+    /// The lock as it is now, if the header was read.
     pub fn checker(&self) -> Option<&Checker>
         ensures { option_map (λ c. c.now) result ≡ self.now }
     {

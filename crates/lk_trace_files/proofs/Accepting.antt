@@ -1,4 +1,4 @@
--- A text ends accepted exactly where it is an accepted trace.
+-- A text ends accepted exactly if it is an accepted trace.
 use Rattle.std.proofs.Common.{◌≡◌, ℕ, ◌+◌, List, [], ◌∷◌, true, false, None, Some, Ok, Err, refl}
 use Rattle.std.proofs.Common.{Bool, sym, ap, ap₂, ◌∙◌, inl, inr}
 use Rattle.std.specs.Prelude.{Option, Result, ◌≢◌}

@@ -192,7 +192,7 @@ part_taken old mid next new before after some true so same part is = absurd (cc)
 part_taken old mid next new before after some false so same part is =
     taken_more old next new before after some (taken_kept old mid next before some so same) part
 
--- the input ended behind a line, or behind nothing
+-- the input ended after a line, or before any
 pub last_taken : (old mid new : Option (List ℕ)) (line : Line) (some : Bool)
     → Taken old mid line some → Keeps mid new → IsAtEnd new → some ≡ true → TakesLine old new line
 last_taken old mid new line true so same end is =

@@ -30,7 +30,7 @@ pub record IsHeader (line : List ℕ) (Behind : Checked → Type 0) : Type 0 whe
   pub read : read_header_of line ≡ Ok header
   pub behind : Behind (new_checked header)
 
--- the first line that is not skipped is a header, and each behind it such a move of its lock
+-- the first line that is not skipped is a header, and each after it such a move of its lock
 abbrev pub IsTrace : List (List ℕ) → Type 0
 IsTrace [] = ⊥
 IsTrace (line ∷ lines) =

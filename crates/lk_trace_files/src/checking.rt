@@ -27,7 +27,7 @@ pub struct CheckJob {
     pub files: Vec<String>,
 }
 
-// Tells a terminal how far a file is read.
+// Shows on a terminal how far a file is read.
 #[derive(Drop)]
 struct Progress<'a, R: Runtime> {
     rt: &'a R,
@@ -106,7 +106,7 @@ fn check_file<R: Runtime, W: Watcher>(
     }
 }
 
-// Checks a file, and tells a terminal how far it is.
+// Checks a file, and shows on a terminal how far it is.
 fn check_shown<R: Runtime>(
     rt: &R,
     alloc: Global,

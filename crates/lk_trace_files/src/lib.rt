@@ -2,8 +2,9 @@
 //! of a run's threads are put into one order.
 //!
 //! `check_input` checks one input, and `check_files` the files of a job, with their reports in the
-//! form that it asks for. `explain_input` tells of each move of a trace, `write_schedule` writes it
-//! without its values, and `order_logs` orders logs. The program `locktrace` gives them its files.
+//! form that it asks for. `explain_input` describes each move of a trace, `write_schedule` writes
+//! it without its values, and `order_logs` orders logs. The program `locktrace` gives them its
+//! files.
 #![tactic(auto)]
 
 mod blame;

@@ -105,7 +105,7 @@ impl<R: Read + Drop> Lines<R> {
         })
     }
 
-    // Reads on, where nothing is left of what was read ahead. False at the end of the input.
+    // Reads on, if nothing is left of what was read ahead. False at the end of the input.
     fn refill(&mut self) -> Result<bool, Error>
         ensures kept { Keeps (left R.remaining self.old) (left R.remaining self.new) }
         ensures some { result ≡ Ok true → self.new.at < self.new.filled }
@@ -120,7 +120,7 @@ impl<R: Read + Drop> Lines<R> {
         Ok(count > 0)
     }
 
-    // Takes what was read ahead, up to the first line feed. False where there is none.
+    // Takes what was read ahead, up to the first line feed. False if there is none.
     fn take_part(&mut self, line: &mut Line) -> bool
         requires { self.old.at < self.old.filled }
         ensures { TakesPart result (left R.remaining self.old) (left R.remaining self.new)
@@ -142,7 +142,7 @@ impl<R: Read + Drop> Lines<R> {
         }
     }
 
-    /// The next line, where there is one. The end of the last line may be missing.
+    /// The next line, if there is one. The end of the last line may be missing.
     ///
     /// # Errors
     ///

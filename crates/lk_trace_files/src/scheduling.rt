@@ -11,7 +11,7 @@ use std::fmt::Write as _;
 use std::io::{Error, Read, Write};
 use thiserror::Error;
 
-/// Why a trace has no schedule: what is said behind its name.
+/// Why a trace has no schedule: what is said after its name.
 #[derive(Debug, Drop, Error)]
 pub enum Unscheduled {
     /// A line that is not a trace's.

@@ -13,7 +13,7 @@ use std::fmt::Write;
 /// Counts along a trace. They stay at their greatest value.
 #[derive(Clone, Copy, Default)]
 pub struct Summary {
-    // bit t where thread t moved
+    // bit t if thread t moved
     seen: u64,
     moves: u64,
     waits: u64,
@@ -24,7 +24,7 @@ pub struct Summary {
     counter: u64,
 }
 
-// The word that counts without end, where the lock has one: `next_ticket`, or `readAcquires`.
+// The word that counts without end, if the lock has one: `next_ticket`, or `readAcquires`.
 fn counter_of(lock: &Lock) -> Option<u64> {
     match lock.kind() {
         LockKind::Ticket | LockKind::RwFifo => lock.machine().words().as_slice().first().copied(),
@@ -50,7 +50,7 @@ impl Summary {
         self.waits > 0 || self.late > 0 || self.failed > 0
     }
 
-    /// How often the lock's counter went round.
+    /// How often the lock's counter wrapped around.
     pub fn rounds(&self) -> u64
         ensures { result ≡ self.now.rounds }
     {

@@ -1,4 +1,4 @@
-//! What no clause says: that an order is found where there is one, and which step is named where
+//! What no clause says: that an order is found if there is one, and which step is named where
 //! there is none. The runs are made by hand, from the definition of the algorithm.
 
 use lk_order::{Ending, Found, Log, LogReader, Pieces, Shelf, Stuck, Unfit, find_order};
@@ -63,7 +63,7 @@ fn a_late_link_is_placed(rt: HostRuntime) {
     assert_eq!(rt; ending_of(found), Some(Ending::Whole));
 }
 
-// Thread 1 keeps the lock. So its acquire comes behind both of thread 0's, which found nobody.
+// Thread 1 keeps the lock. So its acquire comes after both of thread 0's, which found nobody.
 #[test]
 fn an_acquire_that_does_not_end_comes_last(rt: HostRuntime) {
     let keeps: [&[u8]; 5] = [

@@ -300,7 +300,7 @@ fn ticket_steps_are_on_their_words(rt: HostRuntime) {
     is_on_its_words(&rt, &mut machine, &run);
 }
 
-// Each of the nine steps: thread 1 sets itself behind thread 0, which finds no link, fails to clear
+// Each of the nine steps: thread 1 links itself to thread 0, which finds no link, fails to clear
 // the tail and waits for the link; then thread 1 is granted the lock and clears the tail. The words
 // are the tail, and next and locked of each thread.
 #[test]
@@ -330,7 +330,7 @@ fn mcs_steps_are_on_their_words(rt: HostRuntime) {
     is_on_its_words(&rt, &mut machine, &run);
 }
 
-// The fault of a new trace's first line, where it has one.
+// The fault of a new trace's first line, if it has one.
 fn first_line(line: &[u8]) -> Option<TextFault> {
     match TraceReader::new().line(line) {
         Event::Fault(fault) => Some(fault),

@@ -1,4 +1,4 @@
--- The parser takes a plain batch line: it fails only for want of memory.
+-- The parser takes a plain batch line: it fails only if it is out of memory.
 use Rattle.std.proofs.Common.{◌≡◌, ◌∙◌, ℕ, ◌<◌, ◌≤◌, Bool, true, false, ◌&&◌, List, [], ◌∷◌, ◌++◌}
 use Rattle.std.proofs.Common.{length, Some, codes, refl, sym, ap, ap₂, arith, zero, suc, is_some}
 use Rattle.std.proofs.Common.{le-leb}

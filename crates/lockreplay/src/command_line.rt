@@ -157,7 +157,7 @@ fn fault_told(alloc: Global, error: &clap::Error) -> ParseFault
 /// FILE...` with N from 1 to 8 and from one to 65,536 files. The grammar is `clap`'s, with its
 /// texts.
 ///
-/// Of several faults the parser's come first, and `TooManyFiles` last; want of memory may come in
+/// Of several faults the parser's come first, and `TooManyFiles` last; `OutOfMemory` may come in
 /// place of any answer.
 pub fn parse_words(alloc: Global, words: &[String]) -> Result<Job, ParseFault>
     ensures fits { FitsJob result }

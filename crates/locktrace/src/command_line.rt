@@ -133,7 +133,7 @@ fn explain_command<'a>(alloc: Global) -> Result<Command<'a>, AllocError> {
         .help("What the threads are called, from thread 0 on")
         .action(ArgAction::Set);
     Command::new(alloc, "explain")
-        .about("Tells of each move what it found and left, and why the first wrong one is wrong")
+        .about("Says of each move what it found and left, and why the first wrong one is wrong")
         .arg(moves)?
         .arg(names)?
         .arg(file_arg(alloc))

@@ -1,4 +1,4 @@
-//! Who says whose turn is next, where one thread runs at a time.
+//! Who says whose turn is next, when one thread runs at a time.
 
 use crate::draw::Draw;
 use crate::follow::Following;

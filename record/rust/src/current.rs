@@ -196,7 +196,7 @@ pub(crate) fn unnoted(address: usize, changed: bool) {
     with(|recorder| recorder.shared.turns.unnoted(recorder.thread, address, changed));
 }
 
-/// Writes a step that the atomics cannot know of. It belongs right behind its operation, and both
+/// Writes a step that the atomics cannot know of. It belongs right after its operation, and both
 /// into one [`operation`].
 ///
 /// ```

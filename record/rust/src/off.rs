@@ -1,4 +1,4 @@
-//! What `current` has, where nothing is recorded: nothing is left of it.
+//! What `current` has, if nothing is recorded: nothing is left of it.
 
 use std::marker::PhantomData;
 

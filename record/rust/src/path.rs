@@ -124,7 +124,7 @@ impl Path {
     }
 }
 
-/// The first thread after another one, or after nobody, going round.
+/// The first thread after another one, or after nobody; after the last comes the first.
 pub(crate) fn after(threads: &[usize], last: Option<usize>) -> Option<usize> {
     let next = threads.iter().find(|&&thread| Some(thread) > last);
     next.or_else(|| threads.first()).copied()

@@ -56,7 +56,7 @@ fn write_file(
     out.flush()
 }
 
-/// The header, behind a comment that says how the run can be had again.
+/// The header, after a comment that says how the run can be had again.
 fn write_header(run: &Shared, out: &mut impl Write) -> io::Result<()> {
     match run.mode {
         Mode::Seed(seed) => writeln!(out, "# seed {seed}")?,

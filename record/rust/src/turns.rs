@@ -88,7 +88,7 @@ impl Turns {
         self.stopped.load(Ordering::Relaxed)
     }
 
-    /// Unwinds where the run was stopped.
+    /// Unwinds if the run was stopped.
     pub(crate) fn go_on(&self) {
         if self.is_stopped() {
             panic::resume_unwind(Box::new(Stopped));

@@ -1,4 +1,4 @@
-//! The texts of a run, and what is said where the crate is used wrongly.
+//! The texts of a run, and what is said if the crate is used wrongly.
 #![cfg(feature = "record")]
 
 use std::fs;

@@ -77,6 +77,7 @@ step_fits n bits t ws AwaitReaders h f l =
 step_fits n bits t ws LeaveWrite h f l = refl
 step_fits n bits t ws p h f l = f
 
+-- a call puts its thread into a phase of the FIFO read-write lock
 pub call_fits : (n : ℕ) (p : Phase) (op : Op) → IsPhaseOf RwFifo n p
     → IsPhaseOf RwFifo n (unwrap_or (after_call RwFifo p op) p)
 call_fits n Idle ReadLock f = refl

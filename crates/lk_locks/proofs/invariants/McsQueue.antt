@@ -185,6 +185,7 @@ granted ws u t (LinkTo j) n b = absurd (omega (arith, n, b.1))
 granted ws u t AwaitGrant n b = refl
 granted ws u t p n b = absurd b
 
+-- a grant takes the head off the queue, and its successor becomes the head
 pub mcs_grant : (ws : List ℕ) (ps : List Phase) (q : List ℕ) (t j : ℕ) → t < length ps
     → locked j < length ws → phase_at ps t ≡ Grant j → IsQueue ws ps (t ∷ q)
     → IsQueue (set ws (locked j) 0) (set ps t Idle) q
@@ -228,6 +229,7 @@ linked_is ws u t (LinkTo j) n b = absurd (n b.1)
 linked_is ws u t AwaitGrant n b = omega (arith, b.0)
 linked_is ws u t p n b = absurd b
 
+-- once the head has read its link, the link names the second in the queue
 pub second : (ws : List ℕ) (ps : List Phase) (t : ℕ) (q : List ℕ) → IsLater ws ps t q
     → next_of ws t ≢ 0 → is_head q (next_of ws t - 1) ≡ true
 second ws ps t [] l n = absurd (n l)

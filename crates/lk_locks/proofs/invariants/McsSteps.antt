@@ -96,12 +96,14 @@ step_fits n bits t ws AwaitLink h f l =
 step_fits n bits t ws (Grant j) h f l = tt
 step_fits n bits t ws p h f l = f
 
+-- a call puts its thread into a phase of the MCS lock
 pub call_fits : (n : ℕ) (p : Phase) (op : Op) → IsPhase n p
     → IsPhase n (unwrap_or (after_call p op) p)
 call_fits n Idle Acquire f = tt
 call_fits n McsInside Release f = tt
 call_fits n p op f = f
 
+-- a write of a link that names a thread, or none, leaves such links in all words
 word_fits : (n : ℕ) (ws : List ℕ) (i v j : ℕ) → v ≤ n → slice_index ws j ≤ n
     → slice_index (set ws i v) j ≤ n
 word_fits n ws i v j h l = elim (eqb_tells j i) [

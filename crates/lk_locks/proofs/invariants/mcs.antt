@@ -38,6 +38,7 @@ use Rattle.lk_locks.specs.Rooms.{family_of}
 use Rattle.lk_locks.proofs.invariants.McsSteps.{begins, call_fits, few_entries, goes_on}
 use Rattle.lk_locks.proofs.invariants.McsSteps.{keeps_length, links_fit, owed_is_own, step_fits}
 
+-- the first of the queue is its head
 head_is : (q : List ℕ) (t : ℕ) (r : List ℕ) → q ≡ t ∷ r → is_head q t ≡ true
 head_is q t r e = rw e (eq-eqb t t refl)
 
@@ -53,6 +54,7 @@ not_alone : (ws : List ℕ) (ps : List Phase) (q : List ℕ) (t : ℕ) (r : List
 not_alone ws ps q t [] e k n = absurd (n (k.tail_is ∙ ap tail_of e))
 not_alone ws ps q t (x ∷ r) e k n = λ d. cc
 
+-- if the tail names the head, nobody else is in the queue: so the compare-and-swap may clear it
 alone : (ws : List ℕ) (ps : List Phase) (q : List ℕ) (t : ℕ) (r : List ℕ) → q ≡ t ∷ r
     → IsQueue ws ps q → slice_index ws 0 ≡ t + 1 → r ≡ []
 alone ws ps q t [] e k n = refl
@@ -71,6 +73,7 @@ swapped ws ps (x ∷ q) t h w o n z k =
     mcs_more ws ps x t (slice_index ws 0 - 1) q h w o n
     (let g : slice_index ws 0 ≡ last_of x q + 1 = k.tail_is in omega arith) k
 
+-- if the tail names nobody, the queue is empty: so a swap that finds nobody enters at once
 empty_of : (ws : List ℕ) (ps : List Phase) (q : List ℕ) → slice_index ws 0 ≡ 0 → IsQueue ws ps q
     → q ≡ []
 empty_of ws ps [] z k = refl
@@ -351,6 +354,7 @@ starts bits ws n h z = record {
   others = λ t m. rw (all_idle n t) tt;
 }
 
+-- all that the other proofs use of the MCS lock
 pub room : IsRoom Mcs
 room = record {
   goes_on = goes_on;

@@ -9,6 +9,7 @@ use Rattle.lk_locks.specs.declared.kinds.Phase.{Phase}
 use Rattle.lk_locks.specs.declared.kinds.Phase.TheVariants.{AwaitReaders, LeaveRead, LeaveWrite}
 use Rattle.lk_locks.specs.declared.kinds.Phase.TheVariants.{TryDowngrade, TryRead, TryWrite}
 
+-- a writer that enters adds at most three entries, also if it is announced and enters in one
 few_of_writer : (family : Family) (t : ℕ) → length (entries family t TryWrite Entered) ≤ 3
 few_of_writer Queue t = omega arith
 few_of_writer ReadWrite t = omega arith

@@ -54,6 +54,7 @@ none_read bits ws ps q a e = empty_of_length q.readers (elim (eqb_tells (length 
       bits = a.narrow in omega arith) (sym a.came ∙ e))
 ])
 
+-- a thread that goes on without a change of what it holds or announces leaves lists and counts
 still : (bits : ℕ) (ws : List ℕ) (ps : List Phase) (q : Sequential) (t : ℕ) (p r : Phase)
     → t < length ps → phase_at ps t ≡ p → is_reading r ≡ is_reading p → is_writing r ≡ is_writing p
     → is_announced r ≡ is_announced p → AgreesWith bits ws ps q → AgreesWith bits ws (set ps t r) q
@@ -67,6 +68,7 @@ still bits ws ps q t p r h e x y z a = record {
       (z ∙ ap is_announced (sym e)) a.holders;
 }
 
+-- a thread is itself, by the program's comparison
 same_thread : (t : ℕ) → eqb t t ≡ true
 same_thread t = eqb-same t
 
@@ -320,6 +322,7 @@ starts bits ws n h z = record {
   holders = no_holders RwFifo n;
 }
 
+-- all that the other proofs use of the FIFO read-write lock
 pub room : IsRoom RwFifo
 room = record {
   goes_on = goes_on;

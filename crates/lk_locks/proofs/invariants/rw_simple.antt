@@ -86,6 +86,7 @@ step_fits n bits t ws TryWrite h f l =
 step_fits n bits t ws LeaveWrite h f l = refl
 step_fits n bits t ws p h f l = f
 
+-- a call puts its thread into a phase of the simple read-write lock
 call_fits : (n : ℕ) (p : Phase) (op : Op) → IsPhaseOf RwSimple n p
     → IsPhaseOf RwSimple n (unwrap_or (after_call RwSimple p op) p)
 call_fits n Idle ReadLock f = refl
@@ -95,6 +96,7 @@ call_fits n Writing WriteUnlock f = refl
 call_fits n Writing Downgrade f = refl
 call_fits n p op f = f
 
+-- the count less one, after one more, is the count: no reader is lost in the words' width
 less : (bits x : ℕ) → x + 1 < 2 ^ bits → less_one bits (x + 1) ≡ x
 less bits x h =
     ap (λ y. y % 2 ^ bits) (let g : x + 1 + (2 ^ bits - 1) ≡ x + 2 ^ bits = omega arith in g)
@@ -293,6 +295,7 @@ starts bits ws n h z = record {
   holders = no_holders RwSimple n;
 }
 
+-- all that the other proofs use of the simple read-write lock
 pub room : IsRoom RwSimple
 room = record {
   goes_on = goes_on;

@@ -79,12 +79,14 @@ step_fits n bits t ws (ReadServing x) h f l = refl
 step_fits n bits t ws (PassOn x) h f l = refl
 step_fits n bits t ws p h f l = f
 
+-- a call puts its thread into a phase of the ticket lock
 call_fits : (n : ℕ) (p : Phase) (op : Op) → IsPhaseOf Ticket n p
     → IsPhaseOf Ticket n (unwrap_or (after_call Ticket p op) p)
 call_fits n Idle Acquire f = refl
 call_fits n (TicketInside t) Release f = refl
 call_fits n p op f = f
 
+-- who is not in the queue is not among those after its head
 rest_false : (q : List ℕ) (t : ℕ) → has q t ≡ false → has (drop 1 q) t ≡ false
 rest_false [] t h = refl
 rest_false (u ∷ q) t h = elim (bool_tells (has q t)) [
@@ -204,6 +206,7 @@ starts bits ws n h z = record {
   others = λ t m. ap ticket_of (all_idle n t);
 }
 
+-- all that the other proofs use of the ticket lock
 pub room : IsRoom Ticket
 room = record {
   goes_on = goes_on;

@@ -1,7 +1,7 @@
 //! The MCS lock's part of an order: when its steps are proposed, and which acquire may begin.
 //!
 //! A step that others may still look before is the last: a swap that finds nobody. Of these the one
-//! whose chain has no end comes behind the others.
+//! whose chain has no end comes after the others.
 
 mod chains;
 mod instances;

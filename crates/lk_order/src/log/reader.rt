@@ -2,7 +2,7 @@
 
 ghost use Rattle.std.specs.Prelude.{◌≡◌, ◌<◌, ◌≤◌, ◌^◌, ◌++◌, ◌∷◌, [], None, MatchOption, IfOk};
 ghost use Rattle.std.specs.Prelude.{IfSome, OnOk, OnErr, IfErr, Ok, Err};
-ghost use Rattle.lk_order.specs.Logs.{behind_header, cut_last, dropped_of, empty_log, IsFaultOf};
+ghost use Rattle.lk_order.specs.Logs.{after_header, cut_last, dropped_of, empty_log, IsFaultOf};
 ghost use Rattle.lk_order.specs.Logs.{line_read, log_header_of, log_read, Reading};
 
 use super::Log;
@@ -24,9 +24,9 @@ pub enum LogFault {
     /// A later line is no move.
     #[error("not a move (BadLine)")]
     BadMove,
-    /// A line that is not skipped behind the last one.
-    #[error("a line behind the last (BadLine)")]
-    BehindTheEnd,
+    /// A line that is not skipped after the last one.
+    #[error("a line after the last (BadLine)")]
+    AfterTheEnd,
     /// Line number 4,294,967,295.
     #[error("too many lines (TooLong)")]
     TooLong,
@@ -48,7 +48,7 @@ impl Model for LogReader {
     ghost view = { λ a. record { log = a.log; number = a.number } };
 }
 
-// The line before its last space, and the word behind that.
+// The line before its last space, and the word after it.
 fn cut_last_word(line: &[u8]) -> Option<(&[u8], &[u8])>
     ensures { MatchOption result (cut_last line.now ≡ None)
         (λ cut. cut_last line.now ≡ Some (cut.0.now, cut.1.now)) }
@@ -59,7 +59,7 @@ fn cut_last_word(line: &[u8]) -> Option<(&[u8], &[u8])>
     }
 }
 
-// The header of a log: a trace's, and `thread T` behind it.
+// The header of a log: a trace's, and `thread T` after it.
 fn header_of(line: &[u8]) -> Option<(Header, u8)>
     ensures header { result ≡ log_header_of line.now }
     ensures some { IfSome result (λ read. 0 < read.0.threads) }
@@ -84,7 +84,7 @@ fn header_of(line: &[u8]) -> Option<(Header, u8)>
     }
 }
 
-// How many moves were dropped, where the line is the last of a log.
+// How many moves were dropped, if the line is the last of a log.
 fn dropped_of(line: &[u8]) -> Option<u64>
     ensures { result ≡ dropped_of line.now }
 {
@@ -134,14 +134,14 @@ impl Log {
         Ok(())
     }
 
-    // Reads a line behind the header that is not skipped. A move whose line has no end was cut off.
+    // Reads a line after the header that is not skipped. A move whose line has no end was cut off.
     fn take(&mut self, line: &[u8], number: u32, ended: bool) -> Result<(), LogFault>
-        ensures ok { OnOk result (behind_header self.old number ended line.now ≡ Ok self.new) }
-        ensures err { IfErr result (IsFaultOf (behind_header self.old number ended line.now)) }
+        ensures ok { OnOk result (after_header self.old number ended line.now ≡ Ok self.new) }
+        ensures err { IfErr result (IsFaultOf (after_header self.old number ended line.now)) }
         ensures same { OnErr result (self.new ≡ self.old) }
     {
         if self.dropped.is_some() {
-            return Err(LogFault::BehindTheEnd);
+            return Err(LogFault::AfterTheEnd);
         }
         if let Some(count) = dropped_of(line) {
             self.dropped = Some(count);
@@ -176,8 +176,8 @@ impl LogReader {
         self.number
     }
 
-    /// Reads the next line, without its line feed. What is behind the last one has not `ended`, and
-    /// may be nothing: a move there was cut off while it was written, and is not looked at.
+    /// Reads the next line, without its line feed. What comes after the last one has not `ended`,
+    /// and may be nothing: a move there was cut off while it was written, and is not looked at.
     ///
     /// # Errors
     ///

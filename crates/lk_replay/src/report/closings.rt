@@ -100,7 +100,7 @@ fn fault_line(number: u32, name: &[u8]) -> Closing
     }
 }
 
-/// The line of a text's fault. There is none for want of memory, which is no fault of a text.
+/// The line of a text's fault. There is none for `OutOfMemory`, which is no fault of a text.
 pub fn fault_text(fault: ReadFault) -> Closing
     requires { fault ≢ ReadFault.OutOfMemory }
     ensures { (read : Result Plan Fault) → Fails fault read → result.line ≡ plan_text read }

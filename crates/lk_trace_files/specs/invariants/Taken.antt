@@ -8,7 +8,7 @@ use Rattle.lk_replay.specs.Lines.{is_line_feed}
 use Rattle.lk_trace_files.specs.Lines.{kept, with_end}
 use Rattle.lk_trace_files.specs.declared.lines.Line.{Line}
 
--- no line feed stands among the bytes
+-- none of the bytes is a line feed
 abbrev pub IsFlat : List ℕ → Type 0
 IsFlat bytes = All (λ b. is_line_feed b ≡ false) bytes
 

@@ -1,4 +1,4 @@
-//! A line that is not a trace's: the column, what stands there, what could stand there, and the
+//! A line that is not a trace's: the column, what is there, what could be there, and the
 //! nearest word.
 
 use crate::explain::grammar::{Due, wrong_in_header, wrong_in_move};
@@ -11,7 +11,7 @@ use strsim::levenshtein;
 // Words that differ by more edits are not suggested for one another.
 const MOST_EDITS: usize = 2;
 
-// The word that is most like this one, where one is: most of it has to be the same.
+// The word that is most like this one, if one is: most of it has to be the same.
 fn nearest(
     alloc: Global,
     word: &str,

@@ -88,7 +88,7 @@ impl Due {
         }
     }
 
-    // What is expected after this word. None where it may not be here.
+    // What is expected after this word. None if it may not be here.
     fn after(self, word: &[u8]) -> Option<Due> {
         match self {
             Due::OfSchedule(_) | Due::AnyThread => None,

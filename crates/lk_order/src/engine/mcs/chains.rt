@@ -38,7 +38,7 @@ pub struct Chains {
     threads: usize,
 }
 
-// The number of this thread and instance in a table, or NONE where the table has none.
+// The number of this thread and instance in a table, or NONE if the table has none.
 fn at(table: &[Vec<u32>], thread: usize, instance: usize) -> u32 {
     match table.get(thread) {
         Some(row) => row.get(instance).copied().unwrap_or(NONE),
@@ -167,7 +167,7 @@ impl Chains {
             };
             let next = at(after, thread, instance);
             if next == NONE {
-                // its acquire is behind all that its log has
+                // its acquire comes after all that its log has
                 if let Some(row) = instances.get(successor) {
                     self.note(number, successor, swapped(row));
                 }
@@ -226,13 +226,13 @@ impl Chains {
         matched == NONE || matched as usize == predecessor
     }
 
-    /// How the chain of this instance ends, where it is known.
+    /// How the chain of this instance ends, if it is known.
     pub fn end(&self, thread: usize, instance: usize) -> Option<End> {
         let number = at(&self.chain, thread, instance);
         self.ends.get(number as usize).copied()
     }
 
-    /// Whether the chain of this instance may begin, where each thread has begun so many instances.
+    /// Whether the chain of this instance may begin, when each thread has begun so many instances.
     pub fn may_begin(&self, thread: usize, instance: usize, begun: &[usize; 64]) -> bool {
         let number = at(&self.chain, thread, instance);
         if number == NONE {

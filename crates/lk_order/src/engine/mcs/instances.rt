@@ -20,7 +20,7 @@ pub struct Instance {
     pub before: Neighbor,
     /// Whom the release found.
     pub after: Neighbor,
-    /// How far the log has to be placed before the successor may link itself: behind the last look
+    /// How far the log has to be placed before the successor may link itself: after the last look
     /// that found no link.
     pub unlinked: usize,
 }

@@ -1,4 +1,4 @@
--- A place more is its log more, where it has one.
+-- A place more is its log more, if it has one.
 use Rattle.std.proofs.Common.{◌∙◌}
 use Rattle.lk_order.proofs.Taken.{one_more, none_more}
 use Rattle.lk_order.proofs.shelf.Shelf.logs.Goals as goal
