@@ -1,22 +1,19 @@
 -- The lines that are printed as the moves are played are those of the report.
-use Rattle.std.proofs.Common.{Err, Ok, ◌≡◌, ℕ, ◌+◌, ◌<◌, ◌≤◌, ◌^◌, replicate, List, [], ◌∷◌, ◌++◌}
+use Rattle.std.proofs.Common.{◌≡◌, ℕ, ◌+◌, ◌<◌, ◌≤◌, ◌^◌, replicate, List, [], ◌∷◌, ◌++◌}
 use Rattle.std.proofs.Common.{length, codes, Option, None, Some, refl, sym, ap, ◌∙◌, arith}
 use Rattle.std.proofs.Common.{append_assoc, append-nil, length-append}
 use Rattle.std.specs.List.{join_with_byte, slice_split}
 use Rattle.std.specs.Option.{option_map}
 use Rattle.std.proofs.lemmas.List.Splits.{join_with_byte-slice_split}
-use Rattle.lk_locks.specs.Entries.{entries_of}
 use Rattle.lk_locks.specs.State.{State}
 use Rattle.lk_locks.specs.Rooms.{family_of, word_count}
 use Rattle.lk_locks.specs.Sequential.{nobody}
 use Rattle.lk_locks.specs.invariants.Tracking.{IsTracked}
 use Rattle.lk_locks.proofs.Starting.{kept_start}
 use Rattle.std.proofs.lemmas.List.{get_or-replicate, length-replicate}
-use Rattle.lk_locks.specs.Steps.{after_move, answer_to, answer_unless, change_of, next_state}
-use Rattle.lk_locks.specs.Steps.{refusal_of, unless_refused}
+use Rattle.lk_locks.specs.Steps.{refusal_of}
 use Rattle.lk_locks.specs.declared.kinds.Entry.{Entry}
 use Rattle.lk_locks.specs.declared.kinds.LockKind.{LockKind}
-use Rattle.lk_locks.specs.declared.kinds.Outcome.{Outcome}
 use Rattle.lk_locks.specs.declared.kinds.Refusal.{Refusal}
 use Rattle.lk_replay.proofs.Changes.{followed_more, text_of}
 use Rattle.lk_replay.proofs.Cuts.{before_pieces, has_piece}
@@ -76,67 +73,6 @@ pub tracked_new : (p : Plan) (f : Following) (s : State) → f ≡ following p.k
     → IsTracked (start_of p) (nobody p.kind) → IsTracked s f.sequential
 tracked_new p f s follows starts tracked = rw (follows, starts) tracked
 
--- ---- the next move
-
-accepted_by : (r : Option Refusal) (made o : Outcome) → Ok o ≡ answer_unless r made
-    → (r ≡ None) × (o ≡ made)
-accepted_by None made o is = (refl, cc)
-accepted_by (Some x) made o is = absurd (cc)
-
-refused_by : (r : Option Refusal) (made : Outcome) (x : Refusal)
-    → Err x ≡ answer_unless r made → r ≡ Some x
-refused_by None made x is = absurd (cc)
-refused_by (Some y) made x is = cc
-
--- the next move is accepted, with this outcome, and leads to this state
-pub record IsNext (s next : State) (moves rest : List Line) (l : Line) (o : Outcome) : Type 0 where
-  pub accepted : refusal_of s l.thread l.action ≡ None
-  pub outcome : o ≡ (change_of s l.thread l.action).outcome
-  pub state : next ≡ next_state s l.thread l.action
-  pub replay : replay_from s moves ≡ with_move (made_by s l) (replay_from next rest)
-
-pub next_of : (s next : State) (moves rest : List Line) (l : Line) (o : Outcome)
-    → moves ≡ l ∷ rest → Ok o ≡ answer_to s l.thread l.action
-    → next ≡ after_move s l.thread l.action → IsNext s next moves rest l o
-next_of s next moves rest l o parts answer after =
-    let (accepted, outcome) =
-    accepted_by (refusal_of s l.thread l.action) (change_of s l.thread l.action).outcome o answer in
-    let state : next ≡ next_state s l.thread l.action =
-    after ∙ ap (λ (r : Option Refusal). unless_refused r (next_state s l.thread l.action) s)
-    accepted in
-    record {
-      accepted = accepted;
-      outcome = outcome;
-      state = state;
-      replay = ap (replay_from s) parts
-          ∙ ap (λ (r : Option Refusal). refused_or r l.number
-          (with_move (made_by s l) (replay_from (next_state s l.thread l.action) rest))) accepted
-          ∙ ap (λ (t : State). with_move (made_by s l) (replay_from t rest)) (sym state);
-    }
-
--- no line is left, and nothing has changed
-pub record IsStopped (s next : State) (moves : List Line) : Type 0 where
-  pub state : next ≡ s
-  pub none : (replay_from next moves).made ≡ []
-
-pub stopped_by : (s next : State) (moves rest : List Line) (l : Line) (x : Refusal)
-    → moves ≡ l ∷ rest → Err x ≡ answer_to s l.thread l.action
-    → next ≡ after_move s l.thread l.action → IsStopped s next moves
-stopped_by s next moves rest l x parts answer after =
-    let refused : refusal_of s l.thread l.action ≡ Some x =
-    refused_by (refusal_of s l.thread l.action) (change_of s l.thread l.action).outcome x answer in
-    let state : next ≡ s =
-    after ∙ ap (λ (r : Option Refusal). unless_refused r (next_state s l.thread l.action) s)
-    refused in
-    record {
-      state = state;
-      none = ap (λ (t : State). (replay_from t moves).made) state
-          ∙ ap (λ (ls : List Line). (replay_from s ls).made) parts
-          ∙ ap (λ (r : Option Refusal). (refused_or r l.number
-          (with_move (made_by s l) (replay_from (next_state s l.thread l.action) rest))).made)
-          refused;
-    }
-
 stops : (r : Option Refusal) (number : ℕ) (m : Made) (rest : Replay)
     → length (refused_or r number (with_move m rest)).made ≡ 0
     → (refused_or r number (with_move m rest)).refused ≡ option_map {U = ℕ × Refusal}
@@ -157,41 +93,6 @@ pub last_is : (s : State) (i count : ℕ) (ls : List Line) (refused : Option (�
 last_is s i count ls refused none counted is =
     ap (last_line i) (is ∙ sym (none_left s ls none))
     ∙ ap (λ (k : ℕ). last_line k (replay_from s ls).refused) (omega (arith, none, counted))
-
-pub no_made : (f : Following) (count : ℕ) (ms : List Made) → length ms ≡ 0
-    → lines_from f count ms ≡ []
-no_made f count [] none = refl
-no_made f count (m ∷ ms) none = absurd (omega arith)
-
--- ---- one step of the replay
-
--- the line that was printed, and the lines that are left
-pub line_printed : (prefix : List ℕ) (f g : Following) (s next : State) (moves rest : List Line)
-    (i count : ℕ) (l : Line) (o : Outcome) (es : List Entry) → IsNext s next moves rest l o
-    → es ≡ entries_of s l.thread l.action → g ≡ followed_by f es → count ≡ i + 1
-    → prefix ≡ move_text count
-    (record { line = l.number; thread = l.thread; action = l.action; outcome = o })
-    → lines_from f i (replay_from s moves).made
-    ≡ (prefix ++ followed_text g) ++ lines_from g count (replay_from next rest).made
-line_printed prefix f g s next moves rest i count l o es n added follows counted written =
-    ap (λ (r : Replay). lines_from f i r.made) n.replay
-    ∙ sym (rw (written, follows, counted, added, n.outcome) refl)
-
-pub left_more : (s next : State) (moves rest : List Line) (l : Line) (o : Outcome)
-    → IsNext s next moves rest l o
-    → length (replay_from next rest).made + 1 ≡ length (replay_from s moves).made
-left_more s next moves rest l o n =
-    sym (ap (λ (r : Replay). length r.made) n.replay ∙ omega arith)
-
-pub last_more : (s next : State) (moves rest : List Line) (i count : ℕ) (l : Line) (o : Outcome)
-    → IsNext s next moves rest l o → count ≡ i + 1
-    → let new : Replay = replay_from next rest in
-    let old : Replay = replay_from s moves in
-    last_line (count + length new.made) new.refused ≡ last_line (i + length old.made) old.refused
-last_more s next moves rest i count l o n counted =
-    let new : Replay = replay_from next rest in
-    ap (λ (k : ℕ). last_line k new.refused) (omega (arith, counted))
-    ∙ sym (ap (λ (r : Replay). last_line (i + length r.made) r.refused) n.replay)
 
 -- the next line, and then the rest
 pub next_parts : (whole done lines line rest last same : List ℕ) → lines ≡ line ++ rest

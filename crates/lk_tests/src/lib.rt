@@ -1,5 +1,5 @@
 //! Tests of the libraries `lk_words`, `lk_locks`, `lk_replay`, `lk_search` and `lk_workers`, and
-//! nothing else.
+//! nothing else. Those in `worked_histories` are contracts, which are proved and not run.
 //!
 //! A crate that has tests is proved twice, with and without them. So the tests are in a crate
 //! of their own: it uses what the others make public, as any crate does, and none of them is
@@ -19,5 +19,6 @@ mod sketches;
 mod spaces;
 #[cfg(test)]
 mod words;
+pub mod worked_histories;
 #[cfg(test)]
 mod workers;

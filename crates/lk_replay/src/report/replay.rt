@@ -114,13 +114,11 @@ impl<'a> Replay<'a> {
     {
         let (line, rest) = self.moves.split_first()?;
         let line = *line;
-        let mut added = Added::none();
-        let played = self
-            .machine
-            .apply_adding(line.thread, line.action, &mut added);
-        let Ok(outcome) = played else {
+        if self.machine.check(line.thread, line.action).is_err() {
             return None;
-        };
+        }
+        let mut added = Added::none();
+        let outcome = self.machine.make(line.thread, line.action, &mut added);
         self.status.follow(added.as_slice());
         self.moves = rest;
         self.count.count_on();

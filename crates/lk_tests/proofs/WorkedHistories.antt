@@ -5,7 +5,7 @@ use Rattle.std.specs.List.{flat_map, Any}
 use Rattle.lk_locks.specs.Legal.{Legal, subhistory, whole_call}
 use Rattle.lk_locks.specs.Calls.{HasDone}
 use Rattle.lk_locks.proofs.Places.{HasOne, any_of, one_of}
-use Rattle.lk_locks.specs.WorkedHistories.{handed_on, writers_in_turn, announced_entered, uncalled}
+use Rattle.lk_tests.specs.WorkedHistories.{handed_on, writers_in_turn, announced_entered, uncalled}
 use Rattle.lk_locks.specs.declared.kinds.LockKind.TheVariants.{Ticket, Mcs, RwSimple, RwFifo}
 use Rattle.lk_locks.specs.declared.kinds.Op.{Op}
 use Rattle.lk_locks.specs.declared.kinds.Op.TheVariants.{Acquire, Release, ReadLock, ReadUnlock}

@@ -1,13 +1,13 @@
 use Rattle.std.proofs.Common.{◌≡◌, [], ◌∷◌, refl}
-use Rattle.lk_locks.specs.WorkedHistories.{handed_on, writers_in_turn}
+use Rattle.lk_tests.specs.WorkedHistories.{handed_on, writers_in_turn}
 use Rattle.lk_locks.proofs.CallLaws.{calls_act_once, acts_are_called}
 use Rattle.lk_locks.proofs.Places.{one_of}
-use Rattle.lk_locks.proofs.WorkedHistories.{mcs_legal, simple_legal, not_of_one, not_of_two}
-use Rattle.lk_locks.proofs.WorkedHistories.{since_call, nothing_done}
+use Rattle.lk_tests.proofs.WorkedHistories.{mcs_legal, simple_legal, not_of_one, not_of_two}
+use Rattle.lk_tests.proofs.WorkedHistories.{since_call, nothing_done}
 use Rattle.lk_locks.specs.declared.kinds.LockKind.TheVariants.{Mcs, RwSimple}
 use Rattle.lk_locks.specs.declared.kinds.Op.TheVariants.{Acquire, WriteLock}
 use Rattle.lk_locks.specs.declared.kinds.Entry.TheVariants.{Called, Announced, Acted, Returned}
-use Rattle.lk_locks.proofs.worked_histories.acts_of_calls.Goals as goal
+use Rattle.lk_tests.proofs.worked_histories.acts_of_calls.Goals as goal
 
 pub returns-clause-once : goal.returns-clause-once
 returns-clause-once c = calls_act_once Mcs 2 handed_on mcs_legal

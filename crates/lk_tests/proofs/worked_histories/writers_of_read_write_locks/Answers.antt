@@ -1,14 +1,14 @@
 use Rattle.std.proofs.Common.{◌≡◌, [], ◌∷◌, ◌++◌, refl, inl, inr}
-use Rattle.lk_locks.specs.WorkedHistories.{writes, reads, writers_in_turn, announced_entered}
+use Rattle.lk_tests.specs.WorkedHistories.{writes, reads, writers_in_turn, announced_entered}
 use Rattle.lk_locks.specs.Exclusion.{StopsWriting}
 use Rattle.lk_locks.proofs.SharedLaws.{never_two_writers, never_a_writer_beside_a_reader}
 use Rattle.lk_locks.proofs.SharedLaws.{announced_writer_goes_first}
-use Rattle.lk_locks.proofs.WorkedHistories.{simple_legal, fifo_legal, not_of_one, not_of_two}
+use Rattle.lk_tests.proofs.WorkedHistories.{simple_legal, fifo_legal, not_of_one, not_of_two}
 use Rattle.lk_locks.specs.declared.kinds.LockKind.TheVariants.{RwSimple}
 use Rattle.lk_locks.specs.declared.kinds.Op.TheVariants.{ReadLock, ReadUnlock, WriteLock}
 use Rattle.lk_locks.specs.declared.kinds.Op.TheVariants.{WriteUnlock, Downgrade}
 use Rattle.lk_locks.specs.declared.kinds.Entry.TheVariants.{Called, Acted, Returned}
-use Rattle.lk_locks.proofs.worked_histories.writers_of_read_write_locks.Goals as goal
+use Rattle.lk_tests.proofs.worked_histories.writers_of_read_write_locks.Goals as goal
 
 pub returns-clause-in_turn : goal.returns-clause-in_turn
 returns-clause-in_turn c = never_two_writers RwSimple 2 writers_in_turn simple_legal

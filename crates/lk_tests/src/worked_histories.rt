@@ -5,14 +5,14 @@
 //! is empty.
 
 ghost use Rattle.std.specs.Prelude.{◌≡◌, ◌++◌, [], ◌∷◌, None, Some, Any};
-ghost use Rattle.lk_locks.specs.WorkedHistories.{one_inside, left_free, handed_on, two_inside};
-ghost use Rattle.lk_locks.specs.WorkedHistories.{overtaken, released_by_another, unasked};
-ghost use Rattle.lk_locks.specs.WorkedHistories.{asked_twice, uncalled, reads, writes, two_readers};
-ghost use Rattle.lk_locks.specs.WorkedHistories.{writers_in_turn, two_writers};
-ghost use Rattle.lk_locks.specs.WorkedHistories.{reader_beside_writer, writer_beside_reader};
-ghost use Rattle.lk_locks.specs.WorkedHistories.{writer_beside_downgraded, announced};
-ghost use Rattle.lk_locks.specs.WorkedHistories.{announced_entered, reader_passes, writer_passes};
-ghost use Rattle.lk_locks.specs.WorkedHistories.{ticket_moves, mcs_moves, simple_moves, fifo_moves};
+ghost use Rattle.lk_tests.specs.WorkedHistories.{one_inside, left_free, handed_on, two_inside};
+ghost use Rattle.lk_tests.specs.WorkedHistories.{overtaken, released_by_another, unasked};
+ghost use Rattle.lk_tests.specs.WorkedHistories.{asked_twice, uncalled, reads, writes, two_readers};
+ghost use Rattle.lk_tests.specs.WorkedHistories.{writers_in_turn, two_writers};
+ghost use Rattle.lk_tests.specs.WorkedHistories.{reader_beside_writer, writer_beside_reader};
+ghost use Rattle.lk_tests.specs.WorkedHistories.{writer_beside_downgraded, announced};
+ghost use Rattle.lk_tests.specs.WorkedHistories.{announced_entered, reader_passes, writer_passes};
+ghost use Rattle.lk_tests.specs.WorkedHistories.{ticket_moves, mcs_moves, simple_moves, fifo_moves};
 ghost use Rattle.lk_locks.specs.Legal.{Legal, subhistory};
 ghost use Rattle.lk_locks.specs.Holding.{holder_after, holding_of, waiting_of, IsListed, Free};
 ghost use Rattle.lk_locks.specs.Holding.{HeldBy, ReadBy, WrittenBy};

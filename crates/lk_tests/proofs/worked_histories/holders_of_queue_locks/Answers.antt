@@ -1,12 +1,12 @@
 use Rattle.std.proofs.Common.{◌≡◌, [], ◌∷◌, refl}
 use Rattle.std.proofs.lemmas.Bool.{false≢true}
-use Rattle.lk_locks.specs.WorkedHistories.{handed_on}
+use Rattle.lk_tests.specs.WorkedHistories.{handed_on}
 use Rattle.lk_locks.proofs.QueueOrder.{holders_are_apart}
-use Rattle.lk_locks.proofs.WorkedHistories.{ticket_legal, not_of_two}
+use Rattle.lk_tests.proofs.WorkedHistories.{ticket_legal, not_of_two}
 use Rattle.lk_locks.specs.declared.kinds.LockKind.TheVariants.{Ticket}
 use Rattle.lk_locks.specs.declared.kinds.Op.TheVariants.{Acquire, Release}
 use Rattle.lk_locks.specs.declared.kinds.Entry.TheVariants.{Called, Acted}
-use Rattle.lk_locks.proofs.worked_histories.holders_of_queue_locks.Goals as goal
+use Rattle.lk_tests.proofs.worked_histories.holders_of_queue_locks.Goals as goal
 
 pub returns-clause-apart : goal.returns-clause-apart
 returns-clause-apart c = holders_are_apart Ticket 2 handed_on ticket_legal

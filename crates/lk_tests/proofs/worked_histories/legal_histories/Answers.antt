@@ -1,6 +1,6 @@
-use Rattle.lk_locks.proofs.WorkedHistories.{ticket_legal, mcs_legal, simple_legal, fifo_legal}
-use Rattle.lk_locks.proofs.WorkedHistories.{not_legal}
-use Rattle.lk_locks.proofs.worked_histories.legal_histories.Goals as goal
+use Rattle.lk_tests.proofs.WorkedHistories.{ticket_legal, mcs_legal, simple_legal, fifo_legal}
+use Rattle.lk_tests.proofs.WorkedHistories.{not_legal}
+use Rattle.lk_tests.proofs.worked_histories.legal_histories.Goals as goal
 
 pub returns-clause-ticket : goal.returns-clause-ticket
 returns-clause-ticket c = ticket_legal
