@@ -11,12 +11,7 @@ use std::alloc::Global;
 use std::process::Abort;
 
 // Searches a space of words of 64 bits, without a sketch, and each thread takes the lock once.
-fn explored(
-    rt: &impl Abort,
-    alloc: Global,
-    kind: LockKind,
-    threads: u8,
-) -> Space
+fn explored(rt: &impl Abort, alloc: Global, kind: LockKind, threads: u8) -> Space
     requires some { 0 < threads }
     requires few { threads ≤ 64 }
     ensures { result.bounds.sketch ≡ [] }
@@ -37,7 +32,10 @@ fn tour_is_made(rt: &impl Abort, alloc: Global, kind: LockKind, threads: u8, tra
     }
     match tour(alloc, &space) {
         Ok(runs) => {
-            assert!(rt; 0 < runs.len() && runs.len() <= transitions, "{kind:?} {threads}");
+            assert!(rt;
+                0 < runs.len() && runs.len() <= transitions,
+                "{kind:?} {threads}"
+            );
             let mut moves = 0usize;
             for run in runs.as_slice() {
                 assert!(rt; !run.moves().is_empty(), "{kind:?} {threads}");
