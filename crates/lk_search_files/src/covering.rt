@@ -3,7 +3,7 @@
 use crate::endings::Ending;
 use crate::listing::{Format, put_coverage, put_missing};
 use lk_locks::LockKind;
-use lk_search::{Coverage, LOCKS, Transition};
+use lk_search::{Coverage, LOCKS, Observed};
 use lk_trace::{Event, Made, TextFault, TraceLine, TraceReader};
 use lk_trace_files::{Line, Lines, Summary};
 use std::alloc::{AllocError, Global};
@@ -59,7 +59,7 @@ fn note_move(
         return;
     };
     if let Some(coverage) = coverages.get_mut(place) {
-        coverage.note(Transition {
+        coverage.note(Observed {
             from: made.from,
             action: line.action,
             outcome: made.outcome,
