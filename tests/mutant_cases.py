@@ -3,7 +3,8 @@
 
     mutant_cases.py
 
-The output of checks is that of `rt check`, shortened. No crate is checked.
+The output of checks is that of `rt check`, shortened. No crate is checked. Each mutant and twin of
+the crates has to change the text as it is now.
 """
 import sys
 import tempfile
@@ -13,6 +14,7 @@ from mutant_checks import verdict_on
 from mutant_edits import BadEdit, Edit
 from mutants import TRIES, group_of
 from rattle_functions import functions_of
+from rattle_words import TOP
 from tally import Tally
 
 SOURCE = """pub struct Pair { left: u8 }
@@ -113,6 +115,22 @@ def try_groups(tally):
     tally.check("alone at last", group_of([first, other], {**new, first: TRIES}), [first])
 
 
+def changes(path, files):
+    """Whether an edit of a crate can be put into its files, and changes one."""
+    try:
+        return Edit(path).put_in(files) != files
+    except BadEdit:
+        return False
+
+
+def try_edits(tally):
+    for source in sorted((TOP / "crates").glob("*/src")):
+        files = {path.relative_to(source): path.read_text() for path in source.rglob("*.rt")}
+        for kind in ("mutants", "twins"):
+            for path in sorted((source.parent / kind).glob("*.edit")):
+                tally.check(str(path.relative_to(TOP)), changes(path, files), True)
+
+
 def main():
     tally = Tally()
     tally.check("names", set(functions_of("c", FILES)), NAMES)
@@ -123,6 +141,7 @@ def main():
             tally.check(name, outcome(Path(folder), text),
                         lambda got, part=part: got is None if part is None else part in got)
     try_groups(tally)
+    try_edits(tally)
     return tally.end()
 
 
