@@ -4,6 +4,7 @@
 //! one `Replay`: into a `Vec` here, and into a buffer that goes out in `run`.
 
 ghost use Rattle.std.specs.Prelude.{◌≡◌, ◌++◌, IfErr, IfOk, Ok, OnOk};
+ghost use Rattle.lk_replay.specs.Ending.{ending_of};
 ghost use Rattle.lk_replay.specs.Report.{report_text};
 ghost use Rattle.lk_replay.specs.Schedule.{plan_of};
 ghost use Rattle.lk_replay.specs.Whole.{IsAsTold};
@@ -15,6 +16,7 @@ mod status;
 mod text;
 mod words;
 
+use crate::ending::Ending;
 use crate::output_buffer::Source;
 use crate::{ReadFault, Schedule, read_schedule};
 use closings::{Closing, fault_text};
@@ -36,16 +38,27 @@ const PLACE: usize = 4_096;
 // be refused at its first.
 const FIRST_LINES: usize = 1_024;
 
-// Appends what is printed.
-fn print_into(out: &mut Vec<u8>, replay: &mut Replay<'_>) -> Result<(), AllocError>
-    ensures { OnOk result
+/// A report, and how it ends.
+#[derive(Drop)]
+pub struct EndedReport {
+    pub text: Vec<u8>,
+    pub ending: Ending,
+    ghost told: { ending ≡ ending_of text.items },
+}
+
+// Appends what is printed, and answers how it ends.
+fn print_into(out: &mut Vec<u8>, replay: &mut Replay<'_>) -> Result<Ending, AllocError>
+    ensures printed { OnOk result
         (out.new.items ≡ out.old.items ++ (replay.old.lines ++ replay.old.last)) }
+    ensures ending { IfOk result (λ ending. ending ≡ ending_of replay.old.last) }
 {
     let mut lines = [0; PLACE];
     loop {
         let len = replay.fill(&mut lines);
         if len == 0 {
-            return out.extend_from_slice(replay.closing().line.as_slice());
+            let closing = replay.closing();
+            out.extend_from_slice(closing.line.as_slice())?;
+            return Ok(closing.ending);
         }
         out.extend_from_slice(&lines[..len])?;
     }
@@ -66,24 +79,31 @@ pub fn read_or_fault(alloc: Global, bytes: &[u8]) -> Result<Result<Schedule, Clo
     }
 }
 
-// Reads a text, and prints its report.
+/// The report of a schedule text, with its ending: who prints a report need not read it.
+///
+/// # Errors
+///
+/// There was no memory for the schedule or the report.
 #[tactic(auto, unfolding(crate::specs::Report::report_text))]
-fn printed(alloc: Global, bytes: &[u8]) -> Result<Vec<u8>, AllocError>
-    ensures { IfOk result (λ report. report.items ≡ report_text bytes.now) }
+pub fn ended_report_of(alloc: Global, bytes: &[u8]) -> Result<EndedReport, AllocError>
+    ensures { IfOk result (λ report. report.text.items ≡ report_text bytes.now) }
 {
     match read_or_fault(alloc, bytes)? {
         Ok(schedule) => {
             let longest = LONGEST_LINE + LONGEST_LISTED * usize::from(schedule.threads());
             let lines = schedule.moves().len().min(FIRST_LINES);
-            let mut out = Vec::with_capacity(alloc, longest * lines + LONGEST_LAST)?;
-            print_into(&mut out, &mut Replay::new(&schedule))?;
-            out.shrink_to_fit();
-            Ok(out)
+            let mut text = Vec::with_capacity(alloc, longest * lines + LONGEST_LAST)?;
+            let ending = print_into(&mut text, &mut Replay::new(&schedule))?;
+            text.shrink_to_fit();
+            Ok(EndedReport { text, ending })
         }
         Err(fault) => {
-            let mut out = Vec::new(alloc);
-            out.extend_from_slice(fault.line.as_slice())?;
-            Ok(out)
+            let mut text = Vec::new(alloc);
+            text.extend_from_slice(fault.line.as_slice())?;
+            Ok(EndedReport {
+                text,
+                ending: fault.ending,
+            })
         }
     }
 }
@@ -98,5 +118,5 @@ pub fn report_of(alloc: Global, bytes: &[u8]) -> Result<Vec<u8>, AllocError>
     ensures report { IfOk result (λ report. report.items ≡ report_text bytes.now) }
     ensures promised { IfOk result (λ report. IsAsTold bytes.now report.items) }
 {
-    printed(alloc, bytes)
+    Ok(ended_report_of(alloc, bytes)?.text)
 }

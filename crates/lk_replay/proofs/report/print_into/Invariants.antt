@@ -7,6 +7,7 @@ invariant-loop-lines l = record {
   parts : l.out.items ++ (l.replay.lines ++ l.replay.last)
       ≡ l.initial.out.items ++ (l.initial.replay.lines ++ l.initial.replay.last);
   room : 448 ≤ length l.lines;
+  last : l.replay.last ≡ l.initial.replay.last;
 }
 
 abbrev pub decreases-loop-lines : goal.decreases-loop-lines
