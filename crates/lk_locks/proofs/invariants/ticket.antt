@@ -104,91 +104,96 @@ keeps : (bits : ℕ) (ws : List ℕ) (ps : List Phase) (q : Sequential) (t : ℕ
     move_change Ticket bits ws t p m in IsAgreed Ticket (λ r. IsQueue bits c.words
     (set ps t c.phase) r.queue) q (move_entries Ticket t p m c.outcome)
 keeps bits ws ps q t Idle (Call Acquire) given =
-    let h : t < length ps = given.thread in
-    let e : phase_at ps t ≡ Idle = given.phase_is in
-    let a : IsQueue bits ws ps q.queue = given.agrees in
+    let in_lock : t < length ps = given.thread in
+    let was : phase_at ps t ≡ Idle = given.phase_is in
+    let agreed : IsQueue bits ws ps q.queue = given.agrees in
     record {
       allowed = (tt, tt);
       kind_is = given.kind_is;
       agrees =
-          queue_frame bits ws ps q.queue t TakeTicket h (sym (ap ticket_of e))
-          (rest_false q.queue t (no_member bits ws ps q.queue t a (ap ticket_of e))) a;
+          queue_frame bits ws ps q.queue t TakeTicket in_lock (sym (ap ticket_of was))
+          (rest_false q.queue t (no_member bits ws ps q.queue t agreed (ap ticket_of was))) agreed;
     }
-keeps bits ws ps q t (TicketInside x) (Call Release) given =
-    let h : t < length ps = given.thread in
-    let e : phase_at ps t ≡ TicketInside x = given.phase_is in
-    let a : IsQueue bits ws ps q.queue = given.agrees in
+keeps bits ws ps q t (TicketInside ticket) (Call Release) given =
+    let in_lock : t < length ps = given.thread in
+    let was : phase_at ps t ≡ TicketInside ticket = given.phase_is in
+    let agreed : IsQueue bits ws ps q.queue = given.agrees in
     record {
       allowed = (tt, tt);
       kind_is = given.kind_is;
-      agrees = queue_frame bits ws ps q.queue t (ReadServing x) h (sym (ap ticket_of e))
-          (inside_is_head bits ws ps q.queue t x a (ap ticket_of e)
-          (λ y d. let g : TicketInside x ≡ AwaitTurn y = sym e ∙ d in cc)).alone
-          a;
+      agrees = queue_frame bits ws ps q.queue t (ReadServing ticket) in_lock
+          (sym (ap ticket_of was))
+          (inside_is_head bits ws ps q.queue t ticket agreed (ap ticket_of was)
+          (λ y same. let two_phases : TicketInside ticket ≡ AwaitTurn y = sym was ∙ same in
+          cc)).alone
+          agreed;
     }
 keeps bits ws ps q t TakeTicket (Step s) given =
-    let h : t < length ps = given.thread in
-    let n : length ps ≤ 64 = given.few in
-    let w : 2 ≤ length ws = given.enough in
-    let e : phase_at ps t ≡ TakeTicket = given.phase_is in
-    let a : IsQueue bits ws ps q.queue = given.agrees in
-    let o : has q.queue t ≡ false = no_member bits ws ps q.queue t a (ap ticket_of e) in
-    let y : is_allowed q (Acted t Acquire)
-    ≡ true = allows_acquire q t (ap family_of given.kind_is) (omega arith) o in
+    let in_lock : t < length ps = given.thread in
+    let few : length ps ≤ 64 = given.few in
+    let two_words : 2 ≤ length ws = given.enough in
+    let was : phase_at ps t ≡ TakeTicket = given.phase_is in
+    let agreed : IsQueue bits ws ps q.queue = given.agrees in
+    let not_queued : has q.queue t ≡ false =
+    no_member bits ws ps q.queue t agreed (ap ticket_of was) in
+    let may_act : is_allowed q (Acted t Acquire)
+    ≡ true = allows_acquire q t (ap family_of given.kind_is) (omega arith) not_queued in
     record {
-      allowed = (y, tt);
+      allowed = (may_act, tt);
       kind_is = given.kind_is;
-      agrees = queue_take bits ws ps q.queue t h w (ap ticket_of e) a;
+      agrees = queue_take bits ws ps q.queue t in_lock two_words (ap ticket_of was) agreed;
     }
-keeps bits ws ps q t (AwaitTurn x) (Step s) given =
-    let h : t < length ps = given.thread in
-    let e : phase_at ps t ≡ AwaitTurn x = given.phase_is in
-    let a : IsQueue bits ws ps q.queue = given.agrees in
-    elim (eqb_tells (slice_index ws 1) x) [
-      | inl d ↦
-          let i : IsHead ws ps q.queue t (slice_index ws 1) =
-          served_is_head bits ws ps q.queue t a (e ∙ ap (λ y. AwaitTurn y) (sym d.1)) in
-          rw d.0 (record {
-            allowed = (i.head, tt);
+keeps bits ws ps q t (AwaitTurn ticket) (Step s) given =
+    let in_lock : t < length ps = given.thread in
+    let was : phase_at ps t ≡ AwaitTurn ticket = given.phase_is in
+    let agreed : IsQueue bits ws ps q.queue = given.agrees in
+    elim (eqb_tells (slice_index ws 1) ticket) [
+      | inl same ↦
+          let at_head : IsHead ws ps q.queue t (slice_index ws 1) =
+          served_is_head bits ws ps q.queue t agreed (was ∙ ap (λ y. AwaitTurn y) (sym same.1)) in
+          rw same.0 (record {
+            allowed = (at_head.head, tt);
             kind_is = given.kind_is;
             agrees =
-                queue_frame bits ws ps q.queue t (TicketInside x) h (sym
-                (ap ticket_of e)) i.alone a;
+                queue_frame bits ws ps q.queue t (TicketInside ticket) in_lock (sym
+                (ap ticket_of was)) at_head.alone agreed;
           })
-      | inr d ↦
-          rw d.0
-          (waits Ticket (λ y r. IsQueue bits ws y r.queue) ps q t (AwaitTurn x) e
-          given.kind_is a)
+      | inr other ↦
+          rw other.0
+          (waits Ticket (λ y r. IsQueue bits ws y r.queue) ps q t (AwaitTurn ticket) was
+          given.kind_is agreed)
     ]
-keeps bits ws ps q t (ReadServing x) (Step s) given =
-    let h : t < length ps = given.thread in
-    let e : phase_at ps t ≡ ReadServing x = given.phase_is in
-    let a : IsQueue bits ws ps q.queue = given.agrees in
-    let i : IsHead ws ps q.queue t x =
-    inside_is_head bits ws ps q.queue t x a (ap ticket_of e) (λ y d. let g : ReadServing x
-    ≡ AwaitTurn y = sym e ∙ d in cc) in
+keeps bits ws ps q t (ReadServing ticket) (Step s) given =
+    let in_lock : t < length ps = given.thread in
+    let was : phase_at ps t ≡ ReadServing ticket = given.phase_is in
+    let agreed : IsQueue bits ws ps q.queue = given.agrees in
+    let at_head : IsHead ws ps q.queue t ticket =
+    inside_is_head bits ws ps q.queue t ticket agreed (ap ticket_of was)
+    (λ y same. let two_phases : ReadServing ticket ≡ AwaitTurn y = sym was ∙ same in cc) in
     record {
       allowed = tt;
       kind_is = given.kind_is;
       agrees =
-          queue_frame bits ws ps q.queue t (PassOn (slice_index ws 1)) h
-          (ap (λ y. Some y) (sym i.ticket) ∙ sym (ap ticket_of e)) i.alone a;
+          queue_frame bits ws ps q.queue t (PassOn (slice_index ws 1)) in_lock
+          (ap (λ y. Some y) (sym at_head.ticket) ∙ sym (ap ticket_of was)) at_head.alone agreed;
     }
-keeps bits ws ps q t (PassOn x) (Step s) given =
-    let h : t < length ps = given.thread in
-    let n : length ps ≤ 64 = given.few in
-    let w : 2 ≤ length ws = given.enough in
-    let e : phase_at ps t ≡ PassOn x = given.phase_is in
-    let a : IsQueue bits ws ps q.queue = given.agrees in
-    let i : IsHead ws ps q.queue t x =
-    inside_is_head bits ws ps q.queue t x a (ap ticket_of e) (λ y d. let g : PassOn x
-    ≡ AwaitTurn y = sym e ∙ d in cc) in
-    let y : is_allowed q (Acted t Release)
-    ≡ true = allows_release q t (ap family_of given.kind_is) (omega arith) i.head in
+keeps bits ws ps q t (PassOn ticket) (Step s) given =
+    let in_lock : t < length ps = given.thread in
+    let few : length ps ≤ 64 = given.few in
+    let two_words : 2 ≤ length ws = given.enough in
+    let was : phase_at ps t ≡ PassOn ticket = given.phase_is in
+    let agreed : IsQueue bits ws ps q.queue = given.agrees in
+    let at_head : IsHead ws ps q.queue t ticket =
+    inside_is_head bits ws ps q.queue t ticket agreed (ap ticket_of was)
+    (λ y same. let two_phases : PassOn ticket ≡ AwaitTurn y = sym was ∙ same in cc) in
+    let may_act : is_allowed q (Acted t Release)
+    ≡ true = allows_release q t (ap family_of given.kind_is) (omega arith) at_head.head in
     record {
-      allowed = (y, (tt, tt));
+      allowed = (may_act, (tt, tt));
       kind_is = given.kind_is;
-      agrees = rw i.ticket (queue_pass bits ws ps q.queue t h w i.head i.alone a);
+      agrees =
+          rw at_head.ticket
+          (queue_pass bits ws ps q.queue t in_lock two_words at_head.head at_head.alone agreed);
     }
 keeps bits ws ps q t p m given =
     let fits = given.fits in let own = given.own in let not_refused = given.not_refused in cc
