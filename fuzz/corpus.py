@@ -20,7 +20,7 @@ LIMITS = HERE.parent / "examples" / "limits.sh"
 FAULTS = ["TooLong", "NoHeader", "BadHeader", "BadThreads", "WordsTooNarrow", "BadLine",
           "TooManyMoves"]
 REFUSALS = ["NoSuchThread", "WrongLock", "Busy", "NotHolder", "AlreadyHolds", "NoCall"]
-# What begins the name of one text at least. Where a lock has one kind of step, none is wrong.
+# What begins the name of one text at least. If a lock has one kind of step, none is wrong.
 DUE = [*(f"fault-{fault}" for fault in FAULTS),
        *(f"refused-{refusal}-{lock}" for refusal in REFUSALS for lock in LOCKS),
        *(f"refused-WrongStep-{lock}" for lock in LOCKS if len(LOCKS[lock].steps) > 1),

@@ -9,7 +9,7 @@ the round that are accepted as another, and a few one by one by `replay`. Report
 byte for byte with those of oracle.py, and exit statuses with 0 if every report ends with `end
 K` and 1 otherwise. In each round one text is at a limit of size.
 
-Where a text's report differs, the text is shrunk for up to a minute while it still differs, both
+If a text's report differs, the text is shrunk for up to a minute while it still differs, both
 are stored under fuzz/found/, and the fuzzer ends with 1. Prints `N passed, M failed` last; N
 counts texts.
 """

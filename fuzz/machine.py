@@ -2,7 +2,7 @@
 
 The words alone decide how a call goes on, by the code in locks/. Holders and queue are kept beside
 them, by what each call came to. The two have to agree whenever a thread enters: it is the first in
-line, and no writer is inside beside it. Where they do not, the machine stops with `AssertionError`.
+line, and no writer is inside beside it. If they do not, the machine stops with `AssertionError`.
 """
 from typing import NamedTuple
 

@@ -52,7 +52,7 @@ place() {
     esac
 }
 
-# place_of KIND SOURCE TARGET: where the file lies in the end
+# place_of KIND SOURCE TARGET: the file's place after the installation
 place_of() {
     case $1:$3 in
     kept:*) echo "$folder/$3$2" ;;

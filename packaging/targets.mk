@@ -43,7 +43,7 @@ $(PAGE): $(MODULE) VERSION docs/LOCKS.md $(wildcard page/build.mjs page/build/* 
 	tests/wanted.sh page
 	node page/build.mjs $(MODULE)
 
-# Side by side. Debian packages that these need are installed by them where they are missing.
+# Side by side. Debian packages that these need are installed by them if they are missing.
 ## release-checks | tries what is installed and packaged, and two hosts over ssh
 release-checks: $(BUILT) tools
 	$(MAKE) --no-print-directory --jobs=$(shell nproc) --output-sync=target \

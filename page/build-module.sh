@@ -3,7 +3,7 @@
 # compiled for WebAssembly with 64-bit memory, and linked.
 #
 # The gate proves lk_page and builds nothing of it. What is not proved is not built here either.
-# Where nothing changed since the last time it takes seconds. The module is the same byte for byte
+# If nothing changed since the last time it takes seconds. The module is the same byte for byte
 # in any folder. If BUILT is set, the libraries below lk_page are taken as they are in `out`.
 set -euo pipefail
 cd "$(dirname "${BASH_SOURCE[0]}")/.."

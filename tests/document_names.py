@@ -29,7 +29,7 @@ DEFINED = [re.compile(pattern, re.MULTILINE) for pattern in (
     r"^[\w ]+?\**(\w+)\(",
 )]
 PUBLIC = re.compile(r"^\s*pub (?:fn|struct|enum|trait|type|mod|const) (\w+)", re.MULTILINE)
-# A trait's functions and an enum's variants are public where the trait or the enum is.
+# A trait's functions and an enum's variants are public if the trait or the enum is.
 INSIDE = re.compile(r"^pub (?:trait|enum) .*?^\}", re.MULTILINE | re.DOTALL)
 INNER = re.compile(r"^    (?:fn (\w+)|([A-Z]\w*)[(,{ ])", re.MULTILINE)
 # What documents name that is no part of the repository: the kit, the C library, other programs.

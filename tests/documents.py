@@ -9,7 +9,7 @@ status 0. Both run in a folder in which the repository's folders are seen, one f
 that a later block finds what an earlier one wrote. A comment above the fence says more:
 
     <!-- not run: REASON -->    the block cannot be run in a test; its commands are counted
-    <!-- with: PART -->         it is run where PART is built; else its commands are counted
+    <!-- with: PART -->         it is run if PART is built; else its commands are counted
     <!-- file: NAME -->         the block is the file NAME, and is saved before the next one is run
 
 A shell's block of another language fails, and so does a command that is indented and not fenced,

@@ -54,7 +54,7 @@ def free_port():
 
 
 def children(process):
-    """The processes that a process began, by the kernel's own list; none where it has ended."""
+    """The processes that a process began, by the kernel's own list; none if it has ended."""
     try:
         return list(map(int, Path(f"/proc/{process}/task/{process}/children").read_text().split()))
     except FileNotFoundError:

@@ -45,6 +45,6 @@ keep_packages() {
 }
 trap keep_packages EXIT
 
-# Where this script is ended by a signal, so is what it runs.
+# If this script is ended by a signal, so is what it runs.
 setpriv --pdeathsig KILL unshare --mount --pid --fork --kill-child -- \
     bash -euc "$(declare -f enter); enter \"\$@\"" in_root "$folder" "${#seen[@]}" "${seen[@]}" "$@"

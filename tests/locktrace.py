@@ -139,7 +139,7 @@ def summaries(program):
 
 
 def refusals_by_name(program):
-    """A name where the thread has one, also in what is said of a refused move."""
+    """A name if the thread has one, also in what is said of a refused move."""
     program.case("explain a refusal by name", ["explain", "--moves", "99..99", "--names",
                                                "left,right", "wrong"], 1,
                  "9: refused: '1 write', but right's next step is 'swap' (WrongStep)\n"

@@ -23,7 +23,7 @@ AT_ONCE = 500  # traces of one call of the program
 
 
 def spoil(dice, run):
-    """Changes one value of a run: its line in the trace, 0 where there is none, and whether it is a
+    """Changes one value of a run: its line in the trace, 0 if there is none, and whether it is a
     count."""
     changeable = [k for k, (_, line) in enumerate(run.moves) if has_value(line)]
     if not changeable:

@@ -1,11 +1,11 @@
 /* Concurrency Kit's MCS lock (ck_spinlock_mcs of Debian's libck-dev), as its header has it.
 
-   Where something is recorded, the operations that the header calls are taken over by macros: they
+   If something is recorded, the operations that the header calls are taken over by macros: they
    do the same, and note it. In three places its steps are not the machine's:
      `next`     is set by a plain store: noted at the fence after it
      `locked`   is set before the swap: noted after it, if there is a predecessor. Nobody looks
                 at it before the link
-     the tail   is loaded before the compare-and-swap. Where that finds another record, there is no
+     the tail   is loaded before the compare-and-swap. If that finds another record, there is no
                 compare-and-swap: the load is noted as one that failed. Else it is not noted
 
    SPDX-License-Identifier: Apache-2.0 OR MIT */

@@ -1,6 +1,6 @@
 /* Concurrency Kit's ticket lock (ck_spinlock_ticket of Debian's libck-dev), as its header has it.
 
-   Where something is recorded, the operations that the header calls are taken over by macros: they
+   If something is recorded, the operations that the header calls are taken over by macros: they
    do the same, and note it. On x86 both counters are halves of one word of 32 bits, 16 bits each.
    So two operations are two steps of the machine each, and LR_JOIN keeps their notes together:
      the fetch-and-add    finds both counters: the add, and the first look at now_serving

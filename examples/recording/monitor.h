@@ -1,4 +1,4 @@
-/* The monitor of the read-write examples, a POSIX mutex and a condition. Where its sections are
+/* The monitor of the read-write examples, a POSIX mutex and a condition. If its sections are
    noted, it counts them.
 
    SPDX-License-Identifier: Apache-2.0 OR MIT */

@@ -45,7 +45,7 @@ static inline void lr_close(lr_run *run)
     free(run);
 }
 
-/* A number by which the logs of one run are known: of the time, or where a seed or a schedule
+/* A number by which the logs of one run are known: of the time, or if a seed or a schedule
    decides the run, of that. */
 static inline uint64_t lr_number_of(const lr_run *run)
 {

@@ -93,7 +93,7 @@ def states():
 
 
 def each_lesson_on_each_screen(browser):
-    """Where every state is loaded, each is a group of its own."""
+    """When every state is loaded, each is a group of its own."""
     faults = []
     shown = list(states())
     groups = [shown[at : at + EVERY] for at in range(0, len(shown), EVERY)]

@@ -3,7 +3,7 @@
 Loading goes from the bytes of the file to the page laid out, a step from the key's call to the
 page laid out; a step's time is the mean of twelve. What is bounded is the time that the page's
 thread worked, as the browser counts it, the least of three rounds, so that other work on the
-machine counts little. Where nothing else runs it is the time that passes, printed beside it.
+machine counts little. If nothing else runs it is the time that passes, printed beside it.
 """
 import base64
 import random

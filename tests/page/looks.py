@@ -164,7 +164,7 @@ LINKED = f"{MOVES}1 write\n1 write\n2 acquire\n2 write\n2 swap\n"
 
 
 def names_are_whole(driver, _):
-    """A long name is whole where there is room for it, else where one points at it."""
+    """A long name is whole if there is room for it, else when one points at it."""
     open_page(driver)
     whole = ["Wilhelmina", "Montgomery"]
     text = f"{LONG_NAMES}lock mcs threads 2\n{MOVES}1 write\n1 write\n"

@@ -31,7 +31,7 @@ SHOTS = [
 
 
 def shrink(path):
-    """Fewer colours, where the tool for it is there: flat pictures lose nothing by it."""
+    """Fewer colours, if the tool for it is there: flat pictures lose nothing by it."""
     if not shutil.which("pngquant"):
         return
     subprocess.run(
