@@ -8,9 +8,9 @@ use Rattle.lk_locks.specs.Order.{IsInOrder}
 use Rattle.lk_locks.specs.declared.kinds.LockKind.{LockKind}
 use Rattle.lk_locks.specs.declared.kinds.Entry.{Entry}
 
--- A history of n threads on a lock of this kind is legal. So a queue lock has one holder at a time
--- and is entered in the order of its tickets or swaps, and there are never two writers, nor a
--- writer beside a reader.
+-- A history of n threads on a lock of this kind is legal. So a queue lock has at most one holder
+-- and is entered in the order of its tickets or swaps, and there are never two writers, and never a
+-- writer together with a reader.
 pub record IsAsPromised (kind : LockKind) (n : ℕ) (es : List Entry) : Type 0 where
   pub legal : Legal kind n es
   pub one_holder : HasOneHolder es
@@ -18,6 +18,6 @@ pub record IsAsPromised (kind : LockKind) (n : ℕ) (es : List Entry) : Type 0 w
   pub one_writer : HasOneWriter es
   pub no_reader_beside : IsNeverBesideReader kind es
 
--- whatever moves are played on a new lock, refused ones among them
+-- the history of every list of moves on a new lock is so; a refused move changes nothing
 abbrev pub EveryRunIsAsPromised : Type 0
 EveryRunIsAsPromised = OfEveryRun IsAsPromised

@@ -1,5 +1,5 @@
--- Definitions. The room of the MCS queue lock: its words, its calls, its steps, and the entries of
--- its steps.
+-- Definitions. The MCS queue lock: its words, calls and steps, and the history entries of its
+-- steps.
 --
 -- Mellor-Crummey and Scott, "Algorithms for Scalable Synchronization on Shared-Memory
 -- Multiprocessors", ACM TOCS 9(1), 1991, section 2.4, with the release that has compare-and-swap.
@@ -25,8 +25,8 @@ use Rattle.lk_locks.specs.declared.kinds.Outcome.TheVariants.{Moved, Waits, Ente
 use Rattle.lk_locks.specs.declared.kinds.Entry.{Entry}
 use Rattle.lk_locks.specs.declared.kinds.Entry.TheVariants.{Acted, Returned}
 
--- The place of each word among the lock's words: the one that names the thread of the last request,
--- and of thread i the one that names its successor and the one that says whether it has to wait.
+-- The index of each word: `tail` names the last thread of the queue, or is nil; thread i's `next`
+-- names its successor, and its `locked` is 1 while it has to wait.
 abbrev pub tail : ℕ
 tail = 0
 
@@ -55,12 +55,12 @@ operation i AwaitLink = Some (Read (next i))
 operation i (Grant j) = Some (Write (locked j) 0)
 operation i p = None
 
--- the successor that was read is granted the lock, if there is one
+-- if the read found a successor, the thread's next step grants it the lock
 abbrev pub grant_or : ℕ → List ℕ → Change → Change
 grant_or found ws otherwise =
     if found == 0 then otherwise else to ws (Grant (found - 1)) Moved
 
--- what the answer leads to, with the words as they are then
+-- the change by what the operation answered, with the words that it left
 abbrev pub after : Phase → List ℕ → Answer → Change
 after ClearNext ws answer = to ws SwapTail Moved
 after SwapTail ws (Found p) =
@@ -80,8 +80,9 @@ after p ws answer = to ws p Waits
 abbrev pub step : ℕ → ℕ → List ℕ → Phase → Change
 step bits i ws p = step_by after bits ws p (operation i p)
 
--- The entries of such a step. An acquire acts when it swaps the tail, and returns when the lock
--- is granted; a release acts when it leaves.
+-- The entries of such a step. An acquire acts at its swap, and returns when it enters: at the swap
+-- if that found nil, otherwise at the read that finds `locked` 0. A release acts and returns at its
+-- last step.
 abbrev pub entries : ℕ → Phase → Outcome → List Entry
 entries i SwapTail Moved = Acted i Acquire ∷ []
 entries i SwapTail Entered = acts i Acquire

@@ -1,10 +1,9 @@
--- Definitions. The room of the FIFO read-write lock: its words and its steps.
+-- Definitions. The FIFO read-write lock: its words and its sections.
 --
 -- After Herlihy and Shavit, The Art of Multiprocessor Programming, chapter 8, "FifoReadWriteLock".
--- Each try is one section under the lock's monitor. Different here: a reader waits while the flag
--- is set, and adds one to `readAcquires` only afterwards; a writer waits while the flag is set
--- before it sets it; the counts have B bits and wrap; signals are not modelled; a writer may
--- downgrade.
+-- Each poll is one section of the lock's monitor. Different here: a reader waits until the flag is
+-- clear, and only then adds one to `readAcquires`; a writer waits until the flag is clear, and then
+-- sets it; the counts have B bits and wrap; signals are not modelled; a writer may downgrade.
 use Rattle.std.specs.Prelude.{ℕ, Bool, ◌==◌, List, slice_index, set, if◌then◌else◌}
 use Rattle.lk_locks.specs.Change.{Change, to, raised}
 use Rattle.lk_locks.specs.declared.kinds.Phase.{Phase}
@@ -13,7 +12,8 @@ use Rattle.lk_locks.specs.declared.kinds.Phase.TheVariants.{TryWrite, AwaitReade
 use Rattle.lk_locks.specs.declared.kinds.Phase.TheVariants.{LeaveWrite, TryDowngrade}
 use Rattle.lk_locks.specs.declared.kinds.Outcome.TheVariants.{Moved, Waits, Entered, Left}
 
--- how many readers came, how many left, and the writer's flag
+-- the indices of the words: the count of readers that entered, that of readers that left, and the
+-- writer's flag
 abbrev pub read_acquires : ℕ
 read_acquires = 0
 
@@ -23,7 +23,7 @@ read_releases = 1
 abbrev pub flag : ℕ
 flag = 2
 
--- as many readers left as came
+-- no reader is inside: as many left as entered
 abbrev pub are_gone : List ℕ → Bool
 are_gone ws = slice_index ws read_acquires == slice_index ws read_releases
 

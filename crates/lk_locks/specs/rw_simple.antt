@@ -1,9 +1,9 @@
--- Definitions. The room of the simple read-write lock: its words and its steps.
+-- Definitions. The simple read-write lock: its words and its sections.
 --
 -- After Herlihy and Shavit, The Art of Multiprocessor Programming, chapter 8,
--- "SimpleReadWriteLock". Each try is one section under the lock's monitor. Different here: a writer
+-- "SimpleReadWriteLock". Each poll is one section of the lock's monitor. Different here: a writer
 -- waits while the reader count is not 0 or the flag is set, and then sets the flag; signals are not
--- modelled, and a waiting thread may look again at any step; the count has B bits; a writer may
+-- modelled, and a thread that waits may poll at any time; the count has B bits; a writer may
 -- downgrade.
 use Rattle.std.specs.Prelude.{ℕ, ◌==◌, ◌&&◌, List, slice_index, set, if◌then◌else◌}
 use Rattle.lk_locks.specs.Change.{Change, to, raised, less_one}
@@ -13,7 +13,7 @@ use Rattle.lk_locks.specs.declared.kinds.Phase.TheVariants.{TryWrite, Writing, L
 use Rattle.lk_locks.specs.declared.kinds.Phase.TheVariants.{TryDowngrade}
 use Rattle.lk_locks.specs.declared.kinds.Outcome.TheVariants.{Waits, Entered, Left}
 
--- the count of the readers, and the writer's flag
+-- the indices of the words: the count of the readers, and the writer's flag
 abbrev pub readers : ℕ
 readers = 0
 

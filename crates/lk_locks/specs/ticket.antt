@@ -1,10 +1,9 @@
--- Definitions. The room of the ticket lock: its words, its calls, its steps, and the entries of its
--- steps.
+-- Definitions. The ticket lock: its words, calls and steps, and the history entries of its steps.
 --
 -- Mellor-Crummey and Scott, "Algorithms for Scalable Synchronization on Shared-Memory
 -- Multiprocessors", ACM TOCS 9(1), 1991, section 2.2. Different here: words have B bits, so tickets
--- wrap around; the pause between two reads of `now_serving` is no step; a release is two steps, a
--- read of `now_serving` and a write of the value read plus one.
+-- wrap; back-off is not a step; a release is two steps, a read of `now_serving` and a write of the
+-- value read plus one.
 use Rattle.std.specs.Prelude.{ℕ, ◌==◌, List, [], ◌∷◌, Option, None, Some, if◌then◌else◌}
 use Rattle.lk_words.specs.declared.operation.Operation.{Operation}
 use Rattle.lk_words.specs.declared.operation.Operation.TheVariants.{Read, Write, FetchAndAdd}
@@ -22,7 +21,7 @@ use Rattle.lk_locks.specs.declared.kinds.Outcome.TheVariants.{Moved, Waits, Ente
 use Rattle.lk_locks.specs.declared.kinds.Entry.{Entry}
 use Rattle.lk_locks.specs.declared.kinds.Entry.TheVariants.{Acted, Returned}
 
--- the next ticket, and the ticket that is served
+-- the indices of the two words: the next ticket to hand out, and the ticket now served
 abbrev pub next_ticket : ℕ
 next_ticket = 0
 
@@ -43,7 +42,7 @@ operation bits (ReadServing t) = Some (Read now_serving)
 operation bits (PassOn v) = Some (Write now_serving (plus_one bits v))
 operation bits p = None
 
--- what the answer leads to, with the words as they are then
+-- the change by what the operation answered, with the words that it left
 abbrev pub after : Phase → List ℕ → Answer → Change
 after TakeTicket ws (Found t) = to ws (AwaitTurn t) Moved
 after (AwaitTurn t) ws (Found v) =
@@ -56,8 +55,8 @@ after p ws answer = to ws p Waits
 abbrev pub step : ℕ → List ℕ → Phase → Change
 step bits ws p = step_by after bits ws p (operation bits p)
 
--- The entries of such a step. An acquire acts when it takes its ticket, and returns when that is
--- served.
+-- The entries of such a step. An acquire acts at its fetch-and-add, and returns at the read that
+-- finds its ticket. A release acts and returns at its last step.
 abbrev pub entries : ℕ → Phase → Outcome → List Entry
 entries i TakeTicket Moved = Acted i Acquire ∷ []
 entries i (AwaitTurn t) Entered = Returned i Acquire ∷ []

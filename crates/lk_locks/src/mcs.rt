@@ -1,9 +1,13 @@
-//! The room of the MCS queue lock: one step of a thread, on the tail and the threads' records.
+//! The MCS queue lock: its calls, and its atomic steps, each on one word of the tail and the
+//! threads' records.
 //!
 //! Mellor-Crummey and Scott, "Algorithms for Scalable Synchronization on Shared-Memory
 //! Multiprocessors", ACM TOCS 9(1), 1991, section 2.4, with the release that has compare-and-swap.
 //! Different here: each thread has one record, and thread `i`'s is record `i + 1`, so that 0 is
 //! nil; the last write of a release uses the successor that was read last.
+//!
+//! In contracts `after_call`, `operation`, `after`, `step` and `entries` are the definitions of
+//! `specs/mcs.antt`, and `(ws : List ℕ) →` means: for all lists of words.
 
 ghost use Rattle.std.specs.Prelude.{◌≡◌, ◌+◌, ◌-◌, ◌<◌, ◌≤◌, ℕ, List, []};
 ghost use Rattle.lk_locks.specs.mcs.{next, locked, after_call, operation, after, step, entries};
@@ -40,21 +44,21 @@ fn thread_of(link: u64) -> u8
     (link - 1) as u8
 }
 
-// The word of a thread's successor.
+// The index of a thread's `next`.
 fn next(thread: u8) -> usize
     ensures { result ≡ next thread }
 {
     1 + 2 * thread as usize
 }
 
-// The word that says whether a thread has to wait.
+// The index of a thread's `locked`.
 fn locked(thread: u8) -> usize
     ensures { result ≡ locked thread }
 {
     2 + 2 * thread as usize
 }
 
-/// How many words the lock has, with so many threads.
+/// The number of words of a lock for this many threads.
 pub fn words_needed(threads: u8) -> usize
     ensures { result ≡ word_count Mcs threads }
 {
@@ -125,7 +129,7 @@ pub fn operation(_bits: u8, thread: u8, phase: Phase) -> Option<Operation>
     }
 }
 
-/// The kind of that operation, which depends neither on the bits nor on the thread.
+/// The kind of the step that a thread in this phase takes next, whatever the bits and the thread.
 #[inline(always)]
 pub fn step_due(phase: Phase) -> Option<StepKind>
     ensures { result ≡ step_due Mcs phase }
@@ -133,7 +137,7 @@ pub fn step_due(phase: Phase) -> Option<StepKind>
     Some(kind_of(operation(64, 0, phase)?))
 }
 
-/// What the answer of that operation leads to.
+/// The next phase and the outcome, by what the phase's operation answered.
 #[inline(always)]
 pub fn after(phase: Phase, answer: Answer) -> (Phase, Outcome)
     requires { IsLink phase answer }
@@ -157,15 +161,16 @@ pub fn after(phase: Phase, answer: Answer) -> (Phase, Outcome)
         }
         // nobody came after this thread: the queue is empty again
         (Phase::CasTail, Answer::Swapped(true)) => (Phase::Idle, Outcome::Left),
-        // Another thread has swapped the tail. It may not have linked itself yet, and only a link
-        // names it: who left now would grant the lock to nobody.
+        // Another thread has swapped the tail, perhaps without linking itself yet. Until it does,
+        // this record does not name it: a release that returned now would grant to nobody.
         (Phase::CasTail, Answer::Swapped(false)) => (Phase::AwaitLink, Outcome::Moved),
         (Phase::Grant(_), _) => (Phase::Idle, Outcome::Left),
+        // a failed poll; in a phase without a step the machine refuses the move
         _ => (phase, Outcome::Waits),
     }
 }
 
-/// One step of a thread in this phase, with its new phase.
+/// One step of a thread in this phase: its new phase, and the outcome.
 #[inline(always)]
 pub fn step<W: Words>(words: &mut W, thread: u8, phase: Phase) -> (Phase, Outcome)
     requires { IsReady Mcs (W.width words.old) (W.list words.old) thread phase }
@@ -182,7 +187,7 @@ pub fn step<W: Words>(words: &mut W, thread: u8, phase: Phase) -> (Phase, Outcom
     }
 }
 
-/// What would come of such a step, with nothing changed.
+/// The outcome that a step of a thread in this phase would have. Nothing changes.
 pub fn outcome(words: &WordArray, thread: u8, phase: Phase) -> Outcome
     requires { IsReady Mcs words.now.1 words.now.0 thread phase }
     ensures { result ≡ (step words.now.1 thread words.now.0 phase).outcome }
@@ -193,7 +198,7 @@ pub fn outcome(words: &WordArray, thread: u8, phase: Phase) -> Outcome
     }
 }
 
-/// Adds the entries of such a step.
+/// Adds the history entries of a step with this outcome.
 #[inline(always)]
 pub fn add_entries(added: &mut Added, thread: u8, phase: Phase, outcome: Outcome)
     requires { added.old ≡ [] }

@@ -1,10 +1,11 @@
-//! The room of the FIFO read-write lock: one section of a thread, on the counts of the readers that
-//! came and left and the writer's flag.
+//! The FIFO read-write lock: one critical section of its monitor, on three words: the counts of the
+//! readers that entered and that left, and the writer's flag.
 //!
 //! After Herlihy and Shavit, The Art of Multiprocessor Programming, chapter 8, "FifoReadWriteLock".
-//! Each try is one section under the lock's monitor. Different here: a reader waits while the flag
-//! is set, and adds one to `readAcquires` only afterwards; a writer waits while the flag is set
-//! before it sets it; signals are not modelled; a writer may downgrade.
+//! Each poll is one section. Different here: a reader waits until the flag is clear, and only then
+//! adds one to `readAcquires`; a writer waits until the flag is clear, and then sets it; the counts
+//! have B bits and wrap; signals are not modelled; a writer may downgrade. Threads that wait for a
+//! clear flag enter in any order.
 
 ghost use Rattle.std.specs.Prelude.{◌≡◌, ◌^◌, ◌<◌, ◌≤◌, length, []};
 ghost use Rattle.lk_locks.specs.rw_fifo.{step};
@@ -23,15 +24,15 @@ const READ_RELEASES: usize = 1;
 
 const FLAG: usize = 2;
 
-/// How many words the lock has, with any number of threads.
+/// The number of the lock's words.
 pub fn words_needed(_threads: u8) -> usize
     ensures { result ≡ 3 }
 {
     3
 }
 
-/// What a section of a thread in this phase leaves in the monitor's words, of so many bits, if it
-/// finds these; its new phase, and the outcome.
+/// What a section of a thread in this phase does, if it finds these words of `bits` bits: the words
+/// that it leaves, the thread's new phase, and the outcome.
 #[inline(always)]
 pub fn section(bits: u8, found: [u64; 3], phase: Phase) -> ([u64; 3], Phase, Outcome)
     requires least { 2 ≤ bits }
@@ -47,8 +48,8 @@ pub fn section(bits: u8, found: [u64; 3], phase: Phase) -> ([u64; 3], Phase, Out
     use Phase::{AwaitReaders, Idle, LeaveRead, LeaveWrite, Reading, Writing};
     use Phase::{TryDowngrade, TryRead, TryWrite};
     let [acquires, releases, flag] = found;
-    // As many readers left as came. Both counts wrap. Fewer readers are inside than a count has
-    // values, so equal counts mean that there are none.
+    // No reader is inside: as many left as entered. Both counts wrap, but there are fewer threads
+    // than a count has values.
     let are_gone = acquires == releases;
     match phase {
         TryRead if flag == 0 => ([plus_one(bits, acquires), releases, flag], Reading, Entered),
@@ -60,11 +61,13 @@ pub fn section(bits: u8, found: [u64; 3], phase: Phase) -> ([u64; 3], Phase, Out
         LeaveWrite => ([acquires, releases, 0], Idle, Left),
         // both in one section, so that no writer comes in between
         TryDowngrade => ([plus_one(bits, acquires), releases, 0], Reading, Entered),
+        // a failed poll; in a phase without a step the machine refuses the move
         _ => (found, phase, Waits),
     }
 }
 
-/// One section of a thread in this phase, with its new phase.
+/// One section of a thread in this phase: its new phase, and the outcome. In the contract `step` is
+/// the definition of `specs/rw_fifo.antt`.
 #[inline(always)]
 pub fn step<W: Words>(words: &mut W, _thread: u8, phase: Phase) -> (Phase, Outcome)
     requires words { 3 ≤ length (W.list words.old) }
@@ -86,7 +89,7 @@ pub fn step<W: Words>(words: &mut W, _thread: u8, phase: Phase) -> (Phase, Outco
     (phase, outcome)
 }
 
-/// What would come of such a section, with nothing changed.
+/// The outcome that a section of a thread in this phase would have. Nothing changes.
 pub fn outcome(words: &WordArray, _thread: u8, phase: Phase) -> Outcome
     requires words { 3 ≤ length words.now.0 }
     requires one { 1 < 2 ^ words.now.1 }
@@ -100,7 +103,7 @@ pub fn outcome(words: &WordArray, _thread: u8, phase: Phase) -> Outcome
     section(words.bits(), found, phase).2
 }
 
-/// Adds the entries of such a section.
+/// Adds the history entries of a section with this outcome.
 pub fn add_entries(added: &mut Added, thread: u8, phase: Phase, outcome: Outcome)
     requires { added.old ≡ [] }
     ensures { added.new ≡ entries FifoReadWrite thread phase outcome }

@@ -1,10 +1,10 @@
-//! The room of the simple read-write lock: one section of a thread, on the count of the readers and
-//! the writer's flag.
+//! The simple read-write lock: one critical section of its monitor, on two words: the count of the
+//! readers, and the writer's flag.
 //!
 //! After Herlihy and Shavit, The Art of Multiprocessor Programming, chapter 8,
-//! "SimpleReadWriteLock". Each try is one section under the lock's monitor. Different here: a
-//! writer waits while the reader count is not 0 or the flag is set, and then sets the flag; signals
-//! are not modelled; a writer may downgrade.
+//! "SimpleReadWriteLock". Each poll is one section. Different here: a writer waits while the reader
+//! count is not 0 or the flag is set, and then sets the flag; the count has B bits; signals are not
+//! modelled; a writer may downgrade.
 
 ghost use Rattle.std.specs.Prelude.{◌≡◌, ◌^◌, ◌<◌, ◌≤◌, length, []};
 ghost use Rattle.lk_locks.specs.rw_simple.{step};
@@ -21,15 +21,15 @@ const READERS: usize = 0;
 
 const FLAG: usize = 1;
 
-/// How many words the lock has, with any number of threads.
+/// The number of the lock's words.
 pub fn words_needed(_threads: u8) -> usize
     ensures { result ≡ 2 }
 {
     2
 }
 
-/// What a section of a thread in this phase leaves in the monitor's words, of so many bits, if it
-/// finds these; its new phase, and the outcome. The third word is none of this lock's.
+/// What a section of a thread in this phase does, if it finds these words of `bits` bits: the words
+/// that it leaves, the thread's new phase, and the outcome. The third word is not this lock's.
 #[inline(always)]
 pub fn section(bits: u8, found: [u64; 3], phase: Phase) -> ([u64; 3], Phase, Outcome)
     requires least { 2 ≤ bits }
@@ -51,11 +51,13 @@ pub fn section(bits: u8, found: [u64; 3], phase: Phase) -> ([u64; 3], Phase, Out
         LeaveWrite => ([readers, 0, other], Idle, Left),
         // both in one section, so that no writer comes in between
         TryDowngrade => ([plus_one(bits, readers), 0, other], Reading, Entered),
+        // a failed poll; in a phase without a step the machine refuses the move
         _ => (found, phase, Waits),
     }
 }
 
-/// One section of a thread in this phase, with its new phase.
+/// One section of a thread in this phase: its new phase, and the outcome. In the contract `step` is
+/// the definition of `specs/rw_simple.antt`.
 #[inline(always)]
 pub fn step<W: Words>(words: &mut W, _thread: u8, phase: Phase) -> (Phase, Outcome)
     requires words { 2 ≤ length (W.list words.old) }
@@ -72,7 +74,7 @@ pub fn step<W: Words>(words: &mut W, _thread: u8, phase: Phase) -> (Phase, Outco
     (phase, outcome)
 }
 
-/// What would come of such a section, with nothing changed.
+/// The outcome that a section of a thread in this phase would have. Nothing changes.
 pub fn outcome(words: &WordArray, _thread: u8, phase: Phase) -> Outcome
     requires words { 2 ≤ length words.now.0 }
     requires one { 1 < 2 ^ words.now.1 }
@@ -82,7 +84,7 @@ pub fn outcome(words: &WordArray, _thread: u8, phase: Phase) -> Outcome
     section(words.bits(), found, phase).2
 }
 
-/// Adds the entries of such a section.
+/// Adds the history entries of a section with this outcome.
 pub fn add_entries(added: &mut Added, thread: u8, phase: Phase, outcome: Outcome)
     requires { added.old ≡ [] }
     ensures { added.new ≡ entries ReadWrite thread phase outcome }

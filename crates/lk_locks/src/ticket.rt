@@ -1,9 +1,12 @@
-//! The room of the ticket lock: one step of a thread, on two words.
+//! The ticket lock: its calls, and its atomic steps, each on one of two words.
 //!
 //! Mellor-Crummey and Scott, "Algorithms for Scalable Synchronization on Shared-Memory
-//! Multiprocessors", ACM TOCS 9(1), 1991, section 2.2. Different here: the pause between two reads
-//! of `now_serving` is no step, and a release is two steps, a read of `now_serving` and a write of
-//! the value read plus one.
+//! Multiprocessors", ACM TOCS 9(1), 1991, section 2.2. Different here: words have B bits, so
+//! tickets wrap; back-off is not a step; a release is two steps, a read of `now_serving` and a
+//! write of the value read plus one.
+//!
+//! In contracts `after_call`, `operation`, `after`, `step` and `entries` are the definitions of
+//! `specs/ticket.antt`, and `(ws : List ℕ) →` means: for all lists of words.
 
 ghost use Rattle.std.specs.Prelude.{◌≡◌, ◌^◌, ◌<◌, ◌≤◌, ℕ, List, [], length};
 ghost use Rattle.lk_locks.specs.ticket.{after_call, operation, after, step, entries};
@@ -22,7 +25,7 @@ const NEXT_TICKET: usize = 0;
 
 const NOW_SERVING: usize = 1;
 
-/// How many words the lock has, with any number of threads.
+/// The number of the lock's words.
 pub fn words_needed(_threads: u8) -> usize
     ensures { result ≡ 2 }
 {
@@ -49,7 +52,7 @@ pub fn after_call(phase: Phase, op: Op) -> Option<Phase>
     }
 }
 
-/// What a thread in this phase does next: one operation on one word of so many bits.
+/// What a thread in this phase does next: one operation on one word of `bits` bits.
 #[inline(always)]
 pub fn operation(bits: u8, _thread: u8, phase: Phase) -> Option<Operation>
     requires least { 2 ≤ bits }
@@ -64,7 +67,7 @@ pub fn operation(bits: u8, _thread: u8, phase: Phase) -> Option<Operation>
         Phase::AwaitTurn(_) | Phase::ReadServing(_) => {
             Some(Operation::Read { word: NOW_SERVING })
         }
-        // no atomic addition: only the holder writes this word, so it is as it was read
+        // no fetch-and-add is needed: only the holder writes this word
         Phase::PassOn(serving) => Some(Operation::Write {
             word: NOW_SERVING,
             value: plus_one(bits, serving),
@@ -73,7 +76,7 @@ pub fn operation(bits: u8, _thread: u8, phase: Phase) -> Option<Operation>
     }
 }
 
-/// The kind of that operation, which depends neither on the bits nor on the thread.
+/// The kind of the step that a thread in this phase takes next, whatever the bits and the thread.
 #[inline(always)]
 pub fn step_due(phase: Phase) -> Option<StepKind>
     ensures { result ≡ step_due Ticket phase }
@@ -81,7 +84,7 @@ pub fn step_due(phase: Phase) -> Option<StepKind>
     Some(kind_of(operation(64, 0, phase)?))
 }
 
-/// What the answer of that operation leads to.
+/// The next phase and the outcome, by what the phase's operation answered.
 #[inline(always)]
 pub fn after(phase: Phase, answer: Answer) -> (Phase, Outcome)
     ensures words { (ws : List ℕ) → (after phase ws answer).words ≡ ws }
@@ -90,17 +93,18 @@ pub fn after(phase: Phase, answer: Answer) -> (Phase, Outcome)
 {
     match (phase, answer) {
         (Phase::TakeTicket, Answer::Found(ticket)) => (Phase::AwaitTurn(ticket), Outcome::Moved),
-        // equal, and not at least: tickets wrap
+        // `==` and not `>=`: tickets wrap
         (Phase::AwaitTurn(ticket), Answer::Found(serving)) if serving == ticket => {
             (Phase::TicketInside(ticket), Outcome::Entered)
         }
         (Phase::ReadServing(_), Answer::Found(serving)) => (Phase::PassOn(serving), Outcome::Moved),
         (Phase::PassOn(_), _) => (Phase::Idle, Outcome::Left),
+        // a failed poll; in a phase without a step the machine refuses the move
         _ => (phase, Outcome::Waits),
     }
 }
 
-/// One step of a thread in this phase, with its new phase.
+/// One step of a thread in this phase: its new phase, and the outcome.
 #[inline(always)]
 pub fn step<W: Words>(words: &mut W, thread: u8, phase: Phase) -> (Phase, Outcome)
     requires words { 2 ≤ length (W.list words.old) }
@@ -116,7 +120,7 @@ pub fn step<W: Words>(words: &mut W, thread: u8, phase: Phase) -> (Phase, Outcom
     }
 }
 
-/// What would come of such a step, with nothing changed.
+/// The outcome that a step of a thread in this phase would have. Nothing changes.
 pub fn outcome(words: &WordArray, thread: u8, phase: Phase) -> Outcome
     requires { 2 ≤ length words.now.0 }
     ensures { result ≡ (step words.now.1 words.now.0 phase).outcome }
@@ -127,7 +131,7 @@ pub fn outcome(words: &WordArray, thread: u8, phase: Phase) -> Outcome
     }
 }
 
-/// Adds the entries of such a step.
+/// Adds the history entries of a step with this outcome.
 #[inline(always)]
 pub fn add_entries(added: &mut Added, thread: u8, phase: Phase, outcome: Outcome)
     requires { added.old ≡ [] }

@@ -1,6 +1,5 @@
--- Invariants. The MCS lock's: its phases, what a pending call still owes the history, who is
--- inside, and how its words agree with the queue of its sequential object, of whose links some may
--- not be written yet.
+-- Invariants. The MCS lock: which phases and links are in range, which entries a pending call has
+-- still to add, and how words and phases agree with the queue, in which links may be missing.
 use Rattle.std.specs.Prelude.{◌≡◌, ◌≢◌, ℕ, ◌+◌, ◌<◌, ◌≤◌, List, [], ◌∷◌, length, slice_index}
 use Rattle.std.specs.Prelude.{true, false, IsTrue}
 use Rattle.lk_words.specs.declared.operation.Answer.{Answer}
@@ -73,21 +72,21 @@ abbrev pub tail_of : List ℕ → ℕ
 tail_of [] = 0
 tail_of (t ∷ q) = last_of t q + 1
 
--- Thread t, in this phase, comes after u. Before it links itself it knows u, whose next is nil;
--- once it has, it is u's next.
+-- Thread t, in this phase, is the successor of u. Until t has linked itself, its phase names u,
+-- whose next is nil; from then on the next of u names t.
 abbrev pub IsBehind : List ℕ → ℕ → ℕ → Phase → Type 0
 IsBehind ws u t (SetLocked j) = (j ≡ u) × (next_of ws u ≡ 0)
 IsBehind ws u t (LinkTo j) = (j ≡ u) × (next_of ws u ≡ 0) × (locked_of ws t ≡ 1)
 IsBehind ws u t AwaitGrant = (next_of ws u ≡ t + 1) × (locked_of ws t ≡ 1)
 IsBehind ws u t p = ⊥
 
--- what comes after u. The last has no next
+-- the queue after u; the next of its last thread is nil
 abbrev pub IsLater : List ℕ → List Phase → ℕ → List ℕ → Type 0
 IsLater ws ps u [] = next_of ws u ≡ 0
 IsLater ws ps u (t ∷ q) = IsBehind ws u t (phase_at ps t) × IsLater ws ps t q
 
--- The head t, in this phase, before the others. If it still waits it is granted; if it waits
--- for a link there is a second; if it grants, the second is its next.
+-- The head t, in this phase, and the rest q. If t polls `locked`, it has been granted the lock; if
+-- it polls `next`, q is not empty; if it grants, its next names the first of q.
 abbrev pub IsFirst : List ℕ → ℕ → List ℕ → Phase → Type 0
 IsFirst ws t q AwaitGrant = locked_of ws t ≡ 0
 IsFirst ws t q McsInside = Unit {0}
@@ -101,14 +100,15 @@ abbrev pub IsLine : List ℕ → List Phase → List ℕ → Type 0
 IsLine ws ps [] = Unit {0}
 IsLine ws ps (t ∷ q) = IsFirst ws t q (phase_at ps t) × IsLater ws ps t q
 
--- a thread that is not in the queue. Before its swap its next is nil
+-- a thread that is not in the queue. In `SwapTail` its next is nil
 abbrev pub IsOutside : List ℕ → ℕ → Phase → Type 0
 IsOutside ws t Idle = Unit {0}
 IsOutside ws t ClearNext = Unit {0}
 IsOutside ws t SwapTail = next_of ws t ≡ 0
 IsOutside ws t p = ⊥
 
--- the queue is the threads past their swap that have not left, in the order of the swaps
+-- Words and phases agree with this queue: the tail names its last thread, its members are linked as
+-- far as their phases say, no thread is in it twice, and no other thread is queued.
 pub record IsQueue (ws : List ℕ) (ps : List Phase) (queue : List ℕ) : Type 0 where
   pub tail_is : slice_index ws tail ≡ tail_of queue
   pub line : IsLine ws ps queue

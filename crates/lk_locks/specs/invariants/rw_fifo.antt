@@ -37,8 +37,9 @@ owed i LeaveWrite = acts i WriteUnlock
 owed i TryDowngrade = acts i Downgrade
 owed i p = []
 
--- The lock counts who came and who left, and its flag is for the writer or the announced one. There
--- are fewer readers than words, so the counts are equal exactly when there is no reader.
+-- The lock counts the readers that entered and that left, and its flag is for the writer or the
+-- announced one. There are fewer threads than a count has values, so the counts are equal if and
+-- only if there is no reader.
 pub record AgreesWith (bits : ℕ) (ws : List ℕ) (ps : List Phase) (q : Sequential) : Type 0 where
   pub narrow : length ps < 2 ^ bits
   pub left : slice_index ws read_releases < 2 ^ bits

@@ -1,5 +1,5 @@
--- Invariants. The ticket lock's: its phases, what a pending call still owes the history, and how
--- its words agree with the queue of its sequential object.
+-- Invariants. The ticket lock: its phases, which entries a pending call has still to add, and how
+-- words and phases agree with the queue.
 use Rattle.std.specs.Prelude.{◌≡◌, ℕ, ◌+◌, ◌%◌, ◌^◌, ◌<◌, List, [], ◌∷◌, length, slice_index}
 use Rattle.std.specs.Prelude.{Option, None, Some, Bool, true, false}
 use Rattle.lk_locks.specs.State.{phase_at}
@@ -40,13 +40,13 @@ ticket_of (ReadServing t) = Some t
 ticket_of (PassOn t) = Some t
 ticket_of p = None
 
--- the threads wait with the tickets from x on
+-- the threads have the tickets from x on, and wait
 abbrev pub WaitInLine : ℕ → List Phase → ℕ → List ℕ → Type 0
 WaitInLine bits ps x [] = Unit {0}
 WaitInLine bits ps x (t ∷ ts) =
     (phase_at ps t ≡ AwaitTurn x) × WaitInLine bits ps (plus_one bits x) ts
 
--- the first may be inside, and the others wait
+-- the threads have the tickets from x on, and all but the first wait
 abbrev pub IsLine : ℕ → List Phase → ℕ → List ℕ → Type 0
 IsLine bits ps x [] = Unit {0}
 IsLine bits ps x (t ∷ ts) =
