@@ -146,8 +146,8 @@ def refusals_by_name(program):
                  "  held by 0; queue 0\n  due: 1 swap\n")
     for thread, name in ((0, "left"), (1, "thread 1")):
         program.case(f"explain a call of {name}", ["explain", "--names", "left"], 1,
-                     f"2: refused: '{thread} release', but {name} does not hold the lock so "
-                     "(NotHolder)\n  held by nobody; queue empty\n"
+                     f"2: refused: '{thread} release', but {name} does not hold the lock in "
+                     "that mode (NotHolder)\n  held by nobody; queue empty\n"
                      f"  accepted would be: {thread} acquire\n",
                      stdin=f"lock mcs threads 2\n{thread} release\n")
 

@@ -131,7 +131,8 @@ def long_lines(program):
         program.case(f"a header of {size} bytes", ["check"], 4, "-:1: not a header (BadHeader)\n",
                      stdin=padded("lock ticket threads 2", size) + "\n")
     program.case("a refused move without its end", ["check"], 1,
-                 "-:2: refused: '0 release', but thread 0 does not hold the lock so (NotHolder)\n"
+                 "-:2: refused: '0 release', but thread 0 does not hold the lock in that mode "
+                 "(NotHolder)\n"
                  "-:2: note: held by nobody; queue empty\n", stdin="lock mcs threads 2\n0 release")
 
 

@@ -171,7 +171,10 @@ impl<'a> Wrong<'a> {
             Refusal::NoSuchThread => f.write_str("the lock has no such thread (NoSuchThread)"),
             Refusal::WrongLock => write!(f, "the {lock} lock has no such move (WrongLock)"),
             Refusal::Busy => write!(f, "{called}'s last call is pending (Busy)"),
-            Refusal::NotHolder => write!(f, "{called} does not hold the lock so (NotHolder)"),
+            Refusal::NotHolder => write!(
+                f,
+                "{called} does not hold the lock in that mode (NotHolder)"
+            ),
             Refusal::AlreadyHolds => write!(f, "{called} holds the lock already (AlreadyHolds)"),
             Refusal::NoCall => write!(f, "{called} has no pending call (NoCall)"),
             Refusal::WrongStep { next } => {

@@ -141,10 +141,10 @@ fn texts_of_refusals(rt: HostRuntime) -> Result<(), Fail> {
         (NoSuchThread, "no such thread"),
         (WrongLock, "the lock has no such operation or step"),
         (Busy, "the thread has a pending call"),
-        (NotHolder, "the thread does not hold the lock so"),
+        (NotHolder, "the thread does not hold the lock in that mode"),
         (AlreadyHolds, "the thread holds the lock already"),
         (NoCall, "the thread has no pending call"),
-        (WRONG_ADD, "the thread's next step is another"),
+        (WRONG_ADD, "the thread's next step is a different one"),
     ] {
         assert_eq!(rt; format!(in alloc; "{refusal}")?.as_str(), text);
         let fault = PlayFault::Refused(refusal);
