@@ -268,7 +268,7 @@ static void make_tables(void) {
     }
 }
 
-/* Adds one to the number whose digits end before `end`, and answers where it begins. */
+/* Adds one to the number whose digits end before `end`, and returns where it begins. */
 static char *count_on(char *end, char *first) {
     char *digit = end - 1;
     while (digit >= first && *digit == '9') *digit-- = '0';

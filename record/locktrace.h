@@ -55,11 +55,11 @@ struct lt_answer {
     uint32_t fault, threads;
 };
 
-/* Checks a text. Answers the fault, and writes a record for each move as far as there is room. */
+/* Checks a text. Returns the fault, and writes a record for each move as far as there is room. */
 uint32_t lt_check(const uint8_t *text, size_t length, struct lt_step *steps, size_t room,
                   struct lt_answer *answer);
 
-/* Writes the text of a fault, without an end, as far as there is room. Answers how long it is. */
+/* Writes the text of a fault, without an end, as far as there is room. Returns how long it is. */
 size_t lt_fault_text(uint32_t fault, uint8_t *text, size_t room);
 
 struct lt_run {

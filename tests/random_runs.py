@@ -37,7 +37,7 @@ class Run(NamedTuple):
 
 
 def line_of(machine, thread, count):
-    """Makes the step that is due, and answers its line. A section is the one of this count."""
+    """Makes the step that is due, and returns its line. A section is the one of this count."""
     made = machine.make(thread)
     if made.kind == "section":
         return f"section {count} {made.outcome}"

@@ -21,7 +21,7 @@ class Tally:
             self.fault(name, "" if got == due else f"{shown(got)}, due {shown(due)}")
 
     def end(self):
-        """Prints the count, and answers the status of the script."""
+        """Prints the count, and returns the status of the script."""
         print(f"{self.passed} passed, {self.failed} failed")
         return 0 if self.failed == 0 else 1
 

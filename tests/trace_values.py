@@ -44,7 +44,7 @@ def fault_of(answer, line, is_count):
 
 
 def write_trace(file, seed):
-    """Writes a seed's trace, those of odd seeds spoilt, and answers what `spoil` does."""
+    """Writes a seed's trace, those of odd seeds spoilt, and returns what `spoil` does."""
     dice = random.Random(seed)
     run = random_run(dice)
     changed = spoil(dice, run) if seed % 2 else (0, False)

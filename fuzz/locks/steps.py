@@ -18,7 +18,7 @@ class Words(dict):
         self.bits, self.most = bits, (1 << bits) - 1
 
     def put(self, word, value):
-        """Writes a value, and answers the old one."""
+        """Writes a value, and returns the old one."""
         found = self[word]
         self[word] = value & self.most
         return found

@@ -23,7 +23,7 @@ static inline void *lr_work(void *of)
     return NULL;
 }
 
-/* Makes one run, and answers how many threads have not ended; those are left behind. */
+/* Makes one run, and returns how many threads have not ended; those are left behind. */
 static inline unsigned lr_go(lr_run *run, const lr_driver *driver, unsigned seconds)
 {
     unsigned started = 0;

@@ -9,7 +9,7 @@ static inline int lr_is_lock(const char *lock)
                     !strcmp(lock, "rw-simple") || !strcmp(lock, "rw-fifo"));
 }
 
-/* Says which argument of `lr_open` is wrong, and answers whether one is. */
+/* Says which argument of `lr_open` is wrong, and returns whether one is. */
 static inline int lr_is_wrong(const char *lock, unsigned threads, unsigned bits, size_t moves)
 {
     if (!lr_is_lock(lock))

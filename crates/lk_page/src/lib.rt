@@ -28,7 +28,7 @@ use playing::play_text;
 /// record of 56 bytes of each, as many as fit, and the state after the last into the first 2,304
 /// bytes of `state`.
 ///
-/// It answers 0 if all moves asked for were accepted, 1 if the next is refused, 2 if the text has a
+/// It returns 0 if all moves asked for were accepted, 1 if the next is refused, 2 if the text has a
 /// fault, which the state names, and 3, with nothing done, if `state` is too short.
 #[unsafe(no_mangle)]
 pub extern "C" fn play(text: &[u8], most: u64, records: &mut [u8], state: &mut [u8]) -> u64

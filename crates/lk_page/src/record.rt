@@ -44,7 +44,7 @@ fn standing_of(lock: &Tracker<WordArray>, thread: u8) -> Standing
     }
 }
 
-/// Makes a move, and answers what it did.
+/// Makes a move, and returns what it did.
 pub fn play_line(lock: &mut Tracker<WordArray>, line: &Line) -> Result<Record, Refusal>
     ensures refused { refused_with result
         ≡ refusal_of lock.old.state line.now.thread line.now.action }

@@ -15,7 +15,7 @@ use crate::report::{Replay, read_or_fault};
 use std::alloc::Global;
 use std::io::{Read, Write};
 
-// Writes what is printed, through a buffer in which nothing waits, and answers how it ends.
+// Writes what is printed, through a buffer in which nothing waits, and returns how it ends.
 fn print<W: Write>(
     output: &mut W,
     buffer: &mut OutputBuffer,
@@ -40,7 +40,7 @@ fn print<W: Write>(
     Ok(closing.ending)
 }
 
-// Writes the report of a text, and answers how it ends.
+// Writes the report of a text, and returns how it ends.
 #[tactic(auto, unfolding(crate::specs::Report::report_text))]
 fn write_report<W: Write>(alloc: Global, output: &mut W, text: &[u8]) -> Result<Ending, RunFault>
     ensures written { OnOk result

@@ -29,7 +29,7 @@ pub(crate) trait Source {
     /// The last line.
     ghost last: { Self → List ℕ };
 
-    /// Puts the next lines into a place, and answers where they end: at 0 only if none is left.
+    /// Puts the next lines into a place, and returns where they end: at 0 only if none is left.
     fn fill(&mut self, place: &mut [u8]) -> usize
         requires { 448 ≤ length place.old }
         ensures lines { lines self.old ≡ take result place.new ++ lines self.new }
@@ -124,7 +124,7 @@ impl OutputBuffer {
         Ok(())
     }
 
-    // Prints lines after what waits, as many as have room, and answers whether there are any.
+    // Prints lines after what waits, as many as have room, and returns whether there are any.
     pub(crate) fn print<S: Source>(&mut self, source: &mut S) -> bool
         requires { length self.old + 448 ≤ 65536 }
         ensures lines { (lines : List ℕ) × (self.new ≡ self.old ++ lines)

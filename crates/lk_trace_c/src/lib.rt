@@ -147,7 +147,7 @@ pub extern "C" fn lt_check(text: &[u8], steps: &mut [LtStep], answer: &mut LtAns
     fault
 }
 
-/// Writes the text of a fault's number, without an end, as far as there is room, and answers how
+/// Writes the text of a fault's number, without an end, as far as there is room, and returns how
 /// long it is.
 #[unsafe(no_mangle)]
 pub extern "C" fn lt_fault_text(fault: u32, room: &mut [u8]) -> usize

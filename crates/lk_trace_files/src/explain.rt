@@ -156,7 +156,7 @@ impl Rewriter for Explainer<'_> {
     }
 }
 
-/// Describes each move of a trace that is asked for, and answers how the trace ended.
+/// Describes each move of a trace that is asked for, and returns how the trace ended.
 ///
 /// # Errors
 ///

@@ -22,10 +22,10 @@ pub enum Operation {
     FetchAndAdd { word: usize, addend: u64 },
 }
 
-/// What an operation answers to the thread that makes it.
+/// The value that an operation returns to the thread that makes it.
 #[derive(Clone, Copy, PartialEq, Eq, Debug)]
 pub enum Answer {
-    /// A write answers nothing.
+    /// A write returns nothing.
     Nothing,
     /// What a read, a swap or a fetch-and-add found in the word.
     Found(u64),

@@ -2,7 +2,7 @@
 //! Shared-Memory Multiprocessors", ACM TOCS 9(1), 1991, section 2.2, on two shared words, stepped
 //! by the caller's own threads.
 //!
-//! Different here: an acquire is `take` and then `look` until it answers true, and a release is
+//! Different here: an acquire is `take` and then `look` until it returns true, and a release is
 //! `read_serving` and `pass`, so that a call is one atomic operation, nothing spins, and a caller
 //! can do what it likes between two steps. A `LiveSeat` is a thread of the lock, which `split`
 //! makes and `join` takes away. A waiting seat that is dropped keeps its ticket: no later one is

@@ -45,7 +45,7 @@ impl<'a> Model for Replay<'a> {
     ghost invariant = { λ a. IsPrinting a.status a.machine a.count a.moves.now };
 }
 
-// Writes `K T WORD OUTCOME hold ` of an accepted move, and answers where it ends.
+// Writes `K T WORD OUTCOME hold ` of an accepted move, and returns where it ends.
 #[tactic(auto, unfolding(crate::specs::Report::move_text))]
 fn write_prefix(line: &mut [u8], count: &Numeral, accepted: &Accepted) -> usize
     requires { 80 ≤ length line.old }
@@ -99,7 +99,7 @@ impl<'a> Replay<'a> {
         }
     }
 
-    // Plays the next move, prints its line at the front of a place, and answers how long it is.
+    // Plays the next move, prints its line at the front of a place, and returns how long it is.
     // There is none if no move is left, or the next is refused.
     fn next(&mut self, place: &mut [u8]) -> Option<usize>
         requires { 448 ≤ length place.old }

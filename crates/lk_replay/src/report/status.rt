@@ -205,7 +205,7 @@ impl StatusText {
         }
     }
 
-    /// Writes who holds and who waits, up to the line's end, and answers where that is.
+    /// Writes who holds and who waits, up to the line's end, and returns where that is.
     pub fn write(&self, line: &mut [u8], at: usize) -> usize
         requires { at + 384 ≤ length line.old }
         ensures text { take result line.new ≡ take at line.old ++ followed_text self.now }

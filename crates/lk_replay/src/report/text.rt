@@ -16,7 +16,7 @@ const MOST: usize = 320;
 // length.
 const SHORT: usize = 32;
 
-/// Puts the first `len` bytes of a block into a place, from `at` on, and answers where they end.
+/// Puts the first `len` bytes of a block into a place, from `at` on, and returns where they end.
 /// The block is copied whole, and what is too much of it is overwritten by the next: a short text
 /// costs one store, whatever its length.
 pub fn put_block<const N: usize>(place: &mut [u8], at: usize, block: &[u8; N], len: usize) -> usize
@@ -89,7 +89,7 @@ impl Text {
         self.len = put_block(&mut self.bytes, self.len, block, len);
     }
 
-    /// Puts all but the first byte into a place, from `at` on, and answers where that ends.
+    /// Puts all but the first byte into a place, from `at` on, and returns where that ends.
     pub fn put_rest(&self, place: &mut [u8], at: usize) -> usize
         requires some { 0 < length self.now }
         requires room { at + 320 ≤ length place.old }

@@ -44,7 +44,7 @@ impl<'a> Model for ScheduleReader<'a> {
 }
 
 impl<'a> ScheduleReader<'a> {
-    /// Begins to read a schedule text, or answers its fault, as `read_schedule` does.
+    /// Begins to read a schedule text, or returns its fault, as `read_schedule` does.
     ///
     /// # Errors
     ///

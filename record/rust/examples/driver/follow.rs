@@ -42,7 +42,7 @@ fn schedules_of(folder: &Path) -> io::Result<Vec<PathBuf>> {
     Ok(found)
 }
 
-/// Follows one schedule, and answers where the lock left it or why its run is refused.
+/// Follows one schedule, and returns where the lock left it or why its run is refused.
 fn follow<L: Tested>(
     schedule: Schedule,
     path: &Path,

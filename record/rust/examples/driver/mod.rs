@@ -151,7 +151,7 @@ fn refusal(_run: &Run) -> Option<String> {
     None
 }
 
-/// Answers why a run is refused, and saves its trace, unless it was checked and all is well.
+/// Returns why a run is refused, and saves its trace, unless it was checked and all is well.
 fn judge(run: &Run, is_well: bool, folder: &Path, name: &str) -> Result<Option<String>, Error> {
     let refusal = refusal(run);
     if !is_well || refusal.is_some() || !cfg!(feature = "check") {

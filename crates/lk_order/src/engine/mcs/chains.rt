@@ -141,7 +141,7 @@ impl Chains {
         }
     }
 
-    // Goes along a chain from its first instance, and answers how it ends.
+    // Goes along a chain from its first instance, and returns how it ends.
     fn follow(
         &mut self,
         instances: &[Vec<Instance>],
