@@ -1,4 +1,4 @@
--- What the rooms prove of each step of their lock, and how a choice inside a step is taken apart.
+-- What has to be proved of each step of a lock, and how a choice inside a step is taken apart.
 use Rattle.std.proofs.Common.{Bool, List, [], false, if◌then◌else◌, length, set, slice_index, true}
 use Rattle.std.proofs.Common.{unwrap_or, ℕ, ◌++◌, ◌∷◌, ◌≡◌, ◌<◌, ◌≤◌, ◌^◌, None, sym}
 use Rattle.std.proofs.lemmas.List.{set-get_or}
@@ -49,7 +49,7 @@ Fits kind n c = IsPhaseOf kind n c.phase
 abbrev pub AreOf : ℕ → List Entry → Type 0
 AreOf t es = AllByRecursion (λ e. thread_of e ≡ t) es
 
--- what a room may rest on, when thread t makes the move m in phase p
+-- what is given when thread t makes the move m in phase p
 pub record IsTaken (kind : LockKind) (bits : ℕ) (ws : List ℕ) (ps : List Phase) (q : Sequential)
     (t : ℕ) (p : Phase) (m : Move) : Type 0 where
   pub kind_is : q.kind ≡ kind
@@ -80,7 +80,7 @@ waits kind agree ps q t p e k a = record {
   agrees = rw (sym e) (rw set-get_or a);
 }
 
--- What each room proves of its lock. `EachRoom` says which lock has which room.
+-- What has to be proved of a lock. `EachRoom` has it of each.
 pub record IsRoom (kind : LockKind) : Type 0 where
   -- each step adds the next entries of the pending call
   pub goes_on : (bits t : ℕ) (ws : List ℕ) (p : Phase) → GoesOn kind t p (step_of kind bits ws t p)

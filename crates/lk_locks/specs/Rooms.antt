@@ -1,6 +1,5 @@
--- Definitions. Which lock has which room, and which family it belongs to. What the locks share goes
--- by these and knows no lock, and what is the same for each lock of a family goes by the family.
--- This project's own.
+-- Definitions. What the module of each lock defines, by the lock, and the family that it belongs
+-- to. Definitions that the locks share use these, and know no lock. This project's own.
 use Rattle.std.specs.Prelude.{ℕ, ◌+◌, ◌*◌, List, [], ◌∷◌, Option, None, option_map}
 use Rattle.lk_words.specs.declared.operation.Operation.{Operation}
 use Rattle.lk_locks.specs.Change.{Change, kind_of}

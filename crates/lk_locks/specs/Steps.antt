@@ -1,5 +1,5 @@
--- Definitions. Which moves are accepted, and what an accepted move does. `Rooms` says what is each
--- lock's own; this file knows no lock. This project's own: the seven refusals and their order.
+-- Definitions. Which moves are accepted, and what an accepted move does. This file knows no lock:
+-- `Rooms` has what differs. This project's own: the seven refusals and their order.
 use Rattle.std.specs.Prelude.{ℕ, List, length, set, Option, None, Some, is_some, is_none, unwrap_or}
 use Rattle.std.specs.Prelude.{Bool, true, false, not, nat_lt, if◌then◌else◌, Result, Ok, Err}
 use Rattle.std.specs.List.{list_any}

@@ -1,7 +1,5 @@
-//! Which lock has which room, and which family it belongs to. What the locks share calls these
-//! functions and knows no lock.
-//!
-//! Each room is a module with the functions that are called here.
+//! The functions of each lock's module, by the lock, and the family that it belongs to. Code that
+//! the locks share calls these, and knows no lock.
 
 ghost use Rattle.std.specs.Prelude.{◌≡◌, ◌≤◌, []};
 ghost use Rattle.std.specs.List.{list_any};
@@ -15,7 +13,7 @@ use crate::entries::Added;
 use crate::{Family, LockKind, Op, Outcome, Phase, StepKind, mcs, rw_fifo, rw_simple, ticket};
 use lk_words::{Operation, WordArray, Words};
 
-// Calls a function of the lock's room.
+// Calls a function of the lock's module.
 macro_rules! in_room {
     ($kind:expr, $function:ident($($argument:expr),*)) => {
         match $kind {

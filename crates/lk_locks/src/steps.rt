@@ -1,5 +1,5 @@
-//! Which moves are accepted, and what an accepted move does. The rooms know their lock; this file
-//! knows none of their phases or words.
+//! Which moves are accepted, and what an accepted move does. This file knows no lock's phases or
+//! words.
 
 ghost use Rattle.std.specs.Prelude.{◌≡◌, Option, None, Some};
 ghost use Rattle.lk_locks.specs.Rooms.{family_of};

@@ -1,4 +1,4 @@
--- Definitions. The words of the locks by name. The rooms say what is each lock's own.
+-- Definitions. The words of the locks by name. Each lock's own are in its module.
 use Rattle.std.specs.Prelude.{ℕ, Option, Bool, true, false, eqb}
 use Rattle.lk_locks.specs.declared.kinds.LockKind.{LockKind}
 use Rattle.lk_locks.specs.declared.kinds.LockKind.TheVariants.{Ticket, Mcs, RwSimple, RwFifo}

@@ -1,5 +1,5 @@
--- The room of the MCS queue lock: each step goes on with its call, and each move keeps the queue of
--- the swaps.
+-- The MCS queue lock: each step adds the next entries of its call, and each move preserves that
+-- words and phases agree with the queue.
 use Rattle.std.proofs.Common.{List, [], ap, arith, false, inl, inr, length, refl, set, slice_index}
 use Rattle.std.proofs.Common.{sym, true, ℕ, ◌*◌, ◌++◌, ◌+◌, ◌-◌, ◌<◌, ◌∙◌, ◌∷◌, ◌≡◌, ◌≢◌, ◌≤◌, ◌^◌}
 use Rattle.std.proofs.lemmas.Bool.{eq-eqb, false≢true}

@@ -1,5 +1,5 @@
--- The room of the FIFO read-write lock: each section goes on with its call, and each move keeps the
--- counts and the flag.
+-- The FIFO read-write lock: each section adds the next entries of its call, and each move preserves
+-- that the counts and the flag agree with the holders.
 use Rattle.std.proofs.Common.{List, None, Some, [], ap, arith, eqb, false, inl, inr, length, refl}
 use Rattle.std.proofs.Common.{set, slice_index, sym, true, ℕ, ◌%◌, ◌+◌, ◌<◌, ◌^◌, ◌∙◌, ◌≡◌, ◌≤◌}
 use Rattle.std.proofs.Common.{◌∷◌}

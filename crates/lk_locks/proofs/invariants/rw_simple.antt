@@ -1,5 +1,5 @@
--- The room of the simple read-write lock: each section goes on with its call, and each move keeps
--- the count and the flag.
+-- The simple read-write lock: each section adds the next entries of its call, and each move
+-- preserves that the count and the flag agree with the holders.
 use Rattle.std.proofs.Common.{List, None, [], ◌∷◌, ap, arith, false, inl, inr, length, refl, rules}
 use Rattle.std.proofs.Common.{set, slice_index, sym, true, unwrap_or, ℕ, ◌%◌, ◌&&◌, ◌+◌, ◌-◌, ◌<◌}
 use Rattle.std.proofs.Common.{◌==◌, ◌^◌, ◌∙◌, ◌≡◌, ◌≤◌}

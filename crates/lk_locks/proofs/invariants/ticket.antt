@@ -1,5 +1,5 @@
--- The room of the ticket lock: each step goes on with its call, and each move keeps the queue of
--- the tickets.
+-- The ticket lock: each step adds the next entries of its call, and each move preserves that words
+-- and phases agree with the queue.
 use Rattle.std.proofs.Common.{List, None, Some, [], ap, arith, drop, eqb, false, inl, inr, length}
 use Rattle.std.proofs.Common.{refl, rules, set, slice_index, sym, true, unwrap_or, ℕ, ◌<◌, ◌==◌}
 use Rattle.std.proofs.Common.{◌∙◌, ◌∷◌, ◌≡◌, ◌≤◌, ◌^◌, ◌%◌, ◌+◌}

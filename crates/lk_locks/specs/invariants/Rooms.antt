@@ -1,5 +1,5 @@
--- Invariants. Which lock has which room: what each room says of its phases, its words, and what a
--- pending call still owes the history.
+-- Invariants. What the module of each lock says of its phases, its words, and the entries that a
+-- pending call has still to add.
 use Rattle.std.specs.Prelude.{ℕ, List, IsTrue}
 use Rattle.lk_locks.specs.State.{State}
 use Rattle.lk_locks.specs.Sequential.{Sequential}
