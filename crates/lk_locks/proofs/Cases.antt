@@ -22,14 +22,15 @@ use Rattle.lk_locks.specs.declared.kinds.Phase.{Phase}
 use Rattle.lk_locks.specs.declared.kinds.Phase.TheVariants.{Idle}
 
 -- what holds of both outcomes of a test holds of the step that makes the test
-pub either_way : {A : Type 0} (P : A → Type 0) (b : Bool) (x y : A) → P x → P y
-    → P (if b then x else y)
-either_way P true x y p q = p
-either_way P false x y p q = q
+pub either_way : {A : Type 0} (Holds : A → Type 0) (test : Bool) (if_true if_false : A)
+    → Holds if_true → Holds if_false → Holds (if test then if_true else if_false)
+either_way Holds true if_true if_false of_true of_false = of_true
+either_way Holds false if_true if_false of_true of_false = of_false
 
--- a step from phase p that leads to c adds the next entries of the call
+-- a step of a thread in this phase adds the next entries of its pending call
 abbrev pub GoesOn : LockKind → ℕ → Phase → Change → Type 0
-GoesOn kind t p c = owed_of kind t p ≡ step_entries kind t p c.outcome ++ owed_of kind t c.phase
+GoesOn kind t p change =
+    owed_of kind t p ≡ step_entries kind t p change.outcome ++ owed_of kind t change.phase
 
 -- a call begins when the one before it is finished
 abbrev pub Begins : LockKind → ℕ → Phase → Op → Type 0
@@ -39,11 +40,11 @@ Begins kind t p op =
 
 -- no move changes how many words there are
 abbrev pub KeepsLength : List ℕ → Change → Type 0
-KeepsLength ws c = length c.words ≡ length ws
+KeepsLength ws change = length change.words ≡ length ws
 
 -- the new phase is one of the lock's
 abbrev pub Fits : LockKind → ℕ → Change → Type 0
-Fits kind n c = IsPhaseOf kind n c.phase
+Fits kind n change = IsPhaseOf kind n change.phase
 
 -- entries of one thread alone
 abbrev pub AreOf : ℕ → List Entry → Type 0
@@ -74,10 +75,10 @@ pub record IsAgreed (kind : LockKind) (agree : Sequential → Type 0) (q : Seque
 pub waits : (kind : LockKind) (agree : List Phase → Sequential → Type 0) (ps : List Phase)
     (q : Sequential) (t : ℕ) (p : Phase) → phase_at ps t ≡ p → q.kind ≡ kind → agree ps q
     → IsAgreed kind (agree (set ps t p)) q []
-waits kind agree ps q t p e k a = record {
+waits kind agree ps q t p was of_kind agreed = record {
   allowed = tt;
-  kind_is = k;
-  agrees = rw (sym e) (rw set-get_or a);
+  kind_is = of_kind;
+  agrees = rw (sym was) (rw set-get_or agreed);
 }
 
 -- What has to be proved of a lock. `EachRoom` has it of each.
@@ -93,7 +94,8 @@ pub record IsRoom (kind : LockKind) : Type 0 where
   -- an idle thread owes nothing
   pub idle_rest : (t : ℕ) → owed_of kind t Idle ≡ []
   -- no step adds more than three entries
-  pub few_entries : (t : ℕ) (p : Phase) (o : Outcome) → length (step_entries kind t p o) ≤ 3
+  pub few_entries : (t : ℕ) (p : Phase) (outcome : Outcome)
+      → length (step_entries kind t p outcome) ≤ 3
   -- no step changes how many words there are
   pub keeps_length : (bits t : ℕ) (ws : List ℕ) (p : Phase)
       → KeepsLength ws (step_of kind bits ws t p)
@@ -112,11 +114,11 @@ pub record IsRoom (kind : LockKind) : Type 0 where
   -- each move keeps that, and its entries may come
   pub keeps : (bits : ℕ) (ws : List ℕ) (ps : List Phase) (q : Sequential) (t : ℕ) (p : Phase)
       (m : Move) → IsTaken kind bits ws ps q t p m
-      → let c : Change = move_change kind bits ws t p m in
+      → let change : Change = move_change kind bits ws t p m in
       let next : State = record {
         kind = kind;
         bits = bits;
-        words = c.words;
-        phases = set ps t c.phase;
+        words = change.words;
+        phases = set ps t change.phase;
       } in
-      IsAgreed kind (AgreeAs kind next) q (move_entries kind t p m c.outcome)
+      IsAgreed kind (AgreeAs kind next) q (move_entries kind t p m change.outcome)

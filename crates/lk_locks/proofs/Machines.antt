@@ -5,6 +5,7 @@ use Rattle.std.proofs.lemmas.List.{length-set, take-replicate, length-replicate,
 use Rattle.std.proofs.lemmas.List.{get_or_past}
 use Rattle.std.proofs.lemmas.Bool.{cases_lt}
 use Rattle.std.proofs.Math.Seq.{take-set-lt}
+use Rattle.lk_locks.specs.Change.{Change}
 use Rattle.lk_locks.specs.State.{State, phase_at, start}
 use Rattle.lk_locks.specs.Rooms.{word_count}
 use Rattle.lk_locks.specs.Steps.{move_change, change_of, next_state, refusal_of, after_move}
@@ -21,93 +22,101 @@ abbrev seen : LockKind → ℕ → ℕ → List ℕ → List Phase → State
 seen kind bits n ws ps = record { kind = kind; bits = bits; words = ws; phases = take n ps }
 
 -- the fields after a move are the next state
-pub seen_next : (kind : LockKind) (bits n : ℕ) (ws vs : List ℕ) (ps : List Phase) (t : ℕ)
-    (p : Phase) (m : Move) → t < n → vs ≡ (change_of (seen kind bits n ws ps) t m).words
-    → p ≡ (change_of (seen kind bits n ws ps) t m).phase
-    → seen kind bits n vs (set ps t p) ≡ next_state (seen kind bits n ws ps) t m
-seen_next kind bits n ws vs ps t p m h e f =
-    rw (e, f, take-set-lt n ps t (change_of (seen kind bits n ws ps) t m).phase h) refl
+pub seen_next : (kind : LockKind) (bits n : ℕ) (ws words : List ℕ) (ps : List Phase) (t : ℕ)
+    (next : Phase) (m : Move) → t < n → words ≡ (change_of (seen kind bits n ws ps) t m).words
+    → next ≡ (change_of (seen kind bits n ws ps) t m).phase
+    → seen kind bits n words (set ps t next) ≡ next_state (seen kind bits n ws ps) t m
+seen_next kind bits n ws words ps t next m in_lock words_are phase_is =
+    let change : Change = change_of (seen kind bits n ws ps) t m in
+    rw (words_are, phase_is, take-set-lt n ps t change.phase in_lock) refl
 
 -- an accepted move leaves a machine with as many threads
 pub machine_kept : (n : ℕ) (s : State) (t : ℕ) (m : Move) → IsMachine n s → Accepted s t m
     → IsMachine n (next_state s t m)
-machine_kept n s t m k a = record {
-  few = k.few;
-  narrow = k.narrow;
-  count = length-set s.phases t (change_of s t m).phase ∙ k.count;
-  well = well_kept s t m k.well a;
+machine_kept n s t m machine accepted = record {
+  few = machine.few;
+  narrow = machine.narrow;
+  count = length-set s.phases t (change_of s t m).phase ∙ machine.count;
+  well = well_kept s t m machine.well accepted;
 }
 
--- a new machine
+-- a new machine with clear words is well formed
 pub well_new : (kind : LockKind) (bits n : ℕ) (ws : List ℕ) → word_count kind n ≤ length ws
     → ((i : ℕ) → i < length ws → slice_index ws i ≡ 0) → WellFormed (start kind bits ws n)
-well_new kind bits n ws w z = record {
-  enough = rw (length-replicate n Idle) w;
+well_new kind bits n ws enough clear = record {
+  enough = rw (length-replicate n Idle) enough;
   phases_fit =
-      λ t k. rw (get_or-replicate n t Idle Idle
-      (let e : length (replicate n Idle) ≡ n = length-replicate n Idle in omega arith))
+      λ t in_lock. rw (get_or-replicate n t Idle Idle
+      (let as_many : length (replicate n Idle) ≡ n = length-replicate n Idle in omega arith))
       ((room_of kind).idle_fits (length (replicate n Idle)));
   links_fit =
       (room_of kind).clear_links _ ws
-      (λ i. elim (cases_lt i (length ws)) [ inl k ↦ z i k | inr k ↦ get_or_past ws i 0 k ]);
+      (λ i. elim (cases_lt i (length ws)) [
+        | inl in_words ↦ clear i in_words
+        | inr past ↦ get_or_past ws i 0 past
+      ]);
 }
 
 -- a new lock with clear words is a machine
 pub machine_new : (kind : LockKind) (bits n : ℕ) (ws : List ℕ) → n ≤ 64 → n < 2 ^ bits
     → word_count kind n ≤ length ws → ((i : ℕ) → i < length ws → slice_index ws i ≡ 0)
     → IsMachine n (start kind bits ws n)
-machine_new kind bits n ws h b w z = record {
-  few = h;
-  narrow = b;
+machine_new kind bits n ws few narrow enough clear = record {
+  few = few;
+  narrow = narrow;
   count = length-replicate n Idle;
-  well = well_new kind bits n ws w z;
+  well = well_new kind bits n ws enough clear;
 }
 
+-- these words and this phase are the state after the move, and that is a machine
 abbrev Applied : LockKind → ℕ → ℕ → List ℕ → List Phase → ℕ → Phase → State → Move → Type 0
-Applied kind bits n vs ps t r now m =
-    IsMachine n (seen kind bits n vs (set ps t r))
-    × (seen kind bits n vs (set ps t r) ≡ after_move now t m)
+Applied kind bits n words ps t next now m =
+    IsMachine n (seen kind bits n words (set ps t next))
+    × (seen kind bits n words (set ps t next) ≡ after_move now t m)
 
 -- the words and the phase that a move leaves are the next state's
-applied_here : (kind : LockKind) (bits n : ℕ) (ws vs : List ℕ) (ps : List Phase) (t : ℕ)
-    (p r : Phase) (m : Move) → refusal_of (seen kind bits n ws ps) t m ≡ None
-    → p ≡ phase_at (take n ps) t → vs ≡ (move_change kind bits ws t p m).words
-    → r ≡ (move_change kind bits ws t p m).phase → IsMachine n (seen kind bits n ws ps)
-    → Applied kind bits n vs ps t r (seen kind bits n ws ps) m
-applied_here kind bits n ws vs ps t p r m h e f g k =
+applied_here : (kind : LockKind) (bits n : ℕ) (ws words : List ℕ) (ps : List Phase) (t : ℕ)
+    (p next : Phase) (m : Move) → refusal_of (seen kind bits n ws ps) t m ≡ None
+    → p ≡ phase_at (take n ps) t → words ≡ (move_change kind bits ws t p m).words
+    → next ≡ (move_change kind bits ws t p m).phase → IsMachine n (seen kind bits n ws ps)
+    → Applied kind bits n words ps t next (seen kind bits n ws ps) m
+applied_here kind bits n ws words ps t p next m no_refusal was words_are phase_is machine =
     let s : State = seen kind bits n ws ps in
-    let a : Accepted s t m = accepted_of s t m h in
-    let below : t < n = let b : t < length (take n ps) = a.thread in
-    let l : length (take n ps) ≡ n = k.count in omega arith in
-    let same : seen kind bits n vs (set ps t r) ≡ next_state s t m =
-    seen_next kind bits n ws vs ps t r m below (rw e at f) (rw e at g) in
-    (rw same (machine_kept n s t m k a), same ∙ sym (rw h refl))
+    let accepted : Accepted s t m = accepted_of s t m no_refusal in
+    let in_lock : t < n = let in_phases : t < length (take n ps) = accepted.thread in
+    let count : length (take n ps) ≡ n = machine.count in omega arith in
+    let same : seen kind bits n words (set ps t next) ≡ next_state s t m =
+    seen_next kind bits n ws words ps t next m in_lock (rw was at words_are) (rw was at phase_is) in
+    (rw same (machine_kept n s t m machine accepted), same ∙ sym (rw no_refusal refl))
 
 -- the same, if the state is known under another name
-pub applied : (kind : LockKind) (bits n : ℕ) (ws vs : List ℕ) (ps : List Phase) (t : ℕ)
-    (p r : Phase) (m : Move) (now : State) → seen kind bits n ws ps ≡ now
+pub applied : (kind : LockKind) (bits n : ℕ) (ws words : List ℕ) (ps : List Phase) (t : ℕ)
+    (p next : Phase) (m : Move) (now : State) → seen kind bits n ws ps ≡ now
     → refusal_of now t m ≡ None → p ≡ phase_at now.phases t
-    → vs ≡ (move_change kind bits ws t p m).words → r ≡ (move_change kind bits ws t p m).phase
-    → IsMachine n (seen kind bits n ws ps) → Applied kind bits n vs ps t r now m
-applied kind bits n ws vs ps t p r m now v h e f g k =
+    → words ≡ (move_change kind bits ws t p m).words → next ≡ (move_change kind bits ws t p m).phase
+    → IsMachine n (seen kind bits n ws ps) → Applied kind bits n words ps t next now m
+applied kind bits n ws words ps t p next m now seen_now no_refusal was words_are phase_is machine =
     subst
-    (λ (x : State). refusal_of x t m ≡ None → p ≡ phase_at x.phases t
-    → Applied kind bits n vs ps t r x m)
-    v (λ h e. applied_here kind bits n ws vs ps t p r m h e f g k) h e
+    (λ (state : State). refusal_of state t m ≡ None → p ≡ phase_at state.phases t
+    → Applied kind bits n words ps t next state m)
+    seen_now
+    (λ no_refusal was. applied_here kind bits n ws words ps t p next m no_refusal was words_are
+    phase_is machine)
+    no_refusal was
 
 -- a machine whose phases are all idle is a new lock
 pub seen_start : (kind : LockKind) (bits n : ℕ) (ws : List ℕ) → n ≤ 64
     → seen kind bits n ws (replicate 64 Idle) ≡ start kind bits ws n
-seen_start kind bits n ws h = rw (take-replicate n 64 Idle h) refl
+seen_start kind bits n ws few = rw (take-replicate n 64 Idle few) refl
 
--- so such fields are a machine
+-- so the fields of a new lock are a machine
 pub new_machine : (kind : LockKind) (bits n : ℕ) (ws : List ℕ) → n ≤ 64 → n < 2 ^ bits
     → word_count kind n ≤ length ws → ((i : ℕ) → i < length ws → slice_index ws i ≡ 0)
     → IsMachine n (seen kind bits n ws (replicate 64 Idle))
-new_machine kind bits n ws h b w z =
-    rw (seen_start kind bits n ws h) (machine_new kind bits n ws h b w z)
+new_machine kind bits n ws few narrow enough clear =
+    rw (seen_start kind bits n ws few) (machine_new kind bits n ws few narrow enough clear)
 
 -- an accepted move leads to the next state
 pub accepted_next : (s now : State) (t : ℕ) (m : Move) → refusal_of now t m ≡ None
     → s ≡ after_move now t m → s ≡ next_state now t m
-accepted_next s now t m h e = rw h at e
+accepted_next s now t m no_refusal after = rw no_refusal at after

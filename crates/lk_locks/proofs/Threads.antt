@@ -74,6 +74,12 @@ pub or_right : (a : Bool) {b : Bool} → b ≡ true → (a || b) ≡ true
 or_right true h = refl
 or_right false h = h
 
+-- a test that is the `or` of two fails only if both fail
+pub neither : (first second : Bool) → (first || second) ≡ false
+    → (first ≡ false) × (second ≡ false)
+neither true second failed = cc
+neither false second failed = (refl, failed)
+
 -- a thread whose phase is set has this phase
 pub at_same : (ps : List Phase) (t : ℕ) (p : Phase) → t < length ps → phase_at (set ps t p) t ≡ p
 at_same ps t p h = get_or-set_same ps t p Idle h

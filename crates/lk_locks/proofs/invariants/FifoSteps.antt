@@ -36,12 +36,12 @@ goes_on bits t ws p = refl
 pub begins : (n t : ℕ) (p : Phase) (op : Op) → IsPhaseOf RwFifo n p → has_op FifoReadWrite op ≡ true
     → refusal_in RwFifo p (Call op) ≡ None
     → Begins RwFifo t p op
-begins n t Idle ReadLock f h r = (refl, refl)
-begins n t Idle WriteLock f h r = (refl, refl)
-begins n t Reading ReadUnlock f h r = (refl, refl)
-begins n t Writing WriteUnlock f h r = (refl, refl)
-begins n t Writing Downgrade f h r = (refl, refl)
-begins n t p op f h r = cc
+begins n t Idle ReadLock fits own not_refused = (refl, refl)
+begins n t Idle WriteLock fits own not_refused = (refl, refl)
+begins n t Reading ReadUnlock fits own not_refused = (refl, refl)
+begins n t Writing WriteUnlock fits own not_refused = (refl, refl)
+begins n t Writing Downgrade fits own not_refused = (refl, refl)
+begins n t p op fits own not_refused = cc
 
 -- what is left of a call is of its thread
 pub owed_is_own : (t : ℕ) (p : Phase) → AreOf t (owed t p)
@@ -66,23 +66,23 @@ keeps_length bits t ws p = refl
 -- the new phase is one of the lock's
 pub step_fits : (n bits t : ℕ) (ws : List ℕ) (p : Phase) → t < n → IsPhaseOf RwFifo n p
     → AreLinks RwFifo n ws → Fits RwFifo n (step bits ws p)
-step_fits n bits t ws TryRead h f l =
+step_fits n bits t ws TryRead in_lock fits links =
     either_way (Fits RwFifo n) (slice_index ws 2 == 0) _ _ refl refl
-step_fits n bits t ws LeaveRead h f l = refl
-step_fits n bits t ws TryWrite h f l =
+step_fits n bits t ws LeaveRead in_lock fits links = refl
+step_fits n bits t ws TryWrite in_lock fits links =
     either_way (Fits RwFifo n) (slice_index ws 2 == 0) _ _
     (either_way (Fits RwFifo n) (slice_index ws 0 == slice_index ws 1) _ _ refl refl) refl
-step_fits n bits t ws AwaitReaders h f l =
+step_fits n bits t ws AwaitReaders in_lock fits links =
     either_way (Fits RwFifo n) (slice_index ws 0 == slice_index ws 1) _ _ refl refl
-step_fits n bits t ws LeaveWrite h f l = refl
-step_fits n bits t ws p h f l = f
+step_fits n bits t ws LeaveWrite in_lock fits links = refl
+step_fits n bits t ws p in_lock fits links = fits
 
 -- a call puts its thread into a phase of the FIFO read-write lock
 pub call_fits : (n : ℕ) (p : Phase) (op : Op) → IsPhaseOf RwFifo n p
     → IsPhaseOf RwFifo n (unwrap_or (after_call RwFifo p op) p)
-call_fits n Idle ReadLock f = refl
-call_fits n Idle WriteLock f = refl
-call_fits n Reading ReadUnlock f = refl
-call_fits n Writing WriteUnlock f = refl
-call_fits n Writing Downgrade f = refl
-call_fits n p op f = f
+call_fits n Idle ReadLock fits = refl
+call_fits n Idle WriteLock fits = refl
+call_fits n Reading ReadUnlock fits = refl
+call_fits n Writing WriteUnlock fits = refl
+call_fits n Writing Downgrade fits = refl
+call_fits n p op fits = fits

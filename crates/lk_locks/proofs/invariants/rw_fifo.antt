@@ -43,58 +43,64 @@ use Rattle.lk_locks.specs.declared.kinds.Entry.TheVariants.{Acted, Announced, Ca
 use Rattle.lk_locks.proofs.invariants.FifoSteps.{begins, call_fits, goes_on, keeps_length}
 use Rattle.lk_locks.proofs.invariants.FifoSteps.{owed_is_own, step_fits}
 
--- the counts are equal exactly when there is no reader
+-- if as many readers left as came, nobody reads
 none_read : (bits : ℕ) (ws : List ℕ) (ps : List Phase) (q : Sequential)
     → AgreesWith bits ws ps q → slice_index ws 0 ≡ slice_index ws 1 → q.readers ≡ []
-none_read bits ws ps q a e = empty_of_length q.readers (elim (eqb_tells (length q.readers) 0) [
-  | inl z ↦ z.1
-  | inr z ↦ absurd (no_round (2 ^ bits) (slice_index ws 1) (length q.readers) a.left
-      (omega (arith, z.1))
-      (let u : length q.readers ≤ length ps = readers_few ps q a.holders in let v : length ps < 2 ^
-      bits = a.narrow in omega arith) (sym a.came ∙ e))
-])
+none_read bits ws ps q agreed counts_equal =
+    let no_more_readers : length q.readers ≤ length ps = readers_few ps q agreed.holders in
+    let threads_fit : length ps < 2 ^ bits = agreed.narrow in
+    empty_of_length q.readers (elim (eqb_tells (length q.readers) 0) [
+      | inl (_, no_readers) ↦ no_readers
+      | inr (_, some_readers) ↦
+          absurd (no_round (2 ^ bits) (slice_index ws 1) (length q.readers) agreed.left
+          (omega (arith, some_readers)) (omega arith) (sym agreed.came ∙ counts_equal))
+    ])
 
--- a thread that goes on without a change of what it holds or announces leaves lists and counts
-still : (bits : ℕ) (ws : List ℕ) (ps : List Phase) (q : Sequential) (t : ℕ) (p r : Phase)
-    → t < length ps → phase_at ps t ≡ p → is_reading r ≡ is_reading p → is_writing r ≡ is_writing p
-    → is_announced r ≡ is_announced p → AgreesWith bits ws ps q → AgreesWith bits ws (set ps t r) q
-still bits ws ps q t p r h e x y z a = record {
-  narrow = rw (length-set ps t r) a.narrow;
-  left = a.left;
-  came = a.came;
-  flag_is = a.flag_is;
+-- a thread that reads, writes and waits as before, and changes no word, keeps the agreement
+still : (bits : ℕ) (ws : List ℕ) (ps : List Phase) (q : Sequential) (t : ℕ) (p next : Phase)
+    → t < length ps → phase_at ps t ≡ p → is_reading next ≡ is_reading p
+    → is_writing next ≡ is_writing p → is_announced next ≡ is_announced p
+    → AgreesWith bits ws ps q → AgreesWith bits ws (set ps t next) q
+still bits ws ps q t p next in_lock was same_reading same_writing same_announced agreed = record {
+  narrow = rw (length-set ps t next) agreed.narrow;
+  left = agreed.left;
+  came = agreed.came;
+  flag_is = agreed.flag_is;
   holders =
-      holders_frame ps q t r h (x ∙ ap is_reading (sym e)) (y ∙ ap is_writing (sym e))
-      (z ∙ ap is_announced (sym e)) a.holders;
+      holders_frame ps q t next in_lock (same_reading ∙ ap is_reading (sym was))
+      (same_writing ∙ ap is_writing (sym was)) (same_announced ∙ ap is_announced (sym was))
+      agreed.holders;
 }
 
--- a thread is itself, by the program's comparison
+-- a thread is equal to itself in the program's comparison
 same_thread : (t : ℕ) → eqb t t ≡ true
 same_thread t = eqb-same t
 
--- after the act nothing is left of the announcement before it
+-- a writer that enters at once leaves the holders that an unannounced one leaves
 written : (ps : List Phase) (q : Sequential) (t : ℕ)
     → AreHolders (set ps t Writing) (after_entry q (Acted t WriteLock))
     → AreHolders (set ps t Writing) (after_entry (after_entry q (Announced t)) (Acted t WriteLock))
-written ps q t a = a
+written ps q t holders = holders
 
--- so is each call
-called : (bits : ℕ) (ws : List ℕ) (ps : List Phase) (q : Sequential) (t : ℕ) (p r : Phase) (op : Op)
-    → IsTaken RwFifo bits ws ps q t p (Call op) → is_reading r ≡ is_reading p
-    → is_writing r ≡ is_writing p → is_announced r ≡ is_announced p
-    → IsAgreed RwFifo (λ s. AgreesWith bits ws (set ps t r) s) q (Called t op ∷ [])
-called bits ws ps q t p r op given x y z = record {
+-- a thread that makes a call keeps the agreement, and its call may come
+called : (bits : ℕ) (ws : List ℕ) (ps : List Phase) (q : Sequential) (t : ℕ) (p next : Phase)
+    (op : Op) → IsTaken RwFifo bits ws ps q t p (Call op) → is_reading next ≡ is_reading p
+    → is_writing next ≡ is_writing p → is_announced next ≡ is_announced p
+    → IsAgreed RwFifo (λ object. AgreesWith bits ws (set ps t next) object) q (Called t op ∷ [])
+called bits ws ps q t p next op given same_reading same_writing same_announced = record {
   allowed = (tt, tt);
   kind_is = given.kind_is;
-  agrees = still bits ws ps q t p r given.thread given.phase_is x y z given.agrees;
+  agrees =
+      still bits ws ps q t p next given.thread given.phase_is same_reading same_writing
+      same_announced given.agrees;
 }
 
--- each move keeps the words and the holders, and its entries may come
+-- each move keeps the words and the holders in agreement, and its entries may come
 keeps : (bits : ℕ) (ws : List ℕ) (ps : List Phase) (q : Sequential) (t : ℕ) (p : Phase)
     (m : Move) → IsTaken RwFifo bits ws ps q t p m
-    → let c : Change =
-    move_change RwFifo bits ws t p m in IsAgreed RwFifo (λ r. AgreesWith bits c.words
-    (set ps t c.phase) r) q (move_entries RwFifo t p m c.outcome)
+    → let change : Change =
+    move_change RwFifo bits ws t p m in IsAgreed RwFifo (λ object. AgreesWith bits change.words
+    (set ps t change.phase) object) q (move_entries RwFifo t p m change.outcome)
 keeps bits ws ps q t Idle (Call ReadLock) given =
     called bits ws ps q t Idle TryRead ReadLock given refl refl refl
 keeps bits ws ps q t Idle (Call WriteLock) given =
@@ -106,219 +112,256 @@ keeps bits ws ps q t Writing (Call WriteUnlock) given =
 keeps bits ws ps q t Writing (Call Downgrade) given =
     called bits ws ps q t Writing TryDowngrade Downgrade given refl refl refl
 keeps bits ws ps q t TryRead (Step s) given =
-    let h : t < length ps = given.thread in
-    let n : length ps ≤ 64 = given.few in
-    let w : 3 ≤ length ws = given.enough in
-    let e : phase_at ps t ≡ TryRead = given.phase_is in
-    let a : AgreesWith bits ws ps q = given.agrees in
+    let in_lock : t < length ps = given.thread in
+    let few : length ps ≤ 64 = given.few in
+    let three_words : 3 ≤ length ws = given.enough in
+    let was : phase_at ps t ≡ TryRead = given.phase_is in
+    let agreed : AgreesWith bits ws ps q = given.agrees in
     elim (eqb_tells (slice_index ws 2) 0) [
-      | inl d ↦
-          let o : (q.writer ≡ None) × (q.announced ≡ None) =
-          flag_none q.writer q.announced (sym a.flag_is ∙ d.1) in
-          let x : has q.readers t ≡ false = a.holders.reading t ∙ ap is_reading e in
-          let y : is_allowed q (Acted t ReadLock) ≡ true =
-          rw (lt-ltb t 64 (omega arith), given.kind_is, o.0, o.1, x) refl in
-          let vs : List ℕ = set ws 0 (plus_one bits (slice_index ws 0)) in
-          let one : slice_index vs 1 ≡ slice_index ws 1 =
-          get_or-set_other ws 0 1 _ 0 (λ (c : 1 ≡ 0). omega (arith, c)) in
-          let two : slice_index vs 2 ≡ slice_index ws 2 =
-          get_or-set_other ws 0 2 _ 0 (λ (c : 2 ≡ 0). omega (arith, c)) in
-          let g : AgreesWith bits vs (set ps t Reading) (after_entry q
+      | inl (flag_test, flag_clear) ↦
+          let (nobody_writes, nobody_announced) =
+          flag_none q.writer q.announced (sym agreed.flag_is ∙ flag_clear) in
+          let not_reading : has q.readers t ≡ false =
+          agreed.holders.reading t ∙ ap is_reading was in
+          let may_act : is_allowed q (Acted t ReadLock) ≡ true =
+          rw (
+            lt-ltb t 64 (omega arith),
+            given.kind_is,
+            nobody_writes,
+            nobody_announced,
+            not_reading,
+          ) refl in
+          let counted : List ℕ = set ws 0 (plus_one bits (slice_index ws 0)) in
+          let left_stays : slice_index counted 1 ≡ slice_index ws 1 =
+          get_or-set_other ws 0 1 _ 0 (λ (equal : 1 ≡ 0). omega (arith, equal)) in
+          let flag_stays : slice_index counted 2 ≡ slice_index ws 2 =
+          get_or-set_other ws 0 2 _ 0 (λ (equal : 2 ≡ 0). omega (arith, equal)) in
+          let kept : AgreesWith bits counted (set ps t Reading) (after_entry q
           (Acted t ReadLock)) = record {
-            narrow = rw (length-set ps t Reading) a.narrow;
-            left = rw one a.left;
+            narrow = rw (length-set ps t Reading) agreed.narrow;
+            left = rw left_stays agreed.left;
             came =
-                get_or-set_same ws 0 _ 0 (omega arith) ∙ ap (plus_one bits) a.came
+                get_or-set_same ws 0 _ 0 (omega arith) ∙ ap (plus_one bits) agreed.came
                 ∙ mod-add-mod (slice_index ws 1 + length q.readers) (2 ^ bits) 1
-                ∙ ap (λ y. y % 2 ^ bits) (omega (arith, one, length_joined q.readers t));
-            flag_is = two ∙ a.flag_is;
+                ∙ ap (λ sum. sum % 2 ^ bits) (omega (arith, left_stays, length_joined q.readers t));
+            flag_is = flag_stays ∙ agreed.flag_is;
             holders =
-                holders_join ps q t h (ap is_reading e) (ap is_writing e) (ap is_announced e) o.0
-                a.holders;
+                holders_join ps q t in_lock (ap is_reading was) (ap is_writing was)
+                (ap is_announced was) nobody_writes agreed.holders;
           } in
-          rw d.0 (record { allowed = (y, (tt, tt)); kind_is = given.kind_is; agrees = g })
-      | inr d ↦ rw d.0 (waits RwFifo (AgreesWith bits ws) ps q t TryRead e given.kind_is a)
+          rw flag_test
+          (record { allowed = (may_act, (tt, tt)); kind_is = given.kind_is; agrees = kept })
+      | inr (flag_test, _) ↦
+          rw flag_test (waits RwFifo (AgreesWith bits ws) ps q t TryRead was given.kind_is agreed)
     ]
 keeps bits ws ps q t LeaveRead (Step s) given =
-    let h : t < length ps = given.thread in
-    let n : length ps ≤ 64 = given.few in
-    let w : 3 ≤ length ws = given.enough in
-    let e : phase_at ps t ≡ LeaveRead = given.phase_is in
-    let a : AgreesWith bits ws ps q = given.agrees in
-    let x : has q.readers t ≡ true = a.holders.reading t ∙ ap is_reading e in
-    let y : is_allowed q (Acted t ReadUnlock)
-    ≡ true = rw (lt-ltb t 64 (omega arith), given.kind_is, x) refl in
-    let l : length (left_by q.readers t) + 1 ≡ length q.readers = length_left q.readers t x in
-    let vs : List ℕ = set ws 1 (plus_one bits (slice_index ws 1)) in
-    let zero : slice_index vs 0 ≡ slice_index ws 0 =
-    get_or-set_other ws 1 0 _ 0 (λ (c : 0 ≡ 1). omega (arith, c)) in
-    let one : slice_index vs 1 ≡ plus_one bits (slice_index ws 1) =
+    let in_lock : t < length ps = given.thread in
+    let few : length ps ≤ 64 = given.few in
+    let three_words : 3 ≤ length ws = given.enough in
+    let was : phase_at ps t ≡ LeaveRead = given.phase_is in
+    let agreed : AgreesWith bits ws ps q = given.agrees in
+    let reads : has q.readers t ≡ true = agreed.holders.reading t ∙ ap is_reading was in
+    let may_act : is_allowed q (Acted t ReadUnlock) ≡ true =
+    rw (lt-ltb t 64 (omega arith), given.kind_is, reads) refl in
+    let one_fewer : length (left_by q.readers t) + 1 ≡ length q.readers =
+    length_left q.readers t reads in
+    let counted : List ℕ = set ws 1 (plus_one bits (slice_index ws 1)) in
+    let came_stays : slice_index counted 0 ≡ slice_index ws 0 =
+    get_or-set_other ws 1 0 _ 0 (λ (equal : 0 ≡ 1). omega (arith, equal)) in
+    let left_is : slice_index counted 1 ≡ plus_one bits (slice_index ws 1) =
     get_or-set_same ws 1 _ 0 (omega arith) in
-    let two : slice_index vs 2 ≡ slice_index ws 2 =
-    get_or-set_other ws 1 2 _ 0 (λ (c : 2 ≡ 1). omega (arith, c)) in
-    let g : AgreesWith bits vs (set ps t Idle) (after_entry q (Acted t ReadUnlock)) = record {
-      narrow = rw (length-set ps t Idle) a.narrow;
-      left = rw one (plus_one-lt bits (slice_index ws 1));
+    let flag_stays : slice_index counted 2 ≡ slice_index ws 2 =
+    get_or-set_other ws 1 2 _ 0 (λ (equal : 2 ≡ 1). omega (arith, equal)) in
+    let kept : AgreesWith bits counted (set ps t Idle) (after_entry q
+    (Acted t ReadUnlock)) = record {
+      narrow = rw (length-set ps t Idle) agreed.narrow;
+      left = rw left_is (plus_one-lt bits (slice_index ws 1));
       came =
-          zero ∙ a.came ∙ ap (λ y. (slice_index ws 1 + y) % 2 ^ bits) (sym l)
+          came_stays ∙ agreed.came
+          ∙ ap (λ count. (slice_index ws 1 + count) % 2 ^ bits) (sym one_fewer)
           ∙ sym (plus_one_plus bits (slice_index ws 1) (length (left_by q.readers t)))
-          ∙ ap (λ y. (y + length (left_by q.readers t)) % 2 ^ bits) (sym one);
-      flag_is = two ∙ a.flag_is;
+          ∙ ap (λ gone. (gone + length (left_by q.readers t)) % 2 ^ bits) (sym left_is);
+      flag_is = flag_stays ∙ agreed.flag_is;
       holders =
-          holders_leave ps q t h (ap is_writing e) (ap is_announced e)
-          (no_writer q.writer q.readers q.announced t a.holders.alone x) a.holders;
+          holders_leave ps q t in_lock (ap is_writing was) (ap is_announced was)
+          (no_writer q.writer q.readers q.announced t agreed.holders.alone reads) agreed.holders;
     } in
-    record { allowed = (y, (tt, tt)); kind_is = given.kind_is; agrees = g }
+    record { allowed = (may_act, (tt, tt)); kind_is = given.kind_is; agrees = kept }
 keeps bits ws ps q t TryWrite (Step s) given =
-    let h : t < length ps = given.thread in
-    let n : length ps ≤ 64 = given.few in
-    let w : 3 ≤ length ws = given.enough in
-    let e : phase_at ps t ≡ TryWrite = given.phase_is in
-    let a : AgreesWith bits ws ps q = given.agrees in
+    let in_lock : t < length ps = given.thread in
+    let few : length ps ≤ 64 = given.few in
+    let three_words : 3 ≤ length ws = given.enough in
+    let was : phase_at ps t ≡ TryWrite = given.phase_is in
+    let agreed : AgreesWith bits ws ps q = given.agrees in
     elim (eqb_tells (slice_index ws 2) 0) [
-      | inr d ↦ rw d.0 (waits RwFifo (AgreesWith bits ws) ps q t TryWrite e given.kind_is a)
-      | inl d ↦
-          let o : (q.writer ≡ None) × (q.announced ≡ None) =
-          flag_none q.writer q.announced (sym a.flag_is ∙ d.1) in
-          let x : has q.readers t ≡ false = a.holders.reading t ∙ ap is_reading e in
-          let y : is_allowed q (Announced t) ≡ true =
-          rw (lt-ltb t 64 (omega arith), given.kind_is, o.0, o.1, x) refl in
-          let vs : List ℕ = set ws 2 1 in
-          let zero : slice_index vs 0 ≡ slice_index ws 0 =
-          get_or-set_other ws 2 0 1 0 (λ (c : 0 ≡ 2). omega (arith, c)) in
-          let one : slice_index vs 1 ≡ slice_index ws 1 =
-          get_or-set_other ws 2 1 1 0 (λ (c : 1 ≡ 2). omega (arith, c)) in
+      | inr (flag_test, _) ↦
+          rw flag_test (waits RwFifo (AgreesWith bits ws) ps q t TryWrite was given.kind_is agreed)
+      | inl (flag_test, flag_clear) ↦
+          let (nobody_writes, nobody_announced) =
+          flag_none q.writer q.announced (sym agreed.flag_is ∙ flag_clear) in
+          let not_reading : has q.readers t ≡ false =
+          agreed.holders.reading t ∙ ap is_reading was in
+          let may_announce : is_allowed q (Announced t) ≡ true =
+          rw (
+            lt-ltb t 64 (omega arith),
+            given.kind_is,
+            nobody_writes,
+            nobody_announced,
+            not_reading,
+          ) refl in
+          let flagged : List ℕ = set ws 2 1 in
+          let came_stays : slice_index flagged 0 ≡ slice_index ws 0 =
+          get_or-set_other ws 2 0 1 0 (λ (equal : 0 ≡ 2). omega (arith, equal)) in
+          let left_stays : slice_index flagged 1 ≡ slice_index ws 1 =
+          get_or-set_other ws 2 1 1 0 (λ (equal : 1 ≡ 2). omega (arith, equal)) in
           elim (eqb_tells (slice_index ws 0) (slice_index ws 1)) [
-            | inr c ↦
-                let g : AgreesWith bits vs (set ps t AwaitReaders) (after_entry q
+            | inr (counts_test, _) ↦
+                let kept : AgreesWith bits flagged (set ps t AwaitReaders) (after_entry q
                 (Announced t)) = record {
-                  narrow = rw (length-set ps t AwaitReaders) a.narrow;
-                  left = rw one a.left;
-                  came = zero ∙ a.came ∙ ap (λ y. (y + length q.readers) % 2 ^ bits) (sym one);
+                  narrow = rw (length-set ps t AwaitReaders) agreed.narrow;
+                  left = rw left_stays agreed.left;
+                  came =
+                      came_stays ∙ agreed.came
+                      ∙ ap (λ gone. (gone + length q.readers) % 2 ^ bits) (sym left_stays);
                   flag_is = get_or-set_same ws 2 1 0 (omega arith) ∙ sym (flag_some q.writer t);
                   holders =
-                      holders_announce ps q t h (ap is_reading e) (ap is_writing
-                      e) o.0 o.1 a.holders;
+                      holders_announce ps q t in_lock (ap is_reading was) (ap is_writing was)
+                      nobody_writes nobody_announced agreed.holders;
                 } in
-                rw (d.0, c.0) (record { allowed = (y, tt); kind_is = given.kind_is; agrees = g })
-            | inl c ↦
-                let z : q.readers ≡ [] = none_read bits ws ps q a c.1 in
-                let u : Sequential = after_entry q (Announced t) in
-                let v : is_allowed u (Acted t WriteLock) ≡ true =
-                rw (lt-ltb t 64 (omega arith), given.kind_is, z, same_thread t) refl in
-                let g : AgreesWith bits vs (set ps t Writing) (after_entry u
+                rw (flag_test, counts_test)
+                (record { allowed = (may_announce, tt); kind_is = given.kind_is; agrees = kept })
+            | inl (counts_test, counts_equal) ↦
+                let nobody_reads : q.readers ≡ [] = none_read bits ws ps q agreed counts_equal in
+                let announced : Sequential = after_entry q (Announced t) in
+                let may_enter : is_allowed announced (Acted t WriteLock) ≡ true =
+                rw (lt-ltb t 64 (omega arith), given.kind_is, nobody_reads, same_thread t) refl in
+                let kept : AgreesWith bits flagged (set ps t Writing) (after_entry announced
                 (Acted t WriteLock)) = record {
-                  narrow = rw (length-set ps t Writing) a.narrow;
-                  left = rw one a.left;
-                  came = zero ∙ a.came ∙ ap (λ y. (y + length q.readers) % 2 ^ bits) (sym one);
+                  narrow = rw (length-set ps t Writing) agreed.narrow;
+                  left = rw left_stays agreed.left;
+                  came =
+                      came_stays ∙ agreed.came
+                      ∙ ap (λ gone. (gone + length q.readers) % 2 ^ bits) (sym left_stays);
                   flag_is = get_or-set_same ws 2 1 0 (omega arith);
                   holders =
-                      written ps q t (holders_write ps q t h z o.0 (λ u v. rw o.1 refl) a.holders);
+                      written ps q t
+                      (holders_write ps q t in_lock nobody_reads nobody_writes
+                      (λ u other. rw nobody_announced refl) agreed.holders);
                 } in
-                rw (d.0, c.0)
-                (record { allowed = (y, (v, (tt, tt))); kind_is = given.kind_is; agrees = g })
+                rw (flag_test, counts_test) (record {
+                  allowed = (may_announce, (may_enter, (tt, tt)));
+                  kind_is = given.kind_is;
+                  agrees = kept;
+                })
           ]
     ]
 keeps bits ws ps q t AwaitReaders (Step s) given =
-    let h : t < length ps = given.thread in
-    let n : length ps ≤ 64 = given.few in
-    let e : phase_at ps t ≡ AwaitReaders = given.phase_is in
-    let a : AgreesWith bits ws ps q = given.agrees in
+    let in_lock : t < length ps = given.thread in
+    let few : length ps ≤ 64 = given.few in
+    let was : phase_at ps t ≡ AwaitReaders = given.phase_is in
+    let agreed : AgreesWith bits ws ps q = given.agrees in
     elim (eqb_tells (slice_index ws 0) (slice_index ws 1)) [
-      | inr c ↦ rw c.0 (waits RwFifo (AgreesWith bits ws) ps q t AwaitReaders e given.kind_is a)
-      | inl c ↦
-          let i : is_this q.announced t ≡ true = a.holders.awaiting t ∙ ap is_announced e in
-          let x : q.readers ≡ [] = none_read bits ws ps q a c.1 in
-          let o : q.writer ≡ None =
-          no_writer_beside q.writer q.readers q.announced t a.holders.alone i in
-          let y : is_allowed q (Acted t WriteLock) ≡ true =
-          rw (lt-ltb t 64 (omega arith), given.kind_is, i, x) refl in
-          let g : AgreesWith bits ws (set ps t Writing) (after_entry q
+      | inr (counts_test, _) ↦
+          rw counts_test
+          (waits RwFifo (AgreesWith bits ws) ps q t AwaitReaders was given.kind_is agreed)
+      | inl (counts_test, counts_equal) ↦
+          let announces : is_this q.announced t ≡ true =
+          agreed.holders.awaiting t ∙ ap is_announced was in
+          let announced_thread : q.announced ≡ Some t = announced_is q.announced t announces in
+          let nobody_reads : q.readers ≡ [] = none_read bits ws ps q agreed counts_equal in
+          let nobody_writes : q.writer ≡ None =
+          no_writer_beside q.writer q.readers q.announced t agreed.holders.alone announces in
+          let may_act : is_allowed q (Acted t WriteLock) ≡ true =
+          rw (lt-ltb t 64 (omega arith), given.kind_is, announces, nobody_reads) refl in
+          let kept : AgreesWith bits ws (set ps t Writing) (after_entry q
           (Acted t WriteLock)) = record {
-            narrow = rw (length-set ps t Writing) a.narrow;
-            left = a.left;
-            came = a.came;
-            flag_is =
-                a.flag_is
-                ∙
-                (let u : q.announced
-                ≡ Some t = announced_is q.announced t i in rw u (flag_some q.writer t));
+            narrow = rw (length-set ps t Writing) agreed.narrow;
+            left = agreed.left;
+            came = agreed.came;
+            flag_is = agreed.flag_is ∙ rw announced_thread (flag_some q.writer t);
             holders =
-                holders_write ps q t h x o (λ u v. rw (announced_is q.announced t i)
-                (not_same u t v))
-                a.holders;
+                holders_write ps q t in_lock nobody_reads nobody_writes
+                (λ u other. rw announced_thread (not_same u t other)) agreed.holders;
           } in
-          rw c.0 (record { allowed = (y, (tt, tt)); kind_is = given.kind_is; agrees = g })
+          rw counts_test
+          (record { allowed = (may_act, (tt, tt)); kind_is = given.kind_is; agrees = kept })
     ]
 keeps bits ws ps q t LeaveWrite (Step s) given =
-    let h : t < length ps = given.thread in
-    let n : length ps ≤ 64 = given.few in
-    let w : 3 ≤ length ws = given.enough in
-    let e : phase_at ps t ≡ LeaveWrite = given.phase_is in
-    let a : AgreesWith bits ws ps q = given.agrees in
-    let x : is_this q.writer t ≡ true = a.holders.writing t ∙ ap is_writing e in
-    let y : is_allowed q (Acted t WriteUnlock)
-    ≡ true = rw (lt-ltb t 64 (omega arith), given.kind_is, x) refl in
-    let vs : List ℕ = set ws 2 0 in
-    let zero : slice_index vs 0 ≡ slice_index ws 0 =
-    get_or-set_other ws 2 0 0 0 (λ (c : 0 ≡ 2). omega (arith, c)) in
-    let one : slice_index vs 1 ≡ slice_index ws 1 =
-    get_or-set_other ws 2 1 0 0 (λ (c : 1 ≡ 2). omega (arith, c)) in
-    let g : AgreesWith bits vs (set ps t Idle) (after_entry q (Acted t WriteUnlock)) = record {
-      narrow = rw (length-set ps t Idle) a.narrow;
-      left = rw one a.left;
-      came = zero ∙ a.came ∙ ap (λ y. (y + length q.readers) % 2 ^ bits) (sym one);
-      flag_is =
-          get_or-set_same ws 2 0 0 (omega arith)
-          ∙
-          (let o : q.announced
-          ≡ None = none_announced q.writer q.readers q.announced t a.holders.alone x in rw o refl);
-      holders = holders_unwrite ps q t h (ap is_reading e) (ap is_announced e) x a.holders;
-    } in
-    record { allowed = (y, (tt, tt)); kind_is = given.kind_is; agrees = g }
-keeps bits ws ps q t TryDowngrade (Step s) given =
-    let h : t < length ps = given.thread in
-    let n : length ps ≤ 64 = given.few in
-    let w : 3 ≤ length ws = given.enough in
-    let e : phase_at ps t ≡ TryDowngrade = given.phase_is in
-    let a : AgreesWith bits ws ps q = given.agrees in
-    let x : is_this q.writer t ≡ true = a.holders.writing t ∙ ap is_writing e in
-    let y : is_allowed q (Acted t Downgrade)
-    ≡ true = rw (lt-ltb t 64 (omega arith), given.kind_is, x) refl in
-    let z : has q.readers t ≡ false = a.holders.reading t ∙ ap is_reading e in
-    let o : q.announced ≡ None =
-    none_announced q.writer q.readers q.announced t a.holders.alone x in
-    let us : List ℕ = set ws 0 (plus_one bits (slice_index ws 0)) in
-    let vs : List ℕ = set us 2 0 in
-    let long : length us ≡ length ws = length-set ws 0 (plus_one bits (slice_index ws 0)) in
-    let zero : slice_index vs 0 ≡ plus_one bits (slice_index ws 0) =
-    get_or-set_other us 2 0 0 0 (λ (c : 0 ≡ 2). omega (arith, c))
-    ∙ get_or-set_same ws 0 _ 0 (omega arith) in
-    let one : slice_index vs 1 ≡ slice_index ws 1 =
-    get_or-set_other us 2 1 0 0 (λ (c : 1 ≡ 2). omega (arith, c))
-    ∙ get_or-set_other ws 0 1 _ 0 (λ (c : 1 ≡ 0). omega (arith, c)) in
-    let g : AgreesWith bits vs (set ps t Reading) (after_entry q (Acted t Downgrade)) = record {
-      narrow = rw (length-set ps t Reading) a.narrow;
-      left = rw one a.left;
+    let in_lock : t < length ps = given.thread in
+    let few : length ps ≤ 64 = given.few in
+    let three_words : 3 ≤ length ws = given.enough in
+    let was : phase_at ps t ≡ LeaveWrite = given.phase_is in
+    let agreed : AgreesWith bits ws ps q = given.agrees in
+    let writes : is_this q.writer t ≡ true = agreed.holders.writing t ∙ ap is_writing was in
+    let may_act : is_allowed q (Acted t WriteUnlock) ≡ true =
+    rw (lt-ltb t 64 (omega arith), given.kind_is, writes) refl in
+    let nobody_announced : q.announced ≡ None =
+    none_announced q.writer q.readers q.announced t agreed.holders.alone writes in
+    let cleared : List ℕ = set ws 2 0 in
+    let came_stays : slice_index cleared 0 ≡ slice_index ws 0 =
+    get_or-set_other ws 2 0 0 0 (λ (equal : 0 ≡ 2). omega (arith, equal)) in
+    let left_stays : slice_index cleared 1 ≡ slice_index ws 1 =
+    get_or-set_other ws 2 1 0 0 (λ (equal : 1 ≡ 2). omega (arith, equal)) in
+    let kept : AgreesWith bits cleared (set ps t Idle) (after_entry q
+    (Acted t WriteUnlock)) = record {
+      narrow = rw (length-set ps t Idle) agreed.narrow;
+      left = rw left_stays agreed.left;
       came =
-          zero ∙ ap (plus_one bits) a.came
-          ∙ mod-add-mod (slice_index ws 1 + length q.readers) (2 ^ bits) 1
-          ∙ ap (λ y. y % 2 ^ bits) (omega (arith, one, length_joined q.readers t));
-      flag_is = get_or-set_same us 2 0 0 (omega arith) ∙ rw o refl;
-      holders = holders_downgrade ps q t h (ap is_reading e) (ap is_announced e) x a.holders;
+          came_stays ∙ agreed.came
+          ∙ ap (λ gone. (gone + length q.readers) % 2 ^ bits) (sym left_stays);
+      flag_is = get_or-set_same ws 2 0 0 (omega arith) ∙ rw nobody_announced refl;
+      holders =
+          holders_unwrite ps q t in_lock (ap is_reading was) (ap is_announced was) writes
+          agreed.holders;
     } in
-    record { allowed = (y, (tt, tt)); kind_is = given.kind_is; agrees = g }
+    record { allowed = (may_act, (tt, tt)); kind_is = given.kind_is; agrees = kept }
+keeps bits ws ps q t TryDowngrade (Step s) given =
+    let in_lock : t < length ps = given.thread in
+    let few : length ps ≤ 64 = given.few in
+    let three_words : 3 ≤ length ws = given.enough in
+    let was : phase_at ps t ≡ TryDowngrade = given.phase_is in
+    let agreed : AgreesWith bits ws ps q = given.agrees in
+    let writes : is_this q.writer t ≡ true = agreed.holders.writing t ∙ ap is_writing was in
+    let may_act : is_allowed q (Acted t Downgrade) ≡ true =
+    rw (lt-ltb t 64 (omega arith), given.kind_is, writes) refl in
+    let not_reading : has q.readers t ≡ false = agreed.holders.reading t ∙ ap is_reading was in
+    let nobody_announced : q.announced ≡ None =
+    none_announced q.writer q.readers q.announced t agreed.holders.alone writes in
+    let counted : List ℕ = set ws 0 (plus_one bits (slice_index ws 0)) in
+    let cleared : List ℕ = set counted 2 0 in
+    let as_many_words : length counted ≡ length ws =
+    length-set ws 0 (plus_one bits (slice_index ws 0)) in
+    let came_is : slice_index cleared 0 ≡ plus_one bits (slice_index ws 0) =
+    get_or-set_other counted 2 0 0 0 (λ (equal : 0 ≡ 2). omega (arith, equal))
+    ∙ get_or-set_same ws 0 _ 0 (omega arith) in
+    let left_stays : slice_index cleared 1 ≡ slice_index ws 1 =
+    get_or-set_other counted 2 1 0 0 (λ (equal : 1 ≡ 2). omega (arith, equal))
+    ∙ get_or-set_other ws 0 1 _ 0 (λ (equal : 1 ≡ 0). omega (arith, equal)) in
+    let kept : AgreesWith bits cleared (set ps t Reading) (after_entry q
+    (Acted t Downgrade)) = record {
+      narrow = rw (length-set ps t Reading) agreed.narrow;
+      left = rw left_stays agreed.left;
+      came =
+          came_is ∙ ap (plus_one bits) agreed.came
+          ∙ mod-add-mod (slice_index ws 1 + length q.readers) (2 ^ bits) 1
+          ∙ ap (λ sum. sum % 2 ^ bits) (omega (arith, left_stays, length_joined q.readers t));
+      flag_is = get_or-set_same counted 2 0 0 (omega arith) ∙ rw nobody_announced refl;
+      holders =
+          holders_downgrade ps q t in_lock (ap is_reading was) (ap is_announced was) writes
+          agreed.holders;
+    } in
+    record { allowed = (may_act, (tt, tt)); kind_is = given.kind_is; agrees = kept }
 keeps bits ws ps q t p m given =
     let fits = given.fits in let own = given.own in let not_refused = given.not_refused in cc
 
 -- at the start the words are clear and all threads idle
 starts : (bits : ℕ) (ws : List ℕ) (n : ℕ) → n < 2 ^ bits → ((i : ℕ) → slice_index ws i ≡ 0)
     → AgreeAs RwFifo (start RwFifo bits ws n) (nobody RwFifo)
-starts bits ws n h z = record {
-  narrow = rw (length-replicate n Idle) h;
-  left = rw (z 1) (pow_pos bits);
-  came = z 0 ∙ sym (ap (λ y. (y + 0) % 2 ^ bits) (z 1) ∙ mod-eq_of_lt (pow_pos bits));
-  flag_is = z 2;
+starts bits ws n threads_fit clear = record {
+  narrow = rw (length-replicate n Idle) threads_fit;
+  left = rw (clear 1) (pow_pos bits);
+  came = clear 0 ∙ sym (ap (λ gone. (gone + 0) % 2 ^ bits) (clear 1) ∙ mod-eq_of_lt (pow_pos bits));
+  flag_is = clear 2;
   holders = no_holders RwFifo n;
 }
 
@@ -334,8 +377,8 @@ room = record {
   idle_fits = λ n. refl;
   call_fits = call_fits;
   step_fits = step_fits;
-  clear_links = λ n ws z. tt;
-  links_fit = λ n bits t ws p h l. tt;
+  clear_links = λ n ws clear. tt;
+  links_fit = λ n bits t ws p in_lock links. tt;
   starts = starts;
   keeps = keeps;
 }
