@@ -32,7 +32,7 @@ use Rattle.lk_locks.proofs.Moves.{accepted_of}
 abbrev Keeps : List ℕ → Change → Type 0
 Keeps ws c = c.words ≡ ws
 
--- what an answer leads to leaves the words to the operation
+-- what a ticket step does after its operation changes no word
 ticket_keeps : (p : Phase) (ws : List ℕ) (a : Answer) → Keeps ws (ticket.after p ws a)
 ticket_keeps (AwaitTurn t) ws (Found v) = either_way (Keeps ws) (v == t) _ _ refl refl
 ticket_keeps TakeTicket ws (Found v) = refl
@@ -69,7 +69,7 @@ by_one after keeps kind bits ws p k None r = cc
 by_one after keeps kind bits ws p k (Some o) r =
     (same (kind_of o) k r, sym (keeps p (performed bits ws o).words (performed bits ws o).answer))
 
--- which kind of step is due does not depend on thread and bits
+-- the kind of a ticket step does not depend on how wide the words are
 ticket_kind : (bits : ℕ) (p : Phase)
     → option_map kind_of (ticket.operation 64 p) ≡ option_map kind_of (ticket.operation bits p)
 ticket_kind bits TakeTicket = refl
@@ -125,7 +125,7 @@ abbrev word_or : Option Operation → ℕ
 word_or None = 0
 word_or (Some o) = word_of o
 
--- the word of an operation is one of the lock's
+-- the word of an operation is one of those that a lock with n threads needs
 within : (kind : LockKind) (n bits t : ℕ) (p : Phase) (o : Operation)
     → operation_of kind bits t p ≡ Some o → t < n → IsPhaseOf kind n p
     → word_of o < word_count kind n

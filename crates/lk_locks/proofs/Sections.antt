@@ -21,7 +21,7 @@ two_back ws left = set (set ws 0 (slice_index left 0)) 1 (slice_index left 1)
 abbrev pub three_back : List ℕ → List ℕ → List ℕ
 three_back ws left = set (two_back ws left) 2 (slice_index left 2)
 
--- what came of the copy comes of the words
+-- a step on a copy, written back, does what the step on the words does
 pub record AsOnCopy (back : List ℕ → List ℕ → List ℕ) (ws : List ℕ) (copy whole : Change)
     : Type 0 where
   pub words : back ws copy.words ≡ whole.words

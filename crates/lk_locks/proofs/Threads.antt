@@ -41,7 +41,7 @@ once_more (u ∷ q) t o h = elim (eqb_tells t u) [
   )
 ]
 
--- the tests of a member, once more at the end
+-- who is in a list with one more is in the list, or is that one
 pub has_more : (q : List ℕ) (t u : ℕ) → has (q ++ t ∷ []) u ≡ (has q u || (eqb u t || false))
 has_more q t u = list_any-append (eqb u) q (t ∷ [])
 
@@ -53,7 +53,7 @@ apart_of_has (u ∷ q) t h = elim (eqb_tells t u) [
   | inr e ↦ (e.0, apart_of_has q t (let g : has (u ∷ q) t ≡ false = h in rw e.0 at g))
 ]
 
--- the queue is shorter than the modulus
+-- a list that has each thread once has no two equal elements
 pub distinct_of_once : (q : List ℕ) → EachOnce q → IsDistinct eqb q
 unfolding IsDistinct
 distinct_of_once [] o = tt

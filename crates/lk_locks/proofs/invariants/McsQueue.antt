@@ -16,221 +16,308 @@ use Rattle.lk_locks.proofs.Threads.{or_left_false, or_right}
 use Rattle.lk_locks.specs.declared.kinds.Phase.{Phase}
 use Rattle.lk_locks.specs.declared.kinds.Phase.TheVariants.{AwaitGrant, Grant, Idle, LinkTo}
 use Rattle.lk_locks.specs.declared.kinds.Phase.TheVariants.{McsInside, SetLocked}
-use Rattle.lk_locks.proofs.invariants.McsLine.{apart, behind_member, first_has, first_more}
-use Rattle.lk_locks.proofs.invariants.McsLine.{last_more, later_change, later_frame, later_more}
+use Rattle.lk_locks.proofs.invariants.McsLine.{IsHeadOf, apart, behind_member, first_has}
+use Rattle.lk_locks.proofs.invariants.McsLine.{first_more, last_more, later_change, later_frame}
+use Rattle.lk_locks.proofs.invariants.McsLine.{later_more}
 use Rattle.lk_locks.proofs.invariants.McsLine.{line_frame, locked_after_locked, locked_after_tail}
 use Rattle.lk_locks.proofs.invariants.McsLine.{next_after_locked, next_after_tail, outside_frame}
 use Rattle.lk_locks.proofs.invariants.McsLine.{tail_after}
 
--- a thread outside the queue
-pub mcs_out : (ws vs : List ℕ) (ps : List Phase) (q : List ℕ) (t : ℕ) (p : Phase) → t < length ps
-    → has q t ≡ false → slice_index vs 0 ≡ slice_index ws 0
-    → ((v : ℕ) → v ≢ t → next_of vs v ≡ next_of ws v) → ((v : ℕ) → locked_of vs v ≡ locked_of ws v)
-    → IsOutside vs t p → IsQueue ws ps q → IsQueue vs (set ps t p) q
-mcs_out ws vs ps q t p h o e n l x k = record {
-  tail_is = e ∙ k.tail_is;
-  line =
-      line_frame ws vs ps (set ps t p) q
-      (λ v m. let d : v ≢ t = apart q t v o m in record {
-        phase = at_other ps t v p d;
-        next = n v d;
-        locked = l v;
-      })
-      k.line;
-  once = k.once;
-  members = rw (length-set ps t p) k.members;
-  others = λ v m. elim (eqb_tells v t) [
-    | inl d ↦ rw (d.1, at_same ps t p h) x
-    | inr d ↦
-        rw (at_other ps t v p d.1) (outside_frame ws vs v (phase_at ps v) (n v d.1) (k.others v m))
-  ];
-}
-
--- the head changes its phase alone
-pub mcs_head : (ws : List ℕ) (ps : List Phase) (q : List ℕ) (t : ℕ) (p : Phase) → t < length ps
-    → IsFirst ws t q p → IsQueue ws ps (t ∷ q) → IsQueue ws (set ps t p) (t ∷ q)
-mcs_head ws ps q t p h f k = record {
-  tail_is = k.tail_is;
-  line = (
-    rw (at_same ps t p h) f,
-    later_frame ws ws ps (set ps t p) t q refl (λ v m. record {
-      phase = at_other ps t v p (apart q t v k.once.0 m);
-      next = refl;
-      locked = refl;
-    }) k.line.1,
-  );
-  once = k.once;
-  members = rw (length-set ps t p) k.members;
-  others =
-      λ v m. let d : v ≢ t =
-      (λ e. absurd (false≢true (sym m ∙ ap (has (t ∷ q)) e ∙ first_has t q))) in rw (at_other ps t v
-      p d) (k.others v m);
-}
-
--- a later member changes, and the next word of the one before it
-pub mcs_later : (ws vs : List ℕ) (ps : List Phase) (q : List ℕ) (t j : ℕ) (p : Phase)
-    → t < length ps → has (drop 1 q) t ≡ true → slice_index vs 0 ≡ slice_index ws 0
-    → ((v : ℕ) → IsBehind ws v t (phase_at ps t) → (v ≡ j) × IsBehind vs v t p)
-    → ((v : ℕ) → v ≢ j → next_of vs v ≡ next_of ws v)
-    → ((v : ℕ) → v ≢ t → locked_of vs v ≡ locked_of ws v)
-    →
-    ((h : ℕ) (r : List ℕ) → h ≢ t → IsFirst ws h r (phase_at ps h) → IsFirst vs h r (phase_at ps h))
-    → IsQueue ws ps q → IsQueue vs (set ps t p) q
-mcs_later ws vs ps [] t j p h m e b n l f k = cc
-mcs_later ws vs ps (x ∷ q) t j p h m e b n l f k =
-    let d : x ≢ t = (λ g. apart q x t k.once.0 m (sym g)) in
-    let r : (v : ℕ) × ((has (x ∷ q) v ≡ true) × IsBehind ws v t (phase_at ps t)) =
-    behind_member ws ps x t q k.line.1 m in
-    let before : has (x ∷ q) j ≡ true = ap (has (x ∷ q)) (sym (b r.0 r.1.1).0) ∙ r.1.0 in
-    let a : has (x ∷ q) t ≡ true = or_right (eqb t x) m in
+-- the queue stays if a thread outside it changes its phase and link, and stays outside
+pub mcs_out : (ws new_ws : List ℕ) (ps : List Phase) (q : List ℕ) (t : ℕ) (p : Phase)
+    → t < length ps → has q t ≡ false → slice_index new_ws 0 ≡ slice_index ws 0
+    → ((other : ℕ) → other ≢ t → next_of new_ws other ≡ next_of ws other)
+    → ((other : ℕ) → locked_of new_ws other ≡ locked_of ws other) → IsOutside new_ws t p
+    → IsQueue ws ps q → IsQueue new_ws (set ps t p) q
+mcs_out ws new_ws ps q t p in_lock not_queued same_tail same_next same_locked outside agreed =
     record {
-      tail_is = e ∙ k.tail_is;
-      line = (
-        rw (at_other ps t x p d) (f x q d k.line.0),
-        later_change ws vs ps (set ps t p) x t j q k.once m
-            (λ v g. ((b v g).0, rw (at_same ps t p h) (b v g).1)) (λ v c. at_other ps t v p c) n l
-            k.line.1,
-      );
-      once = k.once;
-      members = rw (length-set ps t p) k.members;
-      others = λ v o.
-          let c : v ≢ t = (λ g. apart (x ∷ q) v t o a (sym g)) in
-          let i : v ≢ j = (λ g. apart (x ∷ q) v j o before (sym g)) in
-          rw (at_other ps t v p c) (outside_frame ws vs v (phase_at ps v) (n v i) (k.others v o));
+      tail_is = same_tail ∙ agreed.tail_is;
+      line =
+          line_frame ws new_ws ps (set ps t p) q
+          (λ member queued.
+          let differs : member ≢ t = apart q t member not_queued queued in
+          record {
+            phase = at_other ps t member p differs;
+            next = same_next member differs;
+            locked = same_locked member;
+          })
+          agreed.line;
+      once = agreed.once;
+      members = rw (length-set ps t p) agreed.members;
+      others = λ thread absent. elim (eqb_tells thread t) [
+        | inl (_, same) ↦ rw (same, at_same ps t p in_lock) outside
+        | inr (_, other) ↦
+            rw (at_other ps t thread p other)
+            (outside_frame ws new_ws thread (phase_at ps thread) (same_next thread other)
+            (agreed.others thread absent))
+      ];
     }
 
--- the first of an empty queue
+-- the queue stays if its head changes its phase to one that a head may have
+pub mcs_head : (ws : List ℕ) (ps : List Phase) (rest : List ℕ) (t : ℕ) (p : Phase)
+    → t < length ps → IsFirst ws t rest p → IsQueue ws ps (t ∷ rest)
+    → IsQueue ws (set ps t p) (t ∷ rest)
+mcs_head ws ps rest t p in_lock first agreed =
+    let (was_first, later) = agreed.line in
+    let (head_once, rest_once) = agreed.once in
+    record {
+      tail_is = agreed.tail_is;
+      line = (
+        rw (at_same ps t p in_lock) first,
+        later_frame ws ws ps (set ps t p) t rest refl
+            (λ member queued. record {
+              phase = at_other ps t member p (apart rest t member head_once queued);
+              next = refl;
+              locked = refl;
+            })
+            later,
+      );
+      once = agreed.once;
+      members = rw (length-set ps t p) agreed.members;
+      others = λ thread absent.
+          let differs : thread ≢ t =
+          (λ same.
+          absurd (false≢true (sym absent ∙ ap (has (t ∷ rest)) same ∙ first_has t rest))) in
+          rw (at_other ps t thread p differs) (agreed.others thread absent);
+    }
+
+-- the head goes on, and changes nothing but its phase
+pub goes_inside : (ws : List ℕ) (ps : List Phase) (q : List ℕ) (t : ℕ) (p : Phase)
+    (at_head : IsHeadOf ws ps q t) → t < length ps → IsFirst ws t at_head.rest p → IsQueue ws ps q
+    → IsQueue ws (set ps t p) q
+goes_inside ws ps q t p at_head in_lock first agreed =
+    rw at_head.is (mcs_head ws ps at_head.rest t p in_lock first (rw at_head.is at agreed))
+
+-- the queue stays if a later member changes its phase, and the link of its predecessor
+pub mcs_later : (ws new_ws : List ℕ) (ps : List Phase) (q : List ℕ) (t predecessor : ℕ)
+    (p : Phase) → t < length ps → has (drop 1 q) t ≡ true
+    → slice_index new_ws 0 ≡ slice_index ws 0
+    → ((before : ℕ) → IsBehind ws before t (phase_at ps t)
+    → (before ≡ predecessor) × IsBehind new_ws before t p)
+    → ((other : ℕ) → other ≢ predecessor → next_of new_ws other ≡ next_of ws other)
+    → ((other : ℕ) → other ≢ t → locked_of new_ws other ≡ locked_of ws other)
+    →
+    ((head : ℕ) (rest : List ℕ) → head ≢ t → IsFirst ws head rest (phase_at ps head)
+    → IsFirst new_ws head rest (phase_at ps head))
+    → IsQueue ws ps q → IsQueue new_ws (set ps t p) q
+mcs_later ws new_ws ps [] t predecessor p in_lock later same_tail moves same_next same_locked
+    stays_first agreed = cc
+mcs_later ws new_ws ps (head ∷ rest) t predecessor p in_lock later same_tail moves same_next
+    same_locked stays_first agreed =
+    let (head_first, after_head) = agreed.line in
+    let (head_once, rest_once) = agreed.once in
+    let head_differs : head ≢ t =
+    (λ same. apart rest head t head_once later (sym same)) in
+    let (before, (member, comes_after)) = behind_member ws ps head t rest after_head later in
+    let (is_predecessor, still_after) = moves before comes_after in
+    let predecessor_in : has (head ∷ rest) predecessor ≡ true =
+    ap (has (head ∷ rest)) (sym is_predecessor) ∙ member in
+    let queued : has (head ∷ rest) t ≡ true = or_right (eqb t head) later in
+    record {
+      tail_is = same_tail ∙ agreed.tail_is;
+      line = (
+        rw (at_other ps t head p head_differs) (stays_first head rest head_differs head_first),
+        later_change ws new_ws ps (set ps t p) head t predecessor rest agreed.once later
+            (λ one after.
+            let (is_predecessor, still_after) = moves one after in
+            (is_predecessor, rw (at_same ps t p in_lock) still_after))
+            (λ other differs. at_other ps t other p differs) same_next same_locked after_head,
+      );
+      once = agreed.once;
+      members = rw (length-set ps t p) agreed.members;
+      others = λ thread absent.
+          let not_t : thread ≢ t =
+          (λ same. apart (head ∷ rest) thread t absent queued (sym same)) in
+          let not_predecessor : thread ≢ predecessor =
+          (λ same. apart (head ∷ rest) thread predecessor absent predecessor_in (sym same)) in
+          rw (at_other ps t thread p not_t)
+          (outside_frame ws new_ws thread (phase_at ps thread) (same_next thread not_predecessor)
+          (agreed.others thread absent));
+    }
+
+-- a thread that swaps a nil tail is alone in the queue, and inside
 pub mcs_first : (ws : List ℕ) (ps : List Phase) (t : ℕ) → t < length ps → 0 < length ws
     → next_of ws t ≡ 0 → IsQueue ws ps [] → IsQueue (set ws 0 (t + 1)) (set ps t McsInside) (t ∷ [])
-mcs_first ws ps t h w n k = record {
-  tail_is = get_or-set_same ws 0 (t + 1) 0 w;
-  line = (rw (at_same ps t McsInside h) tt, next_after_tail ws t (t + 1) ∙ n);
+mcs_first ws ps t in_lock has_tail no_next agreed = record {
+  tail_is = get_or-set_same ws 0 (t + 1) 0 has_tail;
+  line = (rw (at_same ps t McsInside in_lock) tt, next_after_tail ws t (t + 1) ∙ no_next);
   once = (refl, tt);
-  members = rw (length-set ps t McsInside) (λ v m. elim (eqb_tells v t) [
-    | inl d ↦ rw d.1 h
-    | inr d ↦ let g : has (t ∷ []) v ≡ true = m in absurd (false≢true (rw d.0 at g))
+  members = rw (length-set ps t McsInside) (λ thread queued. elim (eqb_tells thread t) [
+    | inl (_, same) ↦ rw same in_lock
+    | inr (test, _) ↦
+        let present : has (t ∷ []) thread ≡ true = queued in
+        absurd (false≢true (rw test at present))
   ]);
-  others = λ v m. elim (eqb_tells v t) [
-    | inl d ↦ let g : has (t ∷ []) v ≡ false = m in absurd (false≢true (sym (rw d.0 at g)))
-    | inr d ↦
-        rw (at_other ps t v McsInside d.1)
-        (outside_frame ws (set ws 0 (t + 1)) v (phase_at ps v) (next_after_tail ws v (t + 1))
-        (k.others v refl))
+  others = λ thread not_queued. elim (eqb_tells thread t) [
+    | inl (test, _) ↦
+        let absent : has (t ∷ []) thread ≡ false = not_queued in
+        absurd (false≢true (sym (rw test at absent)))
+    | inr (_, other) ↦
+        rw (at_other ps t thread McsInside other)
+        (outside_frame ws (set ws 0 (t + 1)) thread (phase_at ps thread)
+        (next_after_tail ws thread (t + 1)) (agreed.others thread refl))
   ];
 }
 
--- one more at the end
-pub mcs_more : (ws : List ℕ) (ps : List Phase) (x t j : ℕ) (q : List ℕ) → t < length ps
-    → 0 < length ws → has (x ∷ q) t ≡ false → next_of ws t ≡ 0 → j ≡ last_of x q
-    → IsQueue ws ps (x ∷ q) → IsQueue (set ws 0 (t + 1)) (set ps t (SetLocked j)) (x ∷ q ++ t ∷ [])
-mcs_more ws ps x t j q h w o n e k =
-    let vs : List ℕ = set ws 0 (t + 1) in
-    let rs : List Phase = set ps t (SetLocked j) in
-    let a : IsLine vs rs (x ∷ q) =
-    line_frame ws vs ps rs (x ∷ q)
-    (λ v m. record {
-      phase = at_other ps t v (SetLocked j) (apart (x ∷ q) t v o m);
-      next = next_after_tail ws v (t + 1);
-      locked = locked_after_tail ws v (t + 1);
+-- a thread that swaps the tail and finds a predecessor joins the queue at its end
+pub mcs_more : (ws : List ℕ) (ps : List Phase) (head t predecessor : ℕ) (rest : List ℕ)
+    → t < length ps → 0 < length ws → has (head ∷ rest) t ≡ false → next_of ws t ≡ 0
+    → predecessor ≡ last_of head rest → IsQueue ws ps (head ∷ rest)
+    → IsQueue (set ws 0 (t + 1)) (set ps t (SetLocked predecessor)) (head ∷ rest ++ t ∷ [])
+mcs_more ws ps head t predecessor rest in_lock has_tail not_queued no_next is_last agreed =
+    let new_ws : List ℕ = set ws 0 (t + 1) in
+    let new_ps : List Phase = set ps t (SetLocked predecessor) in
+    let line : IsLine new_ws new_ps (head ∷ rest) =
+    line_frame ws new_ws ps new_ps (head ∷ rest)
+    (λ member queued. record {
+      phase =
+          at_other ps t member (SetLocked predecessor)
+          (apart (head ∷ rest) t member not_queued queued);
+      next = next_after_tail ws member (t + 1);
+      locked = locked_after_tail ws member (t + 1);
     })
-    k.line in
+    agreed.line in
+    let (head_first, after_head) = line in
     record {
-      tail_is = get_or-set_same ws 0 (t + 1) 0 w ∙ ap (λ y. y + 1) (sym (last_more x t q));
+      tail_is =
+          get_or-set_same ws 0 (t + 1) 0 has_tail
+          ∙ ap (λ last. last + 1) (sym (last_more head t rest));
       line = (
-        first_more vs x t q (phase_at rs x) a.0,
-        later_more vs rs x t q a.1
-            (at_same ps t (SetLocked j) h ∙ ap (λ y. SetLocked y) e) (next_after_tail ws t (t + 1)
-            ∙ n),
+        first_more new_ws head t rest (phase_at new_ps head) head_first,
+        later_more new_ws new_ps head t rest after_head
+            (at_same ps t (SetLocked predecessor) in_lock ∙ ap (λ last. SetLocked last) is_last)
+            (next_after_tail ws t (t + 1) ∙ no_next),
       );
-      once = once_more (x ∷ q) t k.once o;
-      members = rw (length-set ps t (SetLocked j)) (λ v m. elim (eqb_tells v t) [
-        | inl d ↦ rw d.1 h
-        | inr d ↦ k.members v (or_left (has (x ∷ q) v) (sym (rw d.0 at (has_more (x ∷ q) t v)) ∙ m))
-      ]);
-      others = λ v m. elim (eqb_tells v t) [
-        | inl d ↦
-            let g : has ((x ∷ q) ++ t ∷ []) v ≡ (has (x ∷ q) v || true) =
-            rw d.0 at (has_more (x ∷ q) t v) in
-            absurd (false≢true (sym m ∙ g ∙ or-true (has (x ∷ q) v)))
-        | inr d ↦
-            rw (at_other ps t v (SetLocked j) d.1)
-            (outside_frame ws vs v (phase_at ps v) (next_after_tail ws v (t + 1))
-            (k.others v
-            (or_left_false (has (x ∷ q) v) (sym (rw d.0 at (has_more (x ∷ q) t v)) ∙ m))))
+      once = once_more (head ∷ rest) t agreed.once not_queued;
+      members = rw (length-set ps t (SetLocked predecessor)) (λ thread queued.
+          elim (eqb_tells thread t) [
+            | inl (_, same) ↦ rw same in_lock
+            | inr (test, _) ↦
+                agreed.members thread
+                (or_left (has (head ∷ rest) thread)
+                (sym (rw test at (has_more (head ∷ rest) t thread)) ∙ queued))
+          ]);
+      others = λ thread absent. elim (eqb_tells thread t) [
+        | inl (test, _) ↦
+            let joined : has ((head ∷ rest) ++ t ∷ []) thread
+            ≡ (has (head ∷ rest) thread || true) =
+            rw test at (has_more (head ∷ rest) t thread) in
+            absurd (false≢true (sym absent ∙ joined ∙ or-true (has (head ∷ rest) thread)))
+        | inr (test, other) ↦
+            rw (at_other ps t thread (SetLocked predecessor) other)
+            (outside_frame ws new_ws thread (phase_at ps thread)
+            (next_after_tail ws thread (t + 1))
+            (agreed.others thread
+            (or_left_false (has (head ∷ rest) thread)
+            (sym (rw test at (has_more (head ∷ rest) t thread)) ∙ absent))))
       ];
     }
 
--- the last one leaves
+-- a swap of a tail that is not nil leaves a queue with one more thread, which knows the last
+pub swapped : (ws : List ℕ) (ps : List Phase) (q : List ℕ) (t : ℕ) → t < length ps → 0 < length ws
+    → has q t ≡ false → next_of ws t ≡ 0 → slice_index ws 0 ≢ 0 → IsQueue ws ps q
+    → IsQueue (set ws 0 (t + 1)) (set ps t (SetLocked (slice_index ws 0 - 1))) (q ++ t ∷ [])
+swapped ws ps [] t in_lock has_tail not_queued no_next not_nil agreed =
+    absurd (not_nil agreed.tail_is)
+swapped ws ps (head ∷ rest) t in_lock has_tail not_queued no_next not_nil agreed =
+    mcs_more ws ps head t (slice_index ws 0 - 1) rest in_lock has_tail not_queued no_next
+    (let tail_is : slice_index ws 0 ≡ last_of head rest + 1 = agreed.tail_is in omega arith) agreed
+
+-- the last thread that leaves makes the tail nil, and the queue empty
 pub mcs_last : (ws : List ℕ) (ps : List Phase) (t : ℕ) → t < length ps → 0 < length ws
     → IsQueue ws ps (t ∷ []) → IsQueue (set ws 0 0) (set ps t Idle) []
-mcs_last ws ps t h w k = record {
-  tail_is = get_or-set_same ws 0 0 0 w;
+mcs_last ws ps t in_lock has_tail agreed = record {
+  tail_is = get_or-set_same ws 0 0 0 has_tail;
   line = tt;
   once = tt;
-  members = λ v m. absurd (false≢true m);
-  others = λ v m. elim (eqb_tells v t) [
-    | inl d ↦ rw (d.1, at_same ps t Idle h) tt
-    | inr d ↦
-        rw (at_other ps t v Idle d.1)
-        (outside_frame ws (set ws 0 0) v (phase_at ps v) (next_after_tail ws v 0)
-        (k.others v (rw d.0 refl)))
+  members = λ thread queued. absurd (false≢true queued);
+  others = λ thread not_queued. elim (eqb_tells thread t) [
+    | inl (_, same) ↦ rw (same, at_same ps t Idle in_lock) tt
+    | inr (test, other) ↦
+        rw (at_other ps t thread Idle other)
+        (outside_frame ws (set ws 0 0) thread (phase_at ps thread) (next_after_tail ws thread 0)
+        (agreed.others thread (rw test refl)))
   ];
 }
 
--- the head hands the lock to the one after it
-pub granted : (ws : List ℕ) (u t : ℕ) (p : Phase) → next_of ws u ≡ t + 1 → IsBehind ws u t p
-    → p ≡ AwaitGrant
-granted ws u t (SetLocked j) n b = absurd (omega (arith, n, b.1))
-granted ws u t (LinkTo j) n b = absurd (omega (arith, n, b.1))
-granted ws u t AwaitGrant n b = refl
-granted ws u t p n b = absurd b
+-- whom its predecessor's link names waits to be granted
+pub granted : (ws : List ℕ) (before t : ℕ) (p : Phase) → next_of ws before ≡ t + 1
+    → IsBehind ws before t p → p ≡ AwaitGrant
+granted ws before t (SetLocked known) linked (knows, no_next) =
+    absurd (omega (arith, linked, no_next))
+granted ws before t (LinkTo known) linked (knows, no_next, locks) =
+    absurd (omega (arith, linked, no_next))
+granted ws before t AwaitGrant linked after = refl
+granted ws before t p linked after = absurd after
 
 -- a grant takes the head off the queue, and its successor becomes the head
-pub mcs_grant : (ws : List ℕ) (ps : List Phase) (q : List ℕ) (t j : ℕ) → t < length ps
-    → locked j < length ws → phase_at ps t ≡ Grant j → IsQueue ws ps (t ∷ q)
-    → IsQueue (set ws (locked j) 0) (set ps t Idle) q
-mcs_grant ws ps [] t j h w e k =
-    let f : IsFirst ws t [] (Grant j) = rw e at k.line.0 in absurd (false≢true f.0)
-mcs_grant ws ps (x ∷ q) t j h w e k =
-    let vs : List ℕ = set ws (locked j) 0 in
-    let rs : List Phase = set ps t Idle in
-    let f : IsFirst ws t (x ∷ q) (Grant j) = rw e at k.line.0 in
-    let i : j ≡ x = eqb-true j x f.0 in
-    let d : x ≢ t = apart (x ∷ q) t x k.once.0 (first_has x q) in
-    let g : phase_at ps x ≡ AwaitGrant =
-    granted ws t x (phase_at ps x) (f.1 ∙ ap (λ y. y + 1) i) k.line.1.0 in
+pub mcs_grant : (ws : List ℕ) (ps : List Phase) (rest : List ℕ) (t successor : ℕ)
+    → t < length ps → locked successor < length ws → phase_at ps t ≡ Grant successor
+    → IsQueue ws ps (t ∷ rest) → IsQueue (set ws (locked successor) 0) (set ps t Idle) rest
+mcs_grant ws ps [] t successor in_lock has_locked was agreed =
+    let (head_first, after_head) = agreed.line in
+    let first : IsFirst ws t [] (Grant successor) = rw was at head_first in
+    let (grants_head, linked) = first in
+    absurd (false≢true grants_head)
+mcs_grant ws ps (second ∷ rest) t successor in_lock has_locked was agreed =
+    let new_ws : List ℕ = set ws (locked successor) 0 in
+    let new_ps : List Phase = set ps t Idle in
+    let (head_first, (second_after, later)) = agreed.line in
+    let (head_once, rest_once) = agreed.once in
+    let (second_once, others_once) = rest_once in
+    let first : IsFirst ws t (second ∷ rest) (Grant successor) = rw was at head_first in
+    let (grants_head, linked) = first in
+    let is_second : successor ≡ second = eqb-true successor second grants_head in
+    let second_differs : second ≢ t =
+    apart (second ∷ rest) t second head_once (first_has second rest) in
+    let second_awaits : phase_at ps second ≡ AwaitGrant =
+    granted ws t second (phase_at ps second) (linked ∙ ap (λ thread. thread + 1) is_second)
+    second_after in
     record {
-      tail_is = tail_after ws (locked j) 0 (omega arith) ∙ k.tail_is;
+      tail_is = tail_after ws (locked successor) 0 (omega arith) ∙ agreed.tail_is;
       line = (
-        rw (at_other ps t x Idle d ∙ g) (rw (← i) (get_or-set_same ws (locked j) 0 0 w)),
-        later_frame ws vs ps rs x q (next_after_locked ws j x 0) (λ v m. record {
-          phase = at_other ps t v Idle (apart (x ∷ q) t v k.once.0 (or_right (eqb v x) m));
-          next = next_after_locked ws j v 0;
-          locked = locked_after_locked ws j v 0 (λ c. apart q x v k.once.1.0 m (c ∙ i));
-        }) k.line.1.1,
+        rw (at_other ps t second Idle second_differs ∙ second_awaits)
+            (rw (← is_second) (get_or-set_same ws (locked successor) 0 0 has_locked)),
+        later_frame ws new_ws ps new_ps second rest (next_after_locked ws successor second 0)
+            (λ member queued. record {
+              phase =
+                  at_other ps t member Idle
+                  (apart (second ∷ rest) t member head_once (or_right (eqb member second) queued));
+              next = next_after_locked ws successor member 0;
+              locked =
+                  locked_after_locked ws successor member 0
+                  (λ same. apart rest second member second_once queued (same ∙ is_second));
+            })
+            later,
       );
-      once = k.once.1;
-      members = rw (length-set ps t Idle) (λ v m. k.members v (or_right (eqb v t) m));
-      others = λ v m. elim (eqb_tells v t) [
-        | inl c ↦ rw (c.1, at_same ps t Idle h) tt
-        | inr c ↦
-            rw (at_other ps t v Idle c.1)
-            (outside_frame ws vs v (phase_at ps v) (next_after_locked ws j v 0)
-            (k.others v (let r : has (t ∷ x ∷ q) v ≡ false = rw c.0 m in r)))
+      once = rest_once;
+      members = rw (length-set ps t Idle) (λ thread queued.
+          agreed.members thread (or_right (eqb thread t) queued));
+      others = λ thread not_queued. elim (eqb_tells thread t) [
+        | inl (_, same) ↦ rw (same, at_same ps t Idle in_lock) tt
+        | inr (test, other) ↦
+            rw (at_other ps t thread Idle other)
+            (outside_frame ws new_ws thread (phase_at ps thread)
+            (next_after_locked ws successor thread 0)
+            (agreed.others thread
+            (let absent : has (t ∷ second ∷ rest) thread ≡ false = rw test not_queued in
+            absent)))
       ];
     }
 
--- who is linked waits to be granted
--- a head whose next is not nil has that one as its successor
-pub linked_is : (ws : List ℕ) (u t : ℕ) (p : Phase) → next_of ws u ≢ 0 → IsBehind ws u t p
-    → next_of ws u - 1 ≡ t
-linked_is ws u t (SetLocked j) n b = absurd (n b.1)
-linked_is ws u t (LinkTo j) n b = absurd (n b.1)
-linked_is ws u t AwaitGrant n b = omega (arith, b.0)
-linked_is ws u t p n b = absurd b
+-- if its predecessor's link is not nil, a thread is the one that the link names
+pub linked_is : (ws : List ℕ) (before t : ℕ) (p : Phase) → next_of ws before ≢ 0
+    → IsBehind ws before t p → next_of ws before - 1 ≡ t
+linked_is ws before t (SetLocked known) has_next (knows, no_next) = absurd (has_next no_next)
+linked_is ws before t (LinkTo known) has_next (knows, no_next, locks) =
+    absurd (has_next no_next)
+linked_is ws before t AwaitGrant has_next (linked, locks) = omega (arith, linked)
+linked_is ws before t p has_next after = absurd after
 
 -- once the head has read its link, the link names the second in the queue
 pub second : (ws : List ℕ) (ps : List Phase) (t : ℕ) (q : List ℕ) → IsLater ws ps t q
     → next_of ws t ≢ 0 → is_head q (next_of ws t - 1) ≡ true
-second ws ps t [] l n = absurd (n l)
-second ws ps t (x ∷ q) l n = eq-eqb (next_of ws t - 1) x (linked_is ws t x (phase_at ps x) n l.0)
+second ws ps t [] no_next has_next = absurd (has_next no_next)
+second ws ps t (successor ∷ rest) (after, later) has_next =
+    eq-eqb (next_of ws t - 1) successor
+    (linked_is ws t successor (phase_at ps successor) has_next after)

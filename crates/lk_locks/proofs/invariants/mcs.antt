@@ -1,28 +1,27 @@
 -- The MCS queue lock: each step adds the next entries of its call, and each move preserves that
 -- words and phases agree with the queue.
 use Rattle.std.proofs.Common.{List, [], ap, arith, false, inl, inr, length, refl, set, slice_index}
-use Rattle.std.proofs.Common.{sym, true, ℕ, ◌*◌, ◌++◌, ◌+◌, ◌-◌, ◌<◌, ◌∙◌, ◌∷◌, ◌≡◌, ◌≢◌, ◌≤◌, ◌^◌}
+use Rattle.std.proofs.Common.{sym, true, ℕ, ◌*◌, ◌+◌, ◌-◌, ◌<◌, ◌∙◌, ◌∷◌, ◌≡◌, ◌≤◌, ◌^◌}
 use Rattle.std.proofs.lemmas.Bool.{eq-eqb, false≢true}
 use Rattle.std.proofs.lemmas.Bool.Decides.{eqb_tells}
 use Rattle.std.proofs.lemmas.List.{get_or-set_same}
 use Rattle.lk_locks.specs.Change.{Change}
 use Rattle.lk_locks.specs.Entries.{move_entries}
-use Rattle.lk_locks.specs.Sequential.{nobody, Sequential, has, is_allowed, is_head}
+use Rattle.lk_locks.specs.Sequential.{nobody, Sequential, has, is_allowed}
 use Rattle.lk_locks.specs.State.{phase_at, start}
 use Rattle.lk_locks.specs.Steps.{move_change}
 use Rattle.lk_locks.specs.invariants.Rooms.{AgreeAs}
-use Rattle.lk_locks.specs.invariants.Threads.{EachOnce}
-use Rattle.lk_locks.specs.invariants.mcs.{IsBehind, IsFirst, IsOutside, IsQueue, last_of, locked_of}
-use Rattle.lk_locks.specs.invariants.mcs.{next_of, tail_of}
+use Rattle.lk_locks.specs.invariants.mcs.{IsBehind, IsFirst, IsQueue, locked_of, next_of}
 use Rattle.lk_locks.specs.mcs.{locked, next}
 use Rattle.lk_locks.proofs.Cases.{IsAgreed, IsRoom, IsTaken, waits}
 use Rattle.lk_locks.proofs.Threads.{all_idle}
-use Rattle.lk_locks.proofs.invariants.McsLine.{IsHeadOf, first_frame, head_of, last_member}
-use Rattle.lk_locks.proofs.invariants.McsLine.{locked_after_locked, locked_after_next, member_of}
-use Rattle.lk_locks.proofs.invariants.McsLine.{next_after_locked, next_after_next, not_member}
-use Rattle.lk_locks.proofs.invariants.McsLine.{place, tail_after}
-use Rattle.lk_locks.proofs.invariants.McsQueue.{mcs_first, mcs_grant, mcs_head, mcs_last, mcs_later}
-use Rattle.lk_locks.proofs.invariants.McsQueue.{mcs_more, mcs_out, second}
+use Rattle.lk_locks.proofs.invariants.McsLine.{IsHeadOf, alone, empty_of, first_frame}
+use Rattle.lk_locks.proofs.invariants.McsLine.{first_of_head, head_is, locked_after_locked}
+use Rattle.lk_locks.proofs.invariants.McsLine.{locked_after_next, member_of, next_after_locked}
+use Rattle.lk_locks.proofs.invariants.McsLine.{next_after_next, not_alone, not_member, place}
+use Rattle.lk_locks.proofs.invariants.McsLine.{relinked, tail_after}
+use Rattle.lk_locks.proofs.invariants.McsQueue.{goes_inside, mcs_first, mcs_grant, mcs_last}
+use Rattle.lk_locks.proofs.invariants.McsQueue.{mcs_later, mcs_out, second, swapped}
 use Rattle.lk_locks.specs.declared.kinds.LockKind.TheVariants.{Mcs}
 use Rattle.lk_locks.specs.declared.kinds.Move.{Move}
 use Rattle.lk_locks.specs.declared.kinds.Move.TheVariants.{Call, Step}
@@ -38,307 +37,297 @@ use Rattle.lk_locks.specs.Rooms.{family_of}
 use Rattle.lk_locks.proofs.invariants.McsSteps.{begins, call_fits, few_entries, goes_on}
 use Rattle.lk_locks.proofs.invariants.McsSteps.{keeps_length, links_fit, owed_is_own, step_fits}
 
--- the first of the queue is its head
-head_is : (q : List ℕ) (t : ℕ) (r : List ℕ) → q ≡ t ∷ r → is_head q t ≡ true
-head_is q t r e = rw e (eq-eqb t t refl)
-
--- the head goes on, and changes nothing but its phase
-goes_inside : (ws : List ℕ) (ps : List Phase) (q : List ℕ) (t : ℕ) (p : Phase)
-    (i : IsHeadOf ws ps q t) → t < length ps → IsFirst ws t i.rest p → IsQueue ws ps q
-    → IsQueue ws (set ps t p) q
-goes_inside ws ps q t p i h f a = rw i.is (mcs_head ws ps i.rest t p h f (rw i.is at a))
-
--- a linked head may be in AwaitLink only if it has a successor
-not_alone : (ws : List ℕ) (ps : List Phase) (q : List ℕ) (t : ℕ) (r : List ℕ) → q ≡ t ∷ r
-    → IsQueue ws ps q → slice_index ws 0 ≢ t + 1 → r ≢ []
-not_alone ws ps q t [] e k n = absurd (n (k.tail_is ∙ ap tail_of e))
-not_alone ws ps q t (x ∷ r) e k n = λ d. cc
-
--- if the tail names the head, nobody else is in the queue: so the compare-and-swap may clear it
-alone : (ws : List ℕ) (ps : List Phase) (q : List ℕ) (t : ℕ) (r : List ℕ) → q ≡ t ∷ r
-    → IsQueue ws ps q → slice_index ws 0 ≡ t + 1 → r ≡ []
-alone ws ps q t [] e k n = refl
-alone ws ps q t (x ∷ r) e k n =
-    let l : last_of x r ≡ t =
-    (let g : slice_index ws 0 ≡ last_of x r + 1 = k.tail_is ∙ ap tail_of e in omega arith) in
-    let o : has (x ∷ r) t ≡ false = (let g : EachOnce (t ∷ x ∷ r) = rw e at k.once in g.0) in
-    absurd (false≢true (sym o ∙ ap (has (x ∷ r)) (sym l) ∙ last_member x r))
-
--- a swap
-swapped : (ws : List ℕ) (ps : List Phase) (q : List ℕ) (t : ℕ) → t < length ps → 0 < length ws
-    → has q t ≡ false → next_of ws t ≡ 0 → slice_index ws 0 ≢ 0 → IsQueue ws ps q
-    → IsQueue (set ws 0 (t + 1)) (set ps t (SetLocked (slice_index ws 0 - 1))) (q ++ t ∷ [])
-swapped ws ps [] t h w o n z k = absurd (z k.tail_is)
-swapped ws ps (x ∷ q) t h w o n z k =
-    mcs_more ws ps x t (slice_index ws 0 - 1) q h w o n
-    (let g : slice_index ws 0 ≡ last_of x q + 1 = k.tail_is in omega arith) k
-
--- if the tail names nobody, the queue is empty: so a swap that finds nobody enters at once
-empty_of : (ws : List ℕ) (ps : List Phase) (q : List ℕ) → slice_index ws 0 ≡ 0 → IsQueue ws ps q
-    → q ≡ []
-empty_of ws ps [] z k = refl
-empty_of ws ps (x ∷ q) z k =
-    let g : slice_index ws 0 ≡ last_of x q + 1 = k.tail_is in absurd (omega arith)
-
--- a first one whose next word is written by its successor
-relinked : (ws vs : List ℕ) (h : ℕ) (r : List ℕ) (p : Phase) → next_of ws h ≡ 0
-    → locked_of vs h ≡ locked_of ws h → IsFirst ws h r p → IsFirst vs h r p
-relinked ws vs h r AwaitGrant n l f = l ∙ f
-relinked ws vs h r (Grant j) n l f = absurd (omega (arith, n, f.1))
-relinked ws vs h r McsInside n l f = tt
-relinked ws vs h r ReadNext n l f = tt
-relinked ws vs h r CasTail n l f = tt
-relinked ws vs h r AwaitLink n l f = f
-relinked ws vs h r p n l f = absurd f
-
--- the first may set out to release, or go on
-first_of_head : (ws : List ℕ) (ps : List Phase) (q : List ℕ) (t : ℕ) (p : Phase)
-    → phase_at ps t ≡ p → (IsOutside ws t p → ⊥) → ((v : ℕ) → IsBehind ws v t p → ⊥)
-    → IsQueue ws ps q → IsHeadOf ws ps q t
-first_of_head ws ps q t p e o b k =
-    head_of ws ps q t k (λ x. o (rw e at x)) (λ v x. b v (rw e at x))
-
 -- each move keeps the queue, and its entries may come
 keeps : (bits : ℕ) (ws : List ℕ) (ps : List Phase) (q : Sequential) (t : ℕ) (p : Phase)
     (m : Move) → IsTaken Mcs bits ws ps q t p m
-    → let c : Change =
-    move_change Mcs bits ws t p m in IsAgreed Mcs (λ r. IsQueue c.words
-    (set ps t c.phase) r.queue) q (move_entries Mcs t p m c.outcome)
+    → let change : Change =
+    move_change Mcs bits ws t p m in IsAgreed Mcs (λ lock. IsQueue change.words
+    (set ps t change.phase) lock.queue) q (move_entries Mcs t p m change.outcome)
 keeps bits ws ps q t Idle (Call Acquire) given =
-    let h : t < length ps = given.thread in
-    let e : phase_at ps t ≡ Idle = given.phase_is in
-    let a : IsQueue ws ps q.queue = given.agrees in
-    let o : has q.queue t ≡ false =
-    not_member ws ps q.queue t a (λ r x. rw e at x) (λ v x. rw e at x) in
+    let in_lock : t < length ps = given.thread in
+    let was : phase_at ps t ≡ Idle = given.phase_is in
+    let agreed : IsQueue ws ps q.queue = given.agrees in
+    let not_queued : has q.queue t ≡ false =
+    not_member ws ps q.queue t agreed (λ rest first. rw was at first)
+    (λ before after. rw was at after) in
     record {
       allowed = (tt, tt);
       kind_is = given.kind_is;
-      agrees = mcs_out ws ws ps q.queue t ClearNext h o refl (λ v d. refl) (λ v. refl) tt a;
+      agrees =
+          mcs_out ws ws ps q.queue t ClearNext in_lock not_queued refl (λ other differs. refl)
+          (λ other. refl) tt agreed;
     }
 keeps bits ws ps q t McsInside (Call Release) given =
-    let h : t < length ps = given.thread in
-    let e : phase_at ps t ≡ McsInside = given.phase_is in
-    let a : IsQueue ws ps q.queue = given.agrees in
-    let i : IsHeadOf ws ps q.queue t =
-    first_of_head ws ps q.queue t McsInside e (λ x. x) (λ v x. x) a in
+    let in_lock : t < length ps = given.thread in
+    let was : phase_at ps t ≡ McsInside = given.phase_is in
+    let agreed : IsQueue ws ps q.queue = given.agrees in
+    let at_head : IsHeadOf ws ps q.queue t =
+    first_of_head ws ps q.queue t McsInside was (λ outside. outside) (λ before after. after)
+    agreed in
     record {
       allowed = (tt, tt);
       kind_is = given.kind_is;
-      agrees = goes_inside ws ps q.queue t ReadNext i h tt a;
+      agrees = goes_inside ws ps q.queue t ReadNext at_head in_lock tt agreed;
     }
-keeps bits ws ps q t ClearNext (Step s) given =
-    let h : t < length ps = given.thread in
-    let w : 1 + 2 * length ps ≤ length ws = given.enough in
-    let e : phase_at ps t ≡ ClearNext = given.phase_is in
-    let a : IsQueue ws ps q.queue = given.agrees in
-    let o : has q.queue t ≡ false =
-    not_member ws ps q.queue t a (λ r x. rw e at x) (λ v x. rw e at x) in
+keeps bits ws ps q t ClearNext (Step kind) given =
+    let in_lock : t < length ps = given.thread in
+    let enough : 1 + 2 * length ps ≤ length ws = given.enough in
+    let was : phase_at ps t ≡ ClearNext = given.phase_is in
+    let agreed : IsQueue ws ps q.queue = given.agrees in
+    let not_queued : has q.queue t ≡ false =
+    not_member ws ps q.queue t agreed (λ rest first. rw was at first)
+    (λ before after. rw was at after) in
     record {
       allowed = tt;
       kind_is = given.kind_is;
       agrees =
-          mcs_out ws (set ws (next t) 0) ps q.queue t SwapTail h o
-          (tail_after ws (next t) 0 (omega arith)) (λ v d. next_after_next ws t v 0 d)
-          (λ v. locked_after_next ws t v 0) (get_or-set_same ws (next t) 0 0 (omega arith)) a;
+          mcs_out ws (set ws (next t) 0) ps q.queue t SwapTail in_lock not_queued
+          (tail_after ws (next t) 0 (omega arith))
+          (λ other differs. next_after_next ws t other 0 differs)
+          (λ other. locked_after_next ws t other 0)
+          (get_or-set_same ws (next t) 0 0 (omega arith)) agreed;
     }
-keeps bits ws ps q t SwapTail (Step s) given =
-    let h : t < length ps = given.thread in
-    let n : length ps ≤ 64 = given.few in
-    let w : 1 + 2 * length ps ≤ length ws = given.enough in
-    let e : phase_at ps t ≡ SwapTail = given.phase_is in
-    let a : IsQueue ws ps q.queue = given.agrees in
-    let o : has q.queue t ≡ false =
-    not_member ws ps q.queue t a (λ r x. rw e at x) (λ v x. rw e at x) in
-    let y : is_allowed q (Acted t Acquire)
-    ≡ true = allows_acquire q t (ap family_of given.kind_is) (omega arith) o in
-    let z : next_of ws t ≡ 0 = rw e at (a.others t o) in
+keeps bits ws ps q t SwapTail (Step kind) given =
+    let in_lock : t < length ps = given.thread in
+    let few : length ps ≤ 64 = given.few in
+    let enough : 1 + 2 * length ps ≤ length ws = given.enough in
+    let was : phase_at ps t ≡ SwapTail = given.phase_is in
+    let agreed : IsQueue ws ps q.queue = given.agrees in
+    let not_queued : has q.queue t ≡ false =
+    not_member ws ps q.queue t agreed (λ rest first. rw was at first)
+    (λ before after. rw was at after) in
+    let may_act : is_allowed q (Acted t Acquire)
+    ≡ true = allows_acquire q t (ap family_of given.kind_is) (omega arith) not_queued in
+    let no_next : next_of ws t ≡ 0 = rw was at (agreed.others t not_queued) in
     elim (eqb_tells (slice_index ws 0) 0) [
-      | inl d ↦
-          let g : q.queue ≡ [] = empty_of ws ps q.queue d.1 a in
-          rw d.0 (record {
-            allowed = (y, (rw g (eq-eqb t t refl), tt));
+      | inl (test, is_nil) ↦
+          let empty : q.queue ≡ [] = empty_of ws ps q.queue is_nil agreed in
+          rw test (record {
+            allowed = (may_act, (rw empty (eq-eqb t t refl), tt));
             kind_is = given.kind_is;
-            agrees = rw g (mcs_first ws ps t h (omega arith) z (rw g at a));
+            agrees =
+                rw empty (mcs_first ws ps t in_lock (omega arith) no_next (rw empty at agreed));
           })
-      | inr d ↦ rw d.0 (record {
-        allowed = (y, tt);
-        kind_is = given.kind_is;
-        agrees = swapped ws ps q.queue t h (omega arith) o z d.1 a;
-      })
-    ]
-keeps bits ws ps q t (SetLocked j) (Step s) given =
-    let h : t < length ps = given.thread in
-    let w : 1 + 2 * length ps ≤ length ws = given.enough in
-    let e : phase_at ps t ≡ SetLocked j = given.phase_is in
-    let f : j < length ps = given.fits in
-    let a : IsQueue ws ps q.queue = given.agrees in
-    elim (place ws ps q.queue t a.line (member_of ws ps q.queue t a (λ x. rw e at x))) [
-      | inl i ↦ absurd (let x : IsFirst ws t i.rest (SetLocked j) = rw e at i.first in x)
-      | inr i ↦ record {
-        allowed = tt;
+      | inr (test, not_nil) ↦ rw test (record {
+        allowed = (may_act, tt);
         kind_is = given.kind_is;
         agrees =
-            mcs_later ws (set ws (locked t) 1) ps q.queue t j (LinkTo j) h i.0
-            (tail_after ws (locked t) 1 (omega arith))
-            (λ v x. let g : IsBehind ws v t
-            (SetLocked j) = rw e at x in (
-              sym g.0,
-              (
-                g.0,
-                next_after_locked ws t v 1 ∙ g.1,
-                get_or-set_same ws (locked t) 1 0
-                    (omega arith),
-              ),
-            ))
-            (λ v d. next_after_locked ws t v 1) (λ v d. locked_after_locked ws t v 1 d)
-            (λ x r d g. first_frame ws (set ws (locked t) 1) x r (phase_at ps x)
-            (next_after_locked ws t x 1) (locked_after_locked ws t x 1 d) g)
-            a;
-      }
+            swapped ws ps q.queue t in_lock (omega arith) not_queued no_next not_nil agreed;
+      })
     ]
-keeps bits ws ps q t (LinkTo j) (Step s) given =
-    let h : t < length ps = given.thread in
-    let w : 1 + 2 * length ps ≤ length ws = given.enough in
-    let e : phase_at ps t ≡ LinkTo j = given.phase_is in
-    let f : j < length ps = given.fits in
-    let a : IsQueue ws ps q.queue = given.agrees in
-    elim (place ws ps q.queue t a.line (member_of ws ps q.queue t a (λ x. rw e at x))) [
-      | inl i ↦ absurd (let x : IsFirst ws t i.rest (LinkTo j) = rw e at i.first in x)
-      | inr i ↦
-          let c : IsBehind ws i.1.0 t (LinkTo j) = rw e at i.1.1 in
-          let zero : next_of ws j ≡ 0 = ap (next_of ws) c.0 ∙ c.1 in
+keeps bits ws ps q t (SetLocked predecessor) (Step kind) given =
+    let in_lock : t < length ps = given.thread in
+    let enough : 1 + 2 * length ps ≤ length ws = given.enough in
+    let was : phase_at ps t ≡ SetLocked predecessor = given.phase_is in
+    let fits : predecessor < length ps = given.fits in
+    let agreed : IsQueue ws ps q.queue = given.agrees in
+    elim
+    (place ws ps q.queue t agreed.line
+    (member_of ws ps q.queue t agreed (λ outside. rw was at outside))) [
+      | inl at_head ↦
+          absurd
+          (let first : IsFirst ws t at_head.rest (SetLocked predecessor) =
+          rw was at at_head.first in first)
+      | inr (in_rest, (one, after)) ↦
           record {
             allowed = tt;
             kind_is = given.kind_is;
             agrees =
-                mcs_later ws (set ws (next j) (t + 1)) ps q.queue t j AwaitGrant h i.0
-                (tail_after ws (next j) (t + 1) (omega arith))
-                (λ v x. let g : IsBehind ws v t
-                (LinkTo j) = rw e at x in (
-                  sym g.0,
+                mcs_later ws (set ws (locked t) 1) ps q.queue t predecessor (LinkTo predecessor)
+                in_lock in_rest (tail_after ws (locked t) 1 (omega arith))
+                (λ before after.
+                let after_it : IsBehind ws before t (SetLocked predecessor) = rw was at after in
+                let (knows, no_next) = after_it in (
+                  sym knows,
                   (
-                    rw (← g.0)
-                        (get_or-set_same ws (next j) (t + 1) 0
-                        (omega arith)),
-                    locked_after_next ws j t (t + 1) ∙ g.2,
+                    knows,
+                    next_after_locked ws t before 1 ∙ no_next,
+                    get_or-set_same ws (locked t) 1 0 (omega arith),
                   ),
                 ))
-                (λ v d. next_after_next ws j v (t + 1) d) (λ v d. locked_after_next ws j v (t + 1))
-                (λ x r d g. elim (eqb_tells x j) [
-                  | inl u ↦
-                      relinked ws (set ws (next j) (t + 1)) x r (phase_at ps x)
-                      (ap (next_of ws) u.1 ∙ zero) (locked_after_next ws j x (t + 1)) g
-                  | inr u ↦
-                      first_frame ws (set ws (next j) (t + 1)) x r (phase_at ps x)
-                      (next_after_next ws j x (t + 1) u.1) (locked_after_next ws j x (t + 1)) g
-                ]) a;
+                (λ other differs. next_after_locked ws t other 1)
+                (λ other differs. locked_after_locked ws t other 1 differs)
+                (λ head rest differs first.
+                first_frame ws (set ws (locked t) 1) head rest (phase_at ps head)
+                (next_after_locked ws t head 1) (locked_after_locked ws t head 1 differs) first)
+                agreed;
           }
     ]
-keeps bits ws ps q t AwaitGrant (Step s) given =
-    let h : t < length ps = given.thread in
-    let w : 1 + 2 * length ps ≤ length ws = given.enough in
-    let e : phase_at ps t ≡ AwaitGrant = given.phase_is in
-    let a : IsQueue ws ps q.queue = given.agrees in
+keeps bits ws ps q t (LinkTo predecessor) (Step kind) given =
+    let in_lock : t < length ps = given.thread in
+    let enough : 1 + 2 * length ps ≤ length ws = given.enough in
+    let was : phase_at ps t ≡ LinkTo predecessor = given.phase_is in
+    let fits : predecessor < length ps = given.fits in
+    let agreed : IsQueue ws ps q.queue = given.agrees in
+    elim
+    (place ws ps q.queue t agreed.line
+    (member_of ws ps q.queue t agreed (λ outside. rw was at outside))) [
+      | inl at_head ↦
+          absurd
+          (let first : IsFirst ws t at_head.rest (LinkTo predecessor) =
+          rw was at at_head.first in first)
+      | inr (in_rest, (one, after)) ↦
+          let after_one : IsBehind ws one t (LinkTo predecessor) = rw was at after in
+          let (knows_one, one_nil, one_locks) = after_one in
+          let no_next : next_of ws predecessor ≡ 0 = ap (next_of ws) knows_one ∙ one_nil in
+          record {
+            allowed = tt;
+            kind_is = given.kind_is;
+            agrees =
+                mcs_later ws (set ws (next predecessor) (t + 1)) ps q.queue t predecessor AwaitGrant
+                in_lock in_rest (tail_after ws (next predecessor) (t + 1) (omega arith))
+                (λ before after.
+                let after_it : IsBehind ws before t (LinkTo predecessor) = rw was at after in
+                let (knows, was_nil, locks) = after_it in (
+                  sym knows,
+                  (
+                    rw (← knows)
+                        (get_or-set_same ws (next predecessor) (t + 1) 0 (omega arith)),
+                    locked_after_next ws predecessor t (t + 1) ∙ locks,
+                  ),
+                ))
+                (λ other differs. next_after_next ws predecessor other (t + 1) differs)
+                (λ other differs. locked_after_next ws predecessor other (t + 1))
+                (λ head rest differs first. elim (eqb_tells head predecessor) [
+                  | inl (_, same) ↦
+                      relinked ws (set ws (next predecessor) (t + 1)) head rest (phase_at ps head)
+                      (ap (next_of ws) same ∙ no_next)
+                      (locked_after_next ws predecessor head (t + 1)) first
+                  | inr (_, other) ↦
+                      first_frame ws (set ws (next predecessor) (t + 1)) head rest
+                      (phase_at ps head) (next_after_next ws predecessor head (t + 1) other)
+                      (locked_after_next ws predecessor head (t + 1)) first
+                ]) agreed;
+          }
+    ]
+keeps bits ws ps q t AwaitGrant (Step kind) given =
+    let in_lock : t < length ps = given.thread in
+    let enough : 1 + 2 * length ps ≤ length ws = given.enough in
+    let was : phase_at ps t ≡ AwaitGrant = given.phase_is in
+    let agreed : IsQueue ws ps q.queue = given.agrees in
     elim (eqb_tells (locked_of ws t) 0) [
-      | inl d ↦ rw d.0 (elim
-          (place ws ps q.queue t a.line (member_of ws ps q.queue t a (λ x. rw e at x))) [
-            | inl i ↦
+      | inl (test, granted) ↦ rw test (elim
+          (place ws ps q.queue t agreed.line
+          (member_of ws ps q.queue t agreed (λ outside. rw was at outside))) [
+            | inl at_head ↦
                 record {
-                  allowed = (head_is q.queue t i.rest i.is, tt);
+                  allowed = (head_is q.queue t at_head.rest at_head.is, tt);
                   kind_is = given.kind_is;
-                  agrees = goes_inside ws ps q.queue t McsInside i h tt a;
+                  agrees = goes_inside ws ps q.queue t McsInside at_head in_lock tt agreed;
                 }
-            | inr i ↦
-                let g : IsBehind ws i.1.0 t AwaitGrant = rw e at i.1.1 in absurd (omega
-                (arith, g.1, d.1))
+            | inr (in_rest, (before, after)) ↦
+                let after_it : IsBehind ws before t AwaitGrant = rw was at after in
+                let (linked, locks) = after_it in
+                absurd (omega (arith, locks, granted))
           ])
-      | inr d ↦ rw d.0 (waits Mcs (λ x r. IsQueue ws x r.queue) ps q t AwaitGrant e given.kind_is a)
+      | inr (test, _) ↦
+          rw test
+          (waits Mcs (λ phases lock. IsQueue ws phases lock.queue) ps q t AwaitGrant was
+          given.kind_is agreed)
     ]
-keeps bits ws ps q t ReadNext (Step s) given =
-    let h : t < length ps = given.thread in
-    let w : 1 + 2 * length ps ≤ length ws = given.enough in
-    let e : phase_at ps t ≡ ReadNext = given.phase_is in
-    let a : IsQueue ws ps q.queue = given.agrees in
-    let i : IsHeadOf ws ps q.queue t =
-    first_of_head ws ps q.queue t ReadNext e (λ x. x) (λ v x. x) a in
+keeps bits ws ps q t ReadNext (Step kind) given =
+    let in_lock : t < length ps = given.thread in
+    let enough : 1 + 2 * length ps ≤ length ws = given.enough in
+    let was : phase_at ps t ≡ ReadNext = given.phase_is in
+    let agreed : IsQueue ws ps q.queue = given.agrees in
+    let at_head : IsHeadOf ws ps q.queue t =
+    first_of_head ws ps q.queue t ReadNext was (λ outside. outside) (λ before after. after)
+    agreed in
     elim (eqb_tells (next_of ws t) 0) [
-      | inl d ↦
-          rw d.0
+      | inl (test, _) ↦
+          rw test
           (record {
             allowed = tt;
             kind_is = given.kind_is;
-            agrees = goes_inside ws ps q.queue t CasTail i h tt a;
+            agrees = goes_inside ws ps q.queue t CasTail at_head in_lock tt agreed;
           })
-      | inr d ↦
-          rw d.0
+      | inr (test, linked) ↦
+          rw test
           (record {
             allowed = tt;
             kind_is = given.kind_is;
-            agrees = goes_inside ws ps q.queue t (Grant
-                (next_of ws t - 1)) i h (second ws ps t i.rest i.later d.1, omega (arith, d.1)) a;
+            agrees =
+                goes_inside ws ps q.queue t (Grant (next_of ws t - 1)) at_head in_lock
+                (second ws ps t at_head.rest at_head.later linked, omega (arith, linked))
+                agreed;
           })
     ]
-keeps bits ws ps q t CasTail (Step s) given =
-    let h : t < length ps = given.thread in
-    let n : length ps ≤ 64 = given.few in
-    let w : 1 + 2 * length ps ≤ length ws = given.enough in
-    let e : phase_at ps t ≡ CasTail = given.phase_is in
-    let a : IsQueue ws ps q.queue = given.agrees in
-    let i : IsHeadOf ws ps q.queue t =
-    first_of_head ws ps q.queue t CasTail e (λ x. x) (λ v x. x) a in
-    let y : is_allowed q (Acted t Release) ≡ true =
-    allows_release q t (ap family_of given.kind_is) (omega arith) (head_is q.queue t i.rest i.is) in
+keeps bits ws ps q t CasTail (Step kind) given =
+    let in_lock : t < length ps = given.thread in
+    let few : length ps ≤ 64 = given.few in
+    let enough : 1 + 2 * length ps ≤ length ws = given.enough in
+    let was : phase_at ps t ≡ CasTail = given.phase_is in
+    let agreed : IsQueue ws ps q.queue = given.agrees in
+    let at_head : IsHeadOf ws ps q.queue t =
+    first_of_head ws ps q.queue t CasTail was (λ outside. outside) (λ before after. after)
+    agreed in
+    let may_act : is_allowed q (Acted t Release) ≡ true =
+    allows_release q t (ap family_of given.kind_is) (omega arith)
+    (head_is q.queue t at_head.rest at_head.is) in
     elim (eqb_tells (slice_index ws 0) (t + 1)) [
-      | inl d ↦
-          let g : i.rest ≡ [] = alone ws ps q.queue t i.rest i.is a d.1 in
-          let x : q.queue ≡ t ∷ [] = i.is ∙ ap (λ z. t ∷ z) g in
-          rw d.0 (record {
-            allowed = (y, (tt, tt));
+      | inl (test, own_tail) ↦
+          let no_other : at_head.rest ≡ [] =
+          alone ws ps q.queue t at_head.rest at_head.is agreed own_tail in
+          let one : q.queue ≡ t ∷ [] = at_head.is ∙ ap (λ rest. t ∷ rest) no_other in
+          rw test (record {
+            allowed = (may_act, (tt, tt));
             kind_is = given.kind_is;
-            agrees = rw x (mcs_last ws ps t h (omega arith) (rw x at a));
+            agrees = rw one (mcs_last ws ps t in_lock (omega arith) (rw one at agreed));
           })
-      | inr d ↦
-          rw d.0
+      | inr (test, other_tail) ↦
+          rw test
           (record {
             allowed = tt;
             kind_is = given.kind_is;
-            agrees = goes_inside ws ps q.queue t AwaitLink i h (not_alone ws ps q.queue t i.rest
-                i.is a d.1) a;
+            agrees =
+                goes_inside ws ps q.queue t AwaitLink at_head in_lock
+                (not_alone ws ps q.queue t at_head.rest at_head.is agreed other_tail) agreed;
           })
     ]
-keeps bits ws ps q t AwaitLink (Step s) given =
-    let h : t < length ps = given.thread in
-    let w : 1 + 2 * length ps ≤ length ws = given.enough in
-    let e : phase_at ps t ≡ AwaitLink = given.phase_is in
-    let a : IsQueue ws ps q.queue = given.agrees in
-    let i : IsHeadOf ws ps q.queue t =
-    first_of_head ws ps q.queue t AwaitLink e (λ x. x) (λ v x. x) a in
+keeps bits ws ps q t AwaitLink (Step kind) given =
+    let in_lock : t < length ps = given.thread in
+    let enough : 1 + 2 * length ps ≤ length ws = given.enough in
+    let was : phase_at ps t ≡ AwaitLink = given.phase_is in
+    let agreed : IsQueue ws ps q.queue = given.agrees in
+    let at_head : IsHeadOf ws ps q.queue t =
+    first_of_head ws ps q.queue t AwaitLink was (λ outside. outside) (λ before after. after)
+    agreed in
     elim (eqb_tells (next_of ws t) 0) [
-      | inl d ↦ rw d.0 (waits Mcs (λ x r. IsQueue ws x r.queue) ps q t AwaitLink e given.kind_is a)
-      | inr d ↦
-          rw d.0
+      | inl (test, _) ↦
+          rw test
+          (waits Mcs (λ phases lock. IsQueue ws phases lock.queue) ps q t AwaitLink was
+          given.kind_is agreed)
+      | inr (test, linked) ↦
+          rw test
           (record {
             allowed = tt;
             kind_is = given.kind_is;
-            agrees = goes_inside ws ps q.queue t (Grant
-                (next_of ws t - 1)) i h (second ws ps t i.rest i.later d.1, omega (arith, d.1)) a;
+            agrees =
+                goes_inside ws ps q.queue t (Grant (next_of ws t - 1)) at_head in_lock
+                (second ws ps t at_head.rest at_head.later linked, omega (arith, linked))
+                agreed;
           })
     ]
-keeps bits ws ps q t (Grant j) (Step s) given =
-    let h : t < length ps = given.thread in
-    let n : length ps ≤ 64 = given.few in
-    let w : 1 + 2 * length ps ≤ length ws = given.enough in
-    let e : phase_at ps t ≡ Grant j = given.phase_is in
-    let f : j < length ps = given.fits in
-    let a : IsQueue ws ps q.queue = given.agrees in
-    let i : IsHeadOf ws ps q.queue t =
-    first_of_head ws ps q.queue t (Grant j) e (λ x. x) (λ v x. x) a in
-    let y : is_allowed q (Acted t Release) ≡ true =
-    allows_release q t (ap family_of given.kind_is) (omega arith) (head_is q.queue t i.rest i.is) in
+keeps bits ws ps q t (Grant successor) (Step kind) given =
+    let in_lock : t < length ps = given.thread in
+    let few : length ps ≤ 64 = given.few in
+    let enough : 1 + 2 * length ps ≤ length ws = given.enough in
+    let was : phase_at ps t ≡ Grant successor = given.phase_is in
+    let fits : successor < length ps = given.fits in
+    let agreed : IsQueue ws ps q.queue = given.agrees in
+    let at_head : IsHeadOf ws ps q.queue t =
+    first_of_head ws ps q.queue t (Grant successor) was (λ outside. outside)
+    (λ before after. after) agreed in
+    let may_act : is_allowed q (Acted t Release) ≡ true =
+    allows_release q t (ap family_of given.kind_is) (omega arith)
+    (head_is q.queue t at_head.rest at_head.is) in
     record {
-      allowed = (y, (tt, tt));
+      allowed = (may_act, (tt, tt));
       kind_is = given.kind_is;
-      agrees = rw i.is (mcs_grant ws ps i.rest t j h (omega arith) e (rw i.is at a));
+      agrees =
+          rw at_head.is
+          (mcs_grant ws ps at_head.rest t successor in_lock (omega arith) was
+          (rw at_head.is at agreed));
     }
 keeps bits ws ps q t p m given =
     let fits = given.fits in let own = given.own in let not_refused = given.not_refused in cc
@@ -346,12 +335,12 @@ keeps bits ws ps q t p m given =
 -- at the start the words are clear and all threads idle
 starts : (bits : ℕ) (ws : List ℕ) (n : ℕ) → n < 2 ^ bits → ((i : ℕ) → slice_index ws i ≡ 0)
     → AgreeAs Mcs (start Mcs bits ws n) (nobody Mcs)
-starts bits ws n h z = record {
-  tail_is = z 0;
+starts bits ws n few clear = record {
+  tail_is = clear 0;
   line = tt;
   once = tt;
-  members = λ t m. absurd (false≢true m);
-  others = λ t m. rw (all_idle n t) tt;
+  members = λ t queued. absurd (false≢true queued);
+  others = λ t not_queued. rw (all_idle n t) tt;
 }
 
 -- all that the other proofs use of the MCS lock
@@ -366,7 +355,8 @@ room = record {
   idle_fits = λ n. tt;
   call_fits = call_fits;
   step_fits = step_fits;
-  clear_links = λ n ws z. (omega (arith, z 0), λ i k. omega (arith, z (1 + 2 * i)));
+  clear_links =
+      λ n ws clear. (omega (arith, clear 0), λ thread below. omega (arith, clear (1 + 2 * thread)));
   links_fit = links_fit;
   starts = starts;
   keeps = keeps;

@@ -38,157 +38,168 @@ use Rattle.lk_locks.proofs.Requests.{allows_acquire, allows_release}
 
 -- each step adds the next entries of the pending call
 goes_on : (bits t : ℕ) (ws : List ℕ) (p : Phase) → GoesOn Ticket t p (step bits ws p)
-goes_on bits t ws (AwaitTurn x) =
-    either_way (GoesOn Ticket t (AwaitTurn x)) (slice_index ws now_serving == x) _ _ refl refl
+goes_on bits t ws (AwaitTurn ticket) =
+    either_way (GoesOn Ticket t (AwaitTurn ticket)) (slice_index ws now_serving == ticket) _ _ refl
+    refl
 goes_on bits t ws p = refl
 
 -- a call begins when the one before it is finished
 begins : (n t : ℕ) (p : Phase) (op : Op) → IsPhaseOf Ticket n p → has_op Queue op ≡ true
     → refusal_in Ticket p (Call op) ≡ None
     → Begins Ticket t p op
-begins n t Idle Acquire f h r = (refl, refl)
-begins n t (TicketInside x) Release f h r = (refl, refl)
-begins n t p op f h r = cc
+begins n t Idle Acquire fits own not_refused = (refl, refl)
+begins n t (TicketInside ticket) Release fits own not_refused = (refl, refl)
+begins n t p op fits own not_refused = cc
 
 -- what is left of a call is of its thread
 owed_is_own : (t : ℕ) (p : Phase) → AreOf t (owed t p)
 owed_is_own t p = search rules
 
 -- no step adds more than three entries
-few_entries : (t : ℕ) (p : Phase) (o : Outcome) → length (entries t p o) ≤ 3
+few_entries : (t : ℕ) (p : Phase) (outcome : Outcome) → length (entries t p outcome) ≤ 3
 few_entries t TakeTicket Moved = omega arith
-few_entries t (AwaitTurn x) Entered = omega arith
-few_entries t (PassOn x) Left = omega arith
-few_entries t p o = omega arith
+few_entries t (AwaitTurn ticket) Entered = omega arith
+few_entries t (PassOn ticket) Left = omega arith
+few_entries t p outcome = omega arith
 
 -- no step changes how many words there are
 keeps_length : (bits t : ℕ) (ws : List ℕ) (p : Phase) → KeepsLength ws (step bits ws p)
 keeps_length bits t ws TakeTicket = length-set _ _ _
-keeps_length bits t ws (PassOn v) = length-set _ _ _
-keeps_length bits t ws (AwaitTurn x) =
-    either_way (KeepsLength ws) (slice_index ws now_serving == x) _ _ refl refl
+keeps_length bits t ws (PassOn ticket) = length-set _ _ _
+keeps_length bits t ws (AwaitTurn ticket) =
+    either_way (KeepsLength ws) (slice_index ws now_serving == ticket) _ _ refl refl
 keeps_length bits t ws p = refl
 
 -- the new phase is one of the lock's
 step_fits : (n bits t : ℕ) (ws : List ℕ) (p : Phase) → t < n → IsPhaseOf Ticket n p
     → AreLinks Ticket n ws → Fits Ticket n (step bits ws p)
-step_fits n bits t ws (AwaitTurn x) h f l =
-    either_way (Fits Ticket n) (slice_index ws now_serving == x) _ _ refl refl
-step_fits n bits t ws TakeTicket h f l = refl
-step_fits n bits t ws (ReadServing x) h f l = refl
-step_fits n bits t ws (PassOn x) h f l = refl
-step_fits n bits t ws p h f l = f
+step_fits n bits t ws (AwaitTurn ticket) in_lock fits links =
+    either_way (Fits Ticket n) (slice_index ws now_serving == ticket) _ _ refl refl
+step_fits n bits t ws TakeTicket in_lock fits links = refl
+step_fits n bits t ws (ReadServing ticket) in_lock fits links = refl
+step_fits n bits t ws (PassOn ticket) in_lock fits links = refl
+step_fits n bits t ws p in_lock fits links = fits
 
 -- a call puts its thread into a phase of the ticket lock
 call_fits : (n : ℕ) (p : Phase) (op : Op) → IsPhaseOf Ticket n p
     → IsPhaseOf Ticket n (unwrap_or (after_call Ticket p op) p)
-call_fits n Idle Acquire f = refl
-call_fits n (TicketInside t) Release f = refl
-call_fits n p op f = f
+call_fits n Idle Acquire fits = refl
+call_fits n (TicketInside ticket) Release fits = refl
+call_fits n p op fits = fits
 
 -- who is not in the queue is not among those after its head
 rest_false : (q : List ℕ) (t : ℕ) → has q t ≡ false → has (drop 1 q) t ≡ false
-rest_false [] t h = refl
-rest_false (u ∷ q) t h = elim (bool_tells (has q t)) [
-  | inl e ↦ elim (bool_tells (eqb t u)) [
-    | inl d ↦ let g : has (u ∷ q) t ≡ false = h in absurd (false≢true (sym (rw d at g)))
-    | inr d ↦ let g : has (u ∷ q) t ≡ false = h in rw d at g
+rest_false [] t not_queued = refl
+rest_false (head ∷ rest) t not_queued = elim (bool_tells (has rest t)) [
+  | inl later ↦ elim (bool_tells (eqb t head)) [
+    | inl same ↦
+        let absent : has (head ∷ rest) t ≡ false = not_queued in
+        absurd (false≢true (sym (rw same at absent)))
+    | inr other ↦ let absent : has (head ∷ rest) t ≡ false = not_queued in rw other at absent
   ]
-  | inr e ↦ e
+  | inr not_later ↦ not_later
 ]
 
 -- each move keeps the queue, and its entries may come
 keeps : (bits : ℕ) (ws : List ℕ) (ps : List Phase) (q : Sequential) (t : ℕ) (p : Phase)
     (m : Move) → IsTaken Ticket bits ws ps q t p m
-    → let c : Change =
-    move_change Ticket bits ws t p m in IsAgreed Ticket (λ r. IsQueue bits c.words
-    (set ps t c.phase) r.queue) q (move_entries Ticket t p m c.outcome)
+    → let change : Change =
+    move_change Ticket bits ws t p m in IsAgreed Ticket (λ lock. IsQueue bits change.words
+    (set ps t change.phase) lock.queue) q (move_entries Ticket t p m change.outcome)
 keeps bits ws ps q t Idle (Call Acquire) given =
-    let h : t < length ps = given.thread in
-    let e : phase_at ps t ≡ Idle = given.phase_is in
-    let a : IsQueue bits ws ps q.queue = given.agrees in
+    let in_lock : t < length ps = given.thread in
+    let was : phase_at ps t ≡ Idle = given.phase_is in
+    let agreed : IsQueue bits ws ps q.queue = given.agrees in
     record {
       allowed = (tt, tt);
       kind_is = given.kind_is;
       agrees =
-          queue_frame bits ws ps q.queue t TakeTicket h (sym (ap ticket_of e))
-          (rest_false q.queue t (no_member bits ws ps q.queue t a (ap ticket_of e))) a;
+          queue_frame bits ws ps q.queue t TakeTicket in_lock (sym (ap ticket_of was))
+          (rest_false q.queue t (no_member bits ws ps q.queue t agreed (ap ticket_of was))) agreed;
     }
-keeps bits ws ps q t (TicketInside x) (Call Release) given =
-    let h : t < length ps = given.thread in
-    let e : phase_at ps t ≡ TicketInside x = given.phase_is in
-    let a : IsQueue bits ws ps q.queue = given.agrees in
+keeps bits ws ps q t (TicketInside ticket) (Call Release) given =
+    let in_lock : t < length ps = given.thread in
+    let was : phase_at ps t ≡ TicketInside ticket = given.phase_is in
+    let agreed : IsQueue bits ws ps q.queue = given.agrees in
     record {
       allowed = (tt, tt);
       kind_is = given.kind_is;
-      agrees = queue_frame bits ws ps q.queue t (ReadServing x) h (sym (ap ticket_of e))
-          (inside_is_head bits ws ps q.queue t x a (ap ticket_of e)
-          (λ y d. let g : TicketInside x ≡ AwaitTurn y = sym e ∙ d in cc)).alone
-          a;
+      agrees = queue_frame bits ws ps q.queue t (ReadServing ticket) in_lock
+          (sym (ap ticket_of was))
+          (inside_is_head bits ws ps q.queue t ticket agreed (ap ticket_of was)
+          (λ awaited same.
+          let two_phases : TicketInside ticket ≡ AwaitTurn awaited = sym was ∙ same in cc)).alone
+          agreed;
     }
-keeps bits ws ps q t TakeTicket (Step s) given =
-    let h : t < length ps = given.thread in
-    let n : length ps ≤ 64 = given.few in
-    let w : 2 ≤ length ws = given.enough in
-    let e : phase_at ps t ≡ TakeTicket = given.phase_is in
-    let a : IsQueue bits ws ps q.queue = given.agrees in
-    let o : has q.queue t ≡ false = no_member bits ws ps q.queue t a (ap ticket_of e) in
-    let y : is_allowed q (Acted t Acquire)
-    ≡ true = allows_acquire q t (ap family_of given.kind_is) (omega arith) o in
+keeps bits ws ps q t TakeTicket (Step kind) given =
+    let in_lock : t < length ps = given.thread in
+    let few : length ps ≤ 64 = given.few in
+    let two_words : 2 ≤ length ws = given.enough in
+    let was : phase_at ps t ≡ TakeTicket = given.phase_is in
+    let agreed : IsQueue bits ws ps q.queue = given.agrees in
+    let not_queued : has q.queue t ≡ false =
+    no_member bits ws ps q.queue t agreed (ap ticket_of was) in
+    let may_act : is_allowed q (Acted t Acquire)
+    ≡ true = allows_acquire q t (ap family_of given.kind_is) (omega arith) not_queued in
     record {
-      allowed = (y, tt);
+      allowed = (may_act, tt);
       kind_is = given.kind_is;
-      agrees = queue_take bits ws ps q.queue t h w (ap ticket_of e) a;
+      agrees = queue_take bits ws ps q.queue t in_lock two_words (ap ticket_of was) agreed;
     }
-keeps bits ws ps q t (AwaitTurn x) (Step s) given =
-    let h : t < length ps = given.thread in
-    let e : phase_at ps t ≡ AwaitTurn x = given.phase_is in
-    let a : IsQueue bits ws ps q.queue = given.agrees in
-    elim (eqb_tells (slice_index ws 1) x) [
-      | inl d ↦
-          let i : IsHead ws ps q.queue t (slice_index ws 1) =
-          served_is_head bits ws ps q.queue t a (e ∙ ap (λ y. AwaitTurn y) (sym d.1)) in
-          rw d.0 (record {
-            allowed = (i.head, tt);
+keeps bits ws ps q t (AwaitTurn ticket) (Step kind) given =
+    let in_lock : t < length ps = given.thread in
+    let was : phase_at ps t ≡ AwaitTurn ticket = given.phase_is in
+    let agreed : IsQueue bits ws ps q.queue = given.agrees in
+    elim (eqb_tells (slice_index ws 1) ticket) [
+      | inl (test, same) ↦
+          let at_head : IsHead ws ps q.queue t (slice_index ws 1) =
+          served_is_head bits ws ps q.queue t agreed
+          (was ∙ ap (λ number. AwaitTurn number) (sym same)) in
+          rw test (record {
+            allowed = (at_head.head, tt);
             kind_is = given.kind_is;
             agrees =
-                queue_frame bits ws ps q.queue t (TicketInside x) h (sym
-                (ap ticket_of e)) i.alone a;
+                queue_frame bits ws ps q.queue t (TicketInside ticket) in_lock (sym
+                (ap ticket_of was)) at_head.alone agreed;
           })
-      | inr d ↦
-          rw d.0
-          (waits Ticket (λ y r. IsQueue bits ws y r.queue) ps q t (AwaitTurn x) e
-          given.kind_is a)
+      | inr (test, _) ↦
+          rw test
+          (waits Ticket (λ phases lock. IsQueue bits ws phases lock.queue) ps q t
+          (AwaitTurn ticket) was given.kind_is agreed)
     ]
-keeps bits ws ps q t (ReadServing x) (Step s) given =
-    let h : t < length ps = given.thread in
-    let e : phase_at ps t ≡ ReadServing x = given.phase_is in
-    let a : IsQueue bits ws ps q.queue = given.agrees in
-    let i : IsHead ws ps q.queue t x =
-    inside_is_head bits ws ps q.queue t x a (ap ticket_of e) (λ y d. let g : ReadServing x
-    ≡ AwaitTurn y = sym e ∙ d in cc) in
+keeps bits ws ps q t (ReadServing ticket) (Step kind) given =
+    let in_lock : t < length ps = given.thread in
+    let was : phase_at ps t ≡ ReadServing ticket = given.phase_is in
+    let agreed : IsQueue bits ws ps q.queue = given.agrees in
+    let at_head : IsHead ws ps q.queue t ticket =
+    inside_is_head bits ws ps q.queue t ticket agreed (ap ticket_of was)
+    (λ awaited same.
+    let two_phases : ReadServing ticket ≡ AwaitTurn awaited = sym was ∙ same in cc) in
     record {
       allowed = tt;
       kind_is = given.kind_is;
       agrees =
-          queue_frame bits ws ps q.queue t (PassOn (slice_index ws 1)) h
-          (ap (λ y. Some y) (sym i.ticket) ∙ sym (ap ticket_of e)) i.alone a;
+          queue_frame bits ws ps q.queue t (PassOn (slice_index ws 1)) in_lock
+          (ap (λ number. Some number) (sym at_head.ticket) ∙ sym (ap ticket_of was)) at_head.alone
+          agreed;
     }
-keeps bits ws ps q t (PassOn x) (Step s) given =
-    let h : t < length ps = given.thread in
-    let n : length ps ≤ 64 = given.few in
-    let w : 2 ≤ length ws = given.enough in
-    let e : phase_at ps t ≡ PassOn x = given.phase_is in
-    let a : IsQueue bits ws ps q.queue = given.agrees in
-    let i : IsHead ws ps q.queue t x =
-    inside_is_head bits ws ps q.queue t x a (ap ticket_of e) (λ y d. let g : PassOn x
-    ≡ AwaitTurn y = sym e ∙ d in cc) in
-    let y : is_allowed q (Acted t Release)
-    ≡ true = allows_release q t (ap family_of given.kind_is) (omega arith) i.head in
+keeps bits ws ps q t (PassOn ticket) (Step kind) given =
+    let in_lock : t < length ps = given.thread in
+    let few : length ps ≤ 64 = given.few in
+    let two_words : 2 ≤ length ws = given.enough in
+    let was : phase_at ps t ≡ PassOn ticket = given.phase_is in
+    let agreed : IsQueue bits ws ps q.queue = given.agrees in
+    let at_head : IsHead ws ps q.queue t ticket =
+    inside_is_head bits ws ps q.queue t ticket agreed (ap ticket_of was)
+    (λ awaited same. let two_phases : PassOn ticket ≡ AwaitTurn awaited = sym was ∙ same in cc) in
+    let may_act : is_allowed q (Acted t Release)
+    ≡ true = allows_release q t (ap family_of given.kind_is) (omega arith) at_head.head in
     record {
-      allowed = (y, (tt, tt));
+      allowed = (may_act, (tt, tt));
       kind_is = given.kind_is;
-      agrees = rw i.ticket (queue_pass bits ws ps q.queue t h w i.head i.alone a);
+      agrees =
+          rw at_head.ticket
+          (queue_pass bits ws ps q.queue t in_lock two_words at_head.head at_head.alone agreed);
     }
 keeps bits ws ps q t p m given =
     let fits = given.fits in let own = given.own in let not_refused = given.not_refused in cc
@@ -196,14 +207,16 @@ keeps bits ws ps q t p m given =
 -- at the start the words are clear and all threads idle
 starts : (bits : ℕ) (ws : List ℕ) (n : ℕ) → n < 2 ^ bits → ((i : ℕ) → slice_index ws i ≡ 0)
     → AgreeAs Ticket (start Ticket bits ws n) (nobody Ticket)
-starts bits ws n h z = record {
-  narrow = rw (length-replicate n Idle) h;
-  serving = rw (z 1) (pow_pos bits);
+starts bits ws n few clear = record {
+  narrow = rw (length-replicate n Idle) few;
+  serving = rw (clear 1) (pow_pos bits);
   line = tt;
-  next = z 0 ∙ sym (ap (λ y. (y + 0) % 2 ^ bits) (z 1) ∙ mod-eq_of_lt (pow_pos bits));
+  next =
+      clear 0
+      ∙ sym (ap (λ served. (served + 0) % 2 ^ bits) (clear 1) ∙ mod-eq_of_lt (pow_pos bits));
   once = tt;
-  members = λ t m. absurd (false≢true m);
-  others = λ t m. ap ticket_of (all_idle n t);
+  members = λ t queued. absurd (false≢true queued);
+  others = λ t not_queued. ap ticket_of (all_idle n t);
 }
 
 -- all that the other proofs use of the ticket lock
@@ -218,8 +231,8 @@ room = record {
   idle_fits = λ n. refl;
   call_fits = call_fits;
   step_fits = step_fits;
-  clear_links = λ n ws z. tt;
-  links_fit = λ n bits t ws p h l. tt;
+  clear_links = λ n ws clear. tt;
+  links_fit = λ n bits t ws p in_lock links. tt;
   starts = starts;
   keeps = keeps;
 }
