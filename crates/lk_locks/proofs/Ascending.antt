@@ -4,13 +4,13 @@ use Rattle.std.specs.List.{AllByRecursion}
 use Rattle.std.proofs.lemmas.Bool.{ltb-true}
 use Rattle.std.proofs.lemmas.Bool.Decides.{nat_tests}
 use Rattle.lk_locks.specs.Sequential.{has, IsAscending, joined, left_by}
-use Rattle.lk_locks.proofs.Threads.{bool_tells, neither}
+use Rattle.lk_locks.proofs.Threads.{true_or_false, neither}
 
 -- what holds of all in the list and of one who joins holds of all after that
 all_joined : (Holds : ℕ → Type 0) (ts : List ℕ) (t : ℕ) → Holds t → AllByRecursion Holds ts
     → AllByRecursion Holds (joined ts t)
 all_joined Holds [] t holds all = (holds, tt)
-all_joined Holds (first ∷ ts) t holds (here, rest) = elim (bool_tells (nat_lt t first)) [
+all_joined Holds (first ∷ ts) t holds (here, rest) = elim (true_or_false (nat_lt t first)) [
   | inl smaller ↦ rw smaller (holds, (here, rest))
   | inr not_smaller ↦ rw not_smaller (here, all_joined Holds ts t holds rest)
 ]
@@ -19,7 +19,7 @@ all_joined Holds (first ∷ ts) t holds (here, rest) = elim (bool_tells (nat_lt 
 all_left : (Holds : ℕ → Type 0) (ts : List ℕ) (t : ℕ) → AllByRecursion Holds ts
     → AllByRecursion Holds (left_by ts t)
 all_left Holds [] t all = tt
-all_left Holds (first ∷ ts) t (here, rest) = elim (bool_tells (eqb t first)) [
+all_left Holds (first ∷ ts) t (here, rest) = elim (true_or_false (eqb t first)) [
   | inl leaves ↦ rw leaves rest
   | inr stays ↦ rw stays (here, all_left Holds ts t rest)
 ]
@@ -35,7 +35,7 @@ all_above t u (v ∷ ts) smaller (above, rest) =
 pub ascending_joined : (ts : List ℕ) (t : ℕ) → IsAscending ts → has ts t ≡ false
     → IsAscending (joined ts t)
 ascending_joined [] t ascending absent = (tt, tt)
-ascending_joined (first ∷ ts) t (above, ascending) absent = elim (bool_tells (nat_lt t first)) [
+ascending_joined (first ∷ ts) t (above, ascending) absent = elim (true_or_false (nat_lt t first)) [
   | inl smaller ↦
       let is_below : t < first = ltb-true t first smaller in
       rw smaller ((is_below, all_above t first ts is_below above), (above, ascending))
@@ -51,7 +51,7 @@ ascending_joined (first ∷ ts) t (above, ascending) absent = elim (bool_tells (
 -- the readers stay in ascending order if one leaves
 pub ascending_left : (ts : List ℕ) (t : ℕ) → IsAscending ts → IsAscending (left_by ts t)
 ascending_left [] t ascending = tt
-ascending_left (first ∷ ts) t (above, ascending) = elim (bool_tells (eqb t first)) [
+ascending_left (first ∷ ts) t (above, ascending) = elim (true_or_false (eqb t first)) [
   | inl leaves ↦ rw leaves ascending
   | inr stays ↦ rw stays (all_left (λ u. first < u) ts t above, ascending_left ts t ascending)
 ]

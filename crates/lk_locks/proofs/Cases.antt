@@ -6,11 +6,11 @@ use Rattle.std.specs.List.{AllByRecursion}
 use Rattle.lk_locks.specs.Change.{Change}
 use Rattle.lk_locks.specs.Entries.{move_entries}
 use Rattle.lk_locks.specs.Legal.{AreEnabled, after_entries, whole_call}
-use Rattle.lk_locks.specs.Rooms.{after_call, family_of, step_entries, step_of, word_count}
+use Rattle.lk_locks.specs.Locks.{after_call, family_of, step_entries, step_of, word_count}
 use Rattle.lk_locks.specs.Sequential.{Sequential, nobody, thread_of}
 use Rattle.lk_locks.specs.State.{State, phase_at, start}
 use Rattle.lk_locks.specs.Steps.{belongs, has_op, move_change, refusal_in}
-use Rattle.lk_locks.specs.invariants.Rooms.{AgreeAs, AreLinks, IsPhaseOf, owed_of}
+use Rattle.lk_locks.specs.invariants.Locks.{AgreeAs, AreLinks, IsPhaseOf, owed_of}
 use Rattle.lk_locks.specs.declared.kinds.Entry.{Entry}
 use Rattle.lk_locks.specs.declared.kinds.Entry.TheVariants.{Called}
 use Rattle.lk_locks.specs.declared.kinds.LockKind.{LockKind}
@@ -81,8 +81,8 @@ waits kind agree ps q t p was of_kind agreed = record {
   agrees = rw (sym was) (rw set-get_or agreed);
 }
 
--- What has to be proved of a lock. `EachRoom` has it of each.
-pub record IsRoom (kind : LockKind) : Type 0 where
+-- What has to be proved of a lock. `EachLock` has it of each.
+pub record LockProof (kind : LockKind) : Type 0 where
   -- each step adds the next entries of the pending call
   pub goes_on : (bits t : ℕ) (ws : List ℕ) (p : Phase) → GoesOn kind t p (step_of kind bits ws t p)
   -- a call begins when the one before it is finished

@@ -8,14 +8,14 @@ use Rattle.lk_locks.specs.Steps.{belongs}
 use Rattle.lk_locks.specs.Entries.{move_entries, entries_of}
 use Rattle.lk_locks.specs.Sequential.{Sequential, thread_of}
 use Rattle.lk_locks.specs.Legal.{AreEnabled, after_entries, Legal}
-use Rattle.lk_locks.specs.invariants.Rooms.{AgreeAs, IsPhaseOf, owed_of}
+use Rattle.lk_locks.specs.invariants.Locks.{AgreeAs, IsPhaseOf, owed_of}
 use Rattle.lk_locks.specs.invariants.Owed.{IsInTurn}
 use Rattle.lk_locks.specs.Holding.{holder_after}
 use Rattle.lk_locks.specs.Tracked.{Tracked, followed}
 use Rattle.lk_locks.specs.invariants.Kept.{Kept, IsRecorded}
 use Rattle.lk_locks.proofs.Cases.{AreOf, IsAgreed}
 use Rattle.lk_locks.proofs.Threads.{each_phase}
-use Rattle.lk_locks.proofs.EachRoom.{room_of}
+use Rattle.lk_locks.proofs.EachLock.{proof_of}
 use Rattle.lk_locks.proofs.Moves.{Accepted, accepted_of, well_kept, agreed}
 use Rattle.lk_locks.proofs.Histories.{holder_append, after_append, allowed_append, all_append}
 use Rattle.lk_locks.proofs.Histories.{all_prefix, all_map, turn_of_step, turn_of_call}
@@ -34,8 +34,8 @@ entries_are_own kind bits ws t p (Step k) =
     let c : Change = move_change kind bits ws t p (Step k) in
     all_prefix (λ e. thread_of e ≡ t) (move_entries kind t p (Step k) c.outcome)
     (owed_of kind t c.phase)
-    (let g : AreOf t (owed_of kind t p) = (room_of kind).owed_is_own t p in
-    rw ((room_of kind).goes_on bits t ws p) at g)
+    (let g : AreOf t (owed_of kind t p) = (proof_of kind).owed_is_own t p in
+    rw ((proof_of kind).goes_on bits t ws p) at g)
 
 -- the thread of a move is in its turn afterwards
 pub turn_kept : (kind : LockKind) (n bits : ℕ) (ws : List ℕ) (es : List Entry) (t : ℕ) (p : Phase)
@@ -45,10 +45,10 @@ pub turn_kept : (kind : LockKind) (n bits : ℕ) (ws : List ℕ) (es : List Entr
     move_change kind bits ws t p m in IsInTurn kind (es
     ++ move_entries kind t p m c.outcome) t c.phase
 turn_kept kind n bits ws es t p (Call op) f b r i =
-    let g = (room_of kind).begins n t p op f b r in turn_of_call kind es t p _ op g.0 g.1 i
+    let g = (proof_of kind).begins n t p op f b r in turn_of_call kind es t p _ op g.0 g.1 i
 turn_kept kind n bits ws es t p (Step k) f b r i =
     turn_of_step kind es _ t p _ (entries_are_own kind bits ws t p (Step k))
-    ((room_of kind).goes_on bits t ws p) i
+    ((proof_of kind).goes_on bits t ws p) i
 
 -- after an accepted move the lock, its sequential lock and its history still belong together
 pub keeps : (s : State) (q : Sequential) (es : List Entry) (t : ℕ) (m : Move) → Kept s q es

@@ -7,10 +7,10 @@ use Rattle.std.proofs.lemmas.Bool.{cases_lt}
 use Rattle.std.proofs.Math.Seq.{take-set-lt}
 use Rattle.lk_locks.specs.Change.{Change}
 use Rattle.lk_locks.specs.State.{State, phase_at, start}
-use Rattle.lk_locks.specs.Rooms.{word_count}
+use Rattle.lk_locks.specs.Locks.{word_count}
 use Rattle.lk_locks.specs.Steps.{move_change, change_of, next_state, refusal_of, after_move}
 use Rattle.lk_locks.specs.invariants.WellFormed.{IsMachine, WellFormed}
-use Rattle.lk_locks.proofs.EachRoom.{room_of}
+use Rattle.lk_locks.proofs.EachLock.{proof_of}
 use Rattle.lk_locks.proofs.Moves.{Accepted, well_kept, accepted_of}
 use Rattle.lk_locks.specs.declared.kinds.LockKind.{LockKind}
 use Rattle.lk_locks.specs.declared.kinds.Phase.{Phase}
@@ -48,9 +48,9 @@ well_new kind bits n ws enough clear = record {
   phases_fit =
       λ t in_lock. rw (get_or-replicate n t Idle Idle
       (let as_many : length (replicate n Idle) ≡ n = length-replicate n Idle in omega arith))
-      ((room_of kind).idle_fits (length (replicate n Idle)));
+      ((proof_of kind).idle_fits (length (replicate n Idle)));
   links_fit =
-      (room_of kind).clear_links _ ws
+      (proof_of kind).clear_links _ ws
       (λ i. elim (cases_lt i (length ws)) [
         | inl in_words ↦ clear i in_words
         | inr past ↦ get_or_past ws i 0 past

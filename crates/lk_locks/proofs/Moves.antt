@@ -9,10 +9,10 @@ use Rattle.lk_locks.specs.Sequential.{Sequential}
 use Rattle.lk_locks.specs.State.{State, phase_at}
 use Rattle.lk_locks.specs.Steps.{belongs, change_of, move_change, next_state, refusal_in}
 use Rattle.lk_locks.specs.Steps.{refusal_of}
-use Rattle.lk_locks.specs.invariants.Rooms.{AgreeAs, AreLinks, IsPhaseOf}
+use Rattle.lk_locks.specs.invariants.Locks.{AgreeAs, AreLinks, IsPhaseOf}
 use Rattle.lk_locks.specs.invariants.WellFormed.{WellFormed}
 use Rattle.lk_locks.proofs.Cases.{IsAgreed, IsTaken}
-use Rattle.lk_locks.proofs.EachRoom.{room_of}
+use Rattle.lk_locks.proofs.EachLock.{proof_of}
 use Rattle.lk_locks.proofs.Threads.{each_phase}
 use Rattle.lk_locks.specs.declared.kinds.LockKind.{LockKind}
 use Rattle.lk_locks.specs.declared.kinds.Move.{Move}
@@ -25,20 +25,20 @@ use Rattle.lk_locks.specs.declared.kinds.Refusal.TheVariants.{NoSuchThread, Wron
 pub same_length : (kind : LockKind) (bits : ℕ) (ws : List ℕ) (t : ℕ) (p : Phase) (m : Move)
     → length (move_change kind bits ws t p m).words ≡ length ws
 same_length kind bits ws t p (Call op) = refl
-same_length kind bits ws t p (Step k) = (room_of kind).keeps_length bits t ws p
+same_length kind bits ws t p (Step k) = (proof_of kind).keeps_length bits t ws p
 
 -- a move leaves its thread in a phase of the lock
 new_phase_fits : (kind : LockKind) (n bits : ℕ) (ws : List ℕ) (t : ℕ) (p : Phase) (m : Move)
     → t < n → IsPhaseOf kind n p → AreLinks kind n ws
     → IsPhaseOf kind n (move_change kind bits ws t p m).phase
-new_phase_fits kind n bits ws t p (Call op) h f l = (room_of kind).call_fits n p op f
-new_phase_fits kind n bits ws t p (Step k) h f l = (room_of kind).step_fits n bits t ws p h f l
+new_phase_fits kind n bits ws t p (Call op) h f l = (proof_of kind).call_fits n p op f
+new_phase_fits kind n bits ws t p (Step k) h f l = (proof_of kind).step_fits n bits t ws p h f l
 
 -- a move leaves links that name threads, or nobody
 new_links_fit : (kind : LockKind) (n bits : ℕ) (ws : List ℕ) (t : ℕ) (p : Phase) (m : Move)
     → t < n → AreLinks kind n ws → AreLinks kind n (move_change kind bits ws t p m).words
 new_links_fit kind n bits ws t p (Call op) h l = l
-new_links_fit kind n bits ws t p (Step k) h l = (room_of kind).links_fit n bits t ws p h l
+new_links_fit kind n bits ws t p (Step k) h l = (proof_of kind).links_fit n bits t ws p h l
 
 -- what follows from an accepted move
 pub record Accepted (s : State) (t : ℕ) (m : Move) : Type 0 where
@@ -100,4 +100,4 @@ agreed kind bits ws ps q t m w n k a g =
       not_refused = a.fits;
       agrees = g;
     } in
-    (room_of kind).keeps bits ws ps q t p m given
+    (proof_of kind).keeps bits ws ps q t p m given

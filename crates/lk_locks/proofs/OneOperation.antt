@@ -7,8 +7,8 @@ use Rattle.lk_words.specs.declared.operation.Answer.TheVariants.{Found, Swapped}
 use Rattle.lk_words.specs.declared.operation.Operation.{Operation}
 use Rattle.lk_locks.specs.Change.{Change, kind_of, step_by}
 use Rattle.lk_locks.specs.OneOperation.{IsMade, IsOneOperation, IsStepOf}
-use Rattle.lk_locks.specs.Rooms.{operation_of, step_of, word_count}
-use Rattle.lk_locks.specs.invariants.Rooms.{IsPhaseOf}
+use Rattle.lk_locks.specs.Locks.{operation_of, step_of, word_count}
+use Rattle.lk_locks.specs.invariants.Locks.{IsPhaseOf}
 use Rattle.lk_locks.specs.invariants.WellFormed.{WellFormed}
 use Rattle.lk_locks.specs.State.{State, phase_at}
 use Rattle.lk_locks.specs.Steps.{next_state, refusal_at, refusal_in, refusal_of, same_step}

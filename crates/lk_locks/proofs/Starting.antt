@@ -4,12 +4,12 @@ use Rattle.std.proofs.Common.{ap, ◌∙◌, arith, slice_index, inl, inr}
 use Rattle.std.proofs.lemmas.List.{length-replicate, get_or_past}
 use Rattle.std.proofs.lemmas.Bool.{cases_lt}
 use Rattle.lk_locks.specs.State.{start}
-use Rattle.lk_locks.specs.Rooms.{word_count}
+use Rattle.lk_locks.specs.Locks.{word_count}
 use Rattle.lk_locks.specs.Sequential.{nobody}
 use Rattle.lk_locks.specs.invariants.Kept.{Kept}
-use Rattle.lk_locks.specs.invariants.Rooms.{owed_of}
+use Rattle.lk_locks.specs.invariants.Locks.{owed_of}
 use Rattle.lk_locks.specs.invariants.WellFormed.{IsMachine}
-use Rattle.lk_locks.proofs.EachRoom.{room_of}
+use Rattle.lk_locks.proofs.EachLock.{proof_of}
 use Rattle.lk_locks.proofs.Machines.{machine_new}
 use Rattle.lk_locks.proofs.Threads.{all_idle}
 use Rattle.lk_locks.specs.declared.kinds.LockKind.{LockKind}
@@ -29,7 +29,7 @@ kept_start kind bits ws n h b w z =
       kind = refl;
       now = refl;
       allowed = tt;
-      turns = λ t k. ([], ap (owed_of kind t) (all_idle n t) ∙ (room_of kind).idle_rest t);
+      turns = λ t k. ([], ap (owed_of kind t) (all_idle n t) ∙ (proof_of kind).idle_rest t);
       no_others = tt;
-      agree = (room_of kind).starts bits ws n (omega arith) zero;
+      agree = (proof_of kind).starts bits ws n (omega arith) zero;
     }

@@ -14,17 +14,17 @@ use Rattle.lk_locks.specs.declared.kinds.Phase.{Phase}
 use Rattle.lk_locks.specs.declared.kinds.Phase.TheVariants.{Idle}
 
 -- a test is true or false
-pub bool_tells : (b : Bool) → (b ≡ true) ⊎ (b ≡ false)
-bool_tells true = inl refl
-bool_tells false = inr refl
+pub true_or_false : (b : Bool) → (b ≡ true) ⊎ (b ≡ false)
+true_or_false true = inl refl
+true_or_false false = inr refl
 
 -- two threads that differ do not pass the test for equality
 pub not_eqb : (t u : ℕ) → t ≢ u → eqb u t ≡ false
 not_eqb t u h = elim (eqb_tells u t) [ inl e ↦ absurd (h (sym e.1)) | inr e ↦ e.0 ]
 
 -- who is in a list is its first or among the rest
-pub has_tells : (q : List ℕ) (u t : ℕ) → has (u ∷ q) t ≡ true → (t ≡ u) ⊎ (has q t ≡ true)
-has_tells q u t h =
+pub first_or_rest : (q : List ℕ) (u t : ℕ) → has (u ∷ q) t ≡ true → (t ≡ u) ⊎ (has q t ≡ true)
+first_or_rest q u t h =
     elim (eqb_tells t u) [
       | inl e ↦ inl e.1
       | inr e ↦ inr (let g : has (u ∷ q) t ≡ true = h in rw e.0 at g)

@@ -1,8 +1,8 @@
--- Each lock's invariant is kept by its moves: a room for each, and what they share.
+-- Each lock's moves preserve its invariant: a module for each, and what they share.
 pub mod HolderLists
-pub mod TicketLine
+pub mod TicketQueue
 pub mod ticket
-pub mod McsLine
+pub mod McsLinks
 pub mod McsQueue
 pub mod McsSteps
 pub mod mcs

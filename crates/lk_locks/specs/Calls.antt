@@ -1,7 +1,7 @@
 -- Definitions. Each finished call acted exactly once, between its call and its return: laws of
 -- every legal history. This project's own.
 use Rattle.std.specs.Prelude.{◌≡◌, ℕ, List, [], ◌∷◌, ◌++◌}
-use Rattle.lk_locks.specs.Rooms.{family_of}
+use Rattle.lk_locks.specs.Locks.{family_of}
 use Rattle.lk_locks.specs.Acts.{announcement}
 use Rattle.lk_locks.specs.Legal.{Legal, subhistory}
 use Rattle.lk_locks.specs.declared.kinds.LockKind.{LockKind}

@@ -1,6 +1,6 @@
 -- Definitions. Mutual exclusion, in its own words: laws of every legal history. This project's own.
 use Rattle.std.specs.Prelude.{◌≡◌, ℕ, List, [], ◌∷◌, ◌++◌, Option, None, Some, ◌⊎◌, IsTrue}
-use Rattle.lk_locks.specs.Rooms.{family_of}
+use Rattle.lk_locks.specs.Locks.{family_of}
 use Rattle.lk_locks.specs.Sequential.{Sequential, nobody, is_head}
 use Rattle.lk_locks.specs.Legal.{Legal, after_entries}
 use Rattle.lk_locks.specs.Holding.{holder_after}

@@ -5,7 +5,7 @@ use Rattle.lk_words.specs.Operations.{performed}
 use Rattle.lk_words.specs.declared.operation.Operation.{Operation}
 use Rattle.lk_locks.specs.Change.{kind_of}
 use Rattle.lk_locks.specs.State.{State, phase_at}
-use Rattle.lk_locks.specs.Rooms.{family_of, operation_of}
+use Rattle.lk_locks.specs.Locks.{family_of, operation_of}
 use Rattle.lk_locks.specs.declared.kinds.Family.{Family}
 use Rattle.lk_locks.specs.declared.kinds.Family.TheVariants.{Queue}
 use Rattle.lk_locks.specs.declared.kinds.LockKind.{LockKind}

@@ -1,7 +1,7 @@
 -- Definitions. Whole lists of moves on a new lock. This project's own.
 use Rattle.std.specs.Prelude.{◌≡◌, ℕ, ◌<◌, ◌≤◌, ◌^◌, List, [], ◌∷◌, length, slice_index}
 use Rattle.lk_locks.specs.State.{start}
-use Rattle.lk_locks.specs.Rooms.{word_count}
+use Rattle.lk_locks.specs.Locks.{word_count}
 use Rattle.lk_locks.specs.Steps.{refusal_of, unless_refused}
 use Rattle.lk_locks.specs.Play.{RecordedLock, after_play}
 use Rattle.lk_locks.specs.Sequential.{nobody}

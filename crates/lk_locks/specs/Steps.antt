@@ -1,11 +1,11 @@
 -- Definitions. Which moves are accepted, and what an accepted move does. This file knows no lock:
--- `Rooms` has what differs. This project's own: the seven refusals and their order.
+-- `Locks` has what differs. This project's own: the seven refusals and their order.
 use Rattle.std.specs.Prelude.{ℕ, List, length, set, Option, None, Some, is_some, is_none, unwrap_or}
 use Rattle.std.specs.Prelude.{Bool, true, false, not, nat_lt, if◌then◌else◌, Result, Ok, Err}
 use Rattle.std.specs.List.{list_any}
 use Rattle.lk_locks.specs.Change.{Change, to}
 use Rattle.lk_locks.specs.State.{State, phase_at}
-use Rattle.lk_locks.specs.Rooms.{family_of, steps_of, after_call, step_due, step_of}
+use Rattle.lk_locks.specs.Locks.{family_of, steps_of, after_call, step_due, step_of}
 use Rattle.lk_locks.specs.declared.kinds.LockKind.{LockKind}
 use Rattle.lk_locks.specs.declared.kinds.Family.{Family}
 use Rattle.lk_locks.specs.declared.kinds.Family.TheVariants.{Queue}

@@ -6,7 +6,7 @@ use Rattle.lk_locks.specs.Steps.{refusal_of, next_state}
 use Rattle.lk_locks.specs.Entries.{entries_of}
 use Rattle.lk_locks.specs.Sequential.{Sequential, nobody}
 use Rattle.lk_locks.specs.Legal.{after_entries}
-use Rattle.lk_locks.specs.Rooms.{family_of}
+use Rattle.lk_locks.specs.Locks.{family_of}
 use Rattle.lk_locks.specs.Holding.{Holding, held_in, waits_in, holder_after}
 use Rattle.lk_locks.specs.declared.kinds.Move.{Move}
 use Rattle.lk_locks.specs.declared.kinds.Entry.{Entry}

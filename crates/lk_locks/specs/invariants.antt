@@ -6,7 +6,7 @@ pub mod ticket
 pub mod mcs
 pub mod rw_simple
 pub mod rw_fifo
-pub mod Rooms
+pub mod Locks
 pub mod WellFormed
 pub mod Owed
 pub mod SequentialKept

@@ -6,7 +6,7 @@ ghost use Rattle.lk_locks.specs.invariants.Kept.{IsRecorded};
 ghost use Rattle.std.specs.Prelude.{◌≡◌, ℕ, ◌<◌, ◌≤◌, ◌^◌, length, slice_index, OnOk, OnErr, []};
 ghost use Rattle.lk_locks.specs.State.{start, phase_at};
 ghost use Rattle.lk_locks.specs.Steps.{refusal_of, change_of};
-ghost use Rattle.lk_locks.specs.Rooms.{step_due, word_count};
+ghost use Rattle.lk_locks.specs.Locks.{step_due, word_count};
 ghost use Rattle.lk_locks.specs.Sequential.{nobody};
 ghost use Rattle.lk_locks.specs.MainTheorem.{IsAsPromised};
 ghost use Rattle.lk_locks.specs.Holding.{holding, holding_of, waiting_of, IsListed};

@@ -11,16 +11,16 @@
 
 ghost use Rattle.std.specs.Prelude.{◌≡◌, ◌+◌, ◌-◌, ◌<◌, ◌≤◌, ℕ, List, []};
 ghost use Rattle.lk_locks.specs.mcs.{next, locked, after_call, operation, after, step, entries};
-ghost use Rattle.lk_locks.specs.Rooms.{word_count};
-ghost use Rattle.lk_locks.specs.invariants.mcs.{IsLink};
+ghost use Rattle.lk_locks.specs.Locks.{word_count};
+ghost use Rattle.lk_locks.specs.invariants.mcs.{IsInRange};
 ghost use Rattle.lk_locks.specs.invariants.WellFormed.{IsReady};
 ghost use Rattle.lk_locks.specs.declared.kinds.LockKind.TheVariants.{Mcs};
 ghost use Rattle.std.specs.List.{list_any};
-ghost use Rattle.lk_locks.specs.Rooms.{step_due, steps_of};
+ghost use Rattle.lk_locks.specs.Locks.{step_due, steps_of};
 ghost use Rattle.lk_locks.specs.Steps.{same_step};
 
 use crate::entries::Added;
-use crate::rooms::kind_of;
+use crate::locks::kind_of;
 use crate::{Entry, Op, Outcome, Phase, StepKind};
 use lk_words::{Answer, Operation, WordArray, Words, perform};
 
@@ -140,7 +140,7 @@ pub fn step_due(phase: Phase) -> Option<StepKind>
 /// The next phase and the outcome, by what the phase's operation answered.
 #[inline(always)]
 pub fn after(phase: Phase, answer: Answer) -> (Phase, Outcome)
-    requires { IsLink phase answer }
+    requires { IsInRange phase answer }
     ensures words { (ws : List ℕ) → (after phase ws answer).words ≡ ws }
     ensures phase { (ws : List ℕ) → result.0 ≡ (after phase ws answer).phase }
     ensures outcome { (ws : List ℕ) → result.1 ≡ (after phase ws answer).outcome }

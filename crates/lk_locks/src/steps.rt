@@ -2,12 +2,12 @@
 //! words.
 
 ghost use Rattle.std.specs.Prelude.{◌≡◌, Option, None, Some};
-ghost use Rattle.lk_locks.specs.Rooms.{family_of};
+ghost use Rattle.lk_locks.specs.Locks.{family_of};
 ghost use Rattle.lk_locks.specs.Steps.{has_op, refusal_at, refusal_in, belongs, move_change};
 ghost use Rattle.lk_locks.specs.declared.kinds.Move.TheVariants.{Call};
 ghost use Rattle.lk_locks.specs.invariants.WellFormed.{IsReady};
 
-use crate::rooms::{after_call, family_of, has_step, step_due, take_step};
+use crate::locks::{after_call, family_of, has_step, step_due, take_step};
 use crate::{Family, LockKind, Move, Op, Outcome, Phase, Refusal};
 use lk_words::Words;
 

@@ -11,13 +11,13 @@
 ghost use Rattle.std.specs.Prelude.{◌≡◌, ◌^◌, ◌<◌, ◌≤◌, ℕ, List, [], length};
 ghost use Rattle.lk_locks.specs.ticket.{after_call, operation, after, step, entries};
 ghost use Rattle.std.specs.List.{list_any};
-ghost use Rattle.lk_locks.specs.Rooms.{step_due, steps_of};
+ghost use Rattle.lk_locks.specs.Locks.{step_due, steps_of};
 ghost use Rattle.lk_locks.specs.Steps.{same_step};
 ghost use Rattle.lk_locks.specs.declared.kinds.LockKind.TheVariants.{Ticket};
 
 use crate::arithmetic::plus_one;
 use crate::entries::Added;
-use crate::rooms::kind_of;
+use crate::locks::kind_of;
 use crate::{Entry, Op, Outcome, Phase, StepKind};
 use lk_words::{Answer, Operation, WordArray, Words, perform};
 

@@ -7,13 +7,13 @@ ghost use Rattle.lk_locks.specs.Tracked.{Tracked, tracked, followed, after_track
 ghost use Rattle.lk_locks.specs.Tracked.{waiting_in};
 ghost use Rattle.lk_locks.specs.invariants.Tracking.{IsTracked};
 ghost use Rattle.lk_locks.specs.State.{start};
-ghost use Rattle.lk_locks.specs.Rooms.{word_count};
+ghost use Rattle.lk_locks.specs.Locks.{word_count};
 ghost use Rattle.lk_locks.specs.Steps.{answer_to, change_of, next_state, refusal_of};
 ghost use Rattle.lk_locks.specs.Entries.{entries_of};
 
 use crate::entries::Added;
 use crate::holders::{alone, copy_of};
-use crate::rooms::family_of;
+use crate::locks::family_of;
 use crate::{Entry, Family, Holders, LockKind, Machine, Move, Op, Outcome, Refusal, SeqLock};
 use arrayvec::ArrayVec;
 use lk_words::Words;

@@ -29,9 +29,9 @@ split_around xs i inside here =
     sym (take-append-drop i xs)
     ∙ ap (λ l. take i xs ++ l) (drop_more xs i 0 inside ∙ ap (λ b. b ∷ drop (i + 1) xs) here)
 
-all_behind : (xs : List ℕ) (i : ℕ) → ((k : ℕ) → i ≤ k → k < length xs → NoSpace (get_or xs k 0))
+all_after : (xs : List ℕ) (i : ℕ) → ((k : ℕ) → i ≤ k → k < length xs → NoSpace (get_or xs k 0))
     → All NoSpace (drop i xs)
-all_behind xs i reads =
+all_after xs i reads =
     All-from_get_or NoSpace (drop i xs) 0 (λ k inside. subst NoSpace (sym (get_or-drop i xs k 0))
     (reads (i + k) (omega arith) (omega (arith, length-drop i xs))))
 
@@ -39,4 +39,4 @@ pub cut_last_at_last : (xs : List ℕ) (i : ℕ) → i < length xs → get_or xs
     → ((k : ℕ) → i + 1 ≤ k → k < length xs → NoSpace (get_or xs k 0))
     → cut_last xs ≡ Some (take i xs, drop (i + 1) xs)
 cut_last_at_last xs i inside here behind =
-    ap cut_last (split_around xs i inside here) ∙ cut_last_at _ _ (all_behind xs (i + 1) behind)
+    ap cut_last (split_around xs i inside here) ∙ cut_last_at _ _ (all_after xs (i + 1) behind)

@@ -5,7 +5,7 @@ use Rattle.std.proofs.lemmas.List.{get_or-set_other}
 use Rattle.lk_words.specs.declared.operation.Operation.{Operation}
 use Rattle.lk_locks.specs.Change.{Change, step_by}
 use Rattle.lk_locks.specs.Entries.{entries_of}
-use Rattle.lk_locks.specs.Rooms.{operation_of, step_of}
+use Rattle.lk_locks.specs.Locks.{operation_of, step_of}
 use Rattle.lk_locks.specs.mcs
 use Rattle.lk_locks.specs.rw_fifo
 use Rattle.lk_locks.specs.rw_simple

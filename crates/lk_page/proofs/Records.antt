@@ -1,7 +1,7 @@
 -- The record of a move that was made.
 use Rattle.std.proofs.Common.{◌≡◌, ℕ, Bool, List, ◌++◌, length, Option, None, refl, ap, subst}
 use Rattle.std.proofs.Common.{◌∙◌}
-use Rattle.lk_locks.specs.Rooms.{step_due}
+use Rattle.lk_locks.specs.Locks.{step_due}
 use Rattle.lk_locks.specs.declared.kinds.StepKind.{StepKind}
 use Rattle.std.proofs.lemmas.List.{get_or-set_same}
 use Rattle.lk_locks.specs.State.{State, phase_at}

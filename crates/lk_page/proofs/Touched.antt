@@ -10,7 +10,7 @@ use Rattle.lk_words.specs.declared.operation.Operation.TheVariants.{Read, Write,
 use Rattle.lk_words.specs.declared.operation.Operation.TheVariants.{CompareAndSwap, FetchAndAdd}
 use Rattle.lk_words.proofs.Operations.{one_word}
 use Rattle.lk_locks.specs.Entries.{entries_of}
-use Rattle.lk_locks.specs.Rooms.{operation_of}
+use Rattle.lk_locks.specs.Locks.{operation_of}
 use Rattle.lk_locks.specs.State.{State, phase_at}
 use Rattle.lk_locks.specs.Steps.{next_state}
 use Rattle.lk_locks.specs.Tracked.{Tracked, followed}

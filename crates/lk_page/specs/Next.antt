@@ -2,7 +2,7 @@
 use Rattle.std.specs.Prelude.{ℕ, ◌+◌, ◌*◌, Bool, true, false, ◌&&◌, Option, None, Some, is_none}
 use Rattle.lk_locks.specs.State.{State, phase_at}
 use Rattle.lk_locks.specs.Steps.{refusal_of, change_of}
-use Rattle.lk_locks.specs.Rooms.{step_due}
+use Rattle.lk_locks.specs.Locks.{step_due}
 use Rattle.lk_locks.specs.declared.kinds.Op.{Op}
 use Rattle.lk_locks.specs.declared.kinds.Op.TheVariants.{Acquire, Release, ReadLock, ReadUnlock}
 use Rattle.lk_locks.specs.declared.kinds.Op.TheVariants.{WriteLock, WriteUnlock, Downgrade}

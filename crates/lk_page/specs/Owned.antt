@@ -3,7 +3,7 @@
 use Rattle.std.specs.Prelude.{ℕ, Option, None, Some}
 use Rattle.lk_words.specs.Operations.{word_of, left_by}
 use Rattle.lk_words.specs.declared.operation.Operation.{Operation}
-use Rattle.lk_locks.specs.Rooms.{operation_of}
+use Rattle.lk_locks.specs.Locks.{operation_of}
 use Rattle.lk_locks.specs.declared.kinds.LockKind.{LockKind}
 use Rattle.lk_locks.specs.declared.kinds.Phase.TheVariants.{ClearNext, AwaitGrant, SwapTail}
 

@@ -2,7 +2,7 @@
 
 ghost use Rattle.std.specs.Prelude.{◌≡◌, ◌+◌, ◌*◌, ◌<◌, ◌≤◌, length, take, replicate, []};
 ghost use Rattle.lk_locks.specs.State.{start};
-ghost use Rattle.lk_locks.specs.Rooms.{word_count};
+ghost use Rattle.lk_locks.specs.Locks.{word_count};
 ghost use Rattle.lk_locks.specs.Tracked.{tracked};
 ghost use Rattle.lk_replay.specs.Schedule.{plan_of};
 ghost use Rattle.lk_page.specs.Layout.{record_bytes};

@@ -6,7 +6,7 @@ use Rattle.std.specs.List.{join_with_byte, slice_split}
 use Rattle.std.specs.Option.{option_map}
 use Rattle.std.proofs.lemmas.List.Splits.{join_with_byte-slice_split}
 use Rattle.lk_locks.specs.State.{State}
-use Rattle.lk_locks.specs.Rooms.{family_of, word_count}
+use Rattle.lk_locks.specs.Locks.{family_of, word_count}
 use Rattle.lk_locks.specs.Sequential.{nobody}
 use Rattle.lk_locks.specs.invariants.Tracking.{IsTracked}
 use Rattle.lk_locks.proofs.Starting.{kept_start}
@@ -116,9 +116,9 @@ some_lines [] others some lines = lines
 some_lines (p ∷ ps) others some lines =
     rw (before_pieces p (ps ++ others) (omega (arith, length-append ps others))) (omega arith)
 
-last_behind : (p : List ℕ) (ps : List (List ℕ)) → 0 < length ps → last_of (p ∷ ps) ≡ last_of ps
-last_behind p [] some = absurd (omega arith)
-last_behind p (q ∷ ps) some = refl
+last_of_rest : (p : List ℕ) (ps : List (List ℕ)) → 0 < length ps → last_of (p ∷ ps) ≡ last_of ps
+last_of_rest p [] some = absurd (omega arith)
+last_of_rest p (q ∷ ps) some = refl
 
 last_of_others : (pieces others : List (List ℕ)) → 0 < length others
     → 0 < length (without_empty_end others) → last_of (without_empty_end (pieces ++ others))
@@ -126,7 +126,7 @@ last_of_others : (pieces others : List (List ℕ)) → 0 < length others
 last_of_others [] others some lines = refl
 last_of_others (p ∷ ps) others some lines =
     ap last_of (before_pieces p (ps ++ others) (omega (arith, length-append ps others)))
-    ∙ last_behind p (without_empty_end (ps ++ others)) (some_lines ps others some lines)
+    ∙ last_of_rest p (without_empty_end (ps ++ others)) (some_lines ps others some lines)
     ∙ last_of_others ps others some lines
 
 one_piece : (text : List ℕ) (pieces : List (List ℕ)) → 0 < length text
@@ -142,10 +142,10 @@ one_piece text ([] ∷ []) some cut =
 one_piece text ((b ∷ bs) ∷ []) some cut = omega arith
 
 -- a line before a text changes not how it ends
-behind_line : (line text : List ℕ) → 0 < length text → ending_of ((line ++ 10 ∷ []) ++ text)
+ending_after_line : (line text : List ℕ) → 0 < length text → ending_of ((line ++ 10 ∷ []) ++ text)
     ≡ ending_of text
 unfolding ending_of lines_of
-behind_line line text some =
+ending_after_line line text some =
     ap (λ (xs : List ℕ). ending_of_line (last_of (without_empty_end (slice_split is_line_feed xs))))
     (append_assoc line (10 ∷ []) text)
     ∙ ap (λ (ps : List (List ℕ)). ending_of_line (last_of (without_empty_end ps)))
@@ -154,10 +154,10 @@ behind_line line text some =
     (slice_split is_line_feed text) (has_piece is_line_feed text)
     (one_piece text (slice_split is_line_feed text) some refl))
 
-pub behind_lines : (f : Following) (count : ℕ) (ms : List Made) (text : List ℕ) → 0 < length text
-    → ending_of (lines_from f count ms ++ text) ≡ ending_of text
-behind_lines f count [] text some = refl
-behind_lines f count (m ∷ ms) text some =
+pub ending_after_lines : (f : Following) (count : ℕ) (ms : List Made) (text : List ℕ)
+    → 0 < length text → ending_of (lines_from f count ms ++ text) ≡ ending_of text
+ending_after_lines f count [] text some = refl
+ending_after_lines f count (m ∷ ms) text some =
     let g : Following = followed_by f m.entries in
     let shown : List ℕ =
     (holding_text (held_in (family_of g.kind) g.sequential g.holder) ++ codes " queue ")
@@ -167,8 +167,8 @@ behind_lines f count (m ∷ ms) text some =
     ap (λ (ys : List ℕ). ending_of ((ys ++ rest) ++ text))
     (sym (append_assoc prefix shown (codes "\n")))
     ∙ ap ending_of (append_assoc ((prefix ++ shown) ++ codes "\n") rest text)
-    ∙ behind_line (prefix ++ shown) (rest ++ text) (omega (arith, length-append rest text))
-    ∙ behind_lines g (count + 1) ms text some
+    ∙ ending_after_line (prefix ++ shown) (rest ++ text) (omega (arith, length-append rest text))
+    ∙ ending_after_lines g (count + 1) ms text some
 
 -- the last line is not empty, so it says how the report ends
 pub last_some : (count : ℕ) (refused : Option (ℕ × Refusal)) → 0 < length (last_line count refused)

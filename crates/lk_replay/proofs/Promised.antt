@@ -10,7 +10,7 @@ use Rattle.lk_locks.proofs.Runs.{every_run_is_as_promised}
 use Rattle.lk_locks.specs.MainTheorem.{IsAsPromised}
 use Rattle.lk_locks.specs.Play.{RecordedLock, after_play}
 use Rattle.lk_locks.specs.Runs.{after_moves}
-use Rattle.lk_locks.specs.Rooms.{word_count}
+use Rattle.lk_locks.specs.Locks.{word_count}
 use Rattle.lk_locks.specs.Entries.{entries_of}
 use Rattle.lk_locks.specs.Steps.{refusal_of, unless_refused}
 use Rattle.lk_locks.specs.declared.kinds.Entry.{Entry}
@@ -24,8 +24,8 @@ use Rattle.lk_replay.specs.Replay.{Made, Replay, Replayed, made_by, refused_or, 
 use Rattle.lk_replay.specs.Replay.{replay_of, replayed_of, with_move}
 use Rattle.lk_replay.specs.Report.{plan_text, report_text}
 use Rattle.lk_replay.specs.Vocabulary.{is_plain_number, number_of, value_from}
-use Rattle.lk_replay.specs.Whole.{AppendsAsTold, EveryReportIsAsPromised, IsAsTold, IsHistoryOf}
-use Rattle.lk_replay.specs.Whole.{IsReportOf, lock_of}
+use Rattle.lk_replay.specs.Whole.{AppendsReport, EveryReportIsAsPromised, IsReportOfText}
+use Rattle.lk_replay.specs.Whole.{IsHistoryOf, IsReportOf, lock_of}
 use Rattle.lk_replay.specs.Schedule.{Plan, moves_from, plan_from, plan_of, with_header}
 use Rattle.lk_replay.specs.declared.schedule.Line.{Line}
 
@@ -163,13 +163,13 @@ every_report_is_as_promised bytes p is =
     }
 
 -- so it is of a report that was made, and of one that went out
-pub as_told : (text report : List ℕ) → report ≡ report_text text → IsAsTold text report
-as_told text report is =
+pub report_of_text : (text report : List ℕ) → report ≡ report_text text → IsReportOfText text report
+report_of_text text report is =
     λ p plan. subst (IsReportOf p) (sym is) (every_report_is_as_promised text p plan)
 
-pub appended_as_told : (input old new : Option (List ℕ))
+pub appended_report : (input old new : Option (List ℕ))
     → IfSome input (λ text. Appends old new (report_text text))
-    → IfSome input (AppendsAsTold old new)
-appended_as_told None old new appended = tt
-appended_as_told (Some text) old new appended =
-    (report_text text, appended, as_told text (report_text text) refl)
+    → IfSome input (AppendsReport old new)
+appended_report None old new appended = tt
+appended_report (Some text) old new appended =
+    (report_text text, appended, report_of_text text (report_text text) refl)

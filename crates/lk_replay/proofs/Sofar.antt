@@ -9,7 +9,7 @@ use Rattle.std.proofs.lemmas.List.{drop_all}
 use Rattle.lk_locks.specs.Steps.{refusal_of, change_of}
 use Rattle.lk_locks.specs.Entries.{entries_of, move_entries}
 use Rattle.lk_locks.specs.State.{phase_at}
-use Rattle.lk_locks.proofs.EachRoom.{room_of}
+use Rattle.lk_locks.proofs.EachLock.{proof_of}
 use Rattle.lk_locks.specs.declared.kinds.Move.TheVariants.{Call, Step}
 use Rattle.lk_locks.specs.declared.kinds.Phase.{Phase}
 use Rattle.lk_locks.specs.Play.{RecordedLock, after_play, IsPlayAnswer}
@@ -187,7 +187,7 @@ same_kind k m t a e = rw e refl
 move_few : (kind : LockKind) (t : ℕ) (p : Phase) (m : Move) (o : Outcome)
     → length (move_entries kind t p m o) ≤ 3
 move_few kind t p (Call op) o = omega arith
-move_few kind t p (Step step) o = (room_of kind).few_entries t p o
+move_few kind t p (Step step) o = (proof_of kind).few_entries t p o
 
 -- the entries that a move added are those after the earlier ones
 pub record Adds (k : RecordedLock) (t : ℕ) (a : Move) (n : ℕ) : Type 0 where

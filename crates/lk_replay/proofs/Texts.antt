@@ -8,9 +8,9 @@ use lib.Seq.{paste, take-paste, length-paste}
 use borrow.Rule.Slice.PartMut.{put_mid, post_of, Post-is}
 
 -- the first bytes of what was written, after those before it
-pub written_behind : (xs now post : List ℕ) (at len : ℕ) → at ≤ length xs → len ≤ length now
+pub written_after : (xs now post : List ℕ) (at len : ℕ) → at ≤ length xs → len ≤ length now
     → take (at + len) (take at xs ++ (now ++ post)) ≡ take at xs ++ take len now
-written_behind xs now post at len within fits =
+written_after xs now post at len within fits =
     let prefix : length (take at xs) ≡ at = length-take-le at xs within in
     ap (λ (k : ℕ). take (k + len) (take at xs ++ (now ++ post))) (sym prefix)
     ∙ take-append-add (take at xs) (now ++ post) len
@@ -26,14 +26,14 @@ written_in xs now post tail at len cap within fits room =
     ∙ ap (take (at + len))
     (append_assoc (take at xs) (now ++ post) tail
     ∙ ap (λ (ys : List ℕ). take at xs ++ ys) (append_assoc now post tail))
-    ∙ written_behind xs now (post ++ tail) at len within fits
+    ∙ written_after xs now (post ++ tail) at len within fits
 
 -- the same of a block that is copied whole
 pub block_pushed : (xs now block : List ℕ) (at len wide : ℕ) → now ≡ block → length block ≡ wide
     → len ≤ wide → at ≤ length xs
     → take (at + len) (put_mid at (at + wide - at) xs now) ≡ take at xs ++ take len block
 block_pushed xs now block at len wide is size fits within =
-    written_behind xs now (post_of at (at + wide - at) xs) at len within
+    written_after xs now (post_of at (at + wide - at) xs) at len within
     (omega (arith, ap length is))
     ∙ ap (λ (ys : List ℕ). take at xs ++ take len ys) is
 

@@ -1,7 +1,7 @@
 -- Invariants: what a report follows of a history, entry by entry.
 use Rattle.std.specs.Prelude.{◌≡◌, ℕ, ◌<◌, List, [], ◌∷◌, Option, None, nat_lt, if◌then◌else◌}
 use Rattle.std.specs.List.{AllByRecursion}
-use Rattle.lk_locks.specs.Rooms.{family_of}
+use Rattle.lk_locks.specs.Locks.{family_of}
 use Rattle.lk_locks.specs.Holding.{held_in, holder_after, waits_in}
 use Rattle.lk_locks.specs.Legal.{after_entries}
 use Rattle.lk_locks.specs.Sequential.{Sequential, nobody}

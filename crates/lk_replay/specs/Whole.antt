@@ -6,7 +6,7 @@ use Rattle.std.specs.Io.KnownBytes.{Appends}
 use Rattle.lk_locks.specs.MainTheorem.{IsAsPromised}
 use Rattle.lk_locks.specs.Play.{RecordedLock}
 use Rattle.lk_locks.specs.Runs.{after_moves, new_lock}
-use Rattle.lk_locks.specs.Rooms.{word_count}
+use Rattle.lk_locks.specs.Locks.{word_count}
 use Rattle.lk_locks.specs.declared.kinds.Entry.{Entry}
 use Rattle.lk_locks.specs.declared.kinds.Refusal.{Refusal}
 use Rattle.lk_replay.specs.Replay.{Made}
@@ -34,12 +34,12 @@ pub record IsReportOf (p : Plan) (report : List ℕ) : Type 0 where
   pub promised : IsAsPromised p.kind p.threads (flat_map (λ m. m.entries) made)
 
 -- the report of this text describes such a history, if the text is a schedule
-abbrev pub IsAsTold : List ℕ → List ℕ → Type 0
-IsAsTold text report = (p : Plan) → plan_of text ≡ Ok p → IsReportOf p report
+abbrev pub IsReportOfText : List ℕ → List ℕ → Type 0
+IsReportOfText text report = (p : Plan) → plan_of text ≡ Ok p → IsReportOf p report
 
 -- known bytes grew by such a report of this text
-abbrev pub AppendsAsTold : Option (List ℕ) → Option (List ℕ) → List ℕ → Type 0
-AppendsAsTold old new text = (report : List ℕ) × Appends old new report × IsAsTold text report
+abbrev pub AppendsReport : Option (List ℕ) → Option (List ℕ) → List ℕ → Type 0
+AppendsReport old new text = (report : List ℕ) × Appends old new report × IsReportOfText text report
 
 -- of every text that is a schedule
 abbrev pub EveryReportIsAsPromised : Type 0

@@ -6,7 +6,7 @@ ghost use Rattle.std.specs.Io.KnownBytes.{Appends, Keeps};
 ghost use Rattle.lk_replay.specs.Devices.{AppendsPrefix, IfErrOf};
 ghost use Rattle.lk_replay.specs.Ending.{ending_of, status_of};
 ghost use Rattle.lk_replay.specs.Report.{report_text};
-ghost use Rattle.lk_replay.specs.Whole.{AppendsAsTold};
+ghost use Rattle.lk_replay.specs.Whole.{AppendsReport};
 
 use crate::devices::{RunFault, read_text, send};
 use crate::ending::Ending;
@@ -90,7 +90,7 @@ pub fn run<R: Read, W: Write>(
         (λ text. Appends (W.contents output.old) (W.contents output.new) (report_text text))) }
     ensures promised { OnOk result
         (IfSome (R.remaining input.old)
-        (AppendsAsTold (W.contents output.old) (W.contents output.new))) }
+        (AppendsReport (W.contents output.old) (W.contents output.new))) }
     ensures ending { IfOk result
         (λ ending. IfSome (R.remaining input.old) (λ text. ending ≡ ending_of (report_text text))) }
     ensures prefix { IfErrOf result RunFault.Write (IfSome (R.remaining input.old)

@@ -2,7 +2,7 @@
 
 ghost use Rattle.std.specs.Prelude.{◌≡◌, IfOk, replicate, ◌≤◌, length};
 ghost use Rattle.lk_locks.specs.Runs.{new_lock};
-ghost use Rattle.lk_locks.specs.Rooms.{word_count};
+ghost use Rattle.lk_locks.specs.Locks.{word_count};
 ghost use Rattle.lk_replay.specs.Replay.{replayed_of, Replayed};
 ghost use Rattle.lk_replay.specs.Whole.{IsHistoryOf};
 ghost use Rattle.std.specs.List.{sum};

@@ -6,7 +6,7 @@
 ghost use Rattle.std.specs.Prelude.{◌≡◌, ◌++◌, IfErr, IfOk, Ok, OnOk};
 ghost use Rattle.lk_replay.specs.Report.{report_text};
 ghost use Rattle.lk_replay.specs.Schedule.{plan_of};
-ghost use Rattle.lk_replay.specs.Whole.{IsAsTold};
+ghost use Rattle.lk_replay.specs.Whole.{IsReportOfText};
 
 mod closings;
 mod numerals;
@@ -96,7 +96,7 @@ fn printed(alloc: Global, bytes: &[u8]) -> Result<Vec<u8>, AllocError>
 /// There was no memory for the schedule or the report.
 pub fn report_of(alloc: Global, bytes: &[u8]) -> Result<Vec<u8>, AllocError>
     ensures report { IfOk result (λ report. report.items ≡ report_text bytes.now) }
-    ensures promised { IfOk result (λ report. IsAsTold bytes.now report.items) }
+    ensures promised { IfOk result (λ report. IsReportOfText bytes.now report.items) }
 {
     printed(alloc, bytes)
 }

@@ -8,7 +8,7 @@ use Rattle.lk_words.specs.declared.operation.Operation.{Operation}
 use Rattle.lk_locks.proofs.Machines.{well_new}
 use Rattle.lk_locks.proofs.Moves.{accepted_of, well_kept}
 use Rattle.lk_locks.proofs.OneOperation.{operation_within}
-use Rattle.lk_locks.specs.Rooms.{operation_of, word_count}
+use Rattle.lk_locks.specs.Locks.{operation_of, word_count}
 use Rattle.lk_locks.specs.State.{State, phase_at}
 use Rattle.lk_locks.specs.Steps.{refusal_of}
 use Rattle.lk_locks.specs.invariants.WellFormed.{WellFormed}
@@ -22,14 +22,14 @@ use Rattle.lk_trace.specs.Checks.{checked, count_other, difference_of, new_lock,
 use Rattle.lk_trace.specs.Checks.{count_given}
 use Rattle.lk_trace.specs.Checks.{refused, same_outcome, Checked, or_then, is_word, other_word}
 use Rattle.lk_trace.specs.Checks.{found_other, left_other, same_answer, wrote_other, values_other}
-use Rattle.lk_trace.specs.Checks.{seen_other, effect_of, effect_other, name_of, will_stand}
+use Rattle.lk_trace.specs.Checks.{seen_other, effect_of, effect_other, name_of, value_after}
 use Rattle.lk_trace.specs.declared.line.Seen.{Seen}
 use Rattle.lk_trace.specs.declared.line.Seen.TheVariants.{InSection, Nothing, OnWord}
 use Rattle.lk_trace.specs.declared.line.TraceLine.{TraceLine}
 use Rattle.std.proofs.lemmas.Bool.{eqb-true, eq-eqb, cond-true}
 use Rattle.lk_locks.specs.declared.kinds.Move.{Move}
 use Rattle.lk_trace.specs.Names.{name_at, same_word}
-use Rattle.lk_trace.proofs.Naming.{stands_as}
+use Rattle.lk_trace.proofs.Naming.{has_values}
 use Rattle.lk_words.specs.declared.operation.Effect.{Effect}
 use Rattle.lk_trace.specs.declared.names.WordName.{WordName}
 use Rattle.lk_trace.specs.declared.names.WordName.TheVariants.{NextTicket, NowServing, Tail, Next}
@@ -189,14 +189,14 @@ word_seen c t m word found left wrote (Some e) is within none =
     let second = both_none (found_other word e.found found) _ first.1 in
     let third = both_none (left_other word e.left left) _ second.1 in
     let named : name_at kind e.word ≡ Some word = word_agrees _ word first.0 in
-    let stood = stands_as c.lock.state t m word e is within named in
+    let stood = has_values c.lock.state t m word e is within named in
     record {
       on_word = ap (name_of kind) is ∙ named;
       found_is = subst (λ x. IfSome found (λ v. x ≡ v)) (sym stood.found)
           (found_agrees word e.found found second.0);
       left_is = subst (λ x. IfSome left (λ v. x ≡ v)) (sym stood.left)
           (left_agrees word e.left left third.0);
-      wrote_is = subst (λ x. IfSome wrote (λ w. not (x == will_stand c.lock.state t m word) ≡ w))
+      wrote_is = subst (λ x. IfSome wrote (λ w. not (x == value_after c.lock.state t m word) ≡ w))
           (sym stood.found)
           (subst (λ x. IfSome wrote (λ w. not (e.found == x) ≡ w)) (sym stood.left)
           (wrote_agrees _ wrote third.1));
@@ -213,14 +213,14 @@ word_agreed c t m word found left wrote None is within agrees =
 word_agreed c t m word found left wrote (Some e) is within agrees =
     let kind = c.lock.state.kind in
     let named : name_at kind e.word ≡ Some word = ap (name_of kind) (sym is) ∙ agrees.on_word in
-    let stood = stands_as c.lock.state t m word e is within named in
+    let stood = has_values c.lock.state t m word e is within named in
     none_of_both _ _ (agreed_word _ word named) (none_of_both _ _
     (agreed_found word _ found (subst (λ x. IfSome found (λ v. x ≡ v)) stood.found agrees.found_is))
     (none_of_both _ _
     (agreed_left word _ left (subst (λ x. IfSome left (λ v. x ≡ v)) stood.left agrees.left_is))
     (agreed_wrote _ wrote
     (subst (λ x. IfSome wrote (λ w. not (e.found == x) ≡ w)) stood.left
-    (subst (λ x. IfSome wrote (λ w. not (x == will_stand c.lock.state t m word) ≡ w)) stood.found
+    (subst (λ x. IfSome wrote (λ w. not (x == value_after c.lock.state t m word) ≡ w)) stood.found
     agrees.wrote_is)))))
 
 pub word_both : (c : Checked) (t : ℕ) (m : Move) (word : WordName) (found left : Option ℕ)

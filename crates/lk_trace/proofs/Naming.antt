@@ -9,15 +9,15 @@ use Rattle.lk_words.specs.Operations.{effect_on, word_of}
 use Rattle.lk_words.specs.declared.operation.Effect.{Effect}
 use Rattle.lk_words.specs.declared.operation.Operation.{Operation}
 use Rattle.lk_locks.proofs.OneOperation.{step_words}
-use Rattle.lk_locks.proofs.Threads.{bool_tells}
-use Rattle.lk_locks.specs.Rooms.{operation_of, step_of}
+use Rattle.lk_locks.proofs.Threads.{true_or_false}
+use Rattle.lk_locks.specs.Locks.{operation_of, step_of}
 use Rattle.lk_locks.specs.State.{State, phase_at}
 use Rattle.lk_locks.specs.declared.kinds.LockKind.{LockKind}
 use Rattle.lk_locks.specs.declared.kinds.LockKind.TheVariants.{Mcs, RwFifo, RwSimple, Ticket}
 use Rattle.lk_locks.specs.declared.kinds.Move.{Move}
 use Rattle.lk_locks.specs.declared.kinds.Move.TheVariants.{Call, Step}
 use Rattle.lk_locks.specs.declared.kinds.StepKind.{StepKind}
-use Rattle.lk_trace.specs.Checks.{effect_of, stands, will_stand}
+use Rattle.lk_trace.specs.Checks.{effect_of, value_of, value_after}
 use Rattle.lk_trace.specs.Names.{name_at, place_of}
 use Rattle.lk_trace.specs.declared.names.WordName.{WordName}
 
@@ -36,7 +36,7 @@ led_back Ticket place = elim (eqb_tells place 0) [
 ]
 led_back Mcs place = elim (eqb_tells place 0) [
   | inl d ↦ rw d.0 (sym d.1)
-  | inr d ↦ rw d.0 (elim (bool_tells (nat_lt 128 place)) [
+  | inr d ↦ rw d.0 (elim (true_or_false (nat_lt 128 place)) [
     | inl g ↦ rw g refl
     | inr g ↦ rw g (elim (eqb_tells (place % 2) 1) [
       | inl o ↦ rw o.0 (omega (arith, o.1))
@@ -67,15 +67,15 @@ named_place : (kind : LockKind) (place : ℕ) (word : WordName) → name_at kind
 named_place kind place word e = sym (ap (place_or kind place) e) ∙ led_back kind place
 
 -- what a word holds before and after a move, as its effect says
-pub record StandsAs (s : State) (t : ℕ) (m : Move) (effect : Effect) (word : WordName) : Type 0
+pub record HasValues (s : State) (t : ℕ) (m : Move) (effect : Effect) (word : WordName) : Type 0
   where
-    pub found : stands s word ≡ effect.found
-    pub left : will_stand s t m word ≡ effect.left
+    pub found : value_of s word ≡ effect.found
+    pub left : value_after s t m word ≡ effect.left
 
 of_operation : (s : State) (t : ℕ) (k : StepKind) (word : WordName) (o : Operation)
     → operation_of s.kind s.bits t (phase_at s.phases t) ≡ Some o → word_of o < length s.words
     → name_at s.kind (word_of o) ≡ Some word
-    → StandsAs s t (Step k) (effect_on s.bits s.words o) word
+    → HasValues s t (Step k) (effect_on s.bits s.words o) word
 of_operation s t k word o e h n =
     let p = named_place s.kind (word_of o) word n in
     record {
@@ -90,16 +90,16 @@ of_operation s t k word o e h n =
 of_option : (s : State) (t : ℕ) (k : StepKind) (word : WordName) (effect : Effect)
     (o : Option Operation) → operation_of s.kind s.bits t (phase_at s.phases t) ≡ o
     → option_map (effect_on s.bits s.words) o ≡ Some effect → effect.word < length s.words
-    → name_at s.kind effect.word ≡ Some word → StandsAs s t (Step k) effect word
+    → name_at s.kind effect.word ≡ Some word → HasValues s t (Step k) effect word
 of_option s t k word effect None e is h n = cc
 of_option s t k word effect (Some o) e is h n =
     let same : effect_on s.bits s.words o ≡ effect = cc in
     subst (λ (x : Effect). x.word < length s.words → name_at s.kind x.word ≡ Some word
-    → StandsAs s t (Step k) x word) same (λ h n. of_operation s t k word o e h n) h n
+    → HasValues s t (Step k) x word) same (λ h n. of_operation s t k word o e h n) h n
 
-pub stands_as : (s : State) (t : ℕ) (m : Move) (word : WordName) (effect : Effect)
+pub has_values : (s : State) (t : ℕ) (m : Move) (word : WordName) (effect : Effect)
     → effect_of s t m ≡ Some effect → effect.word < length s.words
-    → name_at s.kind effect.word ≡ Some word → StandsAs s t m effect word
-stands_as s t (Call op) word effect is h n = cc
-stands_as s t (Step k) word effect is h n =
+    → name_at s.kind effect.word ≡ Some word → HasValues s t m effect word
+has_values s t (Call op) word effect is h n = cc
+has_values s t (Step k) word effect is h n =
     of_option s t k word effect (operation_of s.kind s.bits t (phase_at s.phases t)) refl is h n

@@ -5,7 +5,7 @@ use Rattle.lk_locks.specs.State.{State}
 use Rattle.lk_locks.specs.Steps.{refusal_of, change_of}
 use Rattle.lk_locks.specs.declared.kinds.Move.{Move}
 use Rattle.lk_locks.specs.declared.kinds.Outcome.{Outcome}
-use Rattle.lk_trace.specs.Checks.{Checked, word_of, stands, will_stand}
+use Rattle.lk_trace.specs.Checks.{Checked, word_of, value_of, value_after}
 use Rattle.lk_trace.specs.declared.names.WordName.{WordName}
 use Rattle.lk_trace.specs.declared.line.Seen.{Seen}
 use Rattle.lk_trace.specs.declared.line.Seen.TheVariants.{Nothing, OnWord, InSection}
@@ -15,9 +15,9 @@ use Rattle.lk_trace.specs.declared.line.TraceLine.{TraceLine}
 pub record AgreesOnWord (s : State) (t : ℕ) (m : Move) (word : WordName) (found left : Option ℕ)
     (wrote : Option Bool) : Type 0 where
   pub on_word : word_of s t m ≡ Some word
-  pub found_is : IfSome found (λ v. stands s word ≡ v)
-  pub left_is : IfSome left (λ v. will_stand s t m word ≡ v)
-  pub wrote_is : IfSome wrote (λ w. not (stands s word == will_stand s t m word) ≡ w)
+  pub found_is : IfSome found (λ v. value_of s word ≡ v)
+  pub left_is : IfSome left (λ v. value_after s t m word ≡ v)
+  pub wrote_is : IfSome wrote (λ w. not (value_of s word == value_after s t m word) ≡ w)
 
 -- the section's count is above those before, and this comes of it
 pub record AgreesOnSection (c : Checked) (t : ℕ) (m : Move) (count : Option ℕ)

@@ -5,7 +5,7 @@ use Rattle.std.specs.Prelude.{Result, Ok, Err, Bool, true, false, not, nat_lt, i
 use Rattle.lk_locks.specs.State.{State, start, phase_at}
 use Rattle.lk_words.specs.Operations.{effect_on}
 use Rattle.lk_words.specs.declared.operation.Effect.{Effect}
-use Rattle.lk_locks.specs.Rooms.{operation_of, word_count}
+use Rattle.lk_locks.specs.Locks.{operation_of, word_count}
 use Rattle.lk_locks.specs.Steps.{refusal_of, change_of, next_state}
 use Rattle.lk_locks.specs.Entries.{entries_of}
 use Rattle.lk_locks.specs.Tracked.{Tracked, tracked, followed}
@@ -94,11 +94,11 @@ outcome_other outcome (Some given) =
     if same_outcome outcome given then None else Some (OtherOutcome outcome given)
 
 -- the value of a word, and its value after a move
-abbrev pub stands : State → WordName → ℕ
-stands s word = slice_index s.words (place_of s.kind word)
+abbrev pub value_of : State → WordName → ℕ
+value_of s word = slice_index s.words (place_of s.kind word)
 
-abbrev pub will_stand : State → ℕ → Move → WordName → ℕ
-will_stand s t m word = slice_index (change_of s t m).words (place_of s.kind word)
+abbrev pub value_after : State → ℕ → Move → WordName → ℕ
+value_after s t m word = slice_index (change_of s t m).words (place_of s.kind word)
 
 -- what a move of thread t does to its word, if it is one operation on one word
 abbrev pub effect_of : State → ℕ → Move → Option Effect

@@ -117,15 +117,15 @@ section_of (word ∷ []) = counted (whole_number word) word
 section_of (count ∷ word ∷ []) = counted_and (whole_number count) word
 section_of (count ∷ word ∷ next ∷ rest) = None
 
-abbrev pub seen_behind : ℕ → Move → Words → Option Seen
-seen_behind thread (Call op) words = None
-seen_behind thread (Step Section) words = section_of words
-seen_behind thread (Step kind) words = values_of thread kind words
+abbrev pub seen_after_move : ℕ → Move → Words → Option Seen
+seen_after_move thread (Call op) words = None
+seen_after_move thread (Step Section) words = section_of words
+seen_after_move thread (Step kind) words = values_of thread kind words
 
 -- what follows a move
 abbrev pub seen_of : ℕ → Move → Words → Option Seen
 seen_of thread action [] = Some Nothing
-seen_of thread action (word ∷ rest) = seen_behind thread action (word ∷ rest)
+seen_of thread action (word ∷ rest) = seen_after_move thread action (word ∷ rest)
 
 abbrev pub with_seen : ℕ → Move → Option Seen → Option TraceLine
 with_seen thread action (Some seen) =

@@ -10,7 +10,7 @@ use Rattle.atomic_table.proofs.Lists.{set_again}
 use Rattle.lk_workers.specs.declared.draws.Hand.{Hand}
 use Rattle.lk_workers.specs.Counting.{indicator, occurrences, once_below, IsEachBelow}
 use Rattle.lk_workers.specs.Drawing.{hand}
-use Rattle.lk_workers.specs.invariants.DrawRule.{Drawn, DrawTells, CountTells}
+use Rattle.lk_workers.specs.invariants.DrawRule.{Drawn, DrawFinds, CountFinds}
 use Rattle.lk_workers.proofs.Sums.{sum_over-set, sum_over-append, at_most_sum, sum_over-both}
 use Rattle.lk_workers.proofs.Sums.{alone_at, set_same}
 use Rattle.lk_workers.proofs.Below.{below_suc, below_of, all_below, each_below}
@@ -30,7 +30,7 @@ below_word all s id v r at = all_below (get_or s.words 0 0) v.drawn
 
 pub draws : (all slots id : ℕ) (me : Me (Unit {0}) Hand) → 0 < me.0.left
     → Allows (Drawn all) slots id me 0 (λ n. (n + 1) % 2 ^ 64)
-    (DrawTells (step slots 0 1 0 none) me)
+    (DrawFinds (step slots 0 1 0 none) me)
 draws all slots id me some_left s r _ at _ =
     let v : Hand = me.0 in
     let n : ℕ = get_or s.words 0 0 in
@@ -162,7 +162,7 @@ closes all id v words slots n left h word is full =
     (whole all id v h.0 h.1.0 h.1.1 (omega arith))
 
 pub counts : (all slots id : ℕ) (me : Me (Unit {0}) Hand)
-    → Allows (Drawn all) slots id me 0 (λ n. n) (CountTells (step slots 0 0 0 none) me)
+    → Allows (Drawn all) slots id me 0 (λ n. n) (CountFinds (step slots 0 0 0 none) me)
 counts all slots id me s r _ at _ =
     let v : Hand = me.0 in
     let low = at_most_sum (λ (u : Hand). u.left) s.views id v at in

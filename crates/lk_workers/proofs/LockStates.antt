@@ -32,17 +32,17 @@ ticket_indicator_of t Waiting u n e = ap (indicator t) e ∙ indicator_here t
 ticket_indicator_of t Inside u n e = ap (indicator t) e ∙ indicator_here t
 ticket_indicator_of t Leaving u n e = ap (indicator t) e ∙ indicator_here t
 
-indicator_tells : (t u : ℕ) → 1 ≤ indicator t u → u ≡ t
-indicator_tells t u h =
+indicator_of_same : (t u : ℕ) → 1 ≤ indicator t u → u ≡ t
+indicator_of_same t u h =
     dite (ℕ_discrete u t) (λ e. e)
     (λ n. absurd (let z : indicator t u ≡ 0 = grind arith in omega arith))
 
 of_ticket_indicator : (t : ℕ) (p : LivePhase) (u : ℕ) → 1 ≤ ticket_indicator_in t p u
     → (p ≢ Idle) × (u ≡ t)
 of_ticket_indicator t Idle u h = absurd (omega arith)
-of_ticket_indicator t Waiting u h = ((λ e. grind arith), indicator_tells t u h)
-of_ticket_indicator t Inside u h = ((λ e. grind arith), indicator_tells t u h)
-of_ticket_indicator t Leaving u h = ((λ e. grind arith), indicator_tells t u h)
+of_ticket_indicator t Waiting u h = ((λ e. grind arith), indicator_of_same t u h)
+of_ticket_indicator t Inside u h = ((λ e. grind arith), indicator_of_same t u h)
+of_ticket_indicator t Leaving u h = ((λ e. grind arith), indicator_of_same t u h)
 
 taken_of : (m : ℕ) (p : LivePhase) (t taken : ℕ) → FitsPhase m p t taken → p ≢ Idle → 1 ≤ taken
 taken_of m Idle t taken f n = absurd (n refl)

@@ -14,8 +14,8 @@ use Rattle.lk_workers.specs.Seats.{seat_state, operation, noted, Table, sum_over
 use Rattle.lk_workers.specs.Seats.{serving_of, ticket_indicator, ticket_indicator_in, IsHolding}
 use Rattle.lk_workers.specs.SeatSteps.{LiveStep, take_step, look_step, read_step, pass_step, moved}
 use Rattle.lk_workers.specs.invariants.Running.{Sees, loads_of, made_of, FitsPhase, Fits, Each}
-use Rattle.lk_workers.specs.invariants.Running.{ViewFits, Running, TakeTells, LookTells, ReadTells}
-use Rattle.lk_workers.specs.invariants.Running.{PassTells, OfOne, Counts, Compares}
+use Rattle.lk_workers.specs.invariants.Running.{ViewFits, Running, TakeFinds, LookFinds, ReadFinds}
+use Rattle.lk_workers.specs.invariants.Running.{PassFinds, OfOne, Counts, Compares}
 use Rattle.lk_workers.proofs.Sums.{sum_over-set, at_most_sum, set_same}
 use Rattle.lk_workers.proofs.TwoWords.{w00, w01, w10, w11}
 use Rattle.lk_workers.proofs.Below.{below_suc, indicator_here, at_most_once, below_of, once_there}
@@ -36,10 +36,10 @@ told live tells st me found r is t r' is' =
     )
 
 -- a seat's view, as its struct keeps it
-pub stands : (me : Sees) (q : SeatState) (c : List (ℕ × Unit {0})) → me ≡ (q ∷ [], c) → c ≡ []
+pub view_of_seat : (me : Sees) (q : SeatState) (c : List (ℕ × Unit {0})) → me ≡ (q ∷ [], c) → c ≡ []
     → me
     ≡ (seat_state q.phase q.ticket q.left q.taken q.seen (loads_of me.0) (made_of me.0) ∷ [], [])
-stands me q c e none_held = e ∙ (λ k. (
+view_of_seat me q c e none_held = e ∙ (λ k. (
   seat_state q.phase q.ticket q.left q.taken q.seen (loads_of (sym e k).0) (made_of (sym e k).0)
       ∷ [],
   none_held k,
@@ -53,7 +53,7 @@ pub looked : (me : Sees) (p : LivePhase) (r : SeatState) (found : ℕ) (c : List
 looked me p r found c b e none_held is same_phase =
     let is_p : (if (found == r.ticket) then Inside else Waiting) ≡ p =
     ap (λ d. if d then Inside else Waiting) is ∙ sym same_phase in
-    stands me
+    view_of_seat me
     (seat_state p r.ticket r.left r.taken found (r.loads + 1) (r.made ++ operation 1 0 ∷ [])) c
     (e ∙ ap (λ d. (
       seat_state d r.ticket r.left r.taken found (r.loads + 1) (r.made ++ operation 1 0 ∷ [])
@@ -110,7 +110,7 @@ opens takes few = record {
 module _ (takes slots id : ℕ) (me : Sees) (r : SeatState) (is : me.0 ≡ r ∷ []) where
   pub take : r.phase ≡ Idle → 0 < r.left
       → Allows (Running takes) slots id me 0 (λ n. (n + 1) % 2 ^ 64)
-      (OfOne take_step TakeTells (step slots 0 1 0 none) me)
+      (OfOne take_step TakeFinds (step slots 0 1 0 none) me)
   take idle some_left s h _ at0 _ =
       let at : get_elem? s.views id ≡ some (r ∷ []) = at0 ∙ ap some is in
       let n : ℕ = next_of s in
@@ -141,7 +141,7 @@ module _ (takes slots id : ℕ) (me : Sees) (r : SeatState) (is : me.0 ≡ r ∷
             omega arith)
             (let c = sum_over-set (sum_over (λ u. u.left)) vs id (r ∷ []) (q ∷ []) at in
             omega arith),
-        told take_step TakeTells (step slots 0 1 0 none) me n r is
+        told take_step TakeFinds (step slots 0 1 0 none) me n r is
             (omega arith, omega arith, omega arith),
       )
 
@@ -157,7 +157,7 @@ module _ (takes slots id : ℕ) (me : Sees) (r : SeatState) (is : me.0 ≡ r ∷
 
   pub look : r.phase ≡ Waiting
       → Allows (Running takes) slots id me 1 (λ n. n)
-      (OfOne look_step LookTells (step slots 1 0 0 none) me)
+      (OfOne look_step LookFinds (step slots 1 0 0 none) me)
   look waiting s h _ at0 _ = let at : get_elem? s.views id ≡ some (r ∷ []) = at0 ∙ ap some is in
       let n : ℕ = next_of s in
       let m : ℕ = serving_of s in
@@ -189,12 +189,12 @@ module _ (takes slots id : ℕ) (me : Sees) (r : SeatState) (is : me.0 ≡ r ∷
             (let c = sum_over-set (sum_over (λ u. u.left)) vs id (r ∷ []) (q ∷ []) at in
             let t = h.left in
             omega arith),
-        told look_step LookTells (step slots 1 0 0 none) me m r is old.0.0.1,
+        told look_step LookFinds (step slots 1 0 0 none) me m r is old.0.0.1,
       )
 
   pub read : r.phase ≡ Inside
       → Allows (Running takes) slots id me 1 (λ n. n)
-      (OfOne read_step ReadTells (step slots 1 0 0 none) me)
+      (OfOne read_step ReadFinds (step slots 1 0 0 none) me)
   read inside s h _ at0 _ = let at : get_elem? s.views id ≡ some (r ∷ []) = at0 ∙ ap some is in
       let n : ℕ = next_of s in
       let m : ℕ = serving_of s in
@@ -221,7 +221,7 @@ module _ (takes slots id : ℕ) (me : Sees) (r : SeatState) (is : me.0 ≡ r ∷
             (let c = sum_over-set (sum_over (λ u. u.left)) vs id (r ∷ []) (q ∷ []) at in
             let t = h.left in
             omega arith),
-        told read_step ReadTells (step slots 1 0 0 none) me m r is (sym fits.0),
+        told read_step ReadFinds (step slots 1 0 0 none) me m r is (sym fits.0),
       )
 
   -- if no seat has the ticket that was served, each fits the next
@@ -248,7 +248,7 @@ module _ (takes slots id : ℕ) (me : Sees) (r : SeatState) (is : me.0 ≡ r ∷
 
   pub pass : (new : ℕ) → r.phase ≡ Leaving → new ≡ r.ticket + 1
       → Allows (Running takes) slots id me 1 (λ _. new)
-      (λ _. OfOne pass_step PassTells (step slots 1 new 0 none) me new)
+      (λ _. OfOne pass_step PassFinds (step slots 1 new 0 none) me new)
   pass new leaving is_next s h _ at0 _ =
       let at : get_elem? s.views id ≡ some (r ∷ []) = at0 ∙ ap some is in
       let n : ℕ = next_of s in
@@ -301,7 +301,7 @@ module _ (takes slots id : ℕ) (me : Sees) (r : SeatState) (is : me.0 ≡ r ∷
             (let c = sum_over-set (sum_over (λ u. u.left)) vs id (r ∷ []) (q ∷ []) at in
             let t = h.left in
             omega arith),
-        told pass_step PassTells (step slots 1 new 0 none) me new r is tt,
+        told pass_step PassFinds (step slots 1 new 0 none) me new r is tt,
       )
 
   pub count : Allows (Running takes) slots id me 0 (λ n. n) (Counts (step slots 0 0 0 none) me)

@@ -9,7 +9,7 @@ ghost use Rattle.std.specs.Prelude.{IfOk};
 ghost use Rattle.lk_workers.specs.Counting.{IsEachBelow};
 ghost use Rattle.lk_workers.specs.Drawing.{Drawer, drawer, Counter, IsSeatOf, hand};
 ghost use Rattle.lk_workers.specs.DrawLaw.{EachNumberOnce, IsEnd};
-ghost use Rattle.lk_workers.specs.invariants.DrawRule.{Drawn, DrawTells, CountTells};
+ghost use Rattle.lk_workers.specs.invariants.DrawRule.{Drawn, DrawFinds, CountFinds};
 
 use crate::amount::Amount;
 use atomic_table::{Join, Play, Seat, Shared, Split, Table, TableRule};
@@ -36,14 +36,14 @@ impl TableRule<(), Hand, u64> for DrawnOnce {
 struct Draw;
 
 impl Play<(), Hand> for Draw {
-    ghost then = { DrawTells };
+    ghost then = { DrawFinds };
 }
 
 // A load that changes no view, for what only the invariant says: a joined seat's draws are few.
 struct Count;
 
 impl Play<(), Hand> for Count {
-    ghost then = { CountTells };
+    ghost then = { CountFinds };
 }
 
 struct Cut<A> {

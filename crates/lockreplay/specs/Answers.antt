@@ -25,24 +25,25 @@ Does (Err parse.OutOfMemory) input old new r = (r ≡ Err Memory) × Keeps old n
 
 -- a status is what it ends with, and a fault has its line on standard error, whole if the device
 -- took it
-abbrev pub TellsOf : Result ℕ ProgramFault → Option (List ℕ) → Option (List ℕ) → Ended → Type 0
-TellsOf (Ok status) old new ended = (ended.status ≡ status) × Keeps old new
-TellsOf (Err fault) old new ended =
+abbrev pub ReportsStatus : Result ℕ ProgramFault → Option (List ℕ) → Option (List ℕ) → Ended
+    → Type 0
+ReportsStatus (Ok status) old new ended = (ended.status ≡ status) × Keeps old new
+ReportsStatus (Err fault) old new ended =
     (ended.status ≡ fault_status fault) × (ended.told ≡ true → Appends old new (fault_line fault))
 
 -- what is on standard error: the parser's text if the words ask for nothing, else what the
 -- ending says
-abbrev pub Tells : Result Job ParseFault → Result ℕ ProgramFault → Option (List ℕ) → Option (List ℕ)
-    → Ended → Type 0
-Tells (Err (parse.Usage text)) r old new ended =
+abbrev pub ReportsEnding : Result Job ParseFault → Result ℕ ProgramFault → Option (List ℕ)
+    → Option (List ℕ) → Ended → Type 0
+ReportsEnding (Err (parse.Usage text)) r old new ended =
     (ended.status ≡ 2) × (ended.told ≡ true → Appends old new (string_bytes text))
-Tells (Err (parse.Help text)) r old new ended = TellsOf r old new ended
-Tells (Err parse.TooManyFiles) r old new ended = TellsOf r old new ended
-Tells (Err parse.OutOfMemory) r old new ended = TellsOf r old new ended
-Tells (Ok job) r old new ended = TellsOf r old new ended
+ReportsEnding (Err (parse.Help text)) r old new ended = ReportsStatus r old new ended
+ReportsEnding (Err parse.TooManyFiles) r old new ended = ReportsStatus r old new ended
+ReportsEnding (Err parse.OutOfMemory) r old new ended = ReportsStatus r old new ended
+ReportsEnding (Ok job) r old new ended = ReportsStatus r old new ended
 
 -- what the program leaves of its input, standard output and standard error
 abbrev pub EndsProgram : Result Job ParseFault → Option (List ℕ) → Option (List ℕ) → Option (List ℕ)
     → Option (List ℕ) → Option (List ℕ) → Ended → Type 0
 EndsProgram asked input out out' err err' ended =
-    (r : Result ℕ ProgramFault) × Does asked input out out' r × Tells asked r err err' ended
+    (r : Result ℕ ProgramFault) × Does asked input out out' r × ReportsEnding asked r err err' ended

@@ -4,7 +4,7 @@
 ghost use Rattle.std.specs.Prelude.{◌≡◌, IfErr, IfOk, true};
 ghost use Rattle.std.specs.Io.KnownBytes.{Appends};
 ghost use Rattle.lk_replay.specs.Devices.{AppendsPrefix};
-ghost use Rattle.lockreplay.specs.Answers.{EndsProgram, TellsOf};
+ghost use Rattle.lockreplay.specs.Answers.{EndsProgram, ReportsStatus};
 ghost use Rattle.lockreplay.specs.Faults.{fault_line, fault_status};
 ghost use Rattle.lockreplay.specs.Jobs.{FitsJob};
 
@@ -62,7 +62,7 @@ fn tell_fault<E: Write>(errors: &mut E, fault: ProgramFault) -> Ended
 
 /// Gives the status of what was done, or says what ended it.
 fn finish<E: Write>(errors: &mut E, ending: Result<u8, ProgramFault>) -> Ended
-    ensures { TellsOf ending (E.contents errors.old) (E.contents errors.new) result }
+    ensures { ReportsStatus ending (E.contents errors.old) (E.contents errors.new) result }
 {
     match ending {
         Ok(status) => Ended { status, told: true },

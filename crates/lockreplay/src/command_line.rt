@@ -143,7 +143,7 @@ fn batch_given(alloc: Global, batch: &ArgMatches<'_>) -> Result<Job, ParseFault>
 }
 
 /// What the parser's error is to the program.
-fn fault_told(alloc: Global, error: &clap::Error) -> ParseFault
+fn fault_of(alloc: Global, error: &clap::Error) -> ParseFault
     ensures { kind_of error.now ≡ ErrorKind.OutOfMemory → result ≡ ParseFault.OutOfMemory }
 {
     match (error.kind(), error.to_string(alloc)) {
@@ -176,7 +176,7 @@ pub fn parse_words(alloc: Global, words: &[String]) -> Result<Job, ParseFault>
     let command = program_command(alloc)?;
     let matches = match command.try_get_matches_from(words) {
         Ok(matches) => matches,
-        Err(error) => return Err(fault_told(alloc, &error)),
+        Err(error) => return Err(fault_of(alloc, &error)),
     };
     match matches.subcommand() {
         Some((name, batch)) if name == "batch" => batch_given(alloc, batch),

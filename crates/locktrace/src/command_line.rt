@@ -300,7 +300,7 @@ fn search_given(
 }
 
 // What the parser's error is to the program.
-fn fault_told(alloc: Global, error: &clap::Error) -> ParseFault {
+fn fault_of(alloc: Global, error: &clap::Error) -> ParseFault {
     match (error.kind(), error.to_string(alloc)) {
         (ErrorKind::OutOfMemory, _) | (_, Err(_)) => ParseFault::Memory(AllocError),
         (ErrorKind::DisplayHelp | ErrorKind::DisplayVersion, Ok(text)) => ParseFault::Told(text),
@@ -314,7 +314,7 @@ pub fn parse_words(alloc: Global, words: &[String]) -> Result<Job, ParseFault> {
     let command = program_command(alloc)?;
     let matches = match command.try_get_matches_from(words) {
         Ok(matches) => matches,
-        Err(error) => return Err(fault_told(alloc, &error)),
+        Err(error) => return Err(fault_of(alloc, &error)),
     };
     match matches.subcommand() {
         Some((name, check)) if name == "check" => check_given(alloc, check),

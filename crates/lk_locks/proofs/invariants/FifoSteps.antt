@@ -3,9 +3,9 @@
 use Rattle.std.proofs.Common.{List, None, refl, rules, slice_index, true, unwrap_or, ℕ, ◌<◌, ◌==◌}
 use Rattle.std.proofs.Common.{◌∙◌, ◌≡◌}
 use Rattle.std.proofs.lemmas.List.{length-set}
-use Rattle.lk_locks.specs.Rooms.{after_call}
+use Rattle.lk_locks.specs.Locks.{after_call}
 use Rattle.lk_locks.specs.Steps.{has_op, refusal_in}
-use Rattle.lk_locks.specs.invariants.Rooms.{AreLinks, IsPhaseOf}
+use Rattle.lk_locks.specs.invariants.Locks.{AreLinks, IsPhaseOf}
 use Rattle.lk_locks.specs.invariants.rw_fifo.{owed}
 use Rattle.lk_locks.specs.rw_fifo.{step}
 use Rattle.lk_locks.proofs.Cases.{AreOf, Begins, Fits, GoesOn, KeepsLength, either_way}

@@ -8,7 +8,8 @@ use Rattle.std.proofs.lemmas.Bool.Decides.{eqb_tells}
 use Rattle.std.proofs.lemmas.List.{get_or-set_same, length-set}
 use Rattle.lk_locks.specs.Sequential.{has, is_head}
 use Rattle.lk_locks.specs.State.{phase_at}
-use Rattle.lk_locks.specs.invariants.mcs.{IsBehind, IsFirst, IsLater, IsLine, IsOutside, IsQueue}
+use Rattle.lk_locks.specs.invariants.mcs.{IsSuccessor, IsHead, IsRest, AreLinked, IsNotQueued}
+use Rattle.lk_locks.specs.invariants.mcs.{IsQueue}
 use Rattle.lk_locks.specs.invariants.mcs.{last_of, locked_of, next_of}
 use Rattle.lk_locks.specs.mcs.{locked}
 use Rattle.lk_locks.proofs.Threads.{at_other, at_same, has_more, once_more, or_left}
@@ -16,24 +17,24 @@ use Rattle.lk_locks.proofs.Threads.{or_left_false, or_right}
 use Rattle.lk_locks.specs.declared.kinds.Phase.{Phase}
 use Rattle.lk_locks.specs.declared.kinds.Phase.TheVariants.{AwaitGrant, Grant, Idle, LinkTo}
 use Rattle.lk_locks.specs.declared.kinds.Phase.TheVariants.{McsInside, SetLocked}
-use Rattle.lk_locks.proofs.invariants.McsLine.{IsHeadOf, apart, behind_member, first_has}
-use Rattle.lk_locks.proofs.invariants.McsLine.{first_more, last_more, later_change, later_frame}
-use Rattle.lk_locks.proofs.invariants.McsLine.{later_more}
-use Rattle.lk_locks.proofs.invariants.McsLine.{line_frame, locked_after_locked, locked_after_tail}
-use Rattle.lk_locks.proofs.invariants.McsLine.{next_after_locked, next_after_tail, outside_frame}
-use Rattle.lk_locks.proofs.invariants.McsLine.{tail_after}
+use Rattle.lk_locks.proofs.invariants.McsLinks.{IsHeadOf, apart, has_predecessor, first_has}
+use Rattle.lk_locks.proofs.invariants.McsLinks.{first_more, last_more, later_change, later_frame}
+use Rattle.lk_locks.proofs.invariants.McsLinks.{later_more}
+use Rattle.lk_locks.proofs.invariants.McsLinks.{links_frame, locked_after_locked, locked_after_tail}
+use Rattle.lk_locks.proofs.invariants.McsLinks.{next_after_locked, next_after_tail, outside_frame}
+use Rattle.lk_locks.proofs.invariants.McsLinks.{tail_after}
 
 -- the queue stays if a thread outside it changes its phase and link, and stays outside
 pub mcs_out : (ws new_ws : List ℕ) (ps : List Phase) (q : List ℕ) (t : ℕ) (p : Phase)
     → t < length ps → has q t ≡ false → slice_index new_ws 0 ≡ slice_index ws 0
     → ((other : ℕ) → other ≢ t → next_of new_ws other ≡ next_of ws other)
-    → ((other : ℕ) → locked_of new_ws other ≡ locked_of ws other) → IsOutside new_ws t p
+    → ((other : ℕ) → locked_of new_ws other ≡ locked_of ws other) → IsNotQueued new_ws t p
     → IsQueue ws ps q → IsQueue new_ws (set ps t p) q
 mcs_out ws new_ws ps q t p in_lock not_queued same_tail same_next same_locked outside agreed =
     record {
       tail_is = same_tail ∙ agreed.tail_is;
-      line =
-          line_frame ws new_ws ps (set ps t p) q
+      links =
+          links_frame ws new_ws ps (set ps t p) q
           (λ member queued.
           let differs : member ≢ t = apart q t member not_queued queued in
           record {
@@ -41,7 +42,7 @@ mcs_out ws new_ws ps q t p in_lock not_queued same_tail same_next same_locked ou
             next = same_next member differs;
             locked = same_locked member;
           })
-          agreed.line;
+          agreed.links;
       once = agreed.once;
       members = rw (length-set ps t p) agreed.members;
       others = λ thread absent. elim (eqb_tells thread t) [
@@ -55,14 +56,14 @@ mcs_out ws new_ws ps q t p in_lock not_queued same_tail same_next same_locked ou
 
 -- the queue stays if its head changes its phase to one that a head may have
 pub mcs_head : (ws : List ℕ) (ps : List Phase) (rest : List ℕ) (t : ℕ) (p : Phase)
-    → t < length ps → IsFirst ws t rest p → IsQueue ws ps (t ∷ rest)
+    → t < length ps → IsHead ws t rest p → IsQueue ws ps (t ∷ rest)
     → IsQueue ws (set ps t p) (t ∷ rest)
 mcs_head ws ps rest t p in_lock first agreed =
-    let (was_first, later) = agreed.line in
+    let (was_first, later) = agreed.links in
     let (head_once, rest_once) = agreed.once in
     record {
       tail_is = agreed.tail_is;
-      line = (
+      links = (
         rw (at_same ps t p in_lock) first,
         later_frame ws ws ps (set ps t p) t rest refl
             (λ member queued. record {
@@ -82,40 +83,40 @@ mcs_head ws ps rest t p in_lock first agreed =
     }
 
 -- the head goes on, and changes nothing but its phase
-pub goes_inside : (ws : List ℕ) (ps : List Phase) (q : List ℕ) (t : ℕ) (p : Phase)
-    (at_head : IsHeadOf ws ps q t) → t < length ps → IsFirst ws t at_head.rest p → IsQueue ws ps q
+pub head_moves : (ws : List ℕ) (ps : List Phase) (q : List ℕ) (t : ℕ) (p : Phase)
+    (at_head : IsHeadOf ws ps q t) → t < length ps → IsHead ws t at_head.rest p → IsQueue ws ps q
     → IsQueue ws (set ps t p) q
-goes_inside ws ps q t p at_head in_lock first agreed =
+head_moves ws ps q t p at_head in_lock first agreed =
     rw at_head.is (mcs_head ws ps at_head.rest t p in_lock first (rw at_head.is at agreed))
 
 -- the queue stays if a later member changes its phase, and the link of its predecessor
 pub mcs_later : (ws new_ws : List ℕ) (ps : List Phase) (q : List ℕ) (t predecessor : ℕ)
     (p : Phase) → t < length ps → has (drop 1 q) t ≡ true
     → slice_index new_ws 0 ≡ slice_index ws 0
-    → ((before : ℕ) → IsBehind ws before t (phase_at ps t)
-    → (before ≡ predecessor) × IsBehind new_ws before t p)
+    → ((before : ℕ) → IsSuccessor ws before t (phase_at ps t)
+    → (before ≡ predecessor) × IsSuccessor new_ws before t p)
     → ((other : ℕ) → other ≢ predecessor → next_of new_ws other ≡ next_of ws other)
     → ((other : ℕ) → other ≢ t → locked_of new_ws other ≡ locked_of ws other)
     →
-    ((head : ℕ) (rest : List ℕ) → head ≢ t → IsFirst ws head rest (phase_at ps head)
-    → IsFirst new_ws head rest (phase_at ps head))
+    ((head : ℕ) (rest : List ℕ) → head ≢ t → IsHead ws head rest (phase_at ps head)
+    → IsHead new_ws head rest (phase_at ps head))
     → IsQueue ws ps q → IsQueue new_ws (set ps t p) q
 mcs_later ws new_ws ps [] t predecessor p in_lock later same_tail moves same_next same_locked
     stays_first agreed = cc
 mcs_later ws new_ws ps (head ∷ rest) t predecessor p in_lock later same_tail moves same_next
     same_locked stays_first agreed =
-    let (head_first, after_head) = agreed.line in
+    let (head_first, after_head) = agreed.links in
     let (head_once, rest_once) = agreed.once in
     let head_differs : head ≢ t =
     (λ same. apart rest head t head_once later (sym same)) in
-    let (before, (member, comes_after)) = behind_member ws ps head t rest after_head later in
+    let (before, (member, comes_after)) = has_predecessor ws ps head t rest after_head later in
     let (is_predecessor, still_after) = moves before comes_after in
     let predecessor_in : has (head ∷ rest) predecessor ≡ true =
     ap (has (head ∷ rest)) (sym is_predecessor) ∙ member in
     let queued : has (head ∷ rest) t ≡ true = or_right (eqb t head) later in
     record {
       tail_is = same_tail ∙ agreed.tail_is;
-      line = (
+      links = (
         rw (at_other ps t head p head_differs) (stays_first head rest head_differs head_first),
         later_change ws new_ws ps (set ps t p) head t predecessor rest agreed.once later
             (λ one after.
@@ -140,7 +141,7 @@ pub mcs_first : (ws : List ℕ) (ps : List Phase) (t : ℕ) → t < length ps �
     → next_of ws t ≡ 0 → IsQueue ws ps [] → IsQueue (set ws 0 (t + 1)) (set ps t McsInside) (t ∷ [])
 mcs_first ws ps t in_lock has_tail no_next agreed = record {
   tail_is = get_or-set_same ws 0 (t + 1) 0 has_tail;
-  line = (rw (at_same ps t McsInside in_lock) tt, next_after_tail ws t (t + 1) ∙ no_next);
+  links = (rw (at_same ps t McsInside in_lock) tt, next_after_tail ws t (t + 1) ∙ no_next);
   once = (refl, tt);
   members = rw (length-set ps t McsInside) (λ thread queued. elim (eqb_tells thread t) [
     | inl (_, same) ↦ rw same in_lock
@@ -167,8 +168,8 @@ pub mcs_more : (ws : List ℕ) (ps : List Phase) (head t predecessor : ℕ) (res
 mcs_more ws ps head t predecessor rest in_lock has_tail not_queued no_next is_last agreed =
     let new_ws : List ℕ = set ws 0 (t + 1) in
     let new_ps : List Phase = set ps t (SetLocked predecessor) in
-    let line : IsLine new_ws new_ps (head ∷ rest) =
-    line_frame ws new_ws ps new_ps (head ∷ rest)
+    let links : AreLinked new_ws new_ps (head ∷ rest) =
+    links_frame ws new_ws ps new_ps (head ∷ rest)
     (λ member queued. record {
       phase =
           at_other ps t member (SetLocked predecessor)
@@ -176,13 +177,13 @@ mcs_more ws ps head t predecessor rest in_lock has_tail not_queued no_next is_la
       next = next_after_tail ws member (t + 1);
       locked = locked_after_tail ws member (t + 1);
     })
-    agreed.line in
-    let (head_first, after_head) = line in
+    agreed.links in
+    let (head_first, after_head) = links in
     record {
       tail_is =
           get_or-set_same ws 0 (t + 1) 0 has_tail
           ∙ ap (λ last. last + 1) (sym (last_more head t rest));
-      line = (
+      links = (
         first_more new_ws head t rest (phase_at new_ps head) head_first,
         later_more new_ws new_ps head t rest after_head
             (at_same ps t (SetLocked predecessor) in_lock ∙ ap (λ last. SetLocked last) is_last)
@@ -224,11 +225,11 @@ swapped ws ps (head ∷ rest) t in_lock has_tail not_queued no_next not_nil agre
     (let tail_is : slice_index ws 0 ≡ last_of head rest + 1 = agreed.tail_is in omega arith) agreed
 
 -- the last thread that leaves makes the tail nil, and the queue empty
-pub mcs_last : (ws : List ℕ) (ps : List Phase) (t : ℕ) → t < length ps → 0 < length ws
+pub mcs_only : (ws : List ℕ) (ps : List Phase) (t : ℕ) → t < length ps → 0 < length ws
     → IsQueue ws ps (t ∷ []) → IsQueue (set ws 0 0) (set ps t Idle) []
-mcs_last ws ps t in_lock has_tail agreed = record {
+mcs_only ws ps t in_lock has_tail agreed = record {
   tail_is = get_or-set_same ws 0 0 0 has_tail;
-  line = tt;
+  links = tt;
   once = tt;
   members = λ thread queued. absurd (false≢true queued);
   others = λ thread not_queued. elim (eqb_tells thread t) [
@@ -242,7 +243,7 @@ mcs_last ws ps t in_lock has_tail agreed = record {
 
 -- whom its predecessor's link names waits to be granted
 pub granted : (ws : List ℕ) (before t : ℕ) (p : Phase) → next_of ws before ≡ t + 1
-    → IsBehind ws before t p → p ≡ AwaitGrant
+    → IsSuccessor ws before t p → p ≡ AwaitGrant
 granted ws before t (SetLocked known) linked (knows, no_next) =
     absurd (omega (arith, linked, no_next))
 granted ws before t (LinkTo known) linked (knows, no_next, locks) =
@@ -255,17 +256,17 @@ pub mcs_grant : (ws : List ℕ) (ps : List Phase) (rest : List ℕ) (t successor
     → t < length ps → locked successor < length ws → phase_at ps t ≡ Grant successor
     → IsQueue ws ps (t ∷ rest) → IsQueue (set ws (locked successor) 0) (set ps t Idle) rest
 mcs_grant ws ps [] t successor in_lock has_locked was agreed =
-    let (head_first, after_head) = agreed.line in
-    let first : IsFirst ws t [] (Grant successor) = rw was at head_first in
+    let (head_first, after_head) = agreed.links in
+    let first : IsHead ws t [] (Grant successor) = rw was at head_first in
     let (grants_head, linked) = first in
     absurd (false≢true grants_head)
 mcs_grant ws ps (second ∷ rest) t successor in_lock has_locked was agreed =
     let new_ws : List ℕ = set ws (locked successor) 0 in
     let new_ps : List Phase = set ps t Idle in
-    let (head_first, (second_after, later)) = agreed.line in
+    let (head_first, (second_after, later)) = agreed.links in
     let (head_once, rest_once) = agreed.once in
     let (second_once, others_once) = rest_once in
-    let first : IsFirst ws t (second ∷ rest) (Grant successor) = rw was at head_first in
+    let first : IsHead ws t (second ∷ rest) (Grant successor) = rw was at head_first in
     let (grants_head, linked) = first in
     let is_second : successor ≡ second = eqb-true successor second grants_head in
     let second_differs : second ≢ t =
@@ -275,7 +276,7 @@ mcs_grant ws ps (second ∷ rest) t successor in_lock has_locked was agreed =
     second_after in
     record {
       tail_is = tail_after ws (locked successor) 0 (omega arith) ∙ agreed.tail_is;
-      line = (
+      links = (
         rw (at_other ps t second Idle second_differs ∙ second_awaits)
             (rw (← is_second) (get_or-set_same ws (locked successor) 0 0 has_locked)),
         later_frame ws new_ws ps new_ps second rest (next_after_locked ws successor second 0)
@@ -307,7 +308,7 @@ mcs_grant ws ps (second ∷ rest) t successor in_lock has_locked was agreed =
 
 -- if its predecessor's link is not nil, a thread is the one that the link names
 pub linked_is : (ws : List ℕ) (before t : ℕ) (p : Phase) → next_of ws before ≢ 0
-    → IsBehind ws before t p → next_of ws before - 1 ≡ t
+    → IsSuccessor ws before t p → next_of ws before - 1 ≡ t
 linked_is ws before t (SetLocked known) has_next (knows, no_next) = absurd (has_next no_next)
 linked_is ws before t (LinkTo known) has_next (knows, no_next, locks) =
     absurd (has_next no_next)
@@ -315,7 +316,7 @@ linked_is ws before t AwaitGrant has_next (linked, locks) = omega (arith, linked
 linked_is ws before t p has_next after = absurd after
 
 -- once the head has read its link, the link names the second in the queue
-pub second : (ws : List ℕ) (ps : List Phase) (t : ℕ) (q : List ℕ) → IsLater ws ps t q
+pub second : (ws : List ℕ) (ps : List Phase) (t : ℕ) (q : List ℕ) → IsRest ws ps t q
     → next_of ws t ≢ 0 → is_head q (next_of ws t - 1) ≡ true
 second ws ps t [] no_next has_next = absurd (has_next no_next)
 second ws ps t (successor ∷ rest) (after, later) has_next =

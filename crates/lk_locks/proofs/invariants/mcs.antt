@@ -10,17 +10,17 @@ use Rattle.lk_locks.specs.Entries.{move_entries}
 use Rattle.lk_locks.specs.Sequential.{nobody, Sequential, has, is_allowed}
 use Rattle.lk_locks.specs.State.{phase_at, start}
 use Rattle.lk_locks.specs.Steps.{move_change}
-use Rattle.lk_locks.specs.invariants.Rooms.{AgreeAs}
-use Rattle.lk_locks.specs.invariants.mcs.{IsBehind, IsFirst, IsQueue, locked_of, next_of}
+use Rattle.lk_locks.specs.invariants.Locks.{AgreeAs}
+use Rattle.lk_locks.specs.invariants.mcs.{IsSuccessor, IsHead, IsQueue, locked_of, next_of}
 use Rattle.lk_locks.specs.mcs.{locked, next}
-use Rattle.lk_locks.proofs.Cases.{IsAgreed, IsRoom, IsTaken, waits}
+use Rattle.lk_locks.proofs.Cases.{IsAgreed, LockProof, IsTaken, waits}
 use Rattle.lk_locks.proofs.Threads.{all_idle}
-use Rattle.lk_locks.proofs.invariants.McsLine.{IsHeadOf, alone, empty_of, first_frame}
-use Rattle.lk_locks.proofs.invariants.McsLine.{first_of_head, head_is, locked_after_locked}
-use Rattle.lk_locks.proofs.invariants.McsLine.{locked_after_next, member_of, next_after_locked}
-use Rattle.lk_locks.proofs.invariants.McsLine.{next_after_next, not_alone, not_member, place}
-use Rattle.lk_locks.proofs.invariants.McsLine.{relinked, tail_after}
-use Rattle.lk_locks.proofs.invariants.McsQueue.{goes_inside, mcs_first, mcs_grant, mcs_last}
+use Rattle.lk_locks.proofs.invariants.McsLinks.{IsHeadOf, alone, empty_of, first_frame}
+use Rattle.lk_locks.proofs.invariants.McsLinks.{head_by_phase, head_is, locked_after_locked}
+use Rattle.lk_locks.proofs.invariants.McsLinks.{locked_after_next, member_of, next_after_locked}
+use Rattle.lk_locks.proofs.invariants.McsLinks.{next_after_next, not_alone, not_member, place}
+use Rattle.lk_locks.proofs.invariants.McsLinks.{relinked, tail_after}
+use Rattle.lk_locks.proofs.invariants.McsQueue.{head_moves, mcs_first, mcs_grant, mcs_only}
 use Rattle.lk_locks.proofs.invariants.McsQueue.{mcs_later, mcs_out, second, swapped}
 use Rattle.lk_locks.specs.declared.kinds.LockKind.TheVariants.{Mcs}
 use Rattle.lk_locks.specs.declared.kinds.Move.{Move}
@@ -33,7 +33,7 @@ use Rattle.lk_locks.specs.declared.kinds.Phase.TheVariants.{McsInside, ReadNext,
 use Rattle.lk_locks.specs.declared.kinds.Phase.TheVariants.{SwapTail}
 use Rattle.lk_locks.specs.declared.kinds.Entry.TheVariants.{Acted}
 use Rattle.lk_locks.proofs.Requests.{allows_acquire, allows_release}
-use Rattle.lk_locks.specs.Rooms.{family_of}
+use Rattle.lk_locks.specs.Locks.{family_of}
 use Rattle.lk_locks.proofs.invariants.McsSteps.{begins, call_fits, few_entries, goes_on}
 use Rattle.lk_locks.proofs.invariants.McsSteps.{keeps_length, links_fit, owed_is_own, step_fits}
 
@@ -62,12 +62,12 @@ keeps bits ws ps q t McsInside (Call Release) given =
     let was : phase_at ps t ≡ McsInside = given.phase_is in
     let agreed : IsQueue ws ps q.queue = given.agrees in
     let at_head : IsHeadOf ws ps q.queue t =
-    first_of_head ws ps q.queue t McsInside was (λ outside. outside) (λ before after. after)
+    head_by_phase ws ps q.queue t McsInside was (λ outside. outside) (λ before after. after)
     agreed in
     record {
       allowed = (tt, tt);
       kind_is = given.kind_is;
-      agrees = goes_inside ws ps q.queue t ReadNext at_head in_lock tt agreed;
+      agrees = head_moves ws ps q.queue t ReadNext at_head in_lock tt agreed;
     }
 keeps bits ws ps q t ClearNext (Step kind) given =
     let in_lock : t < length ps = given.thread in
@@ -122,11 +122,11 @@ keeps bits ws ps q t (SetLocked predecessor) (Step kind) given =
     let fits : predecessor < length ps = given.fits in
     let agreed : IsQueue ws ps q.queue = given.agrees in
     elim
-    (place ws ps q.queue t agreed.line
+    (place ws ps q.queue t agreed.links
     (member_of ws ps q.queue t agreed (λ outside. rw was at outside))) [
       | inl at_head ↦
           absurd
-          (let first : IsFirst ws t at_head.rest (SetLocked predecessor) =
+          (let first : IsHead ws t at_head.rest (SetLocked predecessor) =
           rw was at at_head.first in first)
       | inr (in_rest, (one, after)) ↦
           record {
@@ -136,7 +136,7 @@ keeps bits ws ps q t (SetLocked predecessor) (Step kind) given =
                 mcs_later ws (set ws (locked t) 1) ps q.queue t predecessor (LinkTo predecessor)
                 in_lock in_rest (tail_after ws (locked t) 1 (omega arith))
                 (λ before after.
-                let after_it : IsBehind ws before t (SetLocked predecessor) = rw was at after in
+                let after_it : IsSuccessor ws before t (SetLocked predecessor) = rw was at after in
                 let (knows, no_next) = after_it in (
                   sym knows,
                   (
@@ -160,14 +160,14 @@ keeps bits ws ps q t (LinkTo predecessor) (Step kind) given =
     let fits : predecessor < length ps = given.fits in
     let agreed : IsQueue ws ps q.queue = given.agrees in
     elim
-    (place ws ps q.queue t agreed.line
+    (place ws ps q.queue t agreed.links
     (member_of ws ps q.queue t agreed (λ outside. rw was at outside))) [
       | inl at_head ↦
           absurd
-          (let first : IsFirst ws t at_head.rest (LinkTo predecessor) =
+          (let first : IsHead ws t at_head.rest (LinkTo predecessor) =
           rw was at at_head.first in first)
       | inr (in_rest, (one, after)) ↦
-          let after_one : IsBehind ws one t (LinkTo predecessor) = rw was at after in
+          let after_one : IsSuccessor ws one t (LinkTo predecessor) = rw was at after in
           let (knows_one, one_nil, one_locks) = after_one in
           let no_next : next_of ws predecessor ≡ 0 = ap (next_of ws) knows_one ∙ one_nil in
           record {
@@ -177,7 +177,7 @@ keeps bits ws ps q t (LinkTo predecessor) (Step kind) given =
                 mcs_later ws (set ws (next predecessor) (t + 1)) ps q.queue t predecessor AwaitGrant
                 in_lock in_rest (tail_after ws (next predecessor) (t + 1) (omega arith))
                 (λ before after.
-                let after_it : IsBehind ws before t (LinkTo predecessor) = rw was at after in
+                let after_it : IsSuccessor ws before t (LinkTo predecessor) = rw was at after in
                 let (knows, was_nil, locks) = after_it in (
                   sym knows,
                   (
@@ -207,16 +207,16 @@ keeps bits ws ps q t AwaitGrant (Step kind) given =
     let agreed : IsQueue ws ps q.queue = given.agrees in
     elim (eqb_tells (locked_of ws t) 0) [
       | inl (test, granted) ↦ rw test (elim
-          (place ws ps q.queue t agreed.line
+          (place ws ps q.queue t agreed.links
           (member_of ws ps q.queue t agreed (λ outside. rw was at outside))) [
             | inl at_head ↦
                 record {
                   allowed = (head_is q.queue t at_head.rest at_head.is, tt);
                   kind_is = given.kind_is;
-                  agrees = goes_inside ws ps q.queue t McsInside at_head in_lock tt agreed;
+                  agrees = head_moves ws ps q.queue t McsInside at_head in_lock tt agreed;
                 }
             | inr (in_rest, (before, after)) ↦
-                let after_it : IsBehind ws before t AwaitGrant = rw was at after in
+                let after_it : IsSuccessor ws before t AwaitGrant = rw was at after in
                 let (linked, locks) = after_it in
                 absurd (omega (arith, locks, granted))
           ])
@@ -231,7 +231,7 @@ keeps bits ws ps q t ReadNext (Step kind) given =
     let was : phase_at ps t ≡ ReadNext = given.phase_is in
     let agreed : IsQueue ws ps q.queue = given.agrees in
     let at_head : IsHeadOf ws ps q.queue t =
-    first_of_head ws ps q.queue t ReadNext was (λ outside. outside) (λ before after. after)
+    head_by_phase ws ps q.queue t ReadNext was (λ outside. outside) (λ before after. after)
     agreed in
     elim (eqb_tells (next_of ws t) 0) [
       | inl (test, _) ↦
@@ -239,7 +239,7 @@ keeps bits ws ps q t ReadNext (Step kind) given =
           (record {
             allowed = tt;
             kind_is = given.kind_is;
-            agrees = goes_inside ws ps q.queue t CasTail at_head in_lock tt agreed;
+            agrees = head_moves ws ps q.queue t CasTail at_head in_lock tt agreed;
           })
       | inr (test, linked) ↦
           rw test
@@ -247,7 +247,7 @@ keeps bits ws ps q t ReadNext (Step kind) given =
             allowed = tt;
             kind_is = given.kind_is;
             agrees =
-                goes_inside ws ps q.queue t (Grant (next_of ws t - 1)) at_head in_lock
+                head_moves ws ps q.queue t (Grant (next_of ws t - 1)) at_head in_lock
                 (second ws ps t at_head.rest at_head.later linked, omega (arith, linked))
                 agreed;
           })
@@ -259,7 +259,7 @@ keeps bits ws ps q t CasTail (Step kind) given =
     let was : phase_at ps t ≡ CasTail = given.phase_is in
     let agreed : IsQueue ws ps q.queue = given.agrees in
     let at_head : IsHeadOf ws ps q.queue t =
-    first_of_head ws ps q.queue t CasTail was (λ outside. outside) (λ before after. after)
+    head_by_phase ws ps q.queue t CasTail was (λ outside. outside) (λ before after. after)
     agreed in
     let may_act : is_allowed q (Acted t Release) ≡ true =
     allows_release q t (ap family_of given.kind_is) (omega arith)
@@ -272,7 +272,7 @@ keeps bits ws ps q t CasTail (Step kind) given =
           rw test (record {
             allowed = (may_act, (tt, tt));
             kind_is = given.kind_is;
-            agrees = rw one (mcs_last ws ps t in_lock (omega arith) (rw one at agreed));
+            agrees = rw one (mcs_only ws ps t in_lock (omega arith) (rw one at agreed));
           })
       | inr (test, other_tail) ↦
           rw test
@@ -280,7 +280,7 @@ keeps bits ws ps q t CasTail (Step kind) given =
             allowed = tt;
             kind_is = given.kind_is;
             agrees =
-                goes_inside ws ps q.queue t AwaitLink at_head in_lock
+                head_moves ws ps q.queue t AwaitLink at_head in_lock
                 (not_alone ws ps q.queue t at_head.rest at_head.is agreed other_tail) agreed;
           })
     ]
@@ -290,7 +290,7 @@ keeps bits ws ps q t AwaitLink (Step kind) given =
     let was : phase_at ps t ≡ AwaitLink = given.phase_is in
     let agreed : IsQueue ws ps q.queue = given.agrees in
     let at_head : IsHeadOf ws ps q.queue t =
-    first_of_head ws ps q.queue t AwaitLink was (λ outside. outside) (λ before after. after)
+    head_by_phase ws ps q.queue t AwaitLink was (λ outside. outside) (λ before after. after)
     agreed in
     elim (eqb_tells (next_of ws t) 0) [
       | inl (test, _) ↦
@@ -303,7 +303,7 @@ keeps bits ws ps q t AwaitLink (Step kind) given =
             allowed = tt;
             kind_is = given.kind_is;
             agrees =
-                goes_inside ws ps q.queue t (Grant (next_of ws t - 1)) at_head in_lock
+                head_moves ws ps q.queue t (Grant (next_of ws t - 1)) at_head in_lock
                 (second ws ps t at_head.rest at_head.later linked, omega (arith, linked))
                 agreed;
           })
@@ -316,7 +316,7 @@ keeps bits ws ps q t (Grant successor) (Step kind) given =
     let fits : successor < length ps = given.fits in
     let agreed : IsQueue ws ps q.queue = given.agrees in
     let at_head : IsHeadOf ws ps q.queue t =
-    first_of_head ws ps q.queue t (Grant successor) was (λ outside. outside)
+    head_by_phase ws ps q.queue t (Grant successor) was (λ outside. outside)
     (λ before after. after) agreed in
     let may_act : is_allowed q (Acted t Release) ≡ true =
     allows_release q t (ap family_of given.kind_is) (omega arith)
@@ -337,15 +337,15 @@ starts : (bits : ℕ) (ws : List ℕ) (n : ℕ) → n < 2 ^ bits → ((i : ℕ) 
     → AgreeAs Mcs (start Mcs bits ws n) (nobody Mcs)
 starts bits ws n few clear = record {
   tail_is = clear 0;
-  line = tt;
+  links = tt;
   once = tt;
   members = λ t queued. absurd (false≢true queued);
   others = λ t not_queued. rw (all_idle n t) tt;
 }
 
 -- all that the other proofs use of the MCS lock
-pub room : IsRoom Mcs
-room = record {
+pub proof : LockProof Mcs
+proof = record {
   goes_on = goes_on;
   begins = begins;
   owed_is_own = owed_is_own;

@@ -14,10 +14,10 @@ use Rattle.lk_locks.specs.Sequential.{nobody, Sequential, after_entry, has, is_a
 use Rattle.lk_locks.specs.State.{phase_at, start}
 use Rattle.lk_locks.specs.Steps.{move_change}
 use Rattle.lk_locks.specs.invariants.Threads.{is_this}
-use Rattle.lk_locks.specs.invariants.Rooms.{AgreeAs}
+use Rattle.lk_locks.specs.invariants.Locks.{AgreeAs}
 use Rattle.lk_locks.specs.invariants.read_write.{AreHolders, is_announced, is_reading, is_writing}
 use Rattle.lk_locks.specs.invariants.rw_fifo.{AgreesWith}
-use Rattle.lk_locks.proofs.Cases.{IsAgreed, IsRoom, IsTaken, waits}
+use Rattle.lk_locks.proofs.Cases.{IsAgreed, LockProof, IsTaken, waits}
 use Rattle.lk_locks.proofs.invariants.HolderLists.{announced_is, empty_of_length, flag_none}
 use Rattle.lk_locks.proofs.invariants.HolderLists.{flag_some, holders_announce, holders_downgrade}
 use Rattle.lk_locks.proofs.invariants.HolderLists.{holders_frame, holders_join, holders_leave}
@@ -366,8 +366,8 @@ starts bits ws n threads_fit clear = record {
 }
 
 -- all that the other proofs use of the FIFO read-write lock
-pub room : IsRoom RwFifo
-room = record {
+pub proof : LockProof RwFifo
+proof = record {
   goes_on = goes_on;
   begins = begins;
   owed_is_own = owed_is_own;

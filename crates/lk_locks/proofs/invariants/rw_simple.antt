@@ -11,14 +11,14 @@ use Rattle.lk_locks.specs.Change.{Change, less_one, plus_one}
 use Rattle.lk_locks.specs.Entries.{move_entries}
 use Rattle.lk_locks.specs.Sequential.{nobody, Sequential, after_entry, has, is_allowed, left_by}
 use Rattle.lk_locks.specs.State.{phase_at, start}
-use Rattle.lk_locks.specs.Rooms.{after_call}
+use Rattle.lk_locks.specs.Locks.{after_call}
 use Rattle.lk_locks.specs.Steps.{has_op, move_change, refusal_in}
 use Rattle.lk_locks.specs.invariants.Threads.{is_this}
-use Rattle.lk_locks.specs.invariants.Rooms.{AgreeAs, AreLinks, IsPhaseOf}
+use Rattle.lk_locks.specs.invariants.Locks.{AgreeAs, AreLinks, IsPhaseOf}
 use Rattle.lk_locks.specs.invariants.read_write.{is_announced, is_reading, is_writing}
 use Rattle.lk_locks.specs.invariants.rw_simple.{AgreesWith, owed}
 use Rattle.lk_locks.specs.rw_simple.{step}
-use Rattle.lk_locks.proofs.Cases.{AreOf, Begins, Fits, GoesOn, IsAgreed, IsRoom, IsTaken}
+use Rattle.lk_locks.proofs.Cases.{AreOf, Begins, Fits, GoesOn, IsAgreed, LockProof, IsTaken}
 use Rattle.lk_locks.proofs.Cases.{KeepsLength, either_way, waits}
 use Rattle.lk_locks.proofs.invariants.HolderLists.{empty_of_length, flag_none, holders_downgrade}
 use Rattle.lk_locks.proofs.invariants.HolderLists.{holders_frame, holders_join, holders_leave}
@@ -319,8 +319,8 @@ starts bits ws n threads_fit clear = record {
 }
 
 -- all that the other proofs use of the simple read-write lock
-pub room : IsRoom RwSimple
-room = record {
+pub proof : LockProof RwSimple
+proof = record {
   goes_on = goes_on;
   begins = begins;
   owed_is_own = owed_is_own;

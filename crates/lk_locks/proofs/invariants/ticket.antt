@@ -12,16 +12,16 @@ use Rattle.lk_locks.specs.Change.{Change}
 use Rattle.lk_locks.specs.Entries.{move_entries}
 use Rattle.lk_locks.specs.Sequential.{nobody, Sequential, has, is_allowed}
 use Rattle.lk_locks.specs.State.{phase_at, start}
-use Rattle.lk_locks.specs.Rooms.{after_call, family_of}
+use Rattle.lk_locks.specs.Locks.{after_call, family_of}
 use Rattle.lk_locks.specs.Steps.{has_op, move_change, refusal_in}
-use Rattle.lk_locks.specs.invariants.Rooms.{AgreeAs, AreLinks, IsPhaseOf}
+use Rattle.lk_locks.specs.invariants.Locks.{AgreeAs, AreLinks, IsPhaseOf}
 use Rattle.lk_locks.specs.invariants.ticket.{IsQueue, owed, ticket_of}
 use Rattle.lk_locks.specs.ticket.{entries, now_serving, step}
-use Rattle.lk_locks.proofs.Cases.{AreOf, Begins, Fits, GoesOn, IsAgreed, IsRoom, IsTaken}
+use Rattle.lk_locks.proofs.Cases.{AreOf, Begins, Fits, GoesOn, IsAgreed, LockProof, IsTaken}
 use Rattle.lk_locks.proofs.Cases.{KeepsLength, either_way, waits}
-use Rattle.lk_locks.proofs.Threads.{all_idle, bool_tells}
-use Rattle.lk_locks.proofs.invariants.TicketLine.{IsHead, inside_is_head, no_member, queue_frame}
-use Rattle.lk_locks.proofs.invariants.TicketLine.{queue_pass, queue_take, served_is_head}
+use Rattle.lk_locks.proofs.Threads.{all_idle, true_or_false}
+use Rattle.lk_locks.proofs.invariants.TicketQueue.{IsHead, inside_is_head, no_member, queue_frame}
+use Rattle.lk_locks.proofs.invariants.TicketQueue.{queue_pass, queue_take, served_is_head}
 use Rattle.lk_locks.specs.declared.kinds.Family.TheVariants.{Queue}
 use Rattle.lk_locks.specs.declared.kinds.LockKind.TheVariants.{Ticket}
 use Rattle.lk_locks.specs.declared.kinds.Move.{Move}
@@ -90,8 +90,8 @@ call_fits n p op fits = fits
 -- who is not in the queue is not among those after its head
 rest_false : (q : List ℕ) (t : ℕ) → has q t ≡ false → has (drop 1 q) t ≡ false
 rest_false [] t not_queued = refl
-rest_false (head ∷ rest) t not_queued = elim (bool_tells (has rest t)) [
-  | inl later ↦ elim (bool_tells (eqb t head)) [
+rest_false (head ∷ rest) t not_queued = elim (true_or_false (has rest t)) [
+  | inl later ↦ elim (true_or_false (eqb t head)) [
     | inl same ↦
         let absent : has (head ∷ rest) t ≡ false = not_queued in
         absurd (false≢true (sym (rw same at absent)))
@@ -210,7 +210,7 @@ starts : (bits : ℕ) (ws : List ℕ) (n : ℕ) → n < 2 ^ bits → ((i : ℕ) 
 starts bits ws n few clear = record {
   narrow = rw (length-replicate n Idle) few;
   serving = rw (clear 1) (pow_pos bits);
-  line = tt;
+  tickets = tt;
   next =
       clear 0
       ∙ sym (ap (λ served. (served + 0) % 2 ^ bits) (clear 1) ∙ mod-eq_of_lt (pow_pos bits));
@@ -220,8 +220,8 @@ starts bits ws n few clear = record {
 }
 
 -- all that the other proofs use of the ticket lock
-pub room : IsRoom Ticket
-room = record {
+pub proof : LockProof Ticket
+proof = record {
   goes_on = goes_on;
   begins = begins;
   owed_is_own = owed_is_own;

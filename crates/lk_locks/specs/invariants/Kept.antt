@@ -7,7 +7,7 @@ use Rattle.lk_locks.specs.Sequential.{Sequential, nobody, thread_of}
 use Rattle.lk_locks.specs.Legal.{AreEnabled, after_entries}
 use Rattle.lk_locks.specs.Holding.{holder_after}
 use Rattle.lk_locks.specs.Tracked.{Tracked}
-use Rattle.lk_locks.specs.invariants.Rooms.{AgreeAs}
+use Rattle.lk_locks.specs.invariants.Locks.{AgreeAs}
 use Rattle.lk_locks.specs.invariants.WellFormed.{WellFormed}
 use Rattle.lk_locks.specs.invariants.Owed.{IsInTurn}
 use Rattle.lk_locks.specs.declared.kinds.Entry.{Entry}

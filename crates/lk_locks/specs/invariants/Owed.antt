@@ -2,7 +2,7 @@
 use Rattle.std.specs.Prelude.{◌≡◌, ℕ, List, ◌++◌}
 use Rattle.std.specs.List.{flat_map}
 use Rattle.lk_locks.specs.Legal.{subhistory, whole_call}
-use Rattle.lk_locks.specs.invariants.Rooms.{owed_of}
+use Rattle.lk_locks.specs.invariants.Locks.{owed_of}
 use Rattle.lk_locks.specs.declared.kinds.LockKind.{LockKind}
 use Rattle.lk_locks.specs.declared.kinds.Phase.{Phase}
 use Rattle.lk_locks.specs.declared.kinds.Op.{Op}

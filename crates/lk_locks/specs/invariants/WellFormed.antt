@@ -1,8 +1,8 @@
 -- Invariants. What holds of each state of a machine, whatever was played before.
 use Rattle.std.specs.Prelude.{◌≡◌, ℕ, ◌^◌, ◌<◌, ◌≤◌, List, length}
 use Rattle.lk_locks.specs.State.{State, phase_at}
-use Rattle.lk_locks.specs.Rooms.{word_count}
-use Rattle.lk_locks.specs.invariants.Rooms.{IsPhaseOf, AreLinks}
+use Rattle.lk_locks.specs.Locks.{word_count}
+use Rattle.lk_locks.specs.invariants.Locks.{IsPhaseOf, AreLinks}
 use Rattle.lk_locks.specs.declared.kinds.LockKind.{LockKind}
 use Rattle.lk_locks.specs.declared.kinds.Phase.{Phase}
 

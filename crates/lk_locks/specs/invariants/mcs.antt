@@ -50,10 +50,10 @@ owed i (Grant j) = acts i Release
 owed i p = []
 
 -- an answer that names a thread, or none: a link is below 65, since there are at most 64 threads
-abbrev pub IsLink : Phase → Answer → Type 0
-IsLink AwaitGrant answer = Unit {0}
-IsLink p (Found link) = link ≤ 64
-IsLink p answer = Unit {0}
+abbrev pub IsInRange : Phase → Answer → Type 0
+IsInRange AwaitGrant answer = Unit {0}
+IsInRange p (Found link) = link ≤ 64
+IsInRange p answer = Unit {0}
 
 -- the words of thread i's record
 abbrev pub next_of : List ℕ → ℕ → ℕ
@@ -74,44 +74,44 @@ tail_of (t ∷ q) = last_of t q + 1
 
 -- Thread t, in this phase, is the successor of u. Until t has linked itself, its phase names u,
 -- whose next is nil; from then on the next of u names t.
-abbrev pub IsBehind : List ℕ → ℕ → ℕ → Phase → Type 0
-IsBehind ws u t (SetLocked j) = (j ≡ u) × (next_of ws u ≡ 0)
-IsBehind ws u t (LinkTo j) = (j ≡ u) × (next_of ws u ≡ 0) × (locked_of ws t ≡ 1)
-IsBehind ws u t AwaitGrant = (next_of ws u ≡ t + 1) × (locked_of ws t ≡ 1)
-IsBehind ws u t p = ⊥
+abbrev pub IsSuccessor : List ℕ → ℕ → ℕ → Phase → Type 0
+IsSuccessor ws u t (SetLocked j) = (j ≡ u) × (next_of ws u ≡ 0)
+IsSuccessor ws u t (LinkTo j) = (j ≡ u) × (next_of ws u ≡ 0) × (locked_of ws t ≡ 1)
+IsSuccessor ws u t AwaitGrant = (next_of ws u ≡ t + 1) × (locked_of ws t ≡ 1)
+IsSuccessor ws u t p = ⊥
 
 -- the queue after u; the next of its last thread is nil
-abbrev pub IsLater : List ℕ → List Phase → ℕ → List ℕ → Type 0
-IsLater ws ps u [] = next_of ws u ≡ 0
-IsLater ws ps u (t ∷ q) = IsBehind ws u t (phase_at ps t) × IsLater ws ps t q
+abbrev pub IsRest : List ℕ → List Phase → ℕ → List ℕ → Type 0
+IsRest ws ps u [] = next_of ws u ≡ 0
+IsRest ws ps u (t ∷ q) = IsSuccessor ws u t (phase_at ps t) × IsRest ws ps t q
 
 -- The head t, in this phase, and the rest q. If t polls `locked`, it has been granted the lock; if
 -- it polls `next`, q is not empty; if it grants, its next names the first of q.
-abbrev pub IsFirst : List ℕ → ℕ → List ℕ → Phase → Type 0
-IsFirst ws t q AwaitGrant = locked_of ws t ≡ 0
-IsFirst ws t q McsInside = Unit {0}
-IsFirst ws t q ReadNext = Unit {0}
-IsFirst ws t q CasTail = Unit {0}
-IsFirst ws t q AwaitLink = q ≢ []
-IsFirst ws t q (Grant j) = (is_head q j ≡ true) × (next_of ws t ≡ j + 1)
-IsFirst ws t q p = ⊥
+abbrev pub IsHead : List ℕ → ℕ → List ℕ → Phase → Type 0
+IsHead ws t q AwaitGrant = locked_of ws t ≡ 0
+IsHead ws t q McsInside = Unit {0}
+IsHead ws t q ReadNext = Unit {0}
+IsHead ws t q CasTail = Unit {0}
+IsHead ws t q AwaitLink = q ≢ []
+IsHead ws t q (Grant j) = (is_head q j ≡ true) × (next_of ws t ≡ j + 1)
+IsHead ws t q p = ⊥
 
-abbrev pub IsLine : List ℕ → List Phase → List ℕ → Type 0
-IsLine ws ps [] = Unit {0}
-IsLine ws ps (t ∷ q) = IsFirst ws t q (phase_at ps t) × IsLater ws ps t q
+abbrev pub AreLinked : List ℕ → List Phase → List ℕ → Type 0
+AreLinked ws ps [] = Unit {0}
+AreLinked ws ps (t ∷ q) = IsHead ws t q (phase_at ps t) × IsRest ws ps t q
 
 -- a thread that is not in the queue. In `SwapTail` its next is nil
-abbrev pub IsOutside : List ℕ → ℕ → Phase → Type 0
-IsOutside ws t Idle = Unit {0}
-IsOutside ws t ClearNext = Unit {0}
-IsOutside ws t SwapTail = next_of ws t ≡ 0
-IsOutside ws t p = ⊥
+abbrev pub IsNotQueued : List ℕ → ℕ → Phase → Type 0
+IsNotQueued ws t Idle = Unit {0}
+IsNotQueued ws t ClearNext = Unit {0}
+IsNotQueued ws t SwapTail = next_of ws t ≡ 0
+IsNotQueued ws t p = ⊥
 
 -- Words and phases agree with this queue: the tail names its last thread, its members are linked as
 -- far as their phases say, no thread is in it twice, and no other thread is queued.
 pub record IsQueue (ws : List ℕ) (ps : List Phase) (queue : List ℕ) : Type 0 where
   pub tail_is : slice_index ws tail ≡ tail_of queue
-  pub line : IsLine ws ps queue
+  pub links : AreLinked ws ps queue
   pub once : EachOnce queue
   pub members : (t : ℕ) → has queue t ≡ true → t < length ps
-  pub others : (t : ℕ) → has queue t ≡ false → IsOutside ws t (phase_at ps t)
+  pub others : (t : ℕ) → has queue t ≡ false → IsNotQueued ws t (phase_at ps t)

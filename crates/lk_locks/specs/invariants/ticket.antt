@@ -41,23 +41,23 @@ ticket_of (PassOn t) = Some t
 ticket_of p = None
 
 -- the threads have the tickets from x on, and wait
-abbrev pub WaitInLine : ℕ → List Phase → ℕ → List ℕ → Type 0
-WaitInLine bits ps x [] = Unit {0}
-WaitInLine bits ps x (t ∷ ts) =
-    (phase_at ps t ≡ AwaitTurn x) × WaitInLine bits ps (plus_one bits x) ts
+abbrev pub AwaitTurns : ℕ → List Phase → ℕ → List ℕ → Type 0
+AwaitTurns bits ps x [] = Unit {0}
+AwaitTurns bits ps x (t ∷ ts) =
+    (phase_at ps t ≡ AwaitTurn x) × AwaitTurns bits ps (plus_one bits x) ts
 
 -- the threads have the tickets from x on, and all but the first wait
-abbrev pub IsLine : ℕ → List Phase → ℕ → List ℕ → Type 0
-IsLine bits ps x [] = Unit {0}
-IsLine bits ps x (t ∷ ts) =
-    (ticket_of (phase_at ps t) ≡ Some x) × WaitInLine bits ps (plus_one bits x) ts
+abbrev pub HoldTickets : ℕ → List Phase → ℕ → List ℕ → Type 0
+HoldTickets bits ps x [] = Unit {0}
+HoldTickets bits ps x (t ∷ ts) =
+    (ticket_of (phase_at ps t) ≡ Some x) × AwaitTurns bits ps (plus_one bits x) ts
 
 -- The queue is the threads with a ticket, in the order of the tickets. A word has more values than
 -- there are threads, so tickets differ.
 pub record IsQueue (bits : ℕ) (ws : List ℕ) (ps : List Phase) (queue : List ℕ) : Type 0 where
   pub narrow : length ps < 2 ^ bits
   pub serving : slice_index ws now_serving < 2 ^ bits
-  pub line : IsLine bits ps (slice_index ws now_serving) queue
+  pub tickets : HoldTickets bits ps (slice_index ws now_serving) queue
   pub next : slice_index ws next_ticket ≡ (slice_index ws now_serving + length queue) % 2 ^ bits
   pub once : EachOnce queue
   pub members : (t : ℕ) → has queue t ≡ true → t < length ps

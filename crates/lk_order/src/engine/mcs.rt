@@ -80,7 +80,7 @@ impl Acquires {
                 let before = (found - 1) as usize;
                 let last = self.begun[before].saturating_sub(1);
                 self.has_other_successor(before, t)
-                    || !self.chains.is_behind(t, self.begun[t], last)
+                    || !self.chains.is_successor(t, self.begun[t], last)
             }
             _ => false,
         }

@@ -17,11 +17,11 @@ pub record Drawn (draws : ℕ) (s : State (Unit {0}) Hand) : Type 0 where
 
 -- the word found is appended. It is greater than each number of the list, and there are at least as
 -- many numbers below it
-abbrev pub DrawTells : Step (Unit {0}) → Me (Unit {0}) Hand → ℕ → Me (Unit {0}) Hand → Type 0
-DrawTells st v found w =
+abbrev pub DrawFinds : Step (Unit {0}) → Me (Unit {0}) Hand → ℕ → Me (Unit {0}) Hand → Type 0
+DrawFinds st v found w =
     (w ≡ (hand (v.0.drawn ++ found ∷ []) (v.0.left - 1) v.0.draws, v.1))
     × (length v.0.drawn ≤ found) × All (λ x. x < found) v.0.drawn
 
 -- nothing changes, and what is left is few
-abbrev pub CountTells : Step (Unit {0}) → Me (Unit {0}) Hand → ℕ → Me (Unit {0}) Hand → Type 0
-CountTells st v found w = (w ≡ v) × (v.0.left ≤ 2 ^ 40)
+abbrev pub CountFinds : Step (Unit {0}) → Me (Unit {0}) Hand → ℕ → Me (Unit {0}) Hand → Type 0
+CountFinds st v found w = (w ≡ v) × (v.0.left ≤ 2 ^ 40)

@@ -56,17 +56,17 @@ pub record Running (takes : ℕ) (s : Table) : Type 0 where
   pub taken : sum_over_seats (λ r. r.taken) s.views ≡ next_of s
   pub left : next_of s + sum_over_seats (λ r. r.left) s.views ≤ 2 ^ 40
 
-abbrev pub TakeTells : SeatState → ℕ → Type 0
-TakeTells r found = (r.seen ≤ found) × (found < 2 ^ 40) × (r.taken < 2 ^ 40)
+abbrev pub TakeFinds : SeatState → ℕ → Type 0
+TakeFinds r found = (r.seen ≤ found) × (found < 2 ^ 40) × (r.taken < 2 ^ 40)
 
-abbrev pub LookTells : SeatState → ℕ → Type 0
-LookTells r found = r.seen ≤ found
+abbrev pub LookFinds : SeatState → ℕ → Type 0
+LookFinds r found = r.seen ≤ found
 
-abbrev pub ReadTells : SeatState → ℕ → Type 0
-ReadTells r found = found ≡ r.ticket
+abbrev pub ReadFinds : SeatState → ℕ → Type 0
+ReadFinds r found = found ≡ r.ticket
 
-abbrev pub PassTells : SeatState → ℕ → Type 0
-PassTells r found = ⊤
+abbrev pub PassFinds : SeatState → ℕ → Type 0
+PassFinds r found = ⊤
 
 -- a step of the only seat of a view, with a note of the word and the operand that the table's own
 -- step has

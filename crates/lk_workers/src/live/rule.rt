@@ -6,8 +6,8 @@
 ghost use Rattle.std.specs.Prelude.{ℕ, [], ◌∷◌};
 ghost use Rattle.lk_workers.specs.declared.live.LivePhase.TheVariants.{Idle};
 ghost use Rattle.lk_workers.specs.Seats.{seat_state};
-ghost use Rattle.lk_workers.specs.invariants.Running.{Running, OfOne, TakeTells, LookTells};
-ghost use Rattle.lk_workers.specs.invariants.Running.{ReadTells, PassTells, Counts, Compares};
+ghost use Rattle.lk_workers.specs.invariants.Running.{Running, OfOne, TakeFinds, LookFinds};
+ghost use Rattle.lk_workers.specs.invariants.Running.{ReadFinds, PassFinds, Counts, Compares};
 ghost use Rattle.lk_workers.specs.SeatSteps.{take_step, look_step, read_step, pass_step, cut_left};
 ghost use Rattle.lk_workers.specs.SeatSteps.{cut_right, glued, paired, first_of, second_of};
 
@@ -53,28 +53,28 @@ impl TableRule<(), View, u64> for TicketRule {
 pub struct Take;
 
 impl Play<(), View> for Take {
-    ghost then = { OfOne take_step TakeTells };
+    ghost then = { OfOne take_step TakeFinds };
 }
 
 /// A load of `now_serving` by a seat that waits.
 pub struct Look;
 
 impl Play<(), View> for Look {
-    ghost then = { OfOne look_step LookTells };
+    ghost then = { OfOne look_step LookFinds };
 }
 
 /// The load of `now_serving` by a seat that releases.
 pub struct ReadServing;
 
 impl Play<(), View> for ReadServing {
-    ghost then = { OfOne read_step ReadTells };
+    ghost then = { OfOne read_step ReadFinds };
 }
 
 /// The store into `now_serving`.
 pub struct Pass;
 
 impl Play<(), View> for Pass {
-    ghost then = { OfOne pass_step PassTells };
+    ghost then = { OfOne pass_step PassFinds };
 }
 
 // A load that changes nothing. It shows that the numbers of a joined seat are at most 2^40, which

@@ -221,7 +221,7 @@ impl Chains {
     }
 
     /// Whether this instance's predecessor is this instance of it, or is not known.
-    pub fn is_behind(&self, thread: usize, instance: usize, predecessor: usize) -> bool {
+    pub fn is_successor(&self, thread: usize, instance: usize, predecessor: usize) -> bool {
         let matched = at(&self.before, thread, instance);
         matched == NONE || matched as usize == predecessor
     }

@@ -1,6 +1,6 @@
 use Rattle.std.proofs.Common.{ap, sym, ◌∙◌}
 use Rattle.lk_locks.specs.State.{State, phase_at}
-use Rattle.lk_locks.specs.Rooms.{step_due}
+use Rattle.lk_locks.specs.Locks.{step_due}
 use Rattle.lk_locks.specs.Steps.{refused_with}
 use Rattle.lk_page.specs.Next.{allowed_calls, waits_after}
 use Rattle.lk_page.proofs.Records.{is_told}

@@ -6,7 +6,7 @@ use Rattle.lk_replay.specs.Devices.{AppendsPrefix}
 use Rattle.lk_replay.specs.Ending.{ending_of}
 use Rattle.lk_replay.specs.Report.{report_text}
 use Rattle.lk_replay.specs.declared.ending.Ending.{Ending}
-use Rattle.lk_replay.proofs.Promised.{appended_as_told}
+use Rattle.lk_replay.proofs.Promised.{appended_report}
 use Rattle.lk_replay.proofs.Reports.{reported}
 use Rattle.lk_replay.proofs.engine.run.Goals as goal
 
@@ -22,7 +22,7 @@ returns-clause-written g c =
 
 pub returns-clause-promised : goal.returns-clause-promised
 returns-clause-promised g c =
-    on_ok_weaker c.write_report.result (appended_as_told _ _ _) (returns-clause-written g c)
+    on_ok_weaker c.write_report.result (appended_report _ _ _) (returns-clause-written g c)
 
 pub returns-clause-ending : goal.returns-clause-ending
 returns-clause-ending g c =

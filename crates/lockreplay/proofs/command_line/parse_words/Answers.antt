@@ -30,13 +30,13 @@ fits_in_memory files words workers line few =
 pub returns-in-Err-clause-replay : goal.returns-in-Err-clause-replay
 returns-in-Err-clause-replay c = λ line.
     let told =
-    c.fault_told.ensures
+    c.fault_of.ensures
     (c.in-Err.ensures.passes (ap₂ takes c.in_ok-command.ensures line ∙ replay_taken)) in
     subst (λ f. AsksFor (λ job. job ≡ Replay) (Err f)) (sym told) tt
 
 pub returns-in-Err-clause-batch : goal.returns-in-Err-clause-batch
 returns-in-Err-clause-batch c = λ workers files line few many some plain.
-    let told = c.fault_told.ensures (c.in-Err.ensures.passes (ap₂ takes c.in_ok-command.ensures line
+    let told = c.fault_of.ensures (c.in-Err.ensures.passes (ap₂ takes c.in_ok-command.ensures line
     ∙ batch_taken workers files few many
     some (fits_in_memory files c.args.words.now workers line (search rules)) plain)) in
     subst (λ f. AnswersBatch workers files (Err f)) (sym told) ((λ _. tt), λ _. tt)

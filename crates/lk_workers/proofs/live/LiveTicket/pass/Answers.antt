@@ -1,5 +1,5 @@
 use Rattle.std.proofs.Common.{rules, ap, refl}
-use Rattle.lk_workers.proofs.SeatMoves.{pass, stands}
+use Rattle.lk_workers.proofs.SeatMoves.{pass, view_of_seat}
 use Rattle.lk_workers.proofs.live.LiveTicket.pass.Goals as goal
 
 pub store-requires : goal.store-requires
@@ -12,4 +12,4 @@ store-requires c = (
 pub invariant_of-seat : goal.invariant_of-seat
 invariant_of-seat c =
     let t = c.store.ensures.2 _ (ap (λ m. m.0) c.seat.invariant.0) in
-    (stands _ _ _ t.0 (ap (λ m. m.1) c.seat.invariant.0), search rules)
+    (view_of_seat _ _ _ t.0 (ap (λ m. m.1) c.seat.invariant.0), search rules)

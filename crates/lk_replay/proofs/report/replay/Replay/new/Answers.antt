@@ -1,6 +1,6 @@
 -- All moves are left, on a new lock.
 use Rattle.std.proofs.Common.{◌∙◌, ◌+◌, [], ap, arith, length, sym}
-use Rattle.lk_replay.proofs.Printed.{behind_lines, last_some, replay_printed, tracked_new}
+use Rattle.lk_replay.proofs.Printed.{ending_after_lines, last_some, replay_printed, tracked_new}
 use Rattle.lk_replay.specs.Ending.{ending_of}
 use Rattle.lk_replay.specs.Following.{following}
 use Rattle.lk_replay.specs.Replay.{Replay, replay_from}
@@ -16,7 +16,7 @@ returns-clause-text c =
 pub returns-clause-ending : goal.returns-clause-ending
 returns-clause-ending c =
     let rest : Replay = replay_from c.new_machine.result c.moves.result.now in
-    sym (behind_lines c.new.result c.of.result rest.made
+    sym (ending_after_lines c.new.result c.of.result rest.made
     (last_line (c.of.result + length rest.made) rest.refused)
     (last_some (c.of.result + length rest.made) rest.refused))
     ∙ ap ending_of (returns-clause-text c)

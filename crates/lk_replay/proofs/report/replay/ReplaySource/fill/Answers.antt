@@ -1,7 +1,7 @@
 -- The next line comes after those before it.
 use Rattle.std.proofs.Common.{◌≡◌, ◌-◌, ◌++◌, ◌∙◌, List, ℕ, ap, append_assoc, arith, drop}
 use Rattle.std.proofs.Common.{length, length-drop, length-take-le, sym, take}
-use Rattle.lk_replay.proofs.Texts.{written_behind}
+use Rattle.lk_replay.proofs.Texts.{written_after}
 use Rattle.lk_replay.proofs.report.replay.ReplaySource.fill.Goals as goal
 use borrow.Rule.Slice.PartMut.{mid_of, post_of, put_mid, same_len_mid}
 
@@ -22,7 +22,7 @@ loop-place-preserved c =
           ∙ ap (λ (ys : List ℕ). take at place ++ ys) c.in-Some.ensures.lines
           ∙ sym (append_assoc (take at place) (take more now) c.next.new.self.lines)
           ∙ ap (λ (ys : List ℕ). ys ++ c.next.new.self.lines)
-          (sym (written_behind place now (post_of at (length place - at) place) at more
+          (sym (written_after place now (post_of at (length place - at) place) at more
           c.loop-place.invariant.within c.in-Some.ensures.fits));
       within = omega (
         arith,

@@ -4,8 +4,8 @@
 ghost use Rattle.std.specs.Prelude.{◌≡◌, ◌≤◌, []};
 ghost use Rattle.std.specs.List.{list_any};
 ghost use Rattle.lk_locks.specs.Change.{kind_of};
-ghost use Rattle.lk_locks.specs.Rooms.{family_of, word_count, steps_of, after_call, step_due};
-ghost use Rattle.lk_locks.specs.Rooms.{operation_of, step_of, step_entries};
+ghost use Rattle.lk_locks.specs.Locks.{family_of, word_count, steps_of, after_call, step_due};
+ghost use Rattle.lk_locks.specs.Locks.{operation_of, step_of, step_entries};
 ghost use Rattle.lk_locks.specs.Steps.{same_step};
 ghost use Rattle.lk_locks.specs.invariants.WellFormed.{IsReady};
 
@@ -14,7 +14,7 @@ use crate::{Family, LockKind, Op, Outcome, Phase, StepKind, mcs, rw_fifo, rw_sim
 use lk_words::{Operation, WordArray, Words};
 
 // Calls a function of the lock's module.
-macro_rules! in_room {
+macro_rules! by_lock {
     ($kind:expr, $function:ident($($argument:expr),*)) => {
         match $kind {
             LockKind::Ticket => ticket::$function($($argument),*),
@@ -41,7 +41,7 @@ pub fn family_of(kind: LockKind) -> Family
 pub fn words_needed(kind: LockKind, threads: u8) -> usize
     ensures { result ≡ word_count kind threads }
 {
-    in_room!(kind, words_needed(threads))
+    by_lock!(kind, words_needed(threads))
 }
 
 /// Whether the lock has steps of this kind.
@@ -49,7 +49,7 @@ pub fn words_needed(kind: LockKind, threads: u8) -> usize
 pub(crate) fn has_step(kind: LockKind, step: StepKind) -> bool
     ensures { result ≡ list_any (same_step step) (steps_of kind) }
 {
-    in_room!(kind, has_step(step))
+    by_lock!(kind, has_step(step))
 }
 
 /// The phase that a call leads to, if a thread in this phase may make it.
@@ -57,7 +57,7 @@ pub(crate) fn has_step(kind: LockKind, step: StepKind) -> bool
 pub(crate) fn after_call(kind: LockKind, phase: Phase, op: Op) -> Option<Phase>
     ensures { result ≡ after_call kind phase op }
 {
-    in_room!(kind, after_call(phase, op))
+    by_lock!(kind, after_call(phase, op))
 }
 
 /// The kind of step that an operation is.
@@ -80,7 +80,7 @@ pub fn operation_of(kind: LockKind, bits: u8, thread: u8, phase: Phase) -> Optio
     requires most { bits ≤ 64 }
     ensures { result ≡ operation_of kind bits thread phase }
 {
-    in_room!(kind, operation(bits, thread, phase))
+    by_lock!(kind, operation(bits, thread, phase))
 }
 
 /// The step that a thread in this phase takes next, if it has a pending call.
@@ -88,7 +88,7 @@ pub fn operation_of(kind: LockKind, bits: u8, thread: u8, phase: Phase) -> Optio
 pub(crate) fn step_due(kind: LockKind, phase: Phase) -> Option<StepKind>
     ensures { result ≡ step_due kind phase }
 {
-    in_room!(kind, step_due(phase))
+    by_lock!(kind, step_due(phase))
 }
 
 /// A step of a thread in this phase, with its new phase.
@@ -108,7 +108,7 @@ pub(crate) fn take_step<W: Words>(
         ≡ (step_of kind (W.width words.old) (W.list words.old) thread phase).outcome }
     ensures width { W.width words.new ≡ W.width words.old }
 {
-    in_room!(kind, step(words, thread, phase))
+    by_lock!(kind, step(words, thread, phase))
 }
 
 /// What would come of a step of a thread in this phase, with nothing changed.
@@ -116,7 +116,7 @@ pub(crate) fn outcome_of(words: &WordArray, kind: LockKind, thread: u8, phase: P
     requires { IsReady kind words.now.1 words.now.0 thread phase }
     ensures { result ≡ (step_of kind words.now.1 words.now.0 thread phase).outcome }
 {
-    in_room!(kind, outcome(words, thread, phase))
+    by_lock!(kind, outcome(words, thread, phase))
 }
 
 /// Adds the entries of a step, if nothing was added before.
@@ -131,5 +131,5 @@ pub(crate) fn add_entries(
     requires { added.old ≡ [] }
     ensures { added.new ≡ step_entries kind thread phase outcome }
 {
-    in_room!(kind, add_entries(added, thread, phase, outcome))
+    by_lock!(kind, add_entries(added, thread, phase, outcome))
 }
