@@ -27,8 +27,9 @@ const read = (...path) => readFileSync(join(HERE, ...path), 'utf8');
 // The data never has a `<`, so that no text of a lesson can end the script.
 const asScript = (data) => JSON.stringify(data).replaceAll('<', '\\u003c');
 
+// Without comments, which a reader finds in the sources.
 const style = () => readdirSync(join(SOURCES, 'style')).sort()
-  .map((name) => read('src', 'style', name)).join('').trimEnd();
+  .map((name) => read('src', 'style', name)).join('').replace(/^ *\/\*[^*]*\*\/\n/gm, '').trimEnd();
 
 // A script runs only if its bytes are these.
 function policy(script) {

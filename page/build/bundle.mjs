@@ -8,8 +8,8 @@ import { join } from 'node:path';
 const IMPORT = /^import \{([^}]+)\} from '\.\/([\w]+\.js)';\n/gm;
 const EXPORT = /^export (async function|function|class|const) (\w+)/gm;
 
-// Lines of comment, which a reader finds in the sources.
-const COMMENT = /^ *\/\/.*\n/gm;
+// Lines of comment and empty ones, which a reader finds in the sources.
+const COMMENT = /^(?: *\/\/.*)?\n/gm;
 
 const variable = (file) => `m_${file.replace('.js', '')}`;
 

@@ -62,17 +62,3 @@ export class Bound {
     return true;
   }
 }
-
-// The bytes without some lines, which are counted from 1.
-export function withoutLines(bytes, lines) {
-  if (!lines.length) return bytes;
-  const left = [];
-  for (let at = 0, line = 1; at < bytes.length; line += 1) {
-    const end = bytes.indexOf(10, at) + 1 || bytes.length;
-    if (!lines.includes(line)) left.push(bytes.subarray(at, end));
-    at = end;
-  }
-  const whole = new Uint8Array(left.reduce((sum, part) => sum + part.length, 0));
-  left.reduce((at, part) => { whole.set(part, at); return at + part.length; }, 0);
-  return whole;
-}

@@ -1,8 +1,17 @@
 // Texts as bytes: what a file holds is never changed by showing it.
 
+const FEED = 10;
+
 export function sameBytes(one, other) {
   return one === other
     || (one.length === other.length && one.every((value, at) => value === other[at]));
+}
+
+// Whether the first lines of a text are these bytes, the last of them whole.
+export function beginsWith(bytes, text) {
+  const { length } = text;
+  const whole = length === bytes.length || text[length - 1] === FEED || bytes[length] === FEED;
+  return whole && length <= bytes.length && text.every((value, at) => value === bytes[at]);
 }
 
 export function toBase64(bytes) {
@@ -44,15 +53,34 @@ export function bytesOf(letters, plain) {
 // The bytes before line `number`, counted from 1.
 export function beforeLine(bytes, number) {
   let at = 0;
-  for (let line = 1; line < number && at >= 0; line += 1) at = bytes.indexOf(10, at) + 1 || -1;
+  for (let line = 1; line < number && at >= 0; line += 1) at = bytes.indexOf(FEED, at) + 1 || -1;
   return at < 0 ? bytes : bytes.subarray(0, at);
 }
 
 export const throughLine = (bytes, number) => beforeLine(bytes, number + 1);
 
+// How many lines a text has, the last of them perhaps without a line feed.
+export function linesIn(bytes) {
+  let lines = 0;
+  for (let at = 0; at < bytes.length; at = bytes.indexOf(FEED, at) + 1 || bytes.length) lines += 1;
+  return lines;
+}
+
+// The text without some lines, which are counted from 1.
+export function withoutLines(bytes, lines) {
+  if (!lines.length) return bytes;
+  let line = 1;
+  let stays = !lines.includes(line);
+  return bytes.filter((value) => {
+    const kept = stays;
+    if (value === FEED) stays = !lines.includes(line += 1);
+    return kept;
+  });
+}
+
 // Line `number` of the text as letters, without its line feed.
 export function lineOf(bytes, number) {
   const start = beforeLine(bytes, number).length;
-  const end = bytes.indexOf(10, start);
+  const end = bytes.indexOf(FEED, start);
   return lettersOf(bytes.subarray(start, end < 0 ? bytes.length : end)).letters;
 }

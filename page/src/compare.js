@@ -1,13 +1,13 @@
-// Two runs beside each other: how many moves they have in common, and the same calls on the other
-// read-write lock.
+// Two runs beside each other: which lock has the same calls, how many moves they have in common,
+// and where they differ first.
 
-import { CALLS, OUTCOMES, STEPS } from './codes.js';
+import { OUTCOMES } from './codes.js';
 import { LOCK_NAMES } from './locks.js';
 import { holdersText, moveText, queueText } from './report.js';
 
 // The two locks whose calls are the same.
 const OTHER = { 'rw-simple': 'rw-fifo', 'rw-fifo': 'rw-simple' };
-// The other lock's schedule is made move by move, each by a replay.
+// Longer runs are not compared with the other lock: they might be replayed too often.
 const MOST_MOVES = 2000;
 
 const sameMove = (one, other, move) => one.records.thread(move) === other.records.thread(move)
@@ -26,35 +26,6 @@ export function commonMoves(one, other) {
 
 export const otherLock = (run) => run.hasLock && run.count <= MOST_MOVES
   && OTHER[LOCK_NAMES[run.kind]];
-
-// The turn that a thread takes on the other lock when it has one here: the step that is due, or
-// the next of the calls that it made here. Null when it has nothing to do.
-function turn(state, thread, calls) {
-  const due = state.dueStep(thread);
-  if (due) return STEPS[due];
-  const call = calls[0];
-  return call !== undefined && state.allows(thread, call) ? CALLS[calls.shift()] : null;
-}
-
-// {text, at}: the schedule of the same turns on the other lock, and for each move here how many
-// moves there have been made by then.
-export function onOtherLock(machine, run) {
-  const lock = otherLock(run);
-  let text = `lock ${lock} threads ${run.threads} bits ${run.bits}\n`;
-  const at = [0];
-  const calls = Array.from({ length: run.threads }, () => []);
-  const encoder = new TextEncoder();
-  for (let move = 1; move <= run.count; move += 1) {
-    const { records } = run;
-    const thread = records.thread(move);
-    if (records.action(move) === 0) calls[thread].push(records.code(move));
-    const { state } = machine.play(encoder.encode(text), run.count, false);
-    const word = turn(state, thread, calls[thread]);
-    if (word) text += `${thread} ${word}\n`;
-    at.push(at[move - 1] + (word ? 1 : 0));
-  }
-  return { text: encoder.encode(text), at };
-}
 
 // What the report says of a move, without its number.
 function said(run, move) {

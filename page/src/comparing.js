@@ -1,7 +1,7 @@
 // Comparing: another schedule above the one that is shown, stepping with it: the one that it was
 // branched off from, or the same calls on the other read-write lock.
 
-import { commonMoves, firstDifference, onOtherLock, otherLock } from './compare.js';
+import { commonMoves, firstDifference, otherLock } from './compare.js';
 import { lanesPicture, numbersPicture } from './lanes.js';
 import { layOutLanes } from './layout.js';
 import { LOCKS } from './locks.js';
@@ -10,6 +10,7 @@ import { byId, html, show } from './markup.js';
 import { lastLine, reportLine } from './report.js';
 import { tell } from './telling.js';
 import { texts } from './texts.js';
+import { onOtherLock } from './turns.js';
 
 const T = texts.compare;
 const SHARE = 0.2;
@@ -50,8 +51,8 @@ export class Comparing {
     let { title } = origin;
     if (this.kind === 'origin') session.open(origin.run.text, null, 0, origin.run);
     else {
-      const there = onOtherLock(session.machine, run);
-      session.open(there.text);
+      const there = onOtherLock(session.machine, run, this.made.session?.run);
+      session.open(there.run.text, null, 0, there.run);
       at = (move) => there.at[Math.min(move, run.count)];
       title = titleOfLock(otherLock(run));
     }

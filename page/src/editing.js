@@ -3,7 +3,6 @@
 import { bytesOf, lettersOf } from './bytes.js';
 import { Editor } from './editor.js';
 import { bytesOfFile, saveAs } from './own.js';
-import { Run } from './run.js';
 import { tell, toClipboard } from './telling.js';
 import { texts } from './texts.js';
 
@@ -25,8 +24,8 @@ export class Editing {
   paste(letters) {
     const text = new TextEncoder().encode(letters);
     const { page } = this;
-    const isOne = new Run(page.session.machine, text).hasLock;
-    if (isOne || (letters && page.mode === 'own')) page.openOwn(text);
+    const run = page.session.runOf(text);
+    if (run.hasLock || (letters && page.mode === 'own')) page.openOwn(text, 0, run);
     else tell(texts.noSchedule);
   }
 

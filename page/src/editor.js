@@ -2,7 +2,7 @@
 // they are edited; a carriage return, which a text field would swallow, is shown as a sign of its
 // own.
 
-import { bytesOf, lettersOf } from './bytes.js';
+import { bytesOf, lettersOf, sameBytes } from './bytes.js';
 import { byId, html, show } from './markup.js';
 import { texts } from './texts.js';
 
@@ -29,8 +29,9 @@ export class Editor {
 
   // Shows a text that did not come from this field.
   fill(text) {
-    if (this.text === text) return;
+    const same = this.text !== null && sameBytes(this.text, text);
     this.text = text;
+    if (same) return;
     const large = text.length > MOST_EDITED;
     const { letters, plain } = large ? { letters: '', plain: false } : lettersOf(text);
     this.plain = plain;

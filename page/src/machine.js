@@ -3,11 +3,13 @@
 // copies the text in and the bytes out, and gives the bytes their names; it knows no rule of any
 // lock.
 
+import { linesIn } from './bytes.js';
 import { MOST_MOVES, UNLINKED, WAITS } from './codes.js';
 
 export const RECORD_BYTES = 56;
 export const STATE_BYTES = 2304;
 const PAGE_BYTES = 65536;
+const LINE_AT = 8;
 const THREADS_AT = 192;
 const THREAD_BYTES = 16;
 const WORDS_AT = 1216;
@@ -21,12 +23,8 @@ function growBy(memory, pages) {
   }
 }
 
-// Moves are lines, so a text has no more of them than pieces between line feeds.
-function recordsAsked(text) {
-  let lines = 1;
-  for (let at = text.indexOf(10); at >= 0; at = text.indexOf(10, at + 1)) lines += 1;
-  return Math.min(lines, MOST_MOVES);
-}
+// Moves are lines, so a text has no more of them.
+const recordsAsked = (text) => Math.min(linesIn(text), MOST_MOVES);
 
 export class Machine {
   constructor(module) {
@@ -64,6 +62,23 @@ export class Machine {
   }
 }
 
+// The bytes with another number for each line, of which one is at `first`, and after it one at
+// every `step`.
+function inLines(bytes, first, step, lineNow) {
+  const copy = bytes.slice();
+  const view = new DataView(copy.buffer);
+  for (let at = first; at < copy.length; at += step) {
+    view.setUint32(at, lineNow(view.getUint32(at, true)), true);
+  }
+  return copy;
+}
+
+// An answer of the machine, if its text's lines had other numbers.
+export const answerInLines = (state, records, lineNow) => ({
+  state: new State(inLines(state.bytes, LINE_AT, STATE_BYTES, lineNow)),
+  records: inLines(records.bytes, 0, RECORD_BYTES, lineNow),
+});
+
 const threadAt = (thread) => THREADS_AT + THREAD_BYTES * thread;
 
 // The state after the moves played, or the fault of a text.
@@ -76,7 +91,7 @@ export class State {
   number(at) { return this.view.getUint32(at, true); }
   get answer() { return this.number(0); }
   get reason() { return this.number(4); }
-  get line() { return this.number(8); }
+  get line() { return this.number(LINE_AT); }
   get wantedStep() { return this.number(12); }
   get kind() { return this.number(16); }
   get threads() { return this.number(20); }
@@ -106,6 +121,8 @@ export class Records {
     this.count = bytes.length / RECORD_BYTES;
   }
 
+  // The bytes of the first moves.
+  first(count) { return this.bytes.subarray(0, count * RECORD_BYTES); }
   byte(move, at) { return this.bytes[(move - 1) * RECORD_BYTES + at]; }
   word(move, at) { return this.view.getUint16((move - 1) * RECORD_BYTES + at, true); }
   value(move, at) { return this.view.getBigUint64((move - 1) * RECORD_BYTES + at, true); }

@@ -70,18 +70,18 @@ export class Page {
     this.modes.fitLesson();
   }
 
-  openOwn(text, move = 0) {
-    this.open(text, null, move);
+  openOwn(text, move = 0, run) {
+    this.open(text, null, move, run);
     this.modes.set('own');
   }
 
   // Another schedule in place of this one, which Undo and Back bring back.
-  open(text, lesson, move) {
+  open(text, lesson, move, run) {
     this.stepping.pause();
     this.playing.remember('open');
     this.address.leave(lesson);
     this.quiz.clear();
-    this.session.open(text, lesson, move);
+    this.session.open(text, lesson, move, run);
     this.show();
   }
 

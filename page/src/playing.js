@@ -24,9 +24,10 @@ export class Playing {
     if (!this.possible || !hasRoom(session)) return;
     this.remember('play');
     const { letters, plain } = session.textWith(`${thread} ${word}`);
-    const place = session.move + 1;
-    this.page.derive(bytesOf(letters, plain), place);
-    if (session.stale.length) this.page.derive(session.held, place);
+    this.page.derive(bytesOf(letters, plain), session.move + 1);
+    if (!session.stale.length) return;
+    session.leaveOutStale();
+    this.page.show();
   }
 
   // The thread's one choice is made; of several the first is focused.

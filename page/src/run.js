@@ -1,32 +1,48 @@
 // One schedule text as the machine plays it: its records, its states, and where it ends.
 
 import { ANSWER, CALLS, FAULTS, MOST_BYTES, MOST_MOVES, REFUSALS } from './codes.js';
-import { Records } from './machine.js';
+import { answerInLines, Records } from './machine.js';
 import { Moment } from './moment.js';
 import { Owned } from './owned.js';
 import { joinedByMove, movesByThread, movesByWord } from './history.js';
-import { lastUpTo } from './ascending.js';
-import { beforeLine, lineOf, throughLine } from './bytes.js';
+import { lastUpTo, placeAfter } from './ascending.js';
+import {
+  beforeLine, beginsWith, lineOf, linesIn, sameBytes, throughLine, withoutLines,
+} from './bytes.js';
 
 const RLOCK = CALLS.indexOf('rlock');
 // Faults that moves may come before.
 const LATE_FAULTS = ['BadLine', 'TooManyMoves'];
 
+// What the machine says of a text: read off one of the runs that begins with it, else played.
+function answerOf(machine, text, runs) {
+  const known = runs.reduce((found, run) => found ?? run.answerTo(text), null);
+  return known ?? machine.play(text, MOST_MOVES, true);
+}
+
+// The run of a text. What one of the known runs says of it is not played again.
+export function runOf(machine, text, known) {
+  return known.find((run) => sameBytes(run.text, text))
+    ?? new Run(machine, text, (part) => answerOf(machine, part, known));
+}
+
 export class Run {
-  // `text` is never changed afterwards; an edit makes another run.
-  constructor(machine, text) {
+  // `text` is never changed afterwards; an edit makes another run. `answerTo` gives what the
+  // machine says of a text.
+  constructor(machine, text, answerTo = (part) => answerOf(machine, part, [])) {
     this.machine = machine;
     this.text = text;
     this.played = text;
-    let answer = machine.play(text, MOST_MOVES, true);
+    let answer = answerTo(text);
     this.known = answer.state !== null;
     this.fault = this.known && answer.state.answer === ANSWER.fault ? faultOf(answer.state) : null;
     if (this.fault) {
       this.played = playablePart(text, this.fault);
-      answer = machine.play(this.played, MOST_MOVES, true);
+      if (this.played.length) answer = answerTo(this.played);
     }
     // Without a header there is no lock to show.
     this.hasLock = answer.state !== null && answer.state.answer !== ANSWER.fault;
+    // The state at the end; of a run that was read off another one's records, in the beginning.
     this.end = this.hasLock ? answer.state : null;
     this.records = new Records(this.hasLock ? answer.records : new Uint8Array());
     this.count = this.records.count;
@@ -55,9 +71,31 @@ export class Run {
   // The same as the machine has it: of fewer moves than all it plays them again, of the text up to
   // the line of the last one, or of the first one, by which the header has been read.
   replayed(moves) {
-    if (moves === this.count) return this.end;
+    if (moves === this.end.played) return this.end;
     const { length } = throughLine(this.played, this.records.line(Math.max(1, moves)));
     return this.machine.play(this.played, moves, false, length).state;
+  }
+
+  // What the machine would say of a text with which this one begins, read off the records; its
+  // state is the one in the beginning. Null if they do not say it: of no move, or a refused one.
+  answerTo(text) {
+    if (!this.hasLock || !beginsWith(this.played, text)) return null;
+    const lines = linesIn(text);
+    const moves = this.movesThrough(lines);
+    if (!moves || this.refusal?.line <= lines) return null;
+    return { state: this.begun, records: this.records.first(moves) };
+  }
+
+  // The same run in the text without some lines of comment, which ascend.
+  without(lines) {
+    const lineNow = (line) => line - placeAfter(lines, line);
+    const answer = answerInLines(this.end, this.records, lineNow);
+    return new Run(this.machine, withoutLines(this.text, lines), () => answer);
+  }
+
+  // How many moves the lines up to this one have.
+  movesThrough(line) {
+    return placeAfter(Array.from({ length: this.count }, (_, i) => this.records.line(i + 1)), line);
   }
 
   // The last move of the thread up to `move`, or 0.

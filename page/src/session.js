@@ -1,14 +1,13 @@
 // What is shown: one schedule, the move that is shown, and everything derived from the two.
 
 import { arrowsOf } from './arrows.js';
-import { placeAfter } from './ascending.js';
-import { Bound, withoutLines } from './bound.js';
-import { lettersOf, throughLine } from './bytes.js';
+import { Bound } from './bound.js';
+import { lettersOf, throughLine, withoutLines } from './bytes.js';
 import { awaitedLines, codeLine } from './locks_code.js';
 import { LOCK_NAMES, lockOf } from './locks.js';
 import { Names } from './names.js';
 import { remarksOf } from './remarks.js';
-import { Run } from './run.js';
+import { runOf } from './run.js';
 
 const NO_ARROWS = { arrows: [], arrowEnds: [] };
 
@@ -29,7 +28,7 @@ export class Session {
   }
 
   // A text of its own; `run` if it has been played before.
-  open(text, lesson = null, move = 0, run = null) {
+  open(text, lesson = null, move = 0, run = this.runOf(text)) {
     this.bound = new Bound();
     this.load(text, lesson, move, run);
     this.origin = { run: this.run, title: this.remarks.title || lesson };
@@ -49,7 +48,7 @@ export class Session {
   restore({ text, lesson, place, bound, origin }) {
     this.bound = bound;
     this.origin = origin;
-    this.load(text, lesson, place, origin.run.text === text ? origin.run : null);
+    this.load(text, lesson, place);
   }
 
   // The remarks hold as they are.
@@ -58,8 +57,19 @@ export class Session {
     this.load(this.run.text, this.lesson, this.place, this.run);
   }
 
-  load(text, lesson, move, run = null) {
-    this.run = run ?? new Run(this.machine, text);
+  // Without the remarks that no longer hold.
+  leaveOutStale() {
+    const run = this.run.without(this.stale);
+    this.load(run.text, this.lesson, this.place, run);
+  }
+
+  // The run of a text, by the run that is shown and by the one from which that was made.
+  runOf(text) {
+    return runOf(this.machine, text, [this.run, this.origin?.run].filter(Boolean));
+  }
+
+  load(text, lesson, move, run = this.runOf(text)) {
+    this.run = run;
     this.lesson = lesson;
     this.stale = this.bound.stale(this.run);
     // What is saved and linked.
@@ -101,8 +111,7 @@ export class Session {
   // The last move at or before a line of the text.
   moveAtLine(line) {
     if (this.run.refusal && line >= this.run.refusal.line) return this.run.last;
-    const moves = { length: this.run.count };
-    return placeAfter(Array.from(moves, (_, i) => this.run.records.line(i + 1)), line);
+    return this.run.movesThrough(line);
   }
 
   // The text up to the current move, with one move more.
@@ -121,4 +130,3 @@ export function headerLine(text) {
   const { letters } = lettersOf(text);
   return letters.split('\n').findIndex((line) => line !== '' && !line.startsWith('#')) + 1;
 }
-

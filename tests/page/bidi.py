@@ -93,16 +93,24 @@ class Firefox:
             time.sleep(0.02)
         return given
 
-    def press(self, key):
-        """A key, as the browser would have it from a keyboard."""
-        actions = [{"type": "keyDown", "value": key}, {"type": "keyUp", "value": key}]
-        self.ask(
-            "input.performActions",
-            {
-                "context": self.context,
-                "actions": [{"type": "key", "id": "keyboard", "actions": actions}],
-            },
-        )
+    def press(self, key, held=None):
+        """A key, as the browser would have it from a keyboard, perhaps with another one held."""
+        keys = [held, key] if held else [key]
+        actions = [{"type": "keyDown", "value": one} for one in keys]
+        actions += [{"type": "keyUp", "value": one} for one in reversed(keys)]
+        self.perform({"type": "key", "id": "keyboard", "actions": actions})
+
+    def click(self, x, y):
+        """A click, as the browser would have it from a mouse."""
+        actions = [
+            {"type": "pointerMove", "x": x, "y": y},
+            {"type": "pointerDown", "button": 0},
+            {"type": "pointerUp", "button": 0},
+        ]
+        self.perform({"type": "pointer", "id": "mouse", "actions": actions})
+
+    def perform(self, source):
+        self.ask("input.performActions", {"context": self.context, "actions": [source]})
 
 
 @contextlib.contextmanager

@@ -4,6 +4,7 @@ import contextlib
 import json
 
 from selenium.webdriver.common.action_chains import ActionChains
+from selenium.webdriver.common.by import By
 from selenium.webdriver.common.keys import Keys
 
 import browser as chromium_browser
@@ -13,6 +14,14 @@ from browser import PAGE
 OWN = (PAGE.as_uri(), "about:", "data:", "blob:")
 WAITED = """
 return document.readyState === 'complete' && Boolean(window.lockreplay);
+"""
+
+# Where a control is to be clicked, scrolled into view.
+MIDDLE = """
+const node = document.querySelector(value);
+node.scrollIntoView({ block: 'nearest' });
+const { left, top, width, height } = node.getBoundingClientRect();
+return [Math.round(left + width / 2), Math.round(top + height / 2)];
 """
 
 
@@ -42,6 +51,13 @@ class InChromium:
 
     def press(self, *keys):
         ActionChains(self.driver).send_keys(*keys).perform()
+
+    def press_with_control(self, key):
+        actions = ActionChains(self.driver).key_down(Keys.CONTROL).send_keys(key)
+        actions.key_up(Keys.CONTROL).perform()
+
+    def click(self, selector):
+        self.driver.find_element(By.CSS_SELECTOR, selector).click()
 
     def until(self, script, value=None):
         """Waits until the script gives something true, and gives that."""
@@ -107,6 +123,12 @@ class InFirefox:
     def press(self, *keys):
         for key in keys:
             self.tab.press(key)
+
+    def press_with_control(self, key):
+        self.tab.press(key, held=Keys.CONTROL)
+
+    def click(self, selector):
+        self.tab.click(*self.run(MIDDLE, selector))
 
     def until(self, script, value=None):
         return self.tab.until(script, value)

@@ -12,6 +12,15 @@ NAMED = re.compile(r"\[([^\]]+?)(?:, (\d+))?\]\[(\w+)\]")
 PLAN = re.compile(r"^### Ten minutes: (.+)\n((?:(?!###? ).*\n)+)", re.MULTILINE)
 MINUTES = re.compile(r"^\| (\d+) to (\d+) \|", re.MULTILINE)
 OF_HALL = ["memory", "code"]
+# Each lock's plan, and how the names of its lessons begin.
+LESSONS = {
+    "the ticket lock": "ticket",
+    "the MCS lock": "mcs",
+    "the simple read-write lock": "simple",
+    "the FIFO read-write lock": "fifo",
+}
+# At the other moves in hall mode the page asks a question.
+ASKED_BY_THE_PLAN = ["m1"]
 OPENED = """
 const { session } = window.lockreplay.page;
 const parts = ['time', 'memory', 'code', 'now'].filter((id) => (
@@ -19,7 +28,8 @@ const parts = ['time', 'memory', 'code', 'now'].filter((id) => (
 return { lesson: session.lesson, move: session.place, parts,
   hall: document.body.classList.contains('hall'),
   sheet: document.getElementById('sheets').open ? document.activeElement.dataset.sheet : null,
-  damaged: !document.getElementById('damaged').hidden };
+  damaged: !document.getElementById('damaged').hidden,
+  asks: session.remarks.ask.has(session.place) };
 """
 
 
@@ -41,26 +51,35 @@ def each_link(browser):
     browser.resize(1440, 900)
     links = dict(ADDRESS.findall(GUIDE))
     named = {key: move for _, move, key in NAMED.findall(GUIDE) if key in links}
-    assert len(links) >= 18 and set(named) == set(links), set(links) ^ set(named)
+    assert len(links) >= 23 and set(named) == set(links), set(links) ^ set(named)
+    unasked = []
     for key, fragment in links.items():
         wanted = asked(fragment)
         assert named[key] in ("", str(wanted["move"])), (key, named[key])
         browser.open(fragment)
-        assert browser.run(OPENED) == wanted, (key, browser.run(OPENED))
+        opened = browser.run(OPENED)
+        if not opened.pop("asks") and wanted["hall"]:
+            unasked.append(key)
+        assert opened == wanted, (key, opened)
+    assert unasked == ASKED_BY_THE_PLAN, unasked
 
 
 def ten_minutes(_):
-    """From the first minute to the tenth, with hall mode at each but Play, and a sheet."""
+    """Of each lock alone, from the first minute to the tenth: a link in each row, hall mode at each
+    but Play, and a sheet."""
     links = dict(ADDRESS.findall(GUIDE))
     plans = PLAN.findall(GUIDE)
-    assert len(plans) == 3, [name for name, _ in plans]
+    assert [name for name, _ in plans] == list(LESSONS), [name for name, _ in plans]
     for name, plan in plans:
+        rows = [line for line in plan.splitlines() if MINUTES.match(line)]
+        assert all(NAMED.search(row) for row in rows), (name, rows)
         ends = [0]
         for begin, end in MINUTES.findall(plan):
             assert int(begin) == ends[-1], (name, begin)
             ends.append(int(end))
         assert ends[-1] == 10 and len(ends) >= 5, (name, ends)
         fragments = [links[key] for _, _, key in NAMED.findall(plan)]
+        assert all(one.startswith(f"#lesson={LESSONS[name]}-") for one in fragments), fragments
         assert any("&sheet=exercise" in one for one in fragments), name
         assert sum("&hall" in one for one in fragments) >= 4, name
 

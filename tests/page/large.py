@@ -58,10 +58,16 @@ def measure(driver, text):
         "window.text = window.lockreplay.fromBase64(arguments[0])",
         base64.b64encode(text).decode(),
     )
-    load = min(timed(driver, "page.open(window.text.slice(), null, 0);", 1) for _ in range(ROUNDS))
+    load = min(load_of(driver) for _ in range(ROUNDS))
     steps = [min(stretch(driver, start) for _ in range(ROUNDS)) for start in STRETCHES]
     steps.append(min(timed(driver, f"{JUMP};", STEPS) for _ in range(ROUNDS)))
     return load, steps
+
+
+def load_of(driver):
+    """After a lesson, since a text that is shown already is not played again."""
+    run(driver, "window.lockreplay.page.openLesson('mcs-late-link')")
+    return timed(driver, "page.open(window.text.slice(), null, 0);", 1)
 
 
 def stretch(driver, start):

@@ -47,6 +47,7 @@ IN_BOTH = [
     "plays",
     "guide",
     "edits",
+    "undoing",
 ]
 # Measured, so by itself.
 ALONE = ["large"]

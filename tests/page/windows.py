@@ -1,4 +1,5 @@
-"""In the windows that readers have, the current line of code and the question are in view.
+"""In the windows that readers have, the current line of code, the question and what a thread keeps
+in a variable of its own are in view.
 
 A laptop with large letters, a projector, a browser at 150 %, half a screen; and a phone.
 """
@@ -58,6 +59,39 @@ def the_line_and_the_question(browser):
         assert not out, (width, height, out)
 
 
+# Of the variables that threads have beside their records, the texts that are out of view.
+VARIABLES = """
+const isSeen = (node) => {
+  const foot = document.querySelector('footer').getBoundingClientRect().top;
+  const box = document.getElementById('memory-picture').getBoundingClientRect();
+  const { top, bottom, left, right } = node.getBoundingClientRect();
+  return top >= box.top - 1 && bottom <= Math.min(box.bottom, foot) + 1
+    && left >= box.left - 1 && right <= box.right + 1;
+};
+return value.flatMap((fragment) => {
+  history.replaceState(null, '', fragment);
+  window.lockreplay.page.address.open();
+  const all = [...document.querySelectorAll('.record .own ~ text')];
+  const out = all.filter((one) => !isSeen(one)).map((one) => `${fragment}: ${one.textContent}`);
+  return all.length ? out : [`${fragment}: no variable`];
+});
+"""
+# Bob's pred, up to his link, and Ann's succ; then those of three threads.
+WITH_VARIABLES = [
+    *(("mcs-late-link", move) for move in [8, 9, 10, 11, 12, 14]),
+    *(("mcs-third-linked-before-second", move) for move in [6, 9, 12, 13]),
+]
+
+
+def the_variables_of_threads(browser):
+    links = [f"#lesson={lesson}&move={move}" for lesson, move in WITH_VARIABLES]
+    for width, height in WINDOWS:
+        browser.resize(width, height)
+        browser.open(links[0])
+        out = browser.run(VARIABLES, links)
+        assert not out, (width, height, out)
+
+
 LINE = """
 const line = [...document.querySelectorAll('#code-lines .here')].at(-1).getBoundingClientRect();
 const foot = document.querySelector('footer').getBoundingClientRect();
@@ -102,4 +136,9 @@ def the_answer_on_a_phone(browser):
                     assert not hidden, (width, height, language, name, hidden)
 
 
-CHECKS = [the_line_and_the_question, the_line_in_the_lowest_window, the_answer_on_a_phone]
+CHECKS = [
+    the_line_and_the_question,
+    the_variables_of_threads,
+    the_line_in_the_lowest_window,
+    the_answer_on_a_phone,
+]

@@ -1,0 +1,168 @@
+#!/usr/bin/env node
+// What the page reads off records in the place of replays, against replays by the page's module:
+//
+//     node tests/page/known.mjs MODULE.wasm
+//
+// Of each example, what is said of its first lines, and of the text without its comments. Of the
+// examples of read-write locks, and of random schedules, the same turns on the other lock, against
+// those found move by move, each by a replay. Prints how many replays both ways took.
+
+import assert from 'node:assert/strict';
+import { readFileSync, readdirSync } from 'node:fs';
+import { dirname, join } from 'node:path';
+import { fileURLToPath } from 'node:url';
+import { setFlagsFromString } from 'node:v8';
+import { withoutLines } from '../../page/src/bytes.js';
+import { ACTION, CALLS, STEPS } from '../../page/src/codes.js';
+import { otherLock } from '../../page/src/compare.js';
+import { Machine } from '../../page/src/machine.js';
+import { lastLine, reportOf } from '../../page/src/report.js';
+import { Run, runOf } from '../../page/src/run.js';
+import { onOtherLock } from '../../page/src/turns.js';
+
+const EXAMPLES = join(dirname(fileURLToPath(import.meta.url)), '..', '..', 'examples');
+const RANDOM = { schedules: 40, moves: 120 };
+// In a random schedule a wrong guess may come once in so many moves.
+const FEWEST_BETWEEN = 3;
+
+const bytesOf = (text) => new TextEncoder().encode(text);
+const lettersOf = (bytes) => new TextDecoder('latin1').decode(bytes);
+
+// Counts what the machine plays.
+function counted(machine) {
+  const play = machine.play.bind(machine);
+  machine.plays = 0;
+  machine.play = (text, most, ...rest) => {
+    if (most > 0) machine.plays += 1;
+    return play(text, most, ...rest);
+  };
+  return machine;
+}
+
+const playsOf = (machine, act) => {
+  const before = machine.plays;
+  const result = act();
+  return { result, plays: machine.plays - before };
+};
+
+// What is shown of a run: its report, the lines of its moves, and its first and last state.
+function shownOf(run) {
+  if (!run.hasLock) return [reportOf(run)];
+  const threads = Array.from({ length: run.threads }, (_, thread) => thread);
+  const stateOf = (moves) => {
+    const state = run.state(moves);
+    return [threads.map((one) => [state.phase(one), state.dueStep(one), state.phaseNumber(one)]),
+      Array.from({ length: run.end.wordCount }, (_, word) => state.word(word))];
+  };
+  return [reportOf(run), lastLine(run), run.kind, run.bits, run.records.bytes, run.refusal,
+    run.replayed(run.count).word(0), stateOf(0), stateOf(run.count)];
+}
+
+// The first lines of a text, whole and with the last one's line feed left out.
+function beginnings(text) {
+  const ends = [...text.keys()].filter((at) => text[at] === 10);
+  return ends.flatMap((at) => [text.slice(0, at), text.slice(0, at + 1)]);
+}
+
+// Of a text that is known to begin with it nothing is played, unless no move or the refused one is
+// in it.
+function checkBeginnings(machine, text) {
+  const whole = new Run(machine, text);
+  for (const part of beginnings(text)) {
+    const played = new Run(machine, part);
+    const { result, plays } = playsOf(machine, () => runOf(machine, part, [whole]));
+    assert.deepEqual(shownOf(result), shownOf(played), lettersOf(part));
+    const isKnown = played.hasLock && !played.fault && !played.refusal && played.count > 0;
+    if (isKnown) assert.equal(plays, 0, lettersOf(part));
+  }
+}
+
+function checkWithout(machine, text) {
+  const whole = new Run(machine, text);
+  if (whole.fault) return;
+  const lines = lettersOf(text).split('\n')
+    .flatMap((line, at) => (line.startsWith('#') ? [at + 1] : []));
+  for (const left of [lines, lines.slice(1), lines.filter((_, at) => at % 2)]) {
+    const { result, plays } = playsOf(machine, () => whole.without(left));
+    assert.equal(plays, 0);
+    assert.deepEqual(shownOf(result), shownOf(new Run(machine, withoutLines(text, left))));
+  }
+}
+
+// The same turns on the other lock, where the machine is asked before each.
+function moveByMove(machine, run) {
+  const { records } = run;
+  const calls = Array.from({ length: run.threads }, () => []);
+  const at = [0];
+  let text = `lock ${otherLock(run)} threads ${run.threads} bits ${run.bits}\n`;
+  for (let move = 1; move <= run.count; move += 1) {
+    const thread = records.thread(move);
+    if (records.action(move) === ACTION.call) calls[thread].push(records.code(move));
+    const { state } = machine.play(bytesOf(text), run.count, false);
+    const due = state.dueStep(thread);
+    const [call] = calls[thread];
+    const mayCall = !due && call !== undefined && state.allows(thread, call);
+    const word = due ? STEPS[due] : mayCall && CALLS[calls[thread].shift()];
+    if (word) text += `${thread} ${word}\n`;
+    at.push(at[move - 1] + (word ? 1 : 0));
+  }
+  return { text, at };
+}
+
+// How many replays it takes both ways. With a run that begins in the same way there is one at most.
+function checkTurns(machine, text) {
+  const run = new Run(machine, text);
+  const slow = playsOf(machine, () => moveByMove(machine, run));
+  const { result, plays } = playsOf(machine, () => onOtherLock(machine, run, null));
+  assert.deepEqual([lettersOf(result.run.text), result.at], [slow.result.text, slow.result.at]);
+  assert.equal(lastLine(result.run), `end ${result.at[run.count]}`);
+  const again = playsOf(machine, () => onOtherLock(machine, run, result.run));
+  assert.deepEqual([again.result.run, again.plays], [result.run, 0]);
+  return { moves: run.count, plays, slow: slow.plays };
+}
+
+// A schedule of moves that the machine accepts, drawn by a linear congruence.
+function drawn(machine, lock, threads, seed) {
+  let number = seed;
+  const draw = (most) => {
+    number = (Math.imul(number, 1103515245) + 12345) >>> 0;
+    return (number >>> 16) % most;
+  };
+  let text = `lock ${lock} threads ${threads} bits 3\n`;
+  for (let move = 0; move < RANDOM.moves; move += 1) {
+    const { state } = machine.play(bytesOf(text), move, false);
+    const thread = draw(threads);
+    const due = state.dueStep(thread);
+    const calls = CALLS.filter((_, call) => state.allows(thread, call));
+    text += `${thread} ${due ? STEPS[due] : calls[draw(calls.length)]}\n`;
+  }
+  return bytesOf(text);
+}
+
+const module = readFileSync(process.argv[2]);
+if (Number(process.versions.node.split('.')[0]) < 24) {
+  setFlagsFromString('--experimental-wasm-memory64');
+}
+const machine = counted(new Machine(module));
+const files = readdirSync(EXAMPLES).filter((name) => name.endsWith('.schedule'));
+const all = files.map((file) => new Uint8Array(readFileSync(join(EXAMPLES, file))));
+for (const text of all) {
+  checkBeginnings(machine, text);
+  checkWithout(machine, text);
+}
+const ofReadWrite = files.map((file, i) => ({ file, text: all[i] }))
+  .filter(({ file }) => /^(simple|fifo)-/.test(file));
+for (const { file, text } of ofReadWrite) {
+  const { plays, slow } = checkTurns(machine, text);
+  assert.ok(plays <= 3, `${file}: ${plays} replays`);
+  console.log(`  ${file}: ${plays} replays, move by move ${slow}`);
+}
+const tried = Array.from({ length: RANDOM.schedules }, (_, seed) => {
+  const lock = ['rw-simple', 'rw-fifo'][seed % 2];
+  return checkTurns(machine, drawn(machine, lock, 2 + seed % 4, seed));
+});
+const total = (name) => tried.reduce((sum, one) => sum + one[name], 0);
+console.log(`  ${tried.length} random schedules of ${RANDOM.moves} moves: `
+  + `${total('plays')} replays, move by move ${total('slow')}`);
+assert.ok(FEWEST_BETWEEN * total('plays') <= total('slow'));
+console.log(`known: ${files.length} examples and ${tried.length} random schedules`);
