@@ -226,7 +226,8 @@ const english = {
       moved: 'The outcome is “moved”: the call goes on, and the same threads hold the lock.',
       waits: 'The outcome is “waits”: the poll failed, and the thread polls again.',
       entered: 'The outcome is “entered”: from this move on the thread holds the lock.',
-      left: 'The outcome is “left”: from this move on the thread no longer holds the lock in that mode.',
+      left: 'The outcome is “left”: from this move on the thread no longer holds the lock in that '
+        + 'mode.',
     },
   },
 
