@@ -3,6 +3,9 @@
 //! The logs of threads that run freely are not saved at one moment. So here the next poll of such a
 //! thread has to fail as well, by the lock after all steps.
 
+ghost use Rattle.std.specs.Prelude.{IfSome};
+ghost use Rattle.lk_trace_files.specs.Searches.{IsHung};
+
 use crate::course::{Course, Fate};
 use crate::waiting::Waiting;
 use lk_order::{Log, Order};
@@ -31,7 +34,9 @@ fn course_of(order: &Order, first: &Log) -> Course {
 
 /// How far the threads came, if the run hangs. `open` has the threads whose logs say that they have
 /// not ended.
-pub fn hanging(order: &Order, open: &[bool]) -> Option<Course> {
+pub fn hanging(order: &Order, open: &[bool]) -> Option<Course>
+    ensures { IfSome result (IsHung order.now) }
+{
     let first = order.logs().first()?;
     if !open.contains(&true) {
         return None;
