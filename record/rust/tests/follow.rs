@@ -52,7 +52,7 @@ fn the_trace_has_the_moves_of_the_schedule() -> Result<(), Error> {
     let (ending, trace) = follow(&text, |log| make_calls(&lock, log))?;
     assert_eq!(ending, Ending::Complete);
     let made = |line: &str| line.splitn(3, ' ').take(2).collect::<Vec<_>>().join(" ") + "\n";
-    assert_eq!(trace.lines().skip(1).map(made).collect::<String>(), moves);
+    assert_eq!(trace.lines().skip(2).map(made).collect::<String>(), moves);
     // the trace itself is a schedule, and its run the same
     let lock = TicketLock::new();
     assert_eq!(follow(&trace, |log| make_calls(&lock, log))?.1, trace);
@@ -179,7 +179,7 @@ fn a_section_is_a_turn() -> Result<(), Error> {
     })?;
     assert_eq!(ending, Ending::Complete);
     let outcomes: Vec<&str> =
-        trace.lines().skip(1).filter_map(|line| line.split(' ').nth(3)).collect();
+        trace.lines().skip(2).filter_map(|line| line.split(' ').nth(3)).collect();
     assert_eq!(outcomes, ["entered", "waits", "waits", "waits", "left", "entered"]);
     Ok(())
 }
