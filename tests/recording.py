@@ -6,10 +6,10 @@
 Builds examples/recording without a warning, sees that LR_OFF leaves nothing in the object code,
 does what docs/GUIDE.md says, runs under the sanitizers, and then runs each example by 50 seeds and
 by real threads. Of a right lock every run has to be accepted: the trace of a seeded run, the order
-found for the threads' logs, and each schedule of it; and threads have to have waited. Logs of two runs are
-refused. Of a wrong one the trace has to be refused at the line where the mistake is first seen, which
-recording_mistakes.py finds by itself, and its logs have no order. The last line counts the cases;
-the status is 1 if one failed.
+found for the threads' logs, and each schedule of it; and threads have to have waited. Logs of two
+runs are refused. Of a wrong one the trace has to be refused at the line where the mistake is first
+seen, which recording_mistakes.py finds by itself, and its logs have no order. The last line counts
+the cases; the status is 1 if one failed.
 """
 import os
 import re

@@ -34,7 +34,7 @@ fn course_of(order: &Order, first: &Log) -> Course {
 
 /// How far the threads came, if the run hangs. `open` has the threads whose logs say that they have
 /// not ended.
-pub fn hanging(order: &Order, open: &[bool]) -> Option<Course>
+pub fn hung_course(order: &Order, open: &[bool]) -> Option<Course>
     ensures { IfSome result (IsHung order.now) }
 {
     let first = order.logs().first()?;

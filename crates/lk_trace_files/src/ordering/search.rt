@@ -5,7 +5,7 @@ ghost use Rattle.lk_order.specs.Runs.{IsOneRun};
 ghost use Rattle.lk_trace_files.specs.Searches.{IsSearch, ending_of_search, ending_of_sought};
 
 use super::bad_log::BadLog;
-use super::hanging::hanging;
+use super::hanging::hung_course;
 use crate::check::Ending;
 use crate::course::Course;
 use lk_order::{Found, Log, find_order};
@@ -73,7 +73,7 @@ pub fn search_logs(
     };
     let hung = match found.ending {
         lk_order::Ending::Stuck(_) => None,
-        _ => hanging(&found.order, open),
+        _ => hung_course(&found.order, open),
     };
     Ok(Some(Search { found, hung }))
 }
