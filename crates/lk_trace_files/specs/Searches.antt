@@ -21,7 +21,7 @@ use Rattle.lk_trace_files.specs.declared.ordering.search.Search.{Search}
 use Rattle.lk_trace_files.specs.declared.ordering.search.Sought.{Sought}
 use Rattle.lk_trace_files.specs.declared.ordering.search.Sought.TheVariants as sought
 
--- all lines of all threads are placed, and each thread has ended or polls in vain, as one does
+-- all lines are placed, each thread has ended or polls in vain, and one at least polls
 pub record IsHung (o : Ordered) (fates : List Fate) : Type 0 where
   pub all : (t : ℕ) → t < o.threads → next_line o t ≡ None
   pub polls : hangs o.threads fates ≡ true

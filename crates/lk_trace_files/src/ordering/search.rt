@@ -53,7 +53,7 @@ impl Sought {
     }
 }
 
-/// Looks for the order of a run's logs. `open` has the threads whose logs say that they have not
+/// Looks for the order of a run's logs. `unended` has the threads whose logs say that they have not
 /// ended. None is answered if the logs are not those of one run.
 ///
 /// # Errors
@@ -62,7 +62,7 @@ impl Sought {
 pub fn search_logs(
     alloc: Global,
     logs: Vec<Log>,
-    open: &[bool],
+    unended: &[bool],
 ) -> Result<Option<Search>, AllocError>
     ensures one_run { IfOk result (λ search. IsSome search ↔ IsOneRun logs.items) }
     ensures logs { IfOk result (λ search. IfSome search (λ s. s.found.order.logs ≡ logs.items)) }
@@ -73,7 +73,7 @@ pub fn search_logs(
     };
     let hung = match found.ending {
         lk_order::Ending::Stuck(_) => None,
-        _ => hung_course(&found.order, open),
+        _ => hung_course(&found.order, unended),
     };
     Ok(Some(Search { found, hung }))
 }
