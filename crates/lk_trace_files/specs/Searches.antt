@@ -1,9 +1,6 @@
 -- Definitions. How the search for the order of a run's logs ends, and how the job ends by it. This
 -- project's own.
 use Rattle.std.specs.Prelude.{◌≡◌, ◌<◌, ⊤, ℕ, List, Bool, true, Option, None, Some, IfSome}
-use Rattle.std_io.specs.IoError.{error_kind}
-use Rattle.std_io.specs.declared.io.kind.ErrorKind.{ErrorKind}
-use Rattle.std_io.specs.declared.io.kind.ErrorKind.TheVariants.{BrokenPipe}
 use Rattle.lk_order.specs.Orders.{Ordered, IsOrder, next_line}
 use Rattle.lk_order.specs.Endings.{EndsAs}
 use Rattle.lk_order.specs.declared.find.Ending.{Ending as SearchEnding}
@@ -13,8 +10,6 @@ use Rattle.lk_trace_files.specs.declared.check.Ending.{Ending}
 use Rattle.lk_trace_files.specs.declared.check.Ending.TheVariants.{Accepted, Refused, Unread}
 use Rattle.lk_trace_files.specs.declared.check.Ending.TheVariants.{Faulty, Hangs}
 use Rattle.lk_trace_files.specs.declared.course.Fate.{Fate}
-use Rattle.lk_trace_files.specs.declared.failures.Failure.{Failure}
-use Rattle.lk_trace_files.specs.declared.failures.Failure.TheVariants as failure
 use Rattle.lk_trace_files.specs.declared.ordering.bad_log.BadLog.{BadLog}
 use Rattle.lk_trace_files.specs.declared.ordering.bad_log.BadLog.TheVariants as bad
 use Rattle.lk_trace_files.specs.declared.ordering.search.Search.{Search}
@@ -57,12 +52,3 @@ ending_of_sought (sought.Order s) = ending_of_search s
 abbrev pub IsSought : Sought → Type 0
 IsSought (sought.Bad log) = ⊤
 IsSought (sought.Order s) = IsSearch s
-
--- 3 if a file could not be written or memory was refused, and 0 if nobody reads the output any more
-abbrev pub status_of_kind : ErrorKind → ℕ
-status_of_kind BrokenPipe = 0
-status_of_kind kind = 3
-
-abbrev pub status_of_failure : Failure → ℕ
-status_of_failure (failure.Output error) = status_of_kind (error_kind error)
-status_of_failure (failure.Memory error) = 3

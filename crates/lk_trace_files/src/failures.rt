@@ -1,11 +1,9 @@
 //! What ends a job early.
 
 ghost use Rattle.std.specs.Prelude.{◌≡◌};
-ghost use Rattle.lk_trace_files.specs.Searches.{status_of_failure, status_of_kind};
 
 use std::alloc::AllocError;
 use std::io;
-use std::io::ErrorKind;
 use thiserror::Error;
 
 /// Why a job could not be done to its end.
@@ -18,24 +16,14 @@ pub enum Failure {
     Memory(#[from(alloc)] AllocError),
 }
 
-// The status after a write that failed so. Who reads no more has read enough.
-fn status_of_kind(kind: ErrorKind) -> u8
-    ensures { result ≡ status_of_kind kind }
-{
-    match kind {
-        ErrorKind::BrokenPipe => 0,
-        _ => 3,
-    }
-}
+// The status of the program after any of them.
+const FAILED: u8 = 3;
 
 impl Failure {
     /// The status of the program.
     pub fn status(&self) -> u8
-        ensures { result ≡ status_of_failure self.now }
+        ensures { result ≡ 3 }
     {
-        match self {
-            Failure::Output(error) => status_of_kind(error.kind()),
-            Failure::Memory(_) => 3,
-        }
+        FAILED
     }
 }

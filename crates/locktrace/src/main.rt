@@ -209,12 +209,11 @@ fn main(rt: HostRuntime) -> ExitCode {
     };
     let status = match ended {
         Ok(status) => status,
+        // who reads has read enough
+        Err(Failure::Output(error)) if error.kind() == ErrorKind::BrokenPipe => 0,
         Err(failure) => {
-            let status = failure.status();
-            if status > 0 {
-                let _ = eprintln!(rt; "locktrace: {failure}");
-            }
-            status
+            let _ = eprintln!(rt; "locktrace: {failure}");
+            failure.status()
         }
     };
     ExitCode::from(status)
