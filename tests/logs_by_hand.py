@@ -1,8 +1,10 @@
-"""A part of locktrace.py: logs that have no order or end early, and lines without their end or with
-too many bytes.
+"""A part of locktrace.py: logs that have no order or end early, lines without their end or with too
+many bytes, and what an earlier order left.
 
 What is said of each is worked out by hand from docs/TRACE.md and packaging/man/locktrace.1.
 """
+import shutil
+
 MORE = ("{0}: warning: cut off, without its last line\n"
         "locktrace: note: ordered up to there: {1} steps\n")
 # The step that cannot be placed, the next step of the other thread, if it has one, and the end.
@@ -136,4 +138,27 @@ def long_lines(program):
                  "-:2: note: held by nobody; queue empty\n", stdin="lock mcs threads 2\n0 release")
 
 
-PARTS = (logs_without_an_order, texts_of_logs, long_lines)
+def earlier_orders(program):
+    """Schedules that an earlier order left are removed, and nothing else of the folder is."""
+    log, made = program.folder / "one.log", program.folder / "again"
+    made.mkdir()
+    own = ["own.schedule", "run-0002.schedules", "run-2.schedule"]
+    for name in own:
+        (made / name).write_text("lock mcs threads 2\n")
+    rounds = "acquire\nadd\nread\nrelease\nread\nwrite\n"
+    # a schedule has at most 65,536 moves: 10,922 rounds of 6
+    for count, schedules in ((21_845, 3), (10_923, 2), (10_922, 1)):
+        log.write_text(f"lock ticket threads 1 thread 0\n{rounds * count}dropped 0\n")
+        program.case(f"order: {count} rounds", ["order", "one.log", "-o", "again"], 0)
+        due = [f"run-{number:04}.schedule" for number in range(1, schedules + 1)]
+        program.tally.check(f"order: files of {count} rounds",
+                            sorted(path.name for path in made.iterdir()),
+                            sorted([*own, *due, "run.trace"]))
+    (made / "run-0002.schedule").mkdir()
+    program.case("order: a folder in the place of a schedule", ["order", "one.log", "-o", "again"],
+                 3, "", lambda text: text.startswith("locktrace: cannot write: "))
+    shutil.rmtree(made)
+    log.unlink()
+
+
+PARTS = (logs_without_an_order, texts_of_logs, long_lines, earlier_orders)

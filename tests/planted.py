@@ -1,14 +1,18 @@
 #!/usr/bin/env python3
 """Planted mistakes in the recorded locks: in how many runs each is noticed, in each mode.
 
-    planted.py LOCKTRACE LIBRARY [--modes MODE,..] [--only NAME,..] [--write] [--load N]
+    planted.py LOCKTRACE LIBRARY [--modes MODE,..] [--only NAME,..] [--missing] [--write] [--load N]
 
 Each mistake of tests/planted is an edit of a lock of examples/recording. The modes are tried that
 give the same each time, and compared with the tables of docs/PLANTED.md: of a right lock nothing
-may be refused. With --write the tables are written after each mistake: what the modes tried say,
-and of others what was there. With --load N busy loops run beside the runs, on the same processors:
-no right lock may be blamed for that. FOLLOW takes the tours of tour.py. Two processes run at a
-time. The last line counts the cases; the status is 1 if one failed.
+may be refused. With --write the tables are written as soon as a mistake was tried: what the modes
+tried say, and of others what was there. With --missing only what has no number in the tables is
+tried, so a run that was interrupted goes on. With --load N busy loops run beside the runs, on the
+same processors: no right lock may be blamed for that. FOLLOW takes the tours of tour.py.
+
+Two mistakes are tried at a time, on the processors that this script may use, as `taskset -c` says:
+real threads on all of them, and where one thread runs at a time on one of them. The last line
+counts the cases; the status is 1 if one failed.
 """
 import argparse
 import contextlib
@@ -17,7 +21,7 @@ import re
 import subprocess
 import sys
 import tempfile
-from concurrent.futures import ThreadPoolExecutor
+from concurrent.futures import ThreadPoolExecutor, as_completed
 from pathlib import Path
 
 import wanted
@@ -142,17 +146,32 @@ def busy(count):
             loop.wait()
 
 
-def try_all(trials, mistakes, tried, modes, is_written):
-    """What each mode says of each mistake; the tables are written as the mistakes are tried."""
-    found = {}
-    with ThreadPoolExecutor(2) as pool:
-        noticed = pool.map(lambda mistake: trials.noticed(mistake, modes), tried)
-        for mistake, row in zip(tried, noticed):
-            found[mistake.lock, mistake.name] = row
-            print(mistake.lock, mistake.name, *row.values(), sep=" | ", flush=True)
+def missing(mistake, modes, rows):
+    """The modes in which a mistake was not tried yet."""
+    row = rows.get((mistake.lock, mistake.name), {})
+    return [mode for mode in modes if row.get(mode, "-") == "-"]
+
+
+def write_tables(mistakes, found):
+    """Writes the tables at once, so that an interrupted run leaves all of them."""
+    text, new = TABLES.read_text(), TABLES.with_suffix(".new")
+    new.write_text(document(text, mistakes, found, rows_of(text)))
+    new.replace(TABLES)
+
+
+def try_all(trials, mistakes, tried, is_written):
+    """What modes say of each mistake that is `tried` in them. The tables are written meanwhile."""
+    found, pool = {}, ThreadPoolExecutor(2)
+    try:
+        rows = {pool.submit(trials.noticed, *of): of[0] for of in tried}
+        for row in as_completed(rows):
+            mistake, said = rows[row], row.result()
+            found[mistake.lock, mistake.name] = said
+            print(mistake.lock, mistake.name, *said.values(), sep=" | ", flush=True)
             if is_written:
-                text = TABLES.read_text()
-                TABLES.write_text(document(text, mistakes, found, rows_of(text)))
+                write_tables(mistakes, found)
+    finally:
+        pool.shutdown(cancel_futures=True)
     return found
 
 
@@ -162,6 +181,7 @@ def main():
     words.add_argument("library", type=Path)
     words.add_argument("--modes", default=",".join(SEARCHES))
     words.add_argument("--only")
+    words.add_argument("--missing", action="store_true")
     words.add_argument("--write", action="store_true")
     words.add_argument("--load", type=int, default=0)
     given = words.parse_args()
@@ -169,12 +189,15 @@ def main():
     modes = given.modes.split(",")
     mistakes = [*map(right, LOCKS), *all_mistakes()]
     names = given.only.split(",") if given.only else [mistake.name for mistake in mistakes]
-    tried = [mistake for mistake in mistakes if mistake.name in names]
+    rows = rows_of(TABLES.read_text()) if given.missing else {}
+    tried = [(mistake, missing(mistake, modes, rows)) for mistake in mistakes
+             if mistake.name in names]
+    tried = [of for of in tried if of[1]]
     with tempfile.TemporaryDirectory() as name, busy(given.load):
         trials = Trials(given.locktrace.resolve(), given.library.resolve(), Path(name))
         for lock in LOCKS if "FOLLOW" in modes else ():
             tour_of(lock, Path(name))
-        found = try_all(trials, mistakes, tried, modes, given.write)
+        found = try_all(trials, mistakes, tried, given.write)
     tally = Tally()
     rows = rows_of(TABLES.read_text())
     tally.check("the mistakes of the tables", set(rows),

@@ -6,10 +6,10 @@
 Builds examples/recording without a warning, sees that LR_OFF leaves nothing in the object code,
 does what docs/GUIDE.md says, runs under the sanitizers, and then runs each example by 50 seeds and
 by real threads. Of a right lock every run has to be accepted: the trace of a seeded run, the order
-found for the threads' logs, and each schedule of it; and threads have to have waited. Of a wrong
-one the trace has to be refused at the line where the mistake is first seen, which
-recording_mistakes.py finds by itself, and its logs have no order. The last line counts the cases;
-the status is 1 if one failed.
+found for the threads' logs, and each schedule of it; and threads have to have waited. Logs of two
+runs are refused. Of a wrong one the trace has to be refused at the line where the mistake is first
+seen, which recording_mistakes.py finds by itself, and its logs have no order. The last line counts
+the cases; the status is 1 if one failed.
 """
 import os
 import re
@@ -22,6 +22,7 @@ import wanted
 from recording_builds import (EXAMPLES, ROOT, SANITIZERS, WARNINGS, all_builds, all_compiled,
                               build, build_of_the_guide, compile_only, compilers, is_nothing_left,
                               language, ran)
+from mixed_runs import fault_of_mixed
 from recording_mistakes import MISTAKES, moves_of
 from tally import Tally
 
@@ -160,6 +161,12 @@ def fault_of_wrong_real(runs, name, first_mistake, number):
     return "" if done.returncode == 0 and not any(shown) else f"order: status {done.returncode}"
 
 
+def fault_of_two(runs, example, mode):
+    """The logs of two runs are not ordered together."""
+    first, second = (runs.run(f"{example}-{mode}", SEEDED, seed, 60)[0] for seed in (901, 902))
+    return fault_of_mixed(lambda *words: ran(runs.locktrace, "order", *words), first, second)
+
+
 class Cases(Tally):
     """A tally of cases, some of which are run side by side."""
 
@@ -252,6 +259,8 @@ def main(locktrace, lockreplay):
             cases.many(f"{example} seed",
                        lambda seed: fault_of_right_seed(runs, example, seed), SEEDS)
             cases.fault(f"{example} seed again", fault_of_seed_again(runs, example))
+            for mode in ["SEED", "VALUES"]:
+                cases.fault(f"{example} mixed", fault_of_two(runs, example, mode))
             for number in REAL_RUNS:
                 cases.fault(f"{example} real", fault_of_real(runs, example, number))
         for example, mistake, first_mistake in MISTAKES:

@@ -6,12 +6,12 @@
 Builds record/rust by Debian's cargo, offline and without a warning, runs its own tests and clippy,
 and then runs each example in each mode. Of a right lock every run has to be accepted: the trace of
 a run whose order is known, and the order that is found for the logs of its threads; and threads
-have to have waited. Of a lock with a mistake, the trace of a seeded run has to be refused at the
-line where the mistake is first seen, which recording_rust_mistakes.py finds by itself, or the run
-hangs, in as many runs as are due there. recording_rust_searches.py has what is due of runs that are
-explored and of schedules that are followed; with the feature `check` and LIBRARY the examples check
-these by themselves, and refuse the same. The last line counts the cases; the status is 1 if one
-failed.
+have to have waited. Logs of two runs are refused. Of a lock with a mistake, the trace of a seeded
+run has to be refused at the line where the mistake is first seen, which recording_rust_mistakes.py
+finds by itself, or the run hangs, in as many runs as are due there. recording_rust_searches.py has
+what is due of runs that are explored and of schedules that are followed; with the feature `check`
+and LIBRARY the examples check these by themselves, and refuse the same. The last line counts the
+cases; the status is 1 if one failed.
 """
 import os
 import re
@@ -23,6 +23,7 @@ from concurrent.futures import ThreadPoolExecutor
 from pathlib import Path
 
 import wanted
+from mixed_runs import fault_of_mixed
 from recording_mistakes import moves_of
 from recording_rust_mistakes import MISTAKES
 from recording_rust_searches import EXPLORED, Searches
@@ -155,6 +156,12 @@ def fault_of_seed_again(runs, example):
     return "" if first == again != other else "other runs"
 
 
+def fault_of_two(runs, example, mode):
+    """The logs of two runs are not ordered together."""
+    first, second = (runs.run(example, mode, number)[0] for number in (901, 902))
+    return fault_of_mixed(lambda *words: ran(runs.locktrace, "order", *words), first, second)
+
+
 def shows(runs, mistake, seed):
     """Whether a mistake shows in a seeded run, and what is wrong with the answers."""
     target, status = runs.run(name_of(mistake), "seed", seed)
@@ -224,6 +231,7 @@ def main(locktrace, library):
                            lambda number: fault_of_right(runs, example, mode, number), numbers)
             cases.fault(f"{example} seed again", fault_of_seed_again(runs, example))
             cases.fault(f"{example} pct", fault_of_priorities(runs, example))
+            cases.many(f"{example} mixed", lambda mode: fault_of_two(runs, example, mode), NUMBERS)
         search(cases, Searches(runs, ran))
         for mistake in MISTAKES:
             answers = list(cases.pool.map(lambda seed: shows(runs, mistake, seed), SEEDS))

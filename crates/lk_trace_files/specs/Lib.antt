@@ -2,5 +2,6 @@ pub mod Accepted
 pub mod Endings
 pub mod Fates
 pub mod Lines
+pub mod Searches
 pub mod Verdicts
 pub mod invariants

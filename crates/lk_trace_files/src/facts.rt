@@ -1,6 +1,7 @@
 //! What ended an input, as fields for programs: a code, and of a refusal the thread, its step, the
 //! word, what was expected and what was found.
 
+use crate::ordering::BadLog;
 use crate::sentences::{Awaited, polled_for};
 use crate::texts::Lock;
 use crate::trail::Trail;
@@ -26,6 +27,7 @@ pub enum Facts {
     Unread,
     Hangs,
     Fault(TextFault),
+    BadLog(BadLog),
     /// This line differs so from the lock.
     Refused(TraceLine, Difference, Option<LastPoll>),
 }
@@ -107,11 +109,22 @@ impl Facts {
             Facts::Unread => "Unread",
             Facts::Hangs => "Hangs",
             Facts::Fault(fault) => fault_code(*fault),
+            Facts::BadLog(bad) => return put_bad_log(text, *bad),
             Facts::Refused(line, difference, poll) => {
                 return put_refused(text, *line, *difference, *poll);
             }
         };
         write!(text, ",\"code\":\"{code}\"")
+    }
+}
+
+// Writes the fields of a bad log.
+fn put_bad_log(text: &mut String, bad: BadLog) -> Result<(), AllocError> {
+    let code = bad.code();
+    write!(text, ",\"code\":\"{code}\"")?;
+    match bad.thread() {
+        Some(thread) => write!(text, ",\"thread\":{thread}"),
+        None => Ok(()),
     }
 }
 

@@ -1,10 +1,12 @@
 //! What ends a job early.
 
+ghost use Rattle.std.specs.Prelude.{◌≡◌};
+
 use std::alloc::AllocError;
 use std::io;
 use thiserror::Error;
 
-/// Why a job could not be done to its end. Its status is 3.
+/// Why a job could not be done to its end.
 #[derive(Debug, Drop, Error)]
 pub enum Failure {
     /// Standard output or a file to be written failed.
@@ -12,4 +14,16 @@ pub enum Failure {
     Output(#[from] io::Error),
     #[error("out of memory")]
     Memory(#[from(alloc)] AllocError),
+}
+
+// The status of the program after any of them.
+const FAILED: u8 = 3;
+
+impl Failure {
+    /// The status of the program.
+    pub fn status(&self) -> u8
+        ensures { result ≡ 3 }
+    {
+        FAILED
+    }
 }

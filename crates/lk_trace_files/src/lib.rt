@@ -32,6 +32,6 @@ pub use explain::{Asked, Due, explain_input, put_wrong, wrong_in_header, wrong_i
 pub use failures::Failure;
 pub use formats::Format;
 pub use lines::{Line, Lines};
-pub use ordering::{OrderJob, order_logs};
+pub use ordering::{BadLog, OrderJob, Search, Sought, order_logs, search_logs};
 pub use scheduling::{Unscheduled, write_schedule};
 pub use summary::Summary;

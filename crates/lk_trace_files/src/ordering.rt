@@ -1,19 +1,25 @@
 //! The job of putting the logs of a run into one order, and writing its trace and its schedules.
 
+ghost use Rattle.std.specs.Prelude.{IfOk};
+ghost use Rattle.lk_trace_files.specs.Searches.{IsSought};
+
+mod bad_log;
 mod hanging;
 mod reading;
 mod report;
+mod search;
 mod telling;
 mod writing;
 
-use crate::check::Ending;
 use crate::course::Course;
+use crate::facts::Facts;
 use crate::failures::Failure;
 use crate::formats::Format;
-use hanging::hanging;
-use lk_order::{Found, Order, find_order};
+pub use bad_log::BadLog;
+use lk_order::{Found, Order};
 use reading::take_logs;
 use report::OrderReport;
+pub use search::{Search, Sought, search_logs};
 use std::alloc::{AllocError, Global};
 use std::io::Write;
 use std::rt::Files;
@@ -76,48 +82,44 @@ fn put_ending(
     let order = &found.order;
     report.placed = order.len();
     match (found.ending, hung) {
-        (lk_order::Ending::Stuck(stuck), _) => {
-            report.ending = Ending::Refused;
-            put_stuck(report, order, names, stuck)
-        }
-        (_, Some(course)) => {
-            report.ending = Ending::Hangs;
-            put_hang(report, order, names, course)
-        }
+        (lk_order::Ending::Stuck(stuck), _) => put_stuck(report, order, names, stuck),
+        (_, Some(course)) => put_hang(report, order, names, course),
         (lk_order::Ending::Whole, None) => Ok(()),
         (lk_order::Ending::Cut, None) => put_cut(report, order, names, open),
     }
 }
 
-// Puts the logs into one order, and writes it.
+// Looks for the order of the logs, and writes it.
 fn order_into<R: Files>(
     rt: &R,
     alloc: Global,
     job: &OrderJob,
     report: &mut OrderReport,
-) -> Result<(), Failure> {
-    let Some(taken) = take_logs(rt, alloc, &job.logs, report)? else {
-        return Ok(());
+) -> Result<Sought, Failure>
+    ensures { IfOk result IsSought }
+{
+    let taken = match take_logs(rt, alloc, &job.logs, report)? {
+        Ok(taken) => taken,
+        Err(bad) => {
+            report.facts = Facts::BadLog(bad);
+            return Ok(Sought::Bad(bad));
+        }
     };
-    let Some(found) = find_order(alloc, taken.logs)? else {
+    let Ok(searched) = search_logs(alloc, taken.logs, &taken.open) else {
+        return Err(Failure::Memory(AllocError));
+    };
+    let Some(search) = searched else {
         report.messages.put(0, "the logs are not of one run")?;
-        report.ending = Ending::Faulty;
-        return Ok(());
+        return Ok(Sought::Bad(BadLog::OtherLock));
     };
-    let hung = match found.ending {
-        lk_order::Ending::Stuck(_) => None,
-        _ => hanging(&found.order, &taken.open),
-    };
-    write_found(rt, alloc, &found.order, hung.as_ref(), &job.folder, report)?;
-    put_ending(report, &found, &taken.names, &taken.open, hung.as_ref())?;
-    Ok(())
+    let hung = search.hung.as_ref();
+    write_found(rt, alloc, &search.found.order, hung, &job.folder, report)?;
+    put_ending(report, &search.found, &taken.names, &taken.open, hung)?;
+    Ok(Sought::Order(search))
 }
 
 /// Puts the logs into one order and writes its trace and its schedules into the folder. What there
-/// is to say goes into `errors`, or as TAP or JSON to the output. The answer is `Accepted` if there
-/// is an order, also up to where a log was cut short; `Refused` if a step cannot be placed; `Hangs`
-/// if the run hangs; `Unread` if a log could not be read; `Faulty` if the logs are not those of one
-/// run.
+/// is to say goes into `errors`, or as TAP or JSON to the output. The answer says how the job ends.
 ///
 /// # Errors
 ///
@@ -128,14 +130,16 @@ pub fn order_logs<R: Files, O: Write>(
     job: &OrderJob,
     output: &mut O,
     errors: &mut String,
-) -> Result<Ending, Failure> {
+) -> Result<Sought, Failure>
+    ensures { IfOk result IsSought }
+{
     let mut report = OrderReport::new(alloc);
-    order_into(rt, alloc, job, &mut report)?;
+    let sought = order_into(rt, alloc, job, &mut report)?;
     if !job.quiet {
         let mut text = String::new(alloc);
-        report.put(job.format, &job.folder, &mut text, errors)?;
+        report.put(sought.ending(), job.format, &job.folder, &mut text, errors)?;
         output.write_all(text.as_bytes())?;
         output.flush()?;
     }
-    Ok(report.ending)
+    Ok(sought)
 }

@@ -26,9 +26,6 @@ use std::{env, fs};
 /// The status of a command line that asks for nothing that the program does.
 const USAGE_STATUS: u8 = 2;
 
-/// The status if a read or a write failed or memory was refused.
-const FAILED_STATUS: u8 = 3;
-
 /// Of words that are not UTF-8 the parser can read none.
 const FOREIGN_WORDS: &str = "locktrace: the words are not UTF-8 text\n";
 
@@ -186,7 +183,7 @@ where
             let mut errors = String::new(alloc);
             let ended = order_logs(rt, alloc, &job, output, &mut errors);
             let _ = eprint!(rt; "{errors}");
-            Ok(ended?.status())
+            Ok(ended?.ending().status())
         }
     }
 }
@@ -216,7 +213,7 @@ fn main(rt: HostRuntime) -> ExitCode {
         Err(Failure::Output(error)) if error.kind() == ErrorKind::BrokenPipe => 0,
         Err(failure) => {
             let _ = eprintln!(rt; "locktrace: {failure}");
-            FAILED_STATUS
+            failure.status()
         }
     };
     ExitCode::from(status)

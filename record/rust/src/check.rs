@@ -62,7 +62,7 @@ impl Run {
     ///     let _call = call(Call::Release); // of a lock that nobody has
     /// })?;
     /// let said = run.check().unwrap_err().to_string();
-    /// assert!(said.starts_with("refused at line 3 of the trace: "), "{said}");
+    /// assert!(said.starts_with("refused at line 4 of the trace: "), "{said}");
     /// # Ok::<(), Error>(())
     /// ```
     ///

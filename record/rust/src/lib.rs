@@ -143,6 +143,8 @@ mod mode;
 #[cfg(feature = "record")]
 mod noise;
 #[cfg(feature = "record")]
+mod number;
+#[cfg(feature = "record")]
 mod path;
 #[cfg(feature = "record")]
 mod priorities;

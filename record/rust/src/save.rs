@@ -56,8 +56,10 @@ fn write_file(
     out.flush()
 }
 
-/// The header, after a comment that says how the run can be had again.
+/// The header, after comments by which runs are told apart, and that say how the run can be had
+/// again.
 fn write_header(run: &Shared, out: &mut impl Write) -> io::Result<()> {
+    writeln!(out, "# run {:016x}", run.number)?;
     match run.mode {
         Mode::Seed(seed) => writeln!(out, "# seed {seed}")?,
         Mode::Pct { seed, depth, steps } => {

@@ -5,6 +5,7 @@ use std::path::Path;
 use std::str::FromStr;
 use std::sync::Arc;
 
+use crate::draw::Draw;
 use crate::error::Error;
 use crate::kind::Kind;
 use crate::lock::{Header, Lock, MOST_BITS};
@@ -80,6 +81,14 @@ impl Schedule {
 
     pub(crate) fn lines(&self) -> &[Line] {
         &self.lines
+    }
+
+    /// A number of its moves, for its runs.
+    pub(crate) fn number(&self) -> u64 {
+        self.lines.iter().fold(0, |number, line| {
+            let mix = |sum: u64, byte: u8| Draw::new(sum ^ u64::from(byte)).next();
+            line.kind.word().bytes().fold(number ^ line.thread as u64, mix)
+        })
     }
 
     /// The first call of a thread in the lines from this one on, and the line after it.

@@ -19,7 +19,7 @@ fn runs_of_two_additions(preemptions: usize) -> Result<Vec<(usize, String)>, Err
             word.fetch_add(1, SeqCst);
         })?;
         assert_eq!(ending, Ending::Complete);
-        let turns = run.trace()?.lines().skip(1).map(|line| &line[..1]).collect();
+        let turns = run.trace()?.lines().skip(2).map(|line| &line[..1]).collect();
         found.push((explored.preemptions(), turns));
     }
     Ok(found)
@@ -133,11 +133,14 @@ fn a_driver_that_changes_is_noticed() -> Result<(), Error> {
     Ok(())
 }
 
+/// Runs are counted, and name no seed.
 #[test]
-fn the_trace_names_no_seed() -> Result<(), Error> {
-    let run = Run::of(Lock::Mcs, 1).explore(0).next().expect("there is a first run")?;
-    let word = AtomicU8::new(0).noted(Word::Tail);
-    run.threads(LIMIT, |_| word.store(1, SeqCst))?;
-    assert_eq!(run.trace()?, "lock mcs threads 1 bits 64\n0 write tail left 1\n");
+fn the_trace_has_the_number_of_the_run() -> Result<(), Error> {
+    let mut explored = Run::of(Lock::Mcs, 2).explore(0);
+    for number in ["0000000000000001", "0000000000000002"] {
+        let run = explored.next().expect("each thread may be first")?;
+        run.threads(LIMIT, |_| ())?;
+        assert_eq!(run.trace()?, format!("# run {number}\nlock mcs threads 2 bits 64\n"));
+    }
     Ok(())
 }

@@ -52,7 +52,7 @@ fn the_trace_has_the_moves_of_the_schedule() -> Result<(), Error> {
     let (ending, trace) = follow(&text, |log| make_calls(&lock, log))?;
     assert_eq!(ending, Ending::Complete);
     let made = |line: &str| line.splitn(3, ' ').take(2).collect::<Vec<_>>().join(" ") + "\n";
-    assert_eq!(trace.lines().skip(1).map(made).collect::<String>(), moves);
+    assert_eq!(trace.lines().skip(2).map(made).collect::<String>(), moves);
     // the trace itself is a schedule, and its run the same
     let lock = TicketLock::new();
     assert_eq!(follow(&trace, |log| make_calls(&lock, log))?.1, trace);
@@ -95,8 +95,9 @@ fn the_move_that_departs_is_saved() -> Result<(), Error> {
         ending => panic!("{ending:?}"),
     };
     assert_eq!((departure.thread(), departure.line()), (0, Some(4)));
-    let moves = "0 acquire\n1 acquire\n0 add next_ticket found 0 left 1\n";
-    assert_eq!(trace, format!("lock ticket threads 2 bits 8\n{moves}"));
+    let text = "lock ticket threads 2 bits 8\n0 acquire\n1 acquire\n\
+                0 add next_ticket found 0 left 1\n";
+    assert_eq!(trace.split_once('\n').map(|(_, after_number)| after_number), Some(text));
     assert_eq!(lock.next_ticket.peek(SeqCst), 1);
     Ok(())
 }
@@ -179,7 +180,7 @@ fn a_section_is_a_turn() -> Result<(), Error> {
     })?;
     assert_eq!(ending, Ending::Complete);
     let outcomes: Vec<&str> =
-        trace.lines().skip(1).filter_map(|line| line.split(' ').nth(3)).collect();
+        trace.lines().skip(2).filter_map(|line| line.split(' ').nth(3)).collect();
     assert_eq!(outcomes, ["entered", "waits", "waits", "waits", "left", "entered"]);
     Ok(())
 }

@@ -30,10 +30,42 @@ fn trace_of(mode: Mode) -> Result<String, Error> {
     run.trace()
 }
 
+/// A trace without its first line, which has the run's number.
+fn after_number(trace: &str) -> &str {
+    let (first, rest) = trace.split_once('\n').expect("it has lines");
+    assert!(first.starts_with("# run "), "{first}");
+    rest
+}
+
+/// A run that a seed or a schedule decides has a number of that. Others have the time's.
+#[test]
+fn the_number_is_that_of_the_run() -> Result<(), Error> {
+    let number = |mode: Mode| -> Result<String, Error> {
+        let run = Run::of(Lock::Ticket, 2).bits(8).mode(mode).open()?;
+        Ok(run.trace()?.lines().next().unwrap_or("").to_owned())
+    };
+    // the first number of splitmix64 by the seed 0, as its authors give it
+    assert_eq!(number(Mode::Seed(0))?, "# run e220a8397b1dcdaf");
+    assert_eq!(number(Mode::Seed(5))?, number(Mode::Seed(5))?);
+    assert_ne!(number(Mode::Seed(5))?, number(Mode::Seed(6))?);
+    let follow = |moves: &str| -> Result<String, Error> {
+        number(Mode::Follow(format!("lock ticket threads 2\n{moves}").parse()?))
+    };
+    assert_eq!(follow("0 acquire\n")?, follow("# once\n0 acquire\n")?);
+    let others = ["1 acquire\n", "0 release\n", "0 acquire\n0 add\n", ""];
+    for other in others {
+        assert_ne!(follow("0 acquire\n")?, follow(other)?);
+    }
+    for mode in [Mode::Free, Mode::Noise(1), Mode::Ordered] {
+        assert_ne!(number(mode.clone())?, number(mode)?);
+    }
+    Ok(())
+}
+
 #[test]
 fn the_same_seed_gives_the_same_run() -> Result<(), Error> {
     let moves = |seed| -> Result<String, Error> {
-        Ok(trace_of(Mode::Seed(seed))?.split_once('\n').map_or("", |(_, moves)| moves).to_owned())
+        Ok(trace_of(Mode::Seed(seed))?.lines().skip(3).collect())
     };
     assert_eq!(moves(5)?, moves(5)?);
     assert_ne!(moves(5)?, moves(6)?);
@@ -76,7 +108,7 @@ fn priorities_are_drawn() -> Result<(), Error> {
             word.fetch_add(1, SeqCst);
             word.fetch_add(1, SeqCst);
         })?;
-        Ok(run.trace()?.lines().skip(2).map(|line| &line[..1]).collect())
+        Ok(run.trace()?.lines().skip(3).map(|line| &line[..1]).collect())
     });
     let mut orders = orders.collect::<Result<Vec<String>, Error>>()?;
     orders.sort_unstable();
@@ -93,7 +125,7 @@ fn a_poll_in_vain_has_no_priority() -> Result<(), Error> {
         assert_eq!(trace_of(mode(seed))?, trace_of(mode(seed))?);
     }
     let header = "# seed 5 depth 3 steps 100\nlock ticket threads 3 bits 8\n";
-    assert!(trace_of(mode(5))?.starts_with(header));
+    assert!(after_number(&trace_of(mode(5))?).starts_with(header));
     Ok(())
 }
 
@@ -111,8 +143,9 @@ fn the_order_is_that_of_the_operations() -> Result<(), Error> {
 
 #[test]
 fn free_threads_have_no_trace() -> Result<(), Error> {
-    assert_eq!(trace_of(Mode::Free)?, "lock ticket threads 3 bits 8\n");
-    assert_eq!(trace_of(Mode::Noise(4))?, "# noise 4\nlock ticket threads 3 bits 8\n");
+    let header = "lock ticket threads 3 bits 8\n";
+    assert_eq!(after_number(&trace_of(Mode::Free)?), header);
+    assert_eq!(after_number(&trace_of(Mode::Noise(4))?), format!("# noise 4\n{header}"));
     Ok(())
 }
 
@@ -245,7 +278,7 @@ fn a_wait_without_a_second_look_is_seen_by_a_wake_for_nothing() -> Result<(), Er
         let (has_seen, trace) = waits_once(seed, 2)?;
         assert_eq!(waits_once(seed, 2)?, (has_seen, trace.clone()));
         let header = format!("# seed {seed}\n# spurious 2\nlock rw-simple threads 2 bits 64\n");
-        assert!(trace.starts_with(&header), "{trace}");
+        assert!(after_number(&trace).starts_with(&header), "{trace}");
         missed += usize::from(!has_seen);
     }
     assert!(missed > 0);

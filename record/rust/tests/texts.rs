@@ -2,7 +2,7 @@
 #![cfg(feature = "record")]
 
 use std::fs;
-use std::path::PathBuf;
+use std::path::{Path, PathBuf};
 use std::ptr;
 use std::sync::atomic::Ordering::SeqCst;
 use std::time::Duration;
@@ -19,7 +19,7 @@ fn moves(setup: Setup, work: impl Fn() + Sync) -> Result<Vec<String>, Error> {
     let run = setup.mode(Mode::Ordered).open()?;
     run.threads(LIMIT, |_| work())?;
     let lines = run.trace()?;
-    Ok(lines.lines().skip(1).map(|line| line.strip_prefix("0 ").unwrap_or("?").into()).collect())
+    Ok(lines.lines().skip(2).map(|line| line.strip_prefix("0 ").unwrap_or("?").into()).collect())
 }
 
 /// A folder of its own for a test.
@@ -27,6 +27,16 @@ fn folder(name: &str) -> PathBuf {
     let path = std::env::temp_dir().join(format!("lockreplay-{name}-{}", std::process::id()));
     let _ = fs::remove_dir_all(&path);
     path
+}
+
+/// A saved file: its first line, which has the run's number, and the text after it.
+fn numbered(folder: &Path, name: &str) -> (String, String) {
+    let text = fs::read_to_string(folder.join(name)).expect("it was saved");
+    let (first, rest) = text.split_once('\n').expect("it has lines");
+    let digits = first.strip_prefix("# run ").expect("the first line has the number");
+    assert_eq!(digits.len(), 16, "{first}");
+    assert!(u64::from_str_radix(digits, 16).is_ok(), "{first}");
+    (digits.to_owned(), rest.to_owned())
 }
 
 #[test]
@@ -146,7 +156,7 @@ fn records_are_known_by_their_addresses() -> Result<(), Error> {
     })?;
     let trace = run.trace()?;
     let (first, second): (Vec<&str>, Vec<&str>) =
-        trace.lines().skip(1).partition(|line| line.starts_with('1'));
+        trace.lines().skip(2).partition(|line| line.starts_with('1'));
     // thread 0 may have named its record before or after the first store
     let nobody = ["1 write next of 255 left 256", "1 write next of 255 left 1"];
     assert!(nobody.contains(&first[0]), "{trace}");
@@ -165,17 +175,86 @@ fn a_full_log_counts_what_it_drops() -> Result<(), Error> {
     run.save(&path)?;
     let moves = "add next_ticket found 0 left 1\nadd next_ticket found 1 left 2\n";
     let header = "# seed 9\nlock ticket threads 1 bits 8";
-    let log = fs::read_to_string(path.join("thread-0.log")).expect("it was saved");
+    let (number, log) = numbered(&path, "thread-0.log");
     assert_eq!(log, format!("{header} thread 0\n{moves}dropped 3\n"));
-    let trace = fs::read_to_string(path.join("run.trace")).expect("it was saved");
+    let (same, trace) = numbered(&path, "run.trace");
     let ends = "# thread 0 has ended\n";
     assert_eq!(trace, format!("{header}\n{}{ends}", moves.replace("add", "0 add")));
+    assert_eq!(number, same);
     // a later run of free threads leaves nothing of this one
     let run = Run::of(Lock::Mcs, 1).open()?;
     run.save(&path)?;
-    let log = fs::read_to_string(path.join("thread-0.log")).expect("it was saved");
+    let (other, log) = numbered(&path, "thread-0.log");
     assert_eq!(log, "lock mcs threads 1 bits 64 thread 0\n# thread 0 has not ended\n");
+    assert_ne!(number, other);
     assert!(!path.join("run.trace").exists());
+    fs::remove_dir_all(&path).expect("the folder was made");
+    Ok(())
+}
+
+/// A round of a ticket lock with three threads before this one in the queue.
+fn ticket_round() {
+    let acquire = call(Call::Acquire);
+    note(Step::add(Word::NextTicket, 3));
+    for served in 0..3 {
+        (0..5).for_each(|_| note(Step::read(Word::NowServing, served)));
+    }
+    note(Step::read(Word::NowServing, 3));
+    drop(acquire);
+    let _release = call(Call::Release);
+    note(Step::read(Word::NowServing, 3));
+    note(Step::write(Word::NowServing, 4));
+}
+
+/// A round of an MCS lock with a predecessor, and a successor that links itself late.
+fn mcs_round() {
+    let acquire = call(Call::Acquire);
+    note(Step::write(Word::Next, 0));
+    note(Step::swap(Word::Tail, 2));
+    note(Step::write(Word::Locked, 1));
+    note(Step::write(Word::Next, 1).of(1));
+    (0..5).for_each(|_| note(Step::read(Word::Locked, 1)));
+    note(Step::read(Word::Locked, 0));
+    drop(acquire);
+    let _release = call(Call::Release);
+    note(Step::read(Word::Next, 0));
+    note(Step::cas(Word::Tail, false));
+    (0..5).for_each(|_| note(Step::read(Word::Next, 0)));
+    note(Step::read(Word::Next, 2));
+    note(Step::write(Word::Locked, 0).of(1));
+}
+
+/// A round of a FIFO writer that waits for a writer and then for readers, and becomes a reader.
+fn read_write_round() {
+    let state = Mutex::new(());
+    let sections = |made, outcomes: &[Outcome]| {
+        let _call = call(made);
+        outcomes.iter().for_each(|&outcome| state.lock().note(outcome));
+    };
+    let waits = [Outcome::Waits; 5];
+    let parts = [&waits[..], &[Outcome::Moved], &waits, &[Outcome::Entered]];
+    sections(Call::WriteLock, &parts.concat());
+    sections(Call::Downgrade, &[Outcome::Entered]);
+    sections(Call::ReadUnlock, &[Outcome::Left]);
+}
+
+#[test]
+fn the_longest_round_has_room() -> Result<(), Error> {
+    let rows: [(Lock, usize, fn()); 3] = [
+        (Lock::Ticket, 6 + 2 * 3, ticket_round),
+        (Lock::Mcs, 15, mcs_round),
+        (Lock::RwFifo, 11, read_write_round),
+    ];
+    let path = folder("room");
+    for (lock, moves, round) in rows {
+        for dropped in [0, 1] {
+            let run = Run::of(lock, 1).room(moves - dropped).open()?;
+            run.threads(LIMIT, |_| round())?;
+            run.save(&path)?;
+            let (_, log) = numbered(&path, "thread-0.log");
+            assert!(log.ends_with(&format!("\ndropped {dropped}\n")), "{log}");
+        }
+    }
     fs::remove_dir_all(&path).expect("the folder was made");
     Ok(())
 }

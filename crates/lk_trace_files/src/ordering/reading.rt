@@ -1,18 +1,21 @@
 //! The logs of a run, read from their files.
 
+use super::bad_log::{BadLog, worse};
 use super::report::OrderReport;
-use crate::check::Ending;
 use crate::course::said_of;
 use crate::lines::{Line, Lines};
 use lk_order::{Log, LogFault, LogReader, Shelf, Unfit};
 use std::alloc::{AllocError, Global};
 use std::io::{Error, ErrorKind, Read};
 use std::rt::Files;
-use std::{fmt, fs};
+use std::{fmt, fs, str};
 use thiserror::Error;
 
 // The most threads of a lock.
 const MOST_THREADS: usize = 64;
+
+// What is said of a log whose run has another number.
+const OTHER_RUN: &str = "of another run than the first log's";
 
 /// The logs of a run, with the names of their files, and which threads have not ended, each by
 /// thread.
@@ -42,26 +45,44 @@ fn fault_at(number: u64, fault: LogFault) -> Unread {
     }
 }
 
-// Reads a log to its end, and whether it says that its thread has not ended.
-fn read_log<R: Read + Drop>(alloc: Global, input: R) -> Result<(Log, bool), Unread> {
+// A log, with the number of its run, if it has that, and whether its thread has not ended.
+#[derive(Drop)]
+struct LogRead {
+    log: Log,
+    run: Option<u64>,
+    is_open: bool,
+}
+
+// The number of a run, which a recorder writes into the first line.
+fn run_of(line: &[u8]) -> Option<u64> {
+    let digits = line.strip_prefix(b"# run ".as_slice())?;
+    let text = str::from_utf8(digits).ok()?;
+    u64::from_str_radix(text, 16).ok()
+}
+
+// Reads a log to its end.
+fn read_log<R: Read + Drop>(alloc: Global, input: R) -> Result<LogRead, Unread> {
     let mut lines = Lines::new(alloc, input)?;
     let mut line = Line::new();
     let mut reader = LogReader::new(alloc);
-    let mut last = None;
+    let (mut run, mut last) = (None, None);
     for number in 1..u64::MAX {
         if !lines.next_line(&mut line)? {
             let log = reader.log().map_err(|fault| fault_at(number, fault))?;
             let is_open = last == Some((log.thread(), false)) && log.dropped().is_none();
-            return Ok((log, is_open));
+            return Ok(LogRead { log, run, is_open });
         }
         let read = reader.line(line.bytes(), line.is_whole());
         read.map_err(|fault| fault_at(number, fault))?;
+        if number == 1 {
+            run = run_of(line.bytes());
+        }
         last = said_of(line.bytes());
     }
     Err(Unread::Input(Error::from(ErrorKind::FileTooLarge)))
 }
 
-fn log_in<R: Files>(rt: &R, alloc: Global, name: &str) -> Result<(Log, bool), Unread> {
+fn log_in<R: Files>(rt: &R, alloc: Global, name: &str) -> Result<LogRead, Unread> {
     read_log(alloc, fs::open(rt, name)?)
 }
 
@@ -69,6 +90,8 @@ fn log_in<R: Files>(rt: &R, alloc: Global, name: &str) -> Result<(Log, bool), Un
 #[derive(Drop)]
 struct Run<'a> {
     shelf: Shelf,
+    // of the first log that has one
+    number: Option<u64>,
     names: Vec<&'a str>,
     open: [bool; 64],
 }
@@ -103,86 +126,113 @@ impl<'a> Run<'a> {
         }
         Ok(Run {
             shelf: Shelf::new(alloc)?,
+            number: None,
             names,
             open: [false; 64],
         })
     }
 
+    // Whether a log with such a number is of another run than those before it.
+    fn is_other(&mut self, number: Option<u64>) -> bool {
+        match (self.number, number) {
+            (Some(first), Some(number)) => first != number,
+            (None, Some(_)) => {
+                self.number = number;
+                false
+            }
+            (_, None) => false,
+        }
+    }
+
+    // Keeps the name of a thread's log, and whether the thread has not ended.
+    fn keep(&mut self, thread: u8, is_open: bool, name: &'a str) {
+        let (names, open) = (&mut self.names, &mut self.open);
+        if let Some(place) = names.get_mut(thread as usize) {
+            *place = name;
+        }
+        if let Some(place) = open.get_mut(thread as usize) {
+            *place = is_open;
+        }
+    }
+
     // Takes a log. If it is none of the run, that is said.
     fn put(
         &mut self,
-        log: Log,
-        is_open: bool,
+        read: LogRead,
         name: &'a str,
         report: &mut OrderReport,
-    ) -> Result<Ending, AllocError> {
+    ) -> Result<Option<BadLog>, AllocError> {
+        let LogRead { log, run, is_open } = read;
         let thread = log.thread();
-        let (names, open) = (&mut self.names, &mut self.open);
-        let Some(place) = names.get_mut(thread as usize) else {
-            return Ok(Ending::Faulty);
-        };
-        let other = *place;
+        let other = self.names.get(thread as usize).copied().unwrap_or("");
         match self.shelf.put(log) {
-            Ok(()) => {
-                *place = name;
-                if let Some(open) = open.get_mut(thread as usize) {
-                    *open = is_open;
-                }
-                return Ok(Ending::Accepted);
+            Ok(()) => {}
+            Err(Unfit::SecondLog) => {
+                report.messages.put_in(name, 0, Second(thread, other))?;
+                return Ok(Some(BadLog::SecondLog(thread)));
             }
-            Err(Unfit::SecondLog) => report.messages.put_in(name, 0, Second(thread, other))?,
-            Err(unfit) => report.messages.put_in(name, 0, unfit)?,
+            Err(unfit) => {
+                report.messages.put_in(name, 0, unfit)?;
+                return Ok(Some(BadLog::OtherLock));
+            }
         }
-        Ok(Ending::Faulty)
+        self.keep(thread, is_open, name);
+        if self.is_other(run) {
+            report.messages.put_in(name, 0, OTHER_RUN)?;
+            return Ok(Some(BadLog::OtherRun(thread)));
+        }
+        Ok(None)
     }
 
-    // Reads a log of this name and takes it.
+    // Reads a log of this name and takes it. The answer is what is wrong with it.
     fn read<R: Files>(
         &mut self,
         rt: &R,
         alloc: Global,
         name: &'a str,
         report: &mut OrderReport,
-    ) -> Result<Ending, AllocError> {
+    ) -> Result<Option<BadLog>, AllocError> {
         match log_in(rt, alloc, name) {
-            Ok((log, is_open)) => self.put(log, is_open, name, report),
+            Ok(read) => self.put(read, name, report),
             Err(Unread::Memory(error)) => Err(error),
             Err(Unread::Fault(number, fault)) => {
                 report.messages.put_in(name, number, fault)?;
-                Ok(Ending::Faulty)
+                Ok(Some(BadLog::Fault(fault)))
             }
             Err(Unread::Input(error)) => {
                 report.messages.put_in(name, 0, error)?;
-                Ok(Ending::Unread)
+                Ok(Some(BadLog::Unread))
             }
         }
     }
 }
 
-/// Reads all logs. If one cannot be read, or they are not those of one run, that is said, and there
-/// are none.
+/// Reads all logs. If one cannot be read, or they are not those of one run, that is said, and the
+/// worst of it is the answer.
 pub fn take_logs<'a, R: Files>(
     rt: &R,
     alloc: Global,
     names: &'a [String],
     report: &mut OrderReport,
-) -> Result<Option<Taken<'a>>, AllocError> {
+) -> Result<Result<Taken<'a>, BadLog>, AllocError> {
     let mut run = Run::new(alloc)?;
+    let mut worst = None;
     for name in names {
-        let ending = run.read(rt, alloc, name.as_str(), report)?;
-        if ending.status() > report.ending.status() {
-            report.ending = ending;
-        }
+        worst = worse(worst, run.read(rt, alloc, name.as_str(), report)?);
     }
-    if report.ending != Ending::Accepted {
-        return Ok(None);
+    if let Some(bad) = worst {
+        return Ok(Err(bad));
     }
-    let Run { shelf, names, open } = run;
+    let Run {
+        shelf,
+        names,
+        open,
+        ..
+    } = run;
     if let Some(thread) = shelf.missing() {
         report.messages.put(0, NoLog(thread))?;
-        report.ending = Ending::Faulty;
-        return Ok(None);
+        return Ok(Err(BadLog::Missing(thread)));
     }
     let logs = shelf.logs(alloc)?;
-    Ok(Some(Taken { logs, names, open }))
+    Ok(Ok(Taken { logs, names, open }))
 }

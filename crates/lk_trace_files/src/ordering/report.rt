@@ -8,10 +8,9 @@ use crate::notes::Notes;
 use std::alloc::{AllocError, Global};
 use std::fmt::Write;
 
-/// How an order ended, and what is said of it. A text of no file is the program's own.
+/// What is said of an order. A text of no file is the program's own.
 #[derive(Drop)]
 pub struct OrderReport {
-    pub ending: Ending,
     /// How many steps were placed.
     pub placed: usize,
     /// What is wrong.
@@ -28,7 +27,6 @@ impl OrderReport {
     /// Nothing is said.
     pub fn new(alloc: Global) -> OrderReport {
         OrderReport {
-            ending: Ending::Accepted,
             placed: 0,
             messages: Notes::new(alloc),
             facts: Facts::Nothing,
@@ -45,8 +43,8 @@ impl OrderReport {
     }
 
     // Writes it as TAP with one point.
-    fn put_tap(&self, text: &mut String, folder: &str) -> Result<(), AllocError> {
-        let sign = if self.ending == Ending::Accepted {
+    fn put_tap(&self, text: &mut String, ending: Ending, folder: &str) -> Result<(), AllocError> {
+        let sign = if ending == Ending::Accepted {
             "ok"
         } else {
             "not ok"
@@ -58,8 +56,8 @@ impl OrderReport {
     }
 
     // Writes it as an object of JSON.
-    fn put_json(&self, text: &mut String, folder: &str) -> Result<(), AllocError> {
-        let (folder, ending, placed) = (Quoted(folder), self.ending.text(), self.placed);
+    fn put_json(&self, text: &mut String, ending: Ending, folder: &str) -> Result<(), AllocError> {
+        let (folder, ending, placed) = (Quoted(folder), ending.text(), self.placed);
         write!(
             text,
             "{{\"folder\":{folder},\"ending\":\"{ending}\",\"moves\":{placed}"
@@ -71,9 +69,11 @@ impl OrderReport {
         text.push_str("}\n")
     }
 
-    /// Writes it in a form: what goes to standard output, or as text to standard error.
+    /// Writes it, and how the job ends, in a form: what goes to standard output, or as text to
+    /// standard error.
     pub fn put(
         &self,
+        ending: Ending,
         format: Format,
         folder: &str,
         output: &mut String,
@@ -81,8 +81,8 @@ impl OrderReport {
     ) -> Result<(), AllocError> {
         match format {
             Format::Text => self.put_text(errors),
-            Format::Tap => self.put_tap(output, folder),
-            Format::Json => self.put_json(output, folder),
+            Format::Tap => self.put_tap(output, ending, folder),
+            Format::Json => self.put_json(output, ending, folder),
         }
     }
 }

@@ -9,7 +9,7 @@ use lk_replay::parts::{lock_text, move_text};
 use std::alloc::{AllocError, Global};
 use std::fmt::Write as _;
 use std::fs;
-use std::io::Write;
+use std::io::{ErrorKind, Write};
 use std::rt::Files;
 
 // Bytes that wait before they are written.
@@ -77,7 +77,29 @@ fn schedule_of(alloc: Global, order: &Order, piece: Piece) -> Result<String, All
     Ok(text)
 }
 
-/// Writes the schedules of an order into a folder, and gives how many moves are in none.
+fn schedule_path(alloc: Global, folder: &str, number: usize) -> Result<String, AllocError> {
+    format!(in alloc; "{folder}/run-{number:04}.schedule")
+}
+
+// Removes the schedules from this number on that an earlier order left: those without a gap.
+fn remove_schedules<R: Files>(
+    rt: &R,
+    alloc: Global,
+    folder: &str,
+    first: usize,
+) -> Result<(), Failure> {
+    for number in first..usize::MAX {
+        let path = schedule_path(alloc, folder, number)?;
+        match fs::remove_file(rt, path.as_str()) {
+            Err(error) if error.kind() == ErrorKind::NotFound => return Ok(()),
+            removed => removed?,
+        }
+    }
+    Ok(())
+}
+
+/// Writes the schedules of an order into a folder, without those of an earlier one, and gives how
+/// many moves are in none.
 pub fn write_schedules<R: Files>(
     rt: &R,
     alloc: Global,
@@ -85,13 +107,16 @@ pub fn write_schedules<R: Files>(
     folder: &str,
 ) -> Result<usize, Failure> {
     let mut pieces = Pieces::new(order);
+    let mut next = 1;
     for number in 1..usize::MAX {
         let Some(piece) = pieces.next_piece() else {
+            next = number;
             break;
         };
         let text = schedule_of(alloc, order, piece)?;
-        let path = format!(in alloc; "{folder}/run-{number:04}.schedule")?;
+        let path = schedule_path(alloc, folder, number)?;
         fs::write(rt, path.as_str(), &text)?;
     }
+    remove_schedules(rt, alloc, folder, next)?;
     Ok(pieces.left_out())
 }

@@ -1,0 +1,81 @@
+//! What is wrong with the logs of a run, so that no order is looked for.
+
+ghost use Rattle.std.specs.Prelude.{◌≡◌};
+ghost use Rattle.lk_trace_files.specs.Searches.{ending_of_bad};
+
+use crate::check::Ending;
+use lk_order::LogFault;
+
+/// What is wrong with a log, or with the logs together.
+#[derive(Clone, Copy, PartialEq, Eq, Debug)]
+pub enum BadLog {
+    /// It could not be opened or read.
+    Unread,
+    /// It is no log.
+    Fault(LogFault),
+    /// It is of another lock than the first one.
+    OtherLock,
+    /// This thread's log is of another run than the first one.
+    OtherRun(u8),
+    /// This thread has two logs.
+    SecondLog(u8),
+    /// This thread has no log.
+    Missing(u8),
+}
+
+impl BadLog {
+    /// How the job ends.
+    pub fn ending(self) -> Ending
+        ensures { result ≡ ending_of_bad self }
+    {
+        match self {
+            BadLog::Unread => Ending::Unread,
+            _ => Ending::Faulty,
+        }
+    }
+
+    /// Its name for programs.
+    pub fn code(self) -> &'static str {
+        match self {
+            BadLog::Unread => "Unread",
+            BadLog::Fault(fault) => fault_code(fault),
+            BadLog::OtherLock => "OtherLock",
+            BadLog::OtherRun(_) => "OtherRun",
+            BadLog::SecondLog(_) => "SecondLog",
+            BadLog::Missing(_) => "NoLog",
+        }
+    }
+
+    /// The thread of the run that it is about.
+    pub fn thread(self) -> Option<u8> {
+        match self {
+            BadLog::OtherRun(thread) | BadLog::SecondLog(thread) | BadLog::Missing(thread) => {
+                Some(thread)
+            }
+            _ => None,
+        }
+    }
+}
+
+// The name that the sentence of a fault has in brackets.
+fn fault_code(fault: LogFault) -> &'static str {
+    match fault {
+        LogFault::NoHeader => "NoHeader",
+        LogFault::BadHeader => "BadHeader",
+        LogFault::BadMove | LogFault::AfterTheEnd => "BadLine",
+        LogFault::TooLong => "TooLong",
+        LogFault::OutOfMemory => "OutOfMemory",
+    }
+}
+
+/// Of two bad logs that with the greater status, and of the same status the first.
+pub fn worse(first: Option<BadLog>, second: Option<BadLog>) -> Option<BadLog> {
+    let (Some(a), Some(b)) = (first, second) else {
+        return first.or(second);
+    };
+    if b.ending().status() > a.ending().status() {
+        second
+    } else {
+        first
+    }
+}

@@ -1,0 +1,28 @@
+//! The number of a run, by which its files are known.
+
+use std::process;
+use std::sync::atomic::{AtomicU64, Ordering};
+use std::time::{SystemTime, UNIX_EPOCH};
+
+use crate::draw::Draw;
+use crate::mode::Mode;
+
+/// How many runs have a number of the time, which two of one process may have in common.
+static OPENED: AtomicU64 = AtomicU64::new(0);
+
+/// Of the time; or of the seed or the schedule, if that decides the run.
+pub(crate) fn of(mode: &Mode) -> u64 {
+    match mode {
+        Mode::Seed(seed) | Mode::Pct { seed, .. } => Draw::new(*seed).next(),
+        Mode::Follow(schedule) => schedule.number(),
+        Mode::Free | Mode::Noise(_) | Mode::Ordered => of_now(),
+    }
+}
+
+fn of_now() -> u64 {
+    let since = SystemTime::now().duration_since(UNIX_EPOCH);
+    let nanoseconds = since.map_or(0, |time| time.as_nanos() as u64);
+    let process = u64::from(process::id()) << 32;
+    let opened = OPENED.fetch_add(1, Ordering::Relaxed);
+    Draw::new(nanoseconds ^ process).next().wrapping_add(opened)
+}
