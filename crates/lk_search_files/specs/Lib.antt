@@ -1,2 +1,5 @@
 pub mod Endings
 pub mod Answered
+pub mod Counted
+pub mod Written
+pub mod TourFiles

@@ -22,6 +22,11 @@ pub enum SearchJob {
         asked: Asked,
         format: Format,
     },
+    Tour {
+        header: Vec<String>,
+        asked: Asked,
+        folder: String,
+    },
     Cover(CoverJob),
 }
 
@@ -96,6 +101,20 @@ pub fn space_command<'a>(alloc: Global) -> Result<Command<'a>, AllocError> {
     );
     let format = format_arg(alloc, "text or json");
     with_lock(alloc, with_bounds(alloc, command)?.arg(format)?)
+}
+
+/// The command `tour`.
+pub fn tour_command<'a>(alloc: Global) -> Result<Command<'a>, AllocError> {
+    let folder = Arg::new(alloc, "folder")
+        .short('o')
+        .value_name("DIR")
+        .help("Where the schedules are written; those of an earlier tour are removed")
+        .required(true)
+        .action(ArgAction::Set);
+    let command = Command::new(alloc, "tour").about(
+        "Writes schedules that together take every transition of a lock",
+    );
+    with_lock(alloc, with_bounds(alloc, command)?.arg(folder)?)
 }
 
 /// The command `cover`.
@@ -195,6 +214,15 @@ pub fn space_given(
         asked,
         format,
     }))
+}
+
+/// The job of the command `tour`.
+pub fn tour_given(alloc: Global, matches: &ArgMatches<'_>) -> Result<SearchJob, AllocError> {
+    Ok(SearchJob::Tour {
+        header: lock_given(alloc, matches)?,
+        asked: asked_of(matches),
+        folder: String::from_str(alloc, matches.get_str("folder").unwrap_or("."))?,
+    })
 }
 
 // The kinds that are required, or none if one of them is not known.
