@@ -1,6 +1,6 @@
 #!/usr/bin/env python3
-"""The built `locktrace find`, `space` and `cover` as a process: statuses and texts,
-schedules that `lockreplay` accepts, and each kind of transition.
+"""The built `locktrace find`, `tour`, `space` and `cover` as a process: statuses and texts,
+schedules that `lockreplay` accepts, and each kind of transition. The part on tours is tours.py.
 
     tests/searches.py LOCKTRACE LOCKREPLAY
 
@@ -18,9 +18,11 @@ from collections import Counter
 from pathlib import Path
 
 import search_rows
+import tours
 from locktrace import Program, begins
 from search_sketches import searched, transitions_of
 from tally import Tally
+from tours import moves_of
 
 # The words after `find`, and what is said: no run has the lines.
 NOWHERE = [
@@ -77,11 +79,6 @@ NO_LOCKS = [
      "'lock mcs threads 4 bits 2': words too narrow for the threads (WordsTooNarrow)\n"
      "  expected fewer threads than words of that many bits have values\n"),
 ]
-
-
-def moves_of(schedule):
-    lines = [line for line in schedule.splitlines() if line and not line.startswith("#")]
-    return [(int(thread), word) for thread, word in map(str.split, lines[1:])]
 
 
 def usage(program):
@@ -243,9 +240,10 @@ def main(tracer, replayer):
     tally = Tally()
     with tempfile.TemporaryDirectory() as folder:
         program = Program(Path(tracer).resolve(), Path(folder), tally)
-        for part in (usage, no_sketches, answers, kinds, covers):
+        for part in (usage, no_sketches, answers, kinds, covers, *tours.PARTS):
             part(program)
-        schedules(program, Path(replayer).resolve())
+        for part in (schedules, tours.taken):
+            part(program, Path(replayer).resolve())
     return tally.end()
 
 
