@@ -69,6 +69,7 @@ CASES = [
     ("locktrace tour --li", "locktrace tour --limit "),
     ("locktrace space m", "locktrace space mcs "),
     ("locktrace space --format j", "locktrace space --format json "),
+    ("locktrace space --format d", "locktrace space --format dot "),
     ("locktrace cover --re", "locktrace cover --require "),
     ("locktrace cover hand", "locktrace cover handed-on.schedule "),
     ("locktrace help sp", "locktrace help space "),

@@ -7,6 +7,7 @@ _locktrace() {
     --format)
         case ${words[1]} in
         check | order) COMPREPLY=($(compgen -W 'text tap json' -- "$cur")) ;;
+        space) COMPREPLY=($(compgen -W 'text json dot' -- "$cur")) ;;
         *) COMPREPLY=($(compgen -W 'text json' -- "$cur")) ;;
         esac
         return ;;

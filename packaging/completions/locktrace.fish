@@ -44,7 +44,7 @@ for search in $find $tour $space
 end
 complete -c locktrace -n $tour -s o -x -a '(__fish_complete_directories)' \
     -d 'Where the schedules are written'
-complete -c locktrace -n $space -l format -x -a 'text json' -d 'The form of the counts'
+complete -c locktrace -n $space -l format -x -a 'text json dot' -d 'The form of the counts'
 complete -c locktrace -n $cover -l format -x -a 'text json' -d 'The form of the counts'
 complete -c locktrace -n $cover -l require -x -d 'Kinds that may not be missing, or all'
 for files in $check $explain $order $schedule $find $cover

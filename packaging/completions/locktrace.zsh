@@ -52,7 +52,7 @@ _locktrace() {
         '--rounds[how many times each thread takes the lock]:number:' \
         '--bits[how many bits a word has]:number:' \
         '--limit[how many states are searched at most]:number:' \
-        '--format[the form of the counts]:form:(text json)' \
+        '--format[the form of the counts]:form:(text json dot)' \
         '1:lock:(ticket mcs rw-simple rw-fifo)' '2:threads:' ;;
     cover) _arguments '(- *)'{-h,--help}'[print help]' \
         '--require[kinds that may not be missing]:names, or all:' \

@@ -3,3 +3,4 @@ pub mod Answered
 pub mod Counted
 pub mod Written
 pub mod TourFiles
+pub mod Drawn
