@@ -1,13 +1,13 @@
 #!/usr/bin/env python3
 """What runs of the Rust crate cost: 1,000 runs of a search, and schedules that are followed.
 
-    recording_rust.py LIBRARY [--check]
+    recording_rust.py LOCKTRACE LIBRARY [--check]
 
 Builds the examples of record/rust with the feature `check`, by Debian's cargo and offline. Then
 1,000 runs that `Setup::explore` makes of two threads of each example with two rounds each and at
-most 5 preemptions, and the tour of three threads with a round each, which `Mode::Follow` follows.
-All of them are checked in the process. Each is done ROUNDS times on the processors that this
-script may use, and on the first of them alone; what is printed are medians, in seconds.
+most 5 preemptions, and LOCKTRACE's tour of three threads with a round each, which `Mode::Follow`
+follows. All of them are checked in the process. Each is done ROUNDS times on the processors that
+this script may use, and on the first of them alone; what is printed are medians, in seconds.
 
 With --check the status is 1 if 1,000 runs take more than SECONDS, as `recording.py` has it for C. A
 quiet machine is needed.
@@ -49,14 +49,14 @@ def seconds(on, words, begin):
     return statistics.median(taken)
 
 
-def measured(programs, folder, on):
+def measured(locktrace, programs, folder, on):
     """Prints the figures on some processors: the greatest time of 1,000 runs."""
     greatest = 0
     for example, lock in EXAMPLES.items():
         tour = folder / lock
         if not tour.exists():
-            ran(TOP / "tests" / "tour.py", lock, "3", tour, "--rounds", "1")
-        count = len(list(tour.iterdir()))
+            ran(locktrace, "tour", lock, "3", "-o", tour)
+        count = len(list(tour.glob("*.schedule")))
         explore = [programs / example, "explore", 2, 2, 5, folder / "traces", RUNS]
         explored = seconds(on, explore, f"{RUNS} runs with up to ")
         follow = [programs / example, "follow", tour, folder / "traces"]
@@ -69,13 +69,14 @@ def measured(programs, folder, on):
 
 def main():
     words = argparse.ArgumentParser(usage=__doc__)
+    words.add_argument("locktrace", type=Path)
     words.add_argument("library", type=Path)
     words.add_argument("--check", action="store_true")
     given = words.parse_args()
     cores = sorted(os.sched_getaffinity(0))
     with tempfile.TemporaryDirectory() as name:
         programs = build(Path(name) / "target", given.library.resolve())
-        taken = [measured(programs, Path(name), on)
+        taken = [measured(given.locktrace.resolve(), programs, Path(name), on)
                  for on in (",".join(map(str, cores)), str(cores[0]))]
     return 0 if max(taken) <= SECONDS or not given.check else 1
 

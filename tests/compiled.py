@@ -74,12 +74,10 @@ def try_conform(tally, tree, folder):
     words = [documents / "examples/recording/conform.sh", f"{libraries}/liblk_trace_c.a", "ticket"]
     tour.mkdir()
     tally.check("conform without schedules", output(*words, tour),
-                f"status 3: conform.sh: {tour} has no schedules: write some with tests/tour.py "
-                "LOCK THREADS FOLDER\n")
-    tour.rmdir()
-    written = output(documents / "tests/tour.py", "ticket", "2", tour,
-                     env={**os.environ, "PYTHONDONTWRITEBYTECODE": "1"})
-    counts = re.match(r"(\d+) schedules of (\d+) moves take", written)
+                f"status 3: conform.sh: {tour} has no schedules: write some with locktrace tour "
+                "LOCK THREADS -o FOLDER\n")
+    written = output(tree / "bin/locktrace", "tour", "ticket", "2", "-o", tour)
+    counts = re.search(r", (\d+) schedules, (\d+) moves\n$", written)
     tally.check("a tour is written", counts is not None, True)
     tally.check("conform", output(*words, tour),
                 f"{counts[1]} schedules of {counts[2]} moves, 0 not followed\n" if counts else "")

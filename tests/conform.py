@@ -5,9 +5,10 @@
 
 LOCK is a file of examples/recording, without `.c`; if none is given, all are tried. If record/rust
 has an example of this name, that one follows the tour too. A tour takes every transition of the
-lock with so many threads and rounds (tour.py). LIBRARY checks each trace of a lock in C with all
-its values, and LOCKTRACE each of one in Rust. Prints what each lock made of its tour, then
-`N passed, M failed`, and ends with 1 if one failed. recording_rust.py has the mistakes in Rust.
+lock with so many threads and rounds, and LOCKTRACE writes it. LIBRARY checks each trace of a lock
+in C with all its values, and LOCKTRACE each of one in Rust. Prints what each lock made of its tour,
+then `N passed, M failed`, and ends with 1 if one failed. recording_rust.py has the mistakes in
+Rust.
 """
 import argparse
 import re
@@ -38,10 +39,10 @@ class Lock:
         self.mistakes = re.findall(r"^#ifdef ((?!LR_)\w+)$", text, re.MULTILINE)
 
 
-def tour_of(lock, threads, rounds, folder):
-    subprocess.run([HERE / "tour.py", lock.kind, str(threads), folder, "--rounds", str(rounds)],
-                   check=True, stdout=subprocess.DEVNULL)
-    return len(list(folder.iterdir()))
+def tour_of(locktrace, lock, threads, rounds, folder):
+    subprocess.run([locktrace, "tour", lock.kind, str(threads), "--rounds", str(rounds),
+                    "-o", folder], check=True, stdout=subprocess.DEVNULL)
+    return len(list(folder.glob("*.schedule")))
 
 
 def follow(checks, name, folder, *flags):
@@ -56,7 +57,7 @@ def follow(checks, name, folder, *flags):
 def try_lock(tally, library, locktrace, lock, threads, rounds):
     with tempfile.TemporaryDirectory() as room:
         folder = Path(room) / "tour"
-        count = tour_of(lock, threads, rounds, folder)
+        count = tour_of(locktrace, lock, threads, rounds, folder)
         tally.check(f"{lock.name}: follows all", follow(library, lock.name, folder), (0, count, 0))
         if (IN_RUST / f"{lock.name}.rs").exists():
             tally.check(f"{lock.name}.rs: follows all",

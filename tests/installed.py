@@ -147,10 +147,10 @@ def try_programs(tally, tree):
     try_words(tally, tree, "lockreplay", [["replay"], ["batch"]],
               {"replay", "batch", "help", "workers"})
     try_words(tally, tree, "locktrace", [["check"], ["explain"], ["order"], ["schedule"], ["find"],
-                                         ["space"], ["cover"]],
-              {"check", "explain", "order", "schedule", "find", "space", "cover", "help", "version",
-               "format", "color", "summary", "quiet", "jobs", "moves", "names", "rounds", "bits",
-               "limit", "require"})
+                                         ["tour"], ["space"], ["cover"]],
+              {"check", "explain", "order", "schedule", "find", "tour", "space", "cover", "help",
+               "version", "format", "color", "summary", "quiet", "jobs", "moves", "names", "rounds",
+               "bits", "limit", "require"})
     for word in ("--version", "-V"):
         tally.check(f"locktrace {word}", output(tree / "bin" / "locktrace", word).split(),
                     ["locktrace", VERSION])

@@ -8,10 +8,10 @@ give the same each time, and compared with the tables of docs/PLANTED.md: of a r
 may be refused. With --write the tables are written as soon as a mistake was tried: what the modes
 tried say, and of others what was there. With --missing only what has no number in the tables is
 tried, so a run that was interrupted goes on. With --load N busy loops run beside the runs, on the
-same processors: no right lock may be blamed for that. FOLLOW takes the tours of tour.py.
+same processors: no right lock may be blamed for that. FOLLOW takes the tours of LOCKTRACE.
 
 Two mistakes are tried at a time, on the processors that this script may use, as `taskset -c` says:
-real threads on all of them, and where one thread runs at a time on one of them. The last line
+real threads on all of them, and one thread at a time on one of them. The last line
 counts the cases; the status is 1 if one failed.
 """
 import argparse
@@ -52,10 +52,10 @@ def on_cores(cores):
     os.sched_setaffinity(0, cores)
 
 
-def tour_of(lock, folder):
+def tour_of(locktrace, lock, folder):
     """Writes the tour of a lock's three threads with a round each."""
     kind = re.search(r'^#define LOCK "(.*)"', (EXAMPLES / f"{lock}.c").read_text(), re.MULTILINE)
-    done = ran(TOP / "tests" / "tour.py", kind[1], "3", folder / f"tour-{lock}", "--rounds", "1")
+    done = ran(locktrace, "tour", kind[1], "3", "-o", folder / f"tour-{lock}")
     if done.returncode:
         sys.exit(done.stderr)
 
@@ -196,7 +196,7 @@ def main():
     with tempfile.TemporaryDirectory() as name, busy(given.load):
         trials = Trials(given.locktrace.resolve(), given.library.resolve(), Path(name))
         for lock in LOCKS if "FOLLOW" in modes else ():
-            tour_of(lock, Path(name))
+            tour_of(trials.locktrace, lock, Path(name))
         found = try_all(trials, mistakes, tried, given.write)
     tally = Tally()
     rows = rows_of(TABLES.read_text())

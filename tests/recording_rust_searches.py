@@ -14,7 +14,6 @@ from explored_runs import runs_of
 EXPLORED = [(2, 1, 2), (2, 2, 2), (3, 1, 1)]  # threads, rounds and preemptions
 OF_MISTAKES = (3, 1)  # threads and rounds
 MOST = 1  # preemptions of a lock with a mistake
-HERE = Path(__file__).resolve().parent
 
 
 def kind_of(example):
@@ -37,7 +36,7 @@ class Searches:
         """A folder of schedules that take every transition of three threads with a round each."""
         folder = self.runs.folder / f"tour-{example}"
         if not folder.exists():
-            self.ran(HERE / "tour.py", kind_of(example), "3", folder, "--rounds", "1")
+            self.ran(self.runs.locktrace, "tour", kind_of(example), "3", "-o", folder)
         return folder
 
     def made(self, name, *words):
@@ -63,7 +62,7 @@ class Searches:
     def fault_of_followed(self, example):
         tour = self.tour_of(example)
         done, traces = self.made(example, "follow", str(tour))
-        schedules = [moves_of(path.read_text()) for path in sorted(tour.iterdir())]
+        schedules = [moves_of(path.read_text()) for path in sorted(tour.glob("*.schedule"))]
         moves = sum(map(len, schedules))
         said = f"{len(schedules)} schedules of {moves} moves, 0 not followed\n"
         if (done.returncode, done.stdout, done.stderr) != (0, said, ""):

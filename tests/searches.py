@@ -1,6 +1,6 @@
 #!/usr/bin/env python3
-"""The built `locktrace find`, `space` and `cover` as a process: statuses and texts,
-schedules that `lockreplay` accepts, and each kind of transition.
+"""The built `locktrace find`, `tour`, `space` and `cover` as a process: statuses and texts,
+schedules that `lockreplay` accepts, and each kind of transition. The part on tours is tours.py.
 
     tests/searches.py LOCKTRACE LOCKREPLAY
 
@@ -18,9 +18,11 @@ from collections import Counter
 from pathlib import Path
 
 import search_rows
+import tours
 from locktrace import Program, begins
 from search_sketches import searched, transitions_of
 from tally import Tally
+from tours import moves_of
 
 # The words after `find`, and what is said: no run has the lines.
 NOWHERE = [
@@ -79,11 +81,6 @@ NO_LOCKS = [
 ]
 
 
-def moves_of(schedule):
-    lines = [line for line in schedule.splitlines() if line and not line.startswith("#")]
-    return [(int(thread), word) for thread, word in map(str.split, lines[1:])]
-
-
 def usage(program):
     for words in (["find"], ["find", "mcs", "2"], ["find", "mcs", "2", "--rounds", "0", "0 cas"],
                   ["find", "mcs", "2", "--rounds", "256", "0 cas"], ["space", "mcs"],
@@ -135,6 +132,35 @@ def answers(program):
                                      "--format", "json"], 0,
                  '{"lock":"ticket","threads":2,"rounds":3,"bits":2,"states":289,"transitions":540,'
                  '"depth":36}\n')
+
+
+def graph_of(text):
+    """By the number of a state, the moves from it with the states that they lead to."""
+    graph = {int(node): {} for node in re.findall(r"^  (\d+) \[label=", text, re.MULTILINE)}
+    edges = re.findall(r'^  (\d+) -> (\d+) \[label="(\d+) (\w+)"\]$', text, re.MULTILINE)
+    for start, end, thread, word in edges:
+        graph[int(start)][int(thread), word] = int(end)
+    return graph
+
+
+def drawings(program):
+    """The graph of a space is that of the second replayer, from the first state on."""
+    program.case("a drawing", ["space", "ticket", "1", "--format", "dot"], 0, TICKET_DRAWN)
+    program.case("a drawing of too many", ["space", "mcs", "3", "--format", "dot", "--limit", "9"],
+                 3, "", begins("locktrace: not decided: the search stopped at 1"))
+    for lock in names():
+        text, error, status = program.run("space", lock, "2", "--format", "dot")
+        program.tally.check(f"{lock} drawn: status", (status, error), (0, ""))
+        graph, space = graph_of(text), searched(search_rows.Space(lock, 2, 1, 64))
+        program.tally.check(f"{lock} drawn: states", list(graph), list(range(len(space))))
+        numbers = {0: 0}
+        for node in graph:
+            moves = {(each.thread, each.word): each.after
+                     for each in space.transitions[numbers[node]]}
+            program.tally.check(f"{lock} drawn: {node}", set(graph[node]), set(moves))
+            for move, end in graph[node].items():
+                program.tally.check(f"{lock} drawn: {node} {move}",
+                                    numbers.setdefault(end, moves[move]), moves[move])
 
 
 def replayed(replayer, schedule):
@@ -201,6 +227,23 @@ def kinds(program):
                                 {name: walked[name] for name in named.values()})
 
 
+TICKET_DRAWN = r"""digraph "ticket, 1 thread with 1 round" {
+  node [shape=box]
+  0 [label="next_ticket = 0, now_serving = 0\n0 Idle\nrounds begun: 0"]
+  1 [label="next_ticket = 0, now_serving = 0\n0 TakeTicket\nrounds begun: 1"]
+  2 [label="next_ticket = 1, now_serving = 0\n0 AwaitTurn(0)\nrounds begun: 1"]
+  3 [label="next_ticket = 1, now_serving = 0\n0 TicketInside(0)\nrounds begun: 1"]
+  4 [label="next_ticket = 1, now_serving = 0\n0 ReadServing(0)\nrounds begun: 1"]
+  5 [label="next_ticket = 1, now_serving = 0\n0 PassOn(0)\nrounds begun: 1"]
+  6 [label="next_ticket = 1, now_serving = 1\n0 Idle\nrounds begun: 1"]
+  0 -> 1 [label="0 acquire"]
+  1 -> 2 [label="0 add"]
+  2 -> 3 [label="0 read"]
+  3 -> 4 [label="0 release"]
+  4 -> 5 [label="0 read"]
+  5 -> 6 [label="0 write"]
+}
+"""
 FAILED = "release: failed compare-and-swap"
 ROUND = "{0} acquire\n{0} add\n{0} read\n{0} release\n{0} read\n{0} write\n"
 TICKET = f"""ticket: 6 of 7 kinds of transition, in 54 moves
@@ -243,9 +286,10 @@ def main(tracer, replayer):
     tally = Tally()
     with tempfile.TemporaryDirectory() as folder:
         program = Program(Path(tracer).resolve(), Path(folder), tally)
-        for part in (usage, no_sketches, answers, kinds, covers):
+        for part in (usage, no_sketches, answers, kinds, covers, drawings, *tours.PARTS):
             part(program)
-        schedules(program, Path(replayer).resolve())
+        for part in (schedules, tours.taken):
+            part(program, Path(replayer).resolve())
     return tally.end()
 
 

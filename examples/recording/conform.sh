@@ -6,8 +6,8 @@
 #
 # LOCK is a file of this folder, without `.c`, LIBRARY is liblk_trace_c.a, and the flags are the
 # compiler's. LOCK.rs is an example of record/rust, which cargo builds, and LOCKTRACE is the program
-# that checks its traces. tests/tour.py writes a folder of schedules. Prints how many schedules were
-# not followed; the status is 1 if one was not, or a trace is refused.
+# that checks its traces. `locktrace tour` writes a folder of schedules. Prints how many of them
+# were not followed; the status is 1 if one was not, or a trace is refused.
 #
 # SPDX-License-Identifier: Apache-2.0 OR MIT
 set -eu
@@ -36,7 +36,7 @@ follow_in_rust() {
 }
 
 find "$schedules" -name '*.schedule' 2> /dev/null | grep -q . ||
-    say "$schedules has no schedules: write some with tests/tour.py LOCK THREADS FOLDER"
+    say "$schedules has no schedules: write some with locktrace tour LOCK THREADS -o FOLDER"
 case $lock in
 *.rs) follow_in_rust ;;
 *) follow_in_c "$@" ;;

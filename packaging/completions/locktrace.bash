@@ -7,6 +7,7 @@ _locktrace() {
     --format)
         case ${words[1]} in
         check | order) COMPREPLY=($(compgen -W 'text tap json' -- "$cur")) ;;
+        space) COMPREPLY=($(compgen -W 'text json dot' -- "$cur")) ;;
         *) COMPREPLY=($(compgen -W 'text json' -- "$cur")) ;;
         esac
         return ;;
@@ -16,13 +17,14 @@ _locktrace() {
     --moves | --names | --rounds | --bits | --limit | --require) return ;;
     esac
     case $cword,${words[1]} in
-    1,*) COMPREPLY=($(compgen -W 'check explain order schedule find space cover help --help -h --version -V' -- "$cur")) ;;
-    2,help) COMPREPLY=($(compgen -W 'check explain order schedule find space cover help' -- "$cur")) ;;
+    1,*) COMPREPLY=($(compgen -W 'check explain order schedule find tour space cover help --help -h --version -V' -- "$cur")) ;;
+    2,help) COMPREPLY=($(compgen -W 'check explain order schedule find tour space cover help' -- "$cur")) ;;
     *,check) _locktrace_words '--format --color --summary --quiet -q --jobs -j --help -h' ;;
     *,explain) _locktrace_words '--moves --names --help -h' ;;
     *,order) _locktrace_words '-o --format --quiet -q --help -h' ;;
     *,schedule) _locktrace_words '--help -h' ;;
     *,find) _locktrace_lock '--rounds --bits --limit --help -h' ;;
+    *,tour) _locktrace_lock '-o --rounds --bits --limit --help -h' ;;
     *,space) _locktrace_lock '--rounds --bits --limit --format --help -h' ;;
     *,cover) _locktrace_words '--require --format --help -h' ;;
     esac

@@ -1,6 +1,6 @@
 # Completion of locktrace's command line for fish.
 
-set -l commands check explain order schedule find space cover help
+set -l commands check explain order schedule find tour space cover help
 set -l none "not __fish_seen_subcommand_from $commands"
 set -l help '__fish_seen_subcommand_from help'
 set -l check "__fish_seen_subcommand_from check; and not $help"
@@ -8,6 +8,7 @@ set -l explain "__fish_seen_subcommand_from explain; and not $help"
 set -l order "__fish_seen_subcommand_from order; and not $help"
 set -l schedule "__fish_seen_subcommand_from schedule; and not $help"
 set -l find "__fish_seen_subcommand_from find; and not $help"
+set -l tour "__fish_seen_subcommand_from tour; and not $help"
 set -l space "__fish_seen_subcommand_from space; and not $help"
 set -l cover "__fish_seen_subcommand_from cover; and not $help"
 set -l locks 'ticket mcs rw-simple rw-fifo'
@@ -18,6 +19,7 @@ complete -c locktrace -n $none -a explain -d 'Tell of each move what it found an
 complete -c locktrace -n $none -a order -d "Put the logs of a run's threads into one order"
 complete -c locktrace -n $none -a schedule -d 'Write a trace without its values'
 complete -c locktrace -n $none -a find -d 'Find a shortest run that has these lines'
+complete -c locktrace -n $none -a tour -d 'Write schedules that take every transition of a lock'
 complete -c locktrace -n $none -a space -d 'Count the states of all runs of a lock'
 complete -c locktrace -n $none -a cover -d 'Count which kinds of transition traces took'
 complete -c locktrace -n $none -a help -d 'Print help'
@@ -34,13 +36,15 @@ complete -c locktrace -n $order -s o -x -a '(__fish_complete_directories)' \
     -d 'Where the trace and the schedules are written'
 complete -c locktrace -n $order -l format -x -a 'text tap json' -d 'The form of the report'
 complete -c locktrace -n $order -s q -l quiet -d 'Write no report'
-for search in $find $space
+for search in $find $tour $space
     complete -c locktrace -n $search -l rounds -x -d 'How many times each thread takes the lock'
     complete -c locktrace -n $search -l bits -x -d 'How many bits a word has'
     complete -c locktrace -n $search -l limit -x -d 'How many states are searched at most'
     complete -c locktrace -n $search -a $locks
 end
-complete -c locktrace -n $space -l format -x -a 'text json' -d 'The form of the counts'
+complete -c locktrace -n $tour -s o -x -a '(__fish_complete_directories)' \
+    -d 'Where the schedules are written'
+complete -c locktrace -n $space -l format -x -a 'text json dot' -d 'The form of the counts'
 complete -c locktrace -n $cover -l format -x -a 'text json' -d 'The form of the counts'
 complete -c locktrace -n $cover -l require -x -d 'Kinds that may not be missing, or all'
 for files in $check $explain $order $schedule $find $cover

@@ -12,6 +12,7 @@ _locktrace() {
                      order\:"put the logs of a run'\''s threads into one order"
                      schedule\:"write a trace without its values"
                      find\:"find a shortest run that has these lines"
+                     tour\:"write schedules that take every transition of a lock"
                      space\:"count the states of all runs of a lock"
                      cover\:"count which kinds of transition traces took"
                      help\:"print help"))' \
@@ -41,17 +42,23 @@ _locktrace() {
         '--limit[how many states are searched at most]:number:' \
         '1: :_alternative "locks\:lock\:(ticket mcs rw-simple rw-fifo)" "files\:sketch\:_files"' \
         '2:threads:' '*:line of a sketch:' ;;
+    tour) _arguments '(- *)'{-h,--help}'[print help]' \
+        '-o[where the schedules are written]:folder:_files -/' \
+        '--rounds[how many times each thread takes the lock]:number:' \
+        '--bits[how many bits a word has]:number:' \
+        '--limit[how many states are searched at most]:number:' \
+        '1:lock:(ticket mcs rw-simple rw-fifo)' '2:threads:' ;;
     space) _arguments '(- *)'{-h,--help}'[print help]' \
         '--rounds[how many times each thread takes the lock]:number:' \
         '--bits[how many bits a word has]:number:' \
         '--limit[how many states are searched at most]:number:' \
-        '--format[the form of the counts]:form:(text json)' \
+        '--format[the form of the counts]:form:(text json dot)' \
         '1:lock:(ticket mcs rw-simple rw-fifo)' '2:threads:' ;;
     cover) _arguments '(- *)'{-h,--help}'[print help]' \
         '--require[kinds that may not be missing]:names, or all:' \
         '--format[the form of the counts]:form:(text json)' \
         '*:trace:_files' ;;
-    help) _arguments '1:command:(check explain order schedule find space cover help)' ;;
+    help) _arguments '1:command:(check explain order schedule find tour space cover help)' ;;
     esac
 }
 

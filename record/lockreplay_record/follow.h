@@ -6,7 +6,7 @@
    that waits in a monitor looks again when the schedule says so. A move that is not the line's ends
    the run, and it is the last one that is saved.
 
-       lr_run *run = lr_follow("mcs", 64, "tour/00017.schedule");
+       lr_run *run = lr_follow("mcs", 64, "tour/0017.schedule");
        ... on each thread, between lr_begin and lr_end:
        for (int call; (call = lr_next_call(log)) != LR_NO_CALL;) ... make this call, LR_CALL_acquire
            or another one of them, in which the lock notes its steps

@@ -1,2 +1,6 @@
 pub mod Endings
 pub mod Answered
+pub mod Counted
+pub mod Written
+pub mod TourFiles
+pub mod Drawn

@@ -3,8 +3,7 @@
 ghost use Rattle.std.specs.Prelude.{◌≡◌, ◌<◌, ◌≤◌, ◌^◌};
 
 use lk_locks::LockKind;
-use lk_replay::parts::{Header, lock_text};
-use std::fmt;
+use lk_replay::parts::Header;
 
 /// A lock with 1 to 64 threads, on words of 2 to 64 bits that have more values than there are
 /// threads.
@@ -37,18 +36,6 @@ impl Shape {
             threads: header.threads,
             bits: header.bits,
         }
-    }
-}
-
-/// The header of a schedule.
-impl fmt::Display for Shape {
-    fn fmt<W: fmt::Write>(&self, f: &mut fmt::Formatter<W>) -> fmt::Result {
-        let (name, threads, bits) = (lock_text(self.kind), self.threads, self.bits);
-        write!(f, "lock {name} threads {threads}")?;
-        if bits < 64 {
-            write!(f, " bits {bits}")?;
-        }
-        Ok(())
     }
 }
 

@@ -1,13 +1,15 @@
 //! Spaces of locks' schedules, searched for runs.
 //!
 //! `find_run` looks for a shortest run that has the lines of a sketch, and writes it as a schedule.
-//! `count_space` writes how large a space is, and `cover_traces` which kinds of transition traces
-//! took. The program `locktrace` gives them its words.
+//! `write_tour` writes schedules that together take every transition. `count_space` writes how
+//! large a space is or draws it, and `cover_traces` which kinds of transition traces took. The
+//! program `locktrace` gives them its words.
 #![tactic(auto)]
 
 mod admitting;
 mod asked;
 mod covering;
+mod drawing;
 mod endings;
 mod faults;
 mod finding;
@@ -16,6 +18,8 @@ mod numbers;
 mod reading;
 mod sketches;
 mod spaces;
+mod tour_files;
+mod touring;
 mod writing;
 
 pub use asked::{Asked, Shape, Source};
@@ -25,4 +29,5 @@ pub use finding::find_run;
 pub use listing::Format;
 pub use lk_search::is_kind;
 pub use sketches::{Sketch, SketchFault};
-pub use spaces::count_space;
+pub use spaces::{SpaceFormat, count_space};
+pub use touring::write_tour;

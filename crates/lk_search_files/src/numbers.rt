@@ -40,6 +40,18 @@ impl fmt::Display for Rounds {
     }
 }
 
+/// So many of what the word names.
+#[derive(Clone, Copy)]
+pub struct Many(pub usize, pub &'static str);
+
+impl fmt::Display for Many {
+    fn fmt<W: fmt::Write>(&self, f: &mut fmt::Formatter<W>) -> fmt::Result {
+        let Many(count, word) = *self;
+        let (number, end) = (Grouped(count), if count == 1 { "" } else { "s" });
+        write!(f, "{number} {word}{end}")
+    }
+}
+
 /// How many moves.
 #[derive(Clone, Copy)]
 pub struct Moves(pub u64);

@@ -1,17 +1,54 @@
 //! A run as a schedule.
 
+ghost use Rattle.std.specs.Prelude.{◌≡◌, ◌++◌, string_bytes, OnOk};
+ghost use Rattle.std.specs.List.{flat_map};
+ghost use Rattle.lk_search_files.specs.Written.{header_line, move_line, schedule_of};
+
 use crate::asked::Shape;
-use lk_replay::parts::move_text;
+use lk_replay::parts::{lock_text, move_text};
 use lk_search::Taken;
 use std::alloc::AllocError;
 use std::fmt::Write;
 
-/// Writes the header of a run's lock, and a line for each move.
-pub fn put_run(text: &mut String, shape: Shape, run: &[Taken]) -> Result<(), AllocError> {
-    writeln!(text, "{shape}")?;
+// Writes the header of a schedule.
+fn put_header(text: &mut String, shape: Shape) -> Result<(), AllocError>
+    ensures { OnOk result (string_bytes text.new ≡ string_bytes text.old
+        ++ header_line shape.kind shape.threads shape.bits) }
+{
+    let (name, threads, bits) = (lock_text(shape.kind), shape.threads, shape.bits);
+    if bits < 64 {
+        writeln!(text, "lock {name} threads {threads} bits {bits}")
+    } else {
+        writeln!(text, "lock {name} threads {threads}")
+    }
+}
+
+// Writes the line of a move.
+fn put_move(text: &mut String, taken: Taken) -> Result<(), AllocError>
+    ensures { OnOk result
+        (string_bytes text.new ≡ string_bytes text.old ++ move_line taken) }
+{
+    let (thread, word) = (taken.thread, move_text(taken.action));
+    writeln!(text, "{thread} {word}")
+}
+
+// Writes the lines of a run's moves.
+#[tactic(auto, using(crate::proofs::Texts::one_line_more))]
+fn put_moves(text: &mut String, run: &[Taken]) -> Result<(), AllocError>
+    ensures { OnOk result
+        (string_bytes text.new ≡ string_bytes text.old ++ flat_map move_line run.now) }
+{
     for taken in run {
-        let (thread, word) = (taken.thread, move_text(taken.action));
-        writeln!(text, "{thread} {word}")?;
+        put_move(text, *taken)?;
     }
     Ok(())
+}
+
+/// Writes the header of a run's lock, and a line for each move.
+pub fn put_run(text: &mut String, shape: Shape, run: &[Taken]) -> Result<(), AllocError>
+    ensures { OnOk result (string_bytes text.new ≡ string_bytes text.old
+        ++ schedule_of shape.kind shape.threads shape.bits run.now) }
+{
+    put_header(text, shape)?;
+    put_moves(text, run)
 }

@@ -18,6 +18,8 @@ mod sketches;
 #[cfg(test)]
 mod spaces;
 #[cfg(test)]
+mod tours;
+#[cfg(test)]
 mod words;
 pub mod worked_histories;
 #[cfg(test)]

@@ -2,6 +2,7 @@
 
 use crate::searches::{
     SearchJob, cover_command, cover_given, find_command, find_given, space_command, space_given,
+    tour_command, tour_given,
 };
 use clap::error::ErrorKind;
 use clap::{Arg, ArgAction, ArgMatches, Command, value_parser};
@@ -177,6 +178,7 @@ fn program_command<'a>(alloc: Global) -> Result<Command<'a>, AllocError> {
         .subcommand(explain_command(alloc)?)?
         .subcommand(order_command(alloc)?)?
         .subcommand(find_command(alloc)?)?
+        .subcommand(tour_command(alloc)?)?
         .subcommand(space_command(alloc)?)?
         .subcommand(cover_command(alloc)?)?
         .subcommand(schedule)
@@ -321,6 +323,7 @@ pub fn parse_words(alloc: Global, words: &[String]) -> Result<Job, ParseFault> {
         Some((name, explain)) if name == "explain" => explain_given(alloc, explain),
         Some((name, order)) if name == "order" => order_given(alloc, order),
         Some((name, find)) if name == "find" => search_given(alloc, find_given(alloc, find)),
+        Some((name, tour)) if name == "tour" => Ok(Job::Search(tour_given(alloc, tour)?)),
         Some((name, space)) if name == "space" => search_given(alloc, space_given(alloc, space)),
         Some((name, cover)) if name == "cover" => search_given(alloc, cover_given(alloc, cover)),
         Some((_, schedule)) => Ok(Job::Schedule {

@@ -10,7 +10,7 @@ mod searches;
 
 use command_line::{Color, Job, ParseFault, parse_words};
 use folders::files_named;
-use lk_search_files::{count_space, cover_traces, find_run};
+use lk_search_files::{count_space, cover_traces, find_run, write_tour};
 use lk_trace_files::{
     Asked, CheckJob, Ending, Failure, Unscheduled, check_files, explain_input, order_logs, worst,
     write_schedule,
@@ -108,6 +108,19 @@ fn search<R: Runtime, O: Write>(
             header.as_slice(),
             *asked,
             *format,
+            &mut text,
+            &mut errors,
+        )?,
+        SearchJob::Tour {
+            header,
+            asked,
+            folder,
+        } => write_tour(
+            rt,
+            alloc,
+            header.as_slice(),
+            *asked,
+            folder.as_str(),
             &mut text,
             &mut errors,
         )?,

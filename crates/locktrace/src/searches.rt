@@ -1,7 +1,7 @@
 //! The words of the commands that search a lock's space, and the jobs that they ask for.
 
 use clap::{Arg, ArgAction, ArgMatches, Command, value_parser};
-use lk_search_files::{Asked, CoverJob, Format, Source, is_kind};
+use lk_search_files::{Asked, CoverJob, Format, Source, SpaceFormat, is_kind};
 use std::alloc::{AllocError, Global};
 
 /// How many states are searched if nothing else is asked for.
@@ -20,7 +20,12 @@ pub enum SearchJob {
     Space {
         header: Vec<String>,
         asked: Asked,
-        format: Format,
+        format: SpaceFormat,
+    },
+    Tour {
+        header: Vec<String>,
+        asked: Asked,
+        folder: String,
     },
     Cover(CoverJob),
 }
@@ -31,6 +36,8 @@ const BAD_SKETCH: &str =
 const BAD_KIND: &str = "error: --require names a kind of transition that no lock has\n";
 
 const BAD_FORMAT: &str = "error: a format is text or json\n";
+
+const BAD_SPACE_FORMAT: &str = "error: a format is text, json or dot\n";
 
 fn with_bounds<'a>(alloc: Global, command: Command<'a>) -> Result<Command<'a>, AllocError> {
     let rounds = Arg::new(alloc, "rounds")
@@ -92,10 +99,24 @@ fn with_lock<'a>(alloc: Global, command: Command<'a>) -> Result<Command<'a>, All
 /// The command `space`.
 pub fn space_command<'a>(alloc: Global) -> Result<Command<'a>, AllocError> {
     let command = Command::new(alloc, "space").about(
-        "Counts the states and the transitions of all runs of a lock",
+        "Counts the states and the transitions of all runs of a lock, or draws them",
     );
-    let format = format_arg(alloc, "text or json");
+    let format = format_arg(alloc, "text, json or dot");
     with_lock(alloc, with_bounds(alloc, command)?.arg(format)?)
+}
+
+/// The command `tour`.
+pub fn tour_command<'a>(alloc: Global) -> Result<Command<'a>, AllocError> {
+    let folder = Arg::new(alloc, "folder")
+        .short('o')
+        .value_name("DIR")
+        .help("Where the schedules are written; those of an earlier tour are removed")
+        .required(true)
+        .action(ArgAction::Set);
+    let command = Command::new(alloc, "tour").about(
+        "Writes schedules that together take every transition of a lock",
+    );
+    with_lock(alloc, with_bounds(alloc, command)?.arg(folder)?)
 }
 
 /// The command `cover`.
@@ -180,13 +201,23 @@ fn lock_given(alloc: Global, matches: &ArgMatches<'_>) -> Result<Vec<String>, Al
     Ok(header)
 }
 
+fn space_format_of(matches: &ArgMatches<'_>) -> Option<SpaceFormat> {
+    if matches.get_str("format").unwrap_or("text") == "dot" {
+        return Some(SpaceFormat::Dot);
+    }
+    match format_of(matches)? {
+        Format::Text => Some(SpaceFormat::Text),
+        Format::Json => Some(SpaceFormat::Json),
+    }
+}
+
 /// The job of the command `space`, or what is wrong with its words.
 pub fn space_given(
     alloc: Global,
     matches: &ArgMatches<'_>,
 ) -> Result<Result<SearchJob, &'static str>, AllocError> {
-    let Some(format) = format_of(matches) else {
-        return Ok(Err(BAD_FORMAT));
+    let Some(format) = space_format_of(matches) else {
+        return Ok(Err(BAD_SPACE_FORMAT));
     };
     let header = lock_given(alloc, matches)?;
     let asked = asked_of(matches);
@@ -195,6 +226,15 @@ pub fn space_given(
         asked,
         format,
     }))
+}
+
+/// The job of the command `tour`.
+pub fn tour_given(alloc: Global, matches: &ArgMatches<'_>) -> Result<SearchJob, AllocError> {
+    Ok(SearchJob::Tour {
+        header: lock_given(alloc, matches)?,
+        asked: asked_of(matches),
+        folder: String::from_str(alloc, matches.get_str("folder").unwrap_or("."))?,
+    })
 }
 
 // The kinds that are required, or none if one of them is not known.
