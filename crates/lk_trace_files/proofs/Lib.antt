@@ -3,3 +3,4 @@ pub mod Reading
 pub mod Keeping
 pub mod Accepting
 pub mod FatesLeft
+pub mod FatesMade

@@ -2,13 +2,16 @@
 -- This project's own.
 use Rattle.std.specs.Prelude.{ℕ, ◌-◌, List, [], ◌∷◌, length, take, drop, codes, nat_eq, nat_lt}
 use Rattle.std.specs.Prelude.{Bool, true, false, Option, None, Some, option_map, slice_index_or}
-use Rattle.std.specs.Prelude.{replicate, slice_set, if◌then◌else◌}
+use Rattle.std.specs.Prelude.{replicate, slice_set, if◌then◌else◌, Result, Ok, Err}
 use Rattle.std.specs.List.{starts_with, ends_with}
 use Rattle.lk_locks.specs.declared.kinds.Outcome.{Outcome}
 use Rattle.lk_locks.specs.declared.kinds.Outcome.TheVariants.{Waits}
 use Rattle.lk_replay.specs.Vocabulary.{number_of}
-use Rattle.lk_trace.specs.Checks.{Checked}
+use Rattle.lk_trace.specs.Checks.{Checked, answer_to, after_line as after_step}
 use Rattle.lk_trace.specs.Traces.{event_of, after_text_line}
+use Rattle.lk_trace.specs.declared.checker.Made.{Made as MadeMove}
+use Rattle.lk_trace.specs.declared.difference.Difference.{Difference}
+use Rattle.lk_trace.specs.declared.line.TraceLine.{TraceLine}
 use Rattle.lk_trace.specs.declared.trace.Event.{Event}
 use Rattle.lk_trace.specs.declared.trace.Event.TheVariants as event
 use Rattle.lk_trace_files.specs.declared.course.Fate.{Fate}
@@ -70,6 +73,17 @@ abbrev pub after_comment : List Fate → Option (ℕ × Bool) → List Fate
 after_comment fates None = fates
 after_comment fates (Some said) =
     slice_set fates said.0 (fate_said said.1 (slice_index_or fates said.0 Moved))
+
+-- how far the threads are after a move of thread t to which the lock gave this answer
+abbrev pub after_answer : List Fate → ℕ → Result MadeMove Difference → List Fate
+after_answer fates t (Ok made) = slice_set fates t (fate_after made.outcome)
+after_answer fates t (Err difference) = fates
+
+-- how far the threads come by these lines
+unfoldable pub fates_by : Checked → List Fate → List TraceLine → List Fate
+fates_by c fates [] = fates
+fates_by c fates (line ∷ lines) =
+    fates_by (after_step c line) (after_answer fates line.thread (answer_to c line)) lines
 
 -- how far the threads are after a line that came to this
 abbrev pub after_line : List Fate → Event → List ℕ → List Fate

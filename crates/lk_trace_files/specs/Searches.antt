@@ -1,6 +1,7 @@
 -- Definitions. How the search for the order of a run's logs ends, and how the job ends by it. This
 -- project's own.
-use Rattle.std.specs.Prelude.{◌≡◌, ◌<◌, ⊤, ℕ, List, Bool, true, Option, None, Some, IfSome}
+use Rattle.std.specs.Prelude.{◌≡◌, ◌<◌, ⊤, ℕ, List, slice_index_or, Bool, true, false, not}
+use Rattle.std.specs.Prelude.{Option, None, Some, IfSome}
 use Rattle.std_io.specs.IoError.{error_kind}
 use Rattle.std_io.specs.declared.io.kind.ErrorKind.{ErrorKind}
 use Rattle.std_io.specs.declared.io.kind.ErrorKind.TheVariants.{BrokenPipe}
@@ -8,11 +9,13 @@ use Rattle.lk_order.specs.Orders.{Ordered, IsOrder, next_line}
 use Rattle.lk_order.specs.Endings.{EndsAs}
 use Rattle.lk_order.specs.declared.find.Ending.{Ending as SearchEnding}
 use Rattle.lk_order.specs.declared.find.Ending.TheVariants as search
-use Rattle.lk_trace_files.specs.Fates.{hangs}
+use Rattle.lk_trace.specs.Checks.{new_lock}
+use Rattle.lk_trace_files.specs.Fates.{fate_said, fates_by, hangs, new_fates}
 use Rattle.lk_trace_files.specs.declared.check.Ending.{Ending}
 use Rattle.lk_trace_files.specs.declared.check.Ending.TheVariants.{Accepted, Refused, Unread}
 use Rattle.lk_trace_files.specs.declared.check.Ending.TheVariants.{Faulty, Hangs}
 use Rattle.lk_trace_files.specs.declared.course.Fate.{Fate}
+use Rattle.lk_trace_files.specs.declared.course.Fate.TheVariants.{Moved}
 use Rattle.lk_trace_files.specs.declared.failures.Failure.{Failure}
 use Rattle.lk_trace_files.specs.declared.failures.Failure.TheVariants as failure
 use Rattle.lk_trace_files.specs.declared.ordering.bad_log.BadLog.{BadLog}
@@ -21,16 +24,23 @@ use Rattle.lk_trace_files.specs.declared.ordering.search.Search.{Search}
 use Rattle.lk_trace_files.specs.declared.ordering.search.Sought.{Sought}
 use Rattle.lk_trace_files.specs.declared.ordering.search.Sought.TheVariants as sought
 
+-- how far thread t is after all lines of an order: its log may say that it has not ended
+abbrev pub fate_of : Ordered → List Bool → ℕ → Fate
+fate_of o open t =
+    fate_said (not (slice_index_or open t false))
+    (slice_index_or (fates_by (new_lock o.kind o.threads o.bits) new_fates o.trace) t Moved)
+
 -- all lines of all threads are placed, and each thread has ended or polls in vain, as one does
-pub record IsHung (o : Ordered) (fates : List Fate) : Type 0 where
+pub record IsHung (o : Ordered) (open : List Bool) (fates : List Fate) : Type 0 where
   pub all : (t : ℕ) → t < o.threads → next_line o t ≡ None
+  pub each : (t : ℕ) → t < o.threads → slice_index_or fates t Moved ≡ fate_of o open t
   pub polls : hangs o.threads fates ≡ true
 
 -- an order that ends as the search says, and a run that hangs if it says so
 pub record IsSearch (s : Search) : Type 0 where
   pub order : IsOrder s.found.order
   pub ends : EndsAs s.found.order s.found.ending
-  pub hung : IfSome s.hung (IsHung s.found.order)
+  pub hung : IfSome s.hung (IsHung s.found.order s.open)
 
 -- the logs are refused at a step that cannot be placed; a run whose steps are placed, all or up to
 -- where a log was cut short, hangs or is accepted

@@ -2,14 +2,14 @@
 //! text says of its end, in comments that a recorder writes after the last move.
 
 ghost use Rattle.std.specs.Prelude.{◌≡◌, List, Some};
-ghost use Rattle.lk_trace_files.specs.Fates.{after_comment, after_line, fate_after, hangs};
-ghost use Rattle.lk_trace_files.specs.Fates.{new_fates, open_in, said_before, said_in, said_of};
+ghost use Rattle.lk_trace_files.specs.Fates.{after_answer, after_comment, after_line, fate_after};
+ghost use Rattle.lk_trace_files.specs.Fates.{hangs, new_fates, open_in, said_before, said_in, said_of};
 ghost use Rattle.lk_trace_files.specs.declared.course.Fate.{Fate as OfThread};
 
 use crate::trail::Trail;
 use lk_locks::Outcome;
 use lk_replay::parts::number_of;
-use lk_trace::Event;
+use lk_trace::{Difference, Event, Made, TraceLine};
 use std::marker::Model;
 
 /// How far a thread of a run has come.
@@ -136,6 +136,15 @@ impl Course {
                 fates[line.thread as usize] = fate_after(made.outcome);
             }
             _ => {}
+        }
+    }
+
+    /// A move of a log was made or not, as the lock's answer says.
+    pub fn take_answer(&mut self, number: u64, line: TraceLine, answer: Result<Made, Difference>)
+        ensures { self.new ≡ after_answer self.old line.thread answer }
+    {
+        if let Ok(made) = answer {
+            self.take(number, b"".as_slice(), Event::Made(line, made));
         }
     }
 

@@ -105,7 +105,7 @@ fn order_into<R: Files>(
             return Ok(Sought::Bad(bad));
         }
     };
-    let Ok(searched) = search_logs(alloc, taken.logs, &taken.open) else {
+    let Ok(searched) = search_logs(alloc, taken.logs, taken.open) else {
         return Err(Failure::Memory(AllocError));
     };
     let Some(search) = searched else {
@@ -114,7 +114,7 @@ fn order_into<R: Files>(
     };
     let hung = search.hung.as_ref();
     write_found(rt, alloc, &search.found.order, hung, &job.folder, report)?;
-    put_ending(report, &search.found, &taken.names, &taken.open, hung)?;
+    put_ending(report, &search.found, &taken.names, &search.open, hung)?;
     Ok(Sought::Order(search))
 }
 

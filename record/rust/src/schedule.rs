@@ -86,7 +86,7 @@ impl Schedule {
     /// A number of its moves, for its runs.
     pub(crate) fn number(&self) -> u64 {
         self.lines.iter().fold(0, |number, line| {
-            let mix = |sum: u64, byte| Draw::new(sum ^ u64::from(byte)).next();
+            let mix = |sum: u64, byte: u8| Draw::new(sum ^ u64::from(byte)).next();
             line.kind.word().bytes().fold(number ^ line.thread as u64, mix)
         })
     }

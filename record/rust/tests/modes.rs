@@ -40,7 +40,7 @@ fn after_number(trace: &str) -> &str {
 /// A run that a seed or a schedule decides has a number of that. Others have the time's.
 #[test]
 fn the_number_is_that_of_the_run() -> Result<(), Error> {
-    let number = |mode| -> Result<String, Error> {
+    let number = |mode: Mode| -> Result<String, Error> {
         let run = Run::of(Lock::Ticket, 2).bits(8).mode(mode).open()?;
         Ok(run.trace()?.lines().next().unwrap_or("").to_owned())
     };
@@ -48,7 +48,7 @@ fn the_number_is_that_of_the_run() -> Result<(), Error> {
     assert_eq!(number(Mode::Seed(0))?, "# run e220a8397b1dcdaf");
     assert_eq!(number(Mode::Seed(5))?, number(Mode::Seed(5))?);
     assert_ne!(number(Mode::Seed(5))?, number(Mode::Seed(6))?);
-    let follow = |moves| -> Result<String, Error> {
+    let follow = |moves: &str| -> Result<String, Error> {
         number(Mode::Follow(format!("lock ticket threads 2\n{moves}").parse()?))
     };
     assert_eq!(follow("0 acquire\n")?, follow("# once\n0 acquire\n")?);

@@ -3,31 +3,34 @@
 //! The logs of threads that run freely are not saved at one moment. So here the next poll of such a
 //! thread has to fail as well, by the lock after all steps.
 
-ghost use Rattle.std.specs.Prelude.{IfSome};
+ghost use Rattle.std.specs.Prelude.{◌≡◌, IfSome};
+ghost use Rattle.lk_trace.specs.Checks.{new_lock};
+ghost use Rattle.lk_trace_files.specs.Fates.{fates_by, new_fates};
 ghost use Rattle.lk_trace_files.specs.Searches.{IsHung};
 
 use crate::course::{Course, Fate};
 use crate::waiting::Waiting;
 use lk_order::{Log, Order};
-use lk_trace::{Checker, Event};
+use lk_trace::Checker;
 
 // Makes the steps of an order again, and notes how far each thread comes.
-fn course_of(order: &Order, first: &Log) -> Course {
+fn course_of(order: &Order, first: &Log) -> Course
+    ensures { result ≡ fates_by (new_lock first.now.kind first.now.threads first.now.bits)
+        new_fates order.now.trace }
+{
     let mut course = Course::new();
     let mut checker = Checker::new(first.kind(), first.threads(), first.bits());
     let mut at = [0usize; 256];
     for k in 0..order.len() {
         let Some(line) = order.line(k) else {
-            break;
+            return course;
         };
         let t = line.thread as usize;
         let place = at[t];
         at[t] = place.saturating_add(1);
         let log = order.logs().get(t);
         let number = log.and_then(|log| log.line_of(place)).unwrap_or(0);
-        if let Ok(made) = checker.step(line) {
-            course.take(u64::from(number), b"".as_slice(), Event::Made(line, made));
-        }
+        course.take_answer(u64::from(number), line, checker.step(line));
     }
     course
 }
@@ -35,7 +38,7 @@ fn course_of(order: &Order, first: &Log) -> Course {
 /// How far the threads came, if the run hangs. `open` has the threads whose logs say that they have
 /// not ended.
 pub fn hung_course(order: &Order, open: &[bool]) -> Option<Course>
-    ensures { IfSome result (IsHung order.now) }
+    ensures { IfSome result (IsHung order.now open.now) }
 {
     let first = order.logs().first()?;
     if !open.contains(&true) {

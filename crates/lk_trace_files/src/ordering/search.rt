@@ -15,6 +15,8 @@ use std::alloc::{AllocError, Global};
 #[derive(Drop)]
 pub struct Search {
     pub found: Found,
+    /// The threads whose logs say that they have not ended.
+    pub open: [bool; 64],
     /// How far the threads came, if the run hangs.
     pub hung: Option<Course>,
 }
@@ -62,10 +64,11 @@ impl Sought {
 pub fn search_logs(
     alloc: Global,
     logs: Vec<Log>,
-    open: &[bool],
+    open: [bool; 64],
 ) -> Result<Option<Search>, AllocError>
     ensures one_run { IfOk result (λ search. IsSome search ↔ IsOneRun logs.items) }
     ensures logs { IfOk result (λ search. IfSome search (λ s. s.found.order.logs ≡ logs.items)) }
+    ensures open { IfOk result (λ search. IfSome search (λ s. s.open ≡ open)) }
     ensures search { IfOk result (λ search. IfSome search IsSearch) }
 {
     let Some(found) = find_order(alloc, logs)? else {
@@ -73,7 +76,7 @@ pub fn search_logs(
     };
     let hung = match found.ending {
         lk_order::Ending::Stuck(_) => None,
-        _ => hung_course(&found.order, open),
+        _ => hung_course(&found.order, &open),
     };
-    Ok(Some(Search { found, hung }))
+    Ok(Some(Search { found, open, hung }))
 }
