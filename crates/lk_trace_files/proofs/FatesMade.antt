@@ -1,7 +1,7 @@
 -- Lines of an order bring the threads on one after another, and then the end of each is said.
-use Rattle.std.proofs.Common.{◌≡◌, ℕ, ◌+◌, ◌<◌, ◌≤◌, List, [], ◌∷◌, Bool, false, None, Some, Ok, Err}
-use Rattle.std.proofs.Common.{Result, length, drop, get_or, refl, sym, ap, ap₂, ◌∙◌, arith, inl, inr}
-use Rattle.std.proofs.Common.{length-set}
+use Rattle.std.proofs.Common.{◌≡◌, ℕ, ◌+◌, ◌<◌, ◌≤◌, List, [], ◌∷◌, Bool, false, None, Some}
+use Rattle.std.proofs.Common.{Result, Ok, Err, length, drop, get_or, refl, sym, ap, ap₂, ◌∙◌, arith}
+use Rattle.std.proofs.Common.{inl, inr, length-set}
 use Rattle.std.specs.List.{slice_get}
 use Rattle.std.specs.Prelude.{not, slice_set}
 use Rattle.std.proofs.lemmas.Bool.{cases_eq}
@@ -54,31 +54,32 @@ fates_long c fates (line ∷ lines) =
 
 -- how far a thread is that moved so, by what is said of its end
 abbrev pub at_end : List Fate → List Bool → ℕ → Fate
-at_end moved open k = fate_said (not (get_or open k false)) (get_or moved k Moved)
+at_end moved unended k = fate_said (not (get_or unended k false)) (get_or moved k Moved)
 
-pub each_more : (fates moved : List Fate) (open : List Bool) (t : ℕ) → t < length fates
-    → ((k : ℕ) → k < t → get_or fates k Moved ≡ at_end moved open k)
+pub each_more : (fates moved : List Fate) (unended : List Bool) (t : ℕ) → t < length fates
+    → ((k : ℕ) → k < t → get_or fates k Moved ≡ at_end moved unended k)
     → ((k : ℕ) → t ≤ k → get_or fates k Moved ≡ get_or moved k Moved)
     → (k : ℕ) → k < t + 1
-    → get_or (after_comment fates (Some (t, not (get_or open t false)))) k Moved
-    ≡ at_end moved open k
-each_more fates moved open t within each rest k below =
-    let said : Fate = fate_said (not (get_or open t false)) (get_or fates t Moved) in
+    → get_or (after_comment fates (Some (t, not (get_or unended t false)))) k Moved
+    ≡ at_end moved unended k
+each_more fates moved unended t within each rest k below =
+    let said : Fate = fate_said (not (get_or unended t false)) (get_or fates t Moved) in
     elim (cases_eq k t) [
       | inl same ↦
           ap (λ u. get_or (slice_set fates t said) u Moved) same
           ∙ get_or-set_same fates t said Moved within
-          ∙ ap (fate_said (not (get_or open t false))) (rest t (omega arith))
-          ∙ sym (ap (at_end moved open) same)
-      | inr other ↦ get_or-set_other fates t k said Moved other ∙ each k (omega (arith, other, below))
+          ∙ ap (fate_said (not (get_or unended t false))) (rest t (omega arith))
+          ∙ sym (ap (at_end moved unended) same)
+      | inr other ↦
+          get_or-set_other fates t k said Moved other ∙ each k (omega (arith, other, below))
     ]
 
-pub rest_more : (fates moved : List Fate) (open : List Bool) (t : ℕ)
+pub rest_more : (fates moved : List Fate) (unended : List Bool) (t : ℕ)
     → ((k : ℕ) → t ≤ k → get_or fates k Moved ≡ get_or moved k Moved)
     → (k : ℕ) → t + 1 ≤ k
-    → get_or (after_comment fates (Some (t, not (get_or open t false)))) k Moved
+    → get_or (after_comment fates (Some (t, not (get_or unended t false)))) k Moved
     ≡ get_or moved k Moved
-rest_more fates moved open t rest k past =
-    let said : Fate = fate_said (not (get_or open t false)) (get_or fates t Moved) in
+rest_more fates moved unended t rest k past =
+    let said : Fate = fate_said (not (get_or unended t false)) (get_or fates t Moved) in
     get_or-set_other fates t k said Moved (λ same. omega (arith, same, past))
     ∙ rest k (omega (arith, past))

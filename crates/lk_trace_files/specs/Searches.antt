@@ -26,21 +26,21 @@ use Rattle.lk_trace_files.specs.declared.ordering.search.Sought.TheVariants as s
 
 -- how far thread t is after all lines of an order: its log may say that it has not ended
 abbrev pub fate_of : Ordered → List Bool → ℕ → Fate
-fate_of o open t =
-    fate_said (not (slice_index_or open t false))
+fate_of o unended t =
+    fate_said (not (slice_index_or unended t false))
     (slice_index_or (fates_by (new_lock o.kind o.threads o.bits) new_fates o.trace) t Moved)
 
 -- all lines of all threads are placed, and each thread has ended or polls in vain, as one does
-pub record IsHung (o : Ordered) (open : List Bool) (fates : List Fate) : Type 0 where
+pub record IsHung (o : Ordered) (unended : List Bool) (fates : List Fate) : Type 0 where
   pub all : (t : ℕ) → t < o.threads → next_line o t ≡ None
-  pub each : (t : ℕ) → t < o.threads → slice_index_or fates t Moved ≡ fate_of o open t
+  pub each : (t : ℕ) → t < o.threads → slice_index_or fates t Moved ≡ fate_of o unended t
   pub polls : hangs o.threads fates ≡ true
 
 -- an order that ends as the search says, and a run that hangs if it says so
 pub record IsSearch (s : Search) : Type 0 where
   pub order : IsOrder s.found.order
   pub ends : EndsAs s.found.order s.found.ending
-  pub hung : IfSome s.hung (IsHung s.found.order s.open)
+  pub hung : IfSome s.hung (IsHung s.found.order s.unended)
 
 -- the logs are refused at a step that cannot be placed; a run whose steps are placed, all or up to
 -- where a log was cut short, hangs or is accepted

@@ -2,8 +2,9 @@
 //! text says of its end, in comments that a recorder writes after the last move.
 
 ghost use Rattle.std.specs.Prelude.{◌≡◌, List, Some};
-ghost use Rattle.lk_trace_files.specs.Fates.{after_answer, after_comment, after_line, fate_after};
-ghost use Rattle.lk_trace_files.specs.Fates.{hangs, new_fates, open_in, said_before, said_in, said_of};
+ghost use Rattle.lk_trace_files.specs.Fates.{after_answer, after_comment, after_line};
+ghost use Rattle.lk_trace_files.specs.Fates.{fate_after, hangs, new_fates, open_in, said_before};
+ghost use Rattle.lk_trace_files.specs.Fates.{said_in, said_of};
 ghost use Rattle.lk_trace_files.specs.declared.course.Fate.{Fate as OfThread};
 
 use crate::trail::Trail;

@@ -114,7 +114,7 @@ fn order_into<R: Files>(
     };
     let hung = search.hung.as_ref();
     write_found(rt, alloc, &search.found.order, hung, &job.folder, report)?;
-    put_ending(report, &search.found, &taken.names, &search.open, hung)?;
+    put_ending(report, &search.found, &taken.names, &search.unended, hung)?;
     Ok(Sought::Order(search))
 }
 

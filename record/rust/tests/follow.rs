@@ -95,8 +95,9 @@ fn the_move_that_departs_is_saved() -> Result<(), Error> {
         ending => panic!("{ending:?}"),
     };
     assert_eq!((departure.thread(), departure.line()), (0, Some(4)));
-    let moves = "0 acquire\n1 acquire\n0 add next_ticket found 0 left 1\n";
-    assert_eq!(trace, format!("lock ticket threads 2 bits 8\n{moves}"));
+    let text = "lock ticket threads 2 bits 8\n0 acquire\n1 acquire\n\
+                0 add next_ticket found 0 left 1\n";
+    assert_eq!(trace.split_once('\n').map(|(_, after_number)| after_number), Some(text));
     assert_eq!(lock.next_ticket.peek(SeqCst), 1);
     Ok(())
 }

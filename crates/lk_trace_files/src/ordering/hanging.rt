@@ -35,18 +35,18 @@ fn course_of(order: &Order, first: &Log) -> Course
     course
 }
 
-/// How far the threads came, if the run hangs. `open` has the threads whose logs say that they have
-/// not ended.
-pub fn hung_course(order: &Order, open: &[bool]) -> Option<Course>
-    ensures { IfSome result (IsHung order.now open.now) }
+/// How far the threads came, if the run hangs. `unended` has the threads whose logs say that they
+/// have not ended.
+pub fn hung_course(order: &Order, unended: &[bool]) -> Option<Course>
+    ensures { IfSome result (IsHung order.now unended.now) }
 {
     let first = order.logs().first()?;
-    if !open.contains(&true) {
+    if !unended.contains(&true) {
         return None;
     }
     let mut course = course_of(order, first);
     for t in 0..order.threads() {
-        let is_open = open.get(t as usize).copied().unwrap_or(false);
+        let is_open = unended.get(t as usize).copied().unwrap_or(false);
         let log = order.logs().get(t as usize)?;
         let is_whole = is_open || log.dropped() == Some(0);
         if !is_whole || order.next(t).is_some() {

@@ -224,7 +224,10 @@ pub fn take_logs<'a, R: Files>(
         return Ok(Err(bad));
     }
     let Run {
-        shelf, names, open, ..
+        shelf,
+        names,
+        open,
+        ..
     } = run;
     if let Some(thread) = shelf.missing() {
         report.messages.put(0, NoLog(thread))?;

@@ -16,7 +16,7 @@ use std::alloc::{AllocError, Global};
 pub struct Search {
     pub found: Found,
     /// The threads whose logs say that they have not ended.
-    pub open: [bool; 64],
+    pub unended: [bool; 64],
     /// How far the threads came, if the run hangs.
     pub hung: Option<Course>,
 }
@@ -55,7 +55,7 @@ impl Sought {
     }
 }
 
-/// Looks for the order of a run's logs. `open` has the threads whose logs say that they have not
+/// Looks for the order of a run's logs. `unended` has the threads whose logs say that they have not
 /// ended. None is answered if the logs are not those of one run.
 ///
 /// # Errors
@@ -64,11 +64,11 @@ impl Sought {
 pub fn search_logs(
     alloc: Global,
     logs: Vec<Log>,
-    open: [bool; 64],
+    unended: [bool; 64],
 ) -> Result<Option<Search>, AllocError>
     ensures one_run { IfOk result (λ search. IsSome search ↔ IsOneRun logs.items) }
     ensures logs { IfOk result (λ search. IfSome search (λ s. s.found.order.logs ≡ logs.items)) }
-    ensures open { IfOk result (λ search. IfSome search (λ s. s.open ≡ open)) }
+    ensures ends { IfOk result (λ search. IfSome search (λ s. s.unended ≡ unended)) }
     ensures search { IfOk result (λ search. IfSome search IsSearch) }
 {
     let Some(found) = find_order(alloc, logs)? else {
@@ -76,7 +76,11 @@ pub fn search_logs(
     };
     let hung = match found.ending {
         lk_order::Ending::Stuck(_) => None,
-        _ => hung_course(&found.order, &open),
+        _ => hung_course(&found.order, &unended),
     };
-    Ok(Some(Search { found, open, hung }))
+    Ok(Some(Search {
+        found,
+        unended,
+        hung,
+    }))
 }

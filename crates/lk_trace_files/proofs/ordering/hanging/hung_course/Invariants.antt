@@ -12,7 +12,7 @@ invariant-loop-t l =
     let o = l.order in
     record {
       all : (k : ℕ) → k < l.t → next_line o k ≡ None;
-      each : (k : ℕ) → k < l.t → get_or l.course k Moved ≡ fate_of o l.open k;
+      each : (k : ℕ) → k < l.t → get_or l.course k Moved ≡ fate_of o l.unended k;
       rest : (k : ℕ) → l.t ≤ k
           → get_or l.course k Moved
           ≡ get_or (fates_by (new_lock o.kind o.threads o.bits) new_fates o.trace) k Moved;
