@@ -24,13 +24,13 @@ use Rattle.lk_trace_files.specs.declared.ordering.search.Search.{Search}
 use Rattle.lk_trace_files.specs.declared.ordering.search.Sought.{Sought}
 use Rattle.lk_trace_files.specs.declared.ordering.search.Sought.TheVariants as sought
 
--- how far thread t is after all lines of an order: its log may say that it has not ended
+-- how far thread t is after the lines of an order, if these threads have not ended
 abbrev pub fate_of : Ordered → List Bool → ℕ → Fate
 fate_of o unended t =
     fate_said (not (slice_index_or unended t false))
     (slice_index_or (fates_by (new_lock o.kind o.threads o.bits) new_fates o.trace) t Moved)
 
--- all lines of all threads are placed, and each thread has ended or polls in vain, as one does
+-- all lines are placed, each thread has ended or polls in vain, and one at least polls
 pub record IsHung (o : Ordered) (unended : List Bool) (fates : List Fate) : Type 0 where
   pub all : (t : ℕ) → t < o.threads → next_line o t ≡ None
   pub each : (t : ℕ) → t < o.threads → slice_index_or fates t Moved ≡ fate_of o unended t
