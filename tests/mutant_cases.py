@@ -81,7 +81,12 @@ EDITS = {
         ("function: c::pairs::Pair::left\nold: self.left\nnew: 7\n", "        7\n    }\n}\n"),
     "a line that begins as another": ("function: c::pairs::PairClone::clone\nold: Pair { left: "
                                       "self.left }\nnew: Pair { left: 0 }\n", "Pair { left: 0 }"),
-    "a constant": ("file: src/lib.rt\nold: mod pairs;\nnew: mod pears;\n", "mod pears;"),
+    "a constant": ("file: src/lib.rt\nold: mod pairs;\nnew: mod pears;\nnoticed by: "
+                   "c::pairs::least\n", "mod pears;"),
+    "a constant that nobody has to notice": ("file: src/lib.rt\nold: mod pairs;\nnew: mod p;\n",
+                                             None),
+    "a constant for a function that is not there":
+        ("file: src/lib.rt\nold: mod pairs;\nnew: mod p;\nnoticed by: c::most\n", None),
     "a function that is not there": ("function: c::pairs::most\nold: 0\nnew: 1\n", None),
     "a text that is not there": ("function: c::pairs::least\nold: 2\nnew: 1\n", None),
     "a text that is there twice": ("function: c::pairs::Pair::left\nold: left\nnew: l\n", None),

@@ -45,8 +45,7 @@ class Lab:
                 (self.folder / "src" / path).write_text(text)
 
     def check(self, files, functions):
-        """Whether these functions, or the whole crate if there are none, are proved with these
-        files, and what the check prints."""
+        """Whether these functions are proved with these files, and what the check prints."""
         self.write(files)
         only = [f"--only={name.partition('::')[2]}" for name in sorted(functions)]
         ran = subprocess.run([*self.words, *only], cwd=self.folder, text=True, errors="replace",

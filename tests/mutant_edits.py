@@ -9,7 +9,8 @@ A file `crates/NAME/mutants/MISTAKE.edit` or `crates/NAME/twins/MISTAKE.edit` ha
 with further pairs, and further functions, as they are needed. The function is named as `rt check`
 names it, and TEXT is one line of it, or in it once; spaces around TEXT do not count. For what is in
 no function, as a constant, a line `file: src/FILE.rt` takes the place of the first, and TEXT is in
-that file once.
+that file once. A line `noticed by: NAME::module::function` then names the function, of those that
+use it, whose contract must refuse the mistake.
 """
 import re
 from pathlib import Path
@@ -22,7 +23,8 @@ class BadEdit(Exception):
 
 
 class Edit:
-    """One file: `functions` are those that it changes; `is_alone` if it changes something else."""
+    """One file: `functions` are those that it changes, or that notice what it changes outside of
+    functions; `is_alone` if it changes something there."""
 
     def __init__(self, path):
         self.path, self.name = path, path.stem
@@ -30,10 +32,13 @@ class Edit:
         self.is_twin = path.parent.name == "twins"
         self.has_twin = (path.parent.parent / "twins" / path.name).exists() and not self.is_twin
         self.pairs = list(pairs_of(path))
-        self.functions = {place for key, place, _, _ in self.pairs if key == "function"}
         self.is_alone = any(key == "file" for key, _, _, _ in self.pairs)
+        self.functions = {place for key, place, _, _ in self.pairs if key == "function"}
+        self.functions |= set(re.findall(r"(?m)^noticed by: *(\S+)$", path.read_text()))
         if not self.pairs:
             raise BadEdit("it changes nothing")
+        if not self.functions:
+            raise BadEdit("it names no function whose contract must refuse it")
 
     def __str__(self):
         return f"{self.crate}/{self.path.parent.name}/{self.name}"
@@ -46,6 +51,9 @@ class Edit:
 
     def put_in(self, files):
         """The texts of a crate's files, by their paths below `src`, with the edit in them."""
+        missing = sorted(self.functions - set(functions_of(self.crate, files)))
+        if missing:
+            raise BadEdit(f"there is no function {missing[0]}")
         for key, place, old, new in self.pairs:
             change = in_function if key == "function" else in_file
             files = change(self.crate, files, place, old, new)
@@ -65,7 +73,7 @@ def pairs_of(path):
         elif key == "new" and where and old:
             yield *where, old, text
             old = None
-        else:
+        elif key != "noticed by":
             raise BadEdit(f"a line that has no place here: {line}")
 
 
@@ -81,10 +89,7 @@ def changed(text, old, new, place):
 
 
 def in_function(crate, files, name, old, new):
-    found = functions_of(crate, files).get(name)
-    if found is None:
-        raise BadEdit(f"there is no function {name}")
-    path, first, last = found
+    path, first, last = functions_of(crate, files)[name]
     lines = files[path].split("\n")
     text = changed("\n".join(lines[first:last + 1]), old, new, name)
     return {**files, path: "\n".join([*lines[:first], text, *lines[last + 1:]])}

@@ -11,9 +11,10 @@ speaks. A twin of an edit in `must-fail` has the name of that edit.
 Mutants of different functions of a crate are tried in one check. A mutant counts as refused only
 if the check names its function with goals of its own; if all that is wrong is that a proof names
 what the mutant took away, only if it has a twin. One that is unclear, since its function only
-calls another that is not proved, is tried again with others, and then alone. Changes of what is no
-function, as a constant, are tried alone. Crates are tried side by side, over what earlier checks
-kept in `out`; with --beside, each when `rt ci`, whose output LOG is, has proved what is below it.
+calls another that is not proved, is tried again with others, and then alone. A change of what is
+no function, as a constant, is tried alone, and the function that its edit names has to notice it.
+Crates are tried side by side, over what earlier checks kept in `out`; with --beside, each when
+`rt ci`, whose output LOG is, has proved what is below it.
 
 Prints each one that fares as it must not, then a table, then `N passed, M failed`.
 """
@@ -111,9 +112,6 @@ class Crate:
 
 
 def functions_in(group):
-    """The functions to be checked: none, which means all, after a change of what is no function."""
-    if any(edit.is_alone for edit in group):
-        return set()
     return set().union(*(edit.functions for edit in group))
 
 
@@ -129,8 +127,6 @@ def verdict(edit, is_proved, said):
     """What a check says of an edit in it: a word of `verdict_on`, and a line."""
     if is_proved:
         return "proved", ""
-    if edit.is_alone:
-        return "refused", ""
     found = [verdict_on(function, said) for function in sorted(edit.functions)]
     return next((it for it in found if it[0] == "refused"), found[0])
 
