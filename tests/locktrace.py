@@ -7,7 +7,6 @@ not end, devices that take nothing, little memory, several threads, and a termin
 What is wanted is written by hand from packaging/man/locktrace.1 and docs/TRACE.md. The last line
 counts the cases; the status is 1 if one failed.
 """
-import contextlib
 import json
 import os
 import pty
@@ -24,6 +23,7 @@ import locktrace_long
 import locktrace_rows
 import logs_by_hand
 from tally import Tally
+from terminals import all_from
 
 TOP = Path(__file__).resolve().parent.parent
 VERSION = (TOP / "VERSION").read_text().strip()
@@ -306,15 +306,6 @@ def memory(program):
             program.tally.check(f"{size} KB", got, "an answer or out of memory")
     program.tally.check("memory is refused, and then the answer is given", seen,
                         {"answered", "refused"})
-
-
-def all_from(terminal_end):
-    """What was written to a terminal that nobody writes to any more. One read may give a part."""
-    parts = []
-    with contextlib.suppress(OSError):  # the end, as Linux says it
-        while part := os.read(terminal_end, 4_096):
-            parts.append(part)
-    return b"".join(parts)
 
 
 def terminal(program):

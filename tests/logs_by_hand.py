@@ -3,8 +3,13 @@ many bytes, and what an earlier order left.
 
 What is said of each is worked out by hand from docs/TRACE.md and packaging/man/locktrace.1.
 """
+import os
+import pty
 import shutil
 
+from terminals import all_from
+
+ORDERED = b"\r\x1b[Kordering 100000 moves\r\x1b[Kwriting 100000 moves\r\x1b[K"
 MORE = ("{0}: warning: cut off, without its last line\n"
         "locktrace: note: ordered up to there: {1} steps\n")
 # The step that cannot be placed, the next step of the other thread, if it has one, and the end.
@@ -161,4 +166,22 @@ def earlier_orders(program):
     log.unlink()
 
 
-PARTS = (logs_without_an_order, texts_of_logs, long_lines, earlier_orders)
+def shown_orders(program):
+    """On a terminal it is said what is done with 100,000 moves, and then nothing is left of that."""
+    log = program.folder / "one.log"
+    for moves, said in ((99_998, b""), (100_000, ORDERED)):
+        calls = "".join(f"{('runlock', 'rlock')[n % 2]}\nsection {n}\n"
+                        for n in range(1, moves // 2 + 1))
+        log.write_text(f"lock rw-simple threads 1 thread 0\n{calls}dropped 0\n")
+        reader, writer = pty.openpty()
+        got = program.run("order", "one.log", "-o", "-", stderr=writer)
+        os.close(writer)
+        program.tally.check(f"order: {moves} moves on a terminal", all_from(reader), said)
+        program.tally.check(f"order: {moves} moves in its trace", len(got[0].splitlines()),
+                            moves + 1)
+        os.close(reader)
+    program.tally.check("order: no folder -", (program.folder / "-").exists(), False)
+    log.unlink()
+
+
+PARTS = (logs_without_an_order, texts_of_logs, long_lines, earlier_orders, shown_orders)

@@ -5,29 +5,33 @@ ghost use Rattle.lk_trace_files.specs.Searches.{IsSought};
 
 mod bad_log;
 mod hanging;
+mod progress;
 mod reading;
 mod report;
 mod search;
 mod telling;
 mod writing;
 
+use crate::check::Ending;
 use crate::course::Course;
 use crate::facts::Facts;
 use crate::failures::Failure;
 use crate::formats::Format;
 pub use bad_log::BadLog;
 use lk_order::{Found, Order};
+use progress::{Progress, Stage};
 use reading::take_logs;
 use report::OrderReport;
 pub use search::{Search, Sought, search_logs};
 use std::alloc::{AllocError, Global};
-use std::io::Write;
+use std::io::{Eprint, Write};
 use std::rt::Files;
 use std::{fmt, fs};
 use telling::{put_cut, put_hang, put_stuck};
 use writing::{write_schedules, write_trace};
 
-/// What is to be put into one order, the folder for what is found, and what is said of it.
+/// What is to be put into one order, the folder for what is found, and what is said of it. For a
+/// folder `-` the trace alone is written, to the output, and all that is said goes to `errors`.
 #[derive(Debug, Drop)]
 pub struct OrderJob {
     pub format: Format,
@@ -36,6 +40,9 @@ pub struct OrderJob {
     pub logs: Vec<String>,
     pub folder: String,
 }
+
+// The folder that stands for the output.
+const OUTPUT: &str = "-";
 
 // How many moves are in no schedule.
 #[derive(Clone, Copy)]
@@ -51,7 +58,7 @@ impl fmt::Display for LeftOut {
     }
 }
 
-// Writes the trace and the schedules of an order.
+// Writes the trace and the schedules of an order into a folder.
 fn write_found<R: Files>(
     rt: &R,
     alloc: Global,
@@ -89,12 +96,35 @@ fn put_ending(
     }
 }
 
+// Writes what there is to say. The output is the trace's alone if it is what was asked for.
+fn write_report<O: Write>(
+    alloc: Global,
+    job: &OrderJob,
+    report: &OrderReport,
+    ending: Ending,
+    output: &mut O,
+    errors: &mut String,
+) -> Result<(), Failure> {
+    let folder = job.folder.as_str();
+    let mut text = String::new(alloc);
+    report.put(ending, job.format, folder, &mut text, errors)?;
+    if folder == OUTPUT {
+        errors.push_str(&text)?;
+        return Ok(());
+    }
+    output.write_all(text.as_bytes())?;
+    output.flush()?;
+    Ok(())
+}
+
 // Looks for the order of the logs, and writes it.
-fn order_into<R: Files>(
+fn order_into<R: Files + Eprint, O: Write>(
     rt: &R,
     alloc: Global,
     job: &OrderJob,
+    progress: &mut Progress<'_, R>,
     report: &mut OrderReport,
+    output: &mut O,
 ) -> Result<Sought, Failure>
     ensures { IfOk result IsSought }
 {
@@ -105,6 +135,7 @@ fn order_into<R: Files>(
             return Ok(Sought::Bad(bad));
         }
     };
+    progress.begin(Stage::Ordering, &taken.logs);
     let Ok(searched) = search_logs(alloc, taken.logs, &taken.open) else {
         return Err(Failure::Memory(AllocError));
     };
@@ -112,34 +143,41 @@ fn order_into<R: Files>(
         report.messages.put(0, "the logs are not of one run")?;
         return Ok(Sought::Bad(BadLog::OtherLock));
     };
-    let hung = search.hung.as_ref();
-    write_found(rt, alloc, &search.found.order, hung, &job.folder, report)?;
+    let (order, hung) = (&search.found.order, search.hung.as_ref());
+    progress.begin(Stage::Writing, order.logs());
+    if job.folder.as_str() == OUTPUT {
+        write_trace(alloc, order, hung, output)?;
+    } else {
+        write_found(rt, alloc, order, hung, &job.folder, report)?;
+    }
     put_ending(report, &search.found, &taken.names, &taken.open, hung)?;
     Ok(Sought::Order(search))
 }
 
 /// Puts the logs into one order and writes its trace and its schedules into the folder. What there
-/// is to say goes into `errors`, or as TAP or JSON to the output. The answer says how the job ends.
+/// is to say goes into `errors`, or as TAP or JSON to the output. If standard error is a terminal,
+/// it shows what is done with long logs. The answer says how the job ends.
 ///
 /// # Errors
 ///
 /// A file could not be written, or a request for memory was refused.
-pub fn order_logs<R: Files, O: Write>(
+pub fn order_logs<R: Files + Eprint, O: Write>(
     rt: &R,
     alloc: Global,
     job: &OrderJob,
+    is_terminal: bool,
     output: &mut O,
     errors: &mut String,
 ) -> Result<Sought, Failure>
     ensures { IfOk result IsSought }
 {
     let mut report = OrderReport::new(alloc);
-    let sought = order_into(rt, alloc, job, &mut report)?;
+    let mut progress = Progress::new(rt, is_terminal && !job.quiet);
+    let sought = order_into(rt, alloc, job, &mut progress, &mut report, output);
+    progress.end();
+    let sought = sought?;
     if !job.quiet {
-        let mut text = String::new(alloc);
-        report.put(sought.ending(), job.format, &job.folder, &mut text, errors)?;
-        output.write_all(text.as_bytes())?;
-        output.flush()?;
+        write_report(alloc, job, &report, sought.ending(), output, errors)?;
     }
     Ok(sought)
 }

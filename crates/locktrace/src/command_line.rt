@@ -144,7 +144,7 @@ fn order_command<'a>(alloc: Global) -> Result<Command<'a>, AllocError> {
     let folder = Arg::new(alloc, "folder")
         .short('o')
         .value_name("DIR")
-        .help("Where the trace and the schedules are written")
+        .help("Where the trace and the schedules are written; - is standard output, for the trace")
         .required(true)
         .action(ArgAction::Set);
     let logs = Arg::new(alloc, "logs")

@@ -194,7 +194,7 @@ where
         Job::Search(job) => search(rt, alloc, &job, output),
         Job::Order(job) => {
             let mut errors = String::new(alloc);
-            let ended = order_logs(rt, alloc, &job, output, &mut errors);
+            let ended = order_logs(rt, alloc, &job, terminals.errors, output, &mut errors);
             let _ = eprint!(rt; "{errors}");
             Ok(ended?.ending().status())
         }
