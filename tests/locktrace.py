@@ -102,8 +102,8 @@ def words_and_texts(program):
     for words in ([], ["walk"], ["check", "--format", "xml"], ["check", "-j", "0"],
                   ["check", "-j", "65"], ["check", "--color", "red"],
                   ["order", "--format", "xml", "good", "-o", "made"],
-                  ["explain", "--moves", "0..3"],
-                  ["explain", "--moves", "4..3"], ["order", "thread-0.log"], ["explain", "a", "b"]):
+                  *(["explain", "--moves", lines] for lines in ("0..3", "4..3", "..3", "x", "")),
+                  ["order", "thread-0.log"], ["explain", "a", "b"]):
         program.case(f"usage {words}", words, 2, "", begins("error:") if words else len)
     program.case("all is well", ["check", "good"], 0)
     program.case("a schedule", ["check", "-"], 0, stdin=SCHEDULE)
@@ -153,10 +153,13 @@ def refusals_by_name(program):
 
 
 def explained(program):
-    program.case("explain", ["explain", "--moves", "3..4", "--names", "left,right", "good"], 0,
+    program.case("explain", ["explain", "--moves", "6..7", "--names", "left,right", "good"], 0,
                  "6: 0 swap: entered, tail 0 to 1; left finds nobody in the queue: it holds the "
                  "lock; held by 0; queue 0\n"
                  "7: 1 acquire: called; right wants the lock; held by 0; queue 0\n")
+    for lines, due in (("9..", ["9", "10"]), ("8..9", ["8", "9"]), ("7", ["7"]), ("3", [])):
+        program.case(f"explain lines {lines}", ["explain", "--moves", lines, "good"], 0,
+                     lambda text, due=due: re.findall(r"(?m)^(\d+): ", text) == due)
     program.case("explain a refusal", ["explain", "--moves", "99..99", "wrong"], 1,
                  "9: refused: '1 write', but thread 1's next step is 'swap' (WrongStep)\n"
                  "  held by 0; queue 0\n  due: 1 swap\n")

@@ -167,10 +167,10 @@ def earlier_orders(program):
 
 
 def shown_orders(program):
-    """On a terminal it is said what is done with 100,000 moves, and then nothing is left of that."""
+    """On a terminal it is said what is done with 100,000 moves, and then that is cleared."""
     log = program.folder / "one.log"
     for moves, said in ((99_998, b""), (100_000, ORDERED)):
-        calls = "".join(f"{('runlock', 'rlock')[n % 2]}\nsection {n}\n"
+        calls = "".join(f"{['runlock', 'rlock'][n % 2]}\nsection {n}\n"
                         for n in range(1, moves // 2 + 1))
         log.write_text(f"lock rw-simple threads 1 thread 0\n{calls}dropped 0\n")
         reader, writer = pty.openpty()

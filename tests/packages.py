@@ -114,7 +114,7 @@ def try_traces(tally, name, tree):
     case("--version", f"locktrace {VERSION}\n", 0)
     case("check", "", 0, locktrace.GOOD)
     case("check -", locktrace.OTHER_LINE.format("-", "-"), 1, locktrace.OTHER)
-    case("explain --moves 3..3 --names left,right", EXPLAINED, 0, locktrace.GOOD)
+    case("explain --moves 6 --names left,right", EXPLAINED, 0, locktrace.GOOD)
     case("schedule", locktrace.SCHEDULE, 0, locktrace.GOOD)
     texts = tree.root / "texts"
     texts.mkdir()

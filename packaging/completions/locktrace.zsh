@@ -27,7 +27,7 @@ _locktrace() {
         '(-j --jobs)'{-j,--jobs}'[how many threads share the files]:number:' \
         '*:trace:_files' ;;
     explain) _arguments '(- *)'{-h,--help}'[print help]' \
-        '--moves[only these moves]:moves, as 5..10:' \
+        '--moves[only the moves in these lines]:lines, as 5..10:' \
         '--names[what the threads are called]:names:' \
         '1:trace:_files' ;;
     order) _arguments '(- *)'{-h,--help}'[print help]' \

@@ -24,8 +24,8 @@ use std::io::{Read, Write};
 /// What is explained, and what the threads are called.
 #[derive(Clone, Copy)]
 pub struct Asked<'a> {
-    /// The first and the last move, from 1.
-    pub moves: (u64, u64),
+    /// The first and the last line, from 1.
+    pub lines: (u64, u64),
     pub names: &'a [String],
 }
 
@@ -103,7 +103,6 @@ struct Explainer<'a> {
     alloc: Global,
     asked: Asked<'a>,
     trace: TraceReader,
-    moves: u64,
 }
 
 impl Rewriter for Explainer<'_> {
@@ -130,9 +129,8 @@ impl Rewriter for Explainer<'_> {
         let lock = checker.lock();
         match event {
             Event::Made(line, made) => {
-                self.moves = self.moves.saturating_add(1);
-                let (first, last) = self.asked.moves;
-                if first <= self.moves && self.moves <= last {
+                let (first, last) = self.asked.lines;
+                if first <= number && number <= last {
                     write!(text, "{number}: ")?;
                     put_move(text, self.asked.names, lock, &before, line, made)?;
                 }
@@ -172,7 +170,6 @@ pub fn explain_input<R: Read + Drop, O: Write>(
         alloc,
         asked,
         trace: TraceReader::new(),
-        moves: 0,
     };
     let (number, stopped) = rewrite(alloc, input, &mut explainer, output)?;
     let mut text = String::new(alloc);

@@ -23,7 +23,7 @@ pub enum Job {
     Explain {
         file: String,
         /// The first and the last move that are explained, from 1.
-        moves: (u64, u64),
+        lines: (u64, u64),
         names: Vec<String>,
     },
     Order(OrderJob),
@@ -62,7 +62,7 @@ const BAD_FORMAT: &str = "error: a format is text, tap or json\n";
 
 const BAD_COLOR: &str = "error: a color is auto, always or never\n";
 
-const BAD_MOVES: &str = "error: moves are two numbers from 1, as 5..10\n";
+const BAD_LINES: &str = "error: --moves takes lines from 1 on, as 5..10, 5.. or 5\n";
 
 fn format_arg<'a>(alloc: Global) -> Arg<'a> {
     Arg::new(alloc, "format")
@@ -126,7 +126,7 @@ fn explain_command<'a>(alloc: Global) -> Result<Command<'a>, AllocError> {
     let moves = Arg::new(alloc, "moves")
         .long("moves")
         .value_name("FIRST..LAST")
-        .help("Only these moves, counted from 1")
+        .help("Only the moves in these lines, as 5..10, 5.. or 5")
         .action(ArgAction::Set);
     let names = Arg::new(alloc, "names")
         .long("names")
@@ -258,11 +258,15 @@ fn order_given(alloc: Global, matches: &ArgMatches<'_>) -> Result<Job, ParseFaul
     }))
 }
 
-// `5..10`: the moves from the fifth to the tenth.
-fn moves_of(text: &str) -> Option<(u64, u64)> {
-    let (first, last) = text.split_once("..")?;
+// The first and the last line of `5..10`, `5..` or `5`.
+fn lines_of(text: &str) -> Option<(u64, u64)> {
+    let (first, last) = text.split_once("..").unwrap_or((text, text));
     let first = first.parse::<u64>().ok()?;
-    let last = last.parse::<u64>().ok()?;
+    let last = if last.is_empty() {
+        u64::MAX
+    } else {
+        last.parse::<u64>().ok()?
+    };
     if first == 0 || last < first {
         return None;
     }
@@ -270,10 +274,10 @@ fn moves_of(text: &str) -> Option<(u64, u64)> {
 }
 
 fn explain_given(alloc: Global, matches: &ArgMatches<'_>) -> Result<Job, ParseFault> {
-    let moves = match matches.get_str("moves") {
-        Some(text) => match moves_of(text) {
-            Some(moves) => moves,
-            None => return Err(usage(alloc, BAD_MOVES)),
+    let lines = match matches.get_str("moves") {
+        Some(text) => match lines_of(text) {
+            Some(lines) => lines,
+            None => return Err(usage(alloc, BAD_LINES)),
         },
         None => (1, u64::MAX),
     };
@@ -285,7 +289,7 @@ fn explain_given(alloc: Global, matches: &ArgMatches<'_>) -> Result<Job, ParseFa
     }
     Ok(Job::Explain {
         file: file_given(alloc, matches)?,
-        moves,
+        lines,
         names,
     })
 }

@@ -184,9 +184,9 @@ where
             check_named(rt, alloc, job, colored, terminals.errors, output)
         }
         Job::Schedule { file } => Ok(write_file(rt, alloc, &file, output)?.status()),
-        Job::Explain { file, moves, names } => {
+        Job::Explain { file, lines, names } => {
             let asked = Asked {
-                moves,
+                lines,
                 names: &names,
             };
             Ok(explain_file(rt, alloc, &file, asked, output)?.status())
