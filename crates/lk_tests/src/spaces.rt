@@ -5,7 +5,7 @@ ghost use Rattle.std.specs.Prelude.{◌<◌, ◌≤◌};
 
 use crate::refusing::{MOST_REQUESTS, met_none, refuse, was_refused};
 use lk_locks::LockKind;
-use lk_search::{Bounds, SearchFault, Space};
+use lk_search::{Bounds, Heap, SearchFault, Space};
 use std::alloc::Global;
 use std::process::Abort;
 
@@ -16,11 +16,11 @@ fn explored(
     threads: u8,
     rounds: u8,
     limit: usize,
-) -> Result<Space, SearchFault>
+) -> Result<Space<'static, Heap>, SearchFault>
     requires some { 0 < threads }
     requires few { threads ≤ 64 }
 {
-    let bounds = Bounds::new(rounds, Vec::new(alloc));
+    let bounds = Bounds::new(rounds, &[]);
     Space::explore(alloc, kind, threads, 64, bounds, limit)
 }
 
@@ -66,6 +66,43 @@ fn states_of_read_write_locks(rt: HostRuntime) {
     states_are(&rt, alloc, LockKind::RwSimple, 2, 2, 205);
     states_are(&rt, alloc, LockKind::RwFifo, 1, 1, 10);
     states_are(&rt, alloc, LockKind::RwFifo, 2, 1, 84);
+}
+
+// The row of a ticket lock with two threads has 10 cells.
+#[test]
+fn states_in_lent_memory(rt: HostRuntime) {
+    let (mut cells, mut slots) = ([0; 410], [0; 82]);
+    let bounds = Bounds::new(1, &[]);
+    match Space::explore_in(
+        &mut cells,
+        &mut slots,
+        LockKind::Ticket,
+        2,
+        64,
+        bounds,
+        1000,
+    ) {
+        Ok(space) => assert_eq!(&rt; space.states(), 41),
+        Err(fault) => assert!(&rt; false, "{fault}"),
+    }
+}
+
+#[test]
+fn lent_memory_is_too_small_by_a_cell(rt: HostRuntime) {
+    let (mut cells, mut slots) = ([0; 409], [0; 82]);
+    let bounds = Bounds::new(1, &[]);
+    match Space::explore_in(
+        &mut cells,
+        &mut slots,
+        LockKind::Ticket,
+        2,
+        64,
+        bounds,
+        1000,
+    ) {
+        Err(SearchFault::TooLarge { states }) => assert_eq!(&rt; states, 41),
+        _ => assert!(&rt; false, "there are more rows than fit"),
+    }
 }
 
 // The longest of the shortest runs has so many moves, and so many moves are allowed in all.
