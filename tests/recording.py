@@ -172,7 +172,7 @@ class Cases(Tally):
 
     def __init__(self):
         super().__init__()
-        self.pool = ThreadPoolExecutor(os.cpu_count())
+        self.pool = ThreadPoolExecutor(len(os.sched_getaffinity(0)))
 
     def many(self, name, work, items):
         """A case for each item, side by side."""

@@ -197,7 +197,7 @@ class Cases(Tally):
 
     def __init__(self):
         super().__init__()
-        self.pool = ThreadPoolExecutor(os.cpu_count())
+        self.pool = ThreadPoolExecutor(len(os.sched_getaffinity(0)))
 
     def many(self, name, work, items):
         for item, fault in zip(items, self.pool.map(work, items)):

@@ -130,7 +130,7 @@ def main(program):
             (folder / name).write_bytes(text)
         (folder / "empty").write_bytes(EMPTY)
         refusing = Refusing(program, folder)
-        with concurrent.futures.ThreadPoolExecutor(os.cpu_count()) as pool:
+        with concurrent.futures.ThreadPoolExecutor(len(os.sched_getaffinity(0))) as pool:
             tried = [(case, pool.submit(refusing.wrong, *case)) for case in cases(refusing)]
         for (name, _, words, text, _), future in tried:
             tally.fault(f"{name} {words} {text[:60]}", future.exception() or future.result())
