@@ -142,7 +142,9 @@ impl Engine {
     // Whether another thread's step has to come before this one.
     fn waits(&self, order: &Order, t: usize, next: &Next) -> bool {
         match (next.line.action, next.phase) {
-            (Move::Step(StepKind::Swap), _) => self.acquires.swap_waits(t, found_of(next.line)),
+            (Move::Step(StepKind::Swap), _) => {
+                self.acquires.swap_waits(order, t, found_of(next.line))
+            }
             (Move::Step(StepKind::Add), _) => self.tickets.wait(t),
             (Move::Step(StepKind::Section), _) => {
                 count_of(next.line).is_some() && lowest_section(&self.next) != Some(t)

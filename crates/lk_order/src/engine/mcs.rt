@@ -69,8 +69,21 @@ impl Acquires {
         }
     }
 
-    /// Whether a swap has to wait for another acquire than the machine's tail names now.
-    pub fn swap_waits(&self, t: usize, found: Option<u64>) -> bool {
+    // Whether a release of a thread that is in the queue has still to find this in the tail.
+    fn has_to_be_found(&self, order: &Order, tail: u64) -> bool {
+        for t in 0..order.threads() {
+            let acquire = self.instance(t as usize);
+            match acquire.and_then(|instance| instance.failed) {
+                Some((found, at)) if found == tail && order.placed(t) <= at => return true,
+                _ => {}
+            }
+        }
+        false
+    }
+
+    /// Whether a swap has to wait: for another acquire than the machine's tail names now, or for a
+    /// release that finds that acquire in the tail.
+    pub fn swap_waits(&self, order: &Order, t: usize, found: Option<u64>) -> bool {
         if t >= MOST_THREADS {
             return true;
         }
@@ -81,6 +94,7 @@ impl Acquires {
                 let last = self.begun[before].saturating_sub(1);
                 self.has_other_successor(before, t)
                     || !self.chains.is_successor(t, self.begun[t], last)
+                    || self.has_to_be_found(order, found)
             }
             _ => false,
         }

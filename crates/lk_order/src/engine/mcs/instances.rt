@@ -23,12 +23,16 @@ pub struct Instance {
     /// How far the log has to be placed before the successor may link itself: after the last look
     /// that found no link.
     pub unlinked: usize,
+    /// What the release found in the tail if it failed to clear it, and the place of that in the
+    /// log.
+    pub failed: Option<(u64, usize)>,
 }
 
 const NEW: Instance = Instance {
     before: Neighbor::Unknown,
     after: Neighbor::Unknown,
     unlinked: 0,
+    failed: None,
 };
 
 // The neighbor that a word of the lock names.
@@ -59,6 +63,7 @@ fn note(instance: &mut Instance, line: TraceLine, at: usize) {
         (StepKind::Read, WordName::Next(_), Some(0)) => instance.unlinked = at.saturating_add(1),
         (StepKind::Read, WordName::Next(_), Some(found)) => instance.after = named(found),
         (StepKind::Cas, ..) if wrote == Some(true) => instance.after = Neighbor::Nobody,
+        (StepKind::Cas, _, Some(found)) => instance.failed = Some((found, at)),
         _ => {}
     }
 }
