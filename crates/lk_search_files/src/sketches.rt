@@ -66,12 +66,9 @@ impl Sketch {
         self.lines.as_slice()
     }
 
-    /// What a search looks for, if each thread has so many rounds. Afterwards the sketch admits
-    /// nothing.
-    pub fn take_bounds(&mut self, alloc: Global, rounds: u8) -> Bounds {
-        let mut sketch = Vec::new(alloc);
-        std::mem::swap(&mut sketch, &mut self.admitted);
-        Bounds::new(rounds, sketch)
+    /// What a search looks for, if each thread has so many rounds.
+    pub fn bounds(&self, rounds: u8) -> Bounds<'_> {
+        Bounds::new(rounds, self.admitted.as_slice())
     }
 
     // Reads a comment.

@@ -20,7 +20,7 @@ fn shortest(
         let trace = read_line(text.as_bytes()).ok_or("no line")?;
         sketch.push(Admitted { line: *line, trace })?;
     }
-    let bounds = Bounds::new(rounds, sketch);
+    let bounds = Bounds::new(rounds, sketch.as_slice());
     match find(alloc, kind, 2, 64, bounds, lines, 1000)? {
         Some(moves) => Ok(Some(moves.len())),
         None => Ok(None),
@@ -101,7 +101,7 @@ fn announced_writer_enters(rt: HostRuntime) -> Result<(), Fail> {
 // The space has 76 states.
 #[test]
 fn limit_is_kept(rt: HostRuntime) -> Result<(), Fail> {
-    let bounds = Bounds::new(1, Vec::new(rt.alloc()));
+    let bounds = Bounds::new(1, &[]);
     let answer = find(rt.alloc(), LockKind::Mcs, 2, 64, bounds, 1, 75);
     assert!(rt; matches!(answer, Err(SearchFault::TooLarge { states: 76 })));
     Ok(())

@@ -5,7 +5,7 @@ ghost use Rattle.std.specs.Prelude.{◌<◌, ◌≤◌};
 
 use crate::refusing::{MOST_REQUESTS, met_none, refuse, was_refused};
 use lk_locks::LockKind;
-use lk_search::{Bounds, SearchFault, Space};
+use lk_search::{Bounds, Heap, SearchFault, Space};
 use std::alloc::Global;
 use std::process::Abort;
 
@@ -16,11 +16,11 @@ fn explored(
     threads: u8,
     rounds: u8,
     limit: usize,
-) -> Result<Space, SearchFault>
+) -> Result<Space<'static, Heap>, SearchFault>
     requires some { 0 < threads }
     requires few { threads ≤ 64 }
 {
-    let bounds = Bounds::new(rounds, Vec::new(alloc));
+    let bounds = Bounds::new(rounds, &[]);
     Space::explore(alloc, kind, threads, 64, bounds, limit)
 }
 
