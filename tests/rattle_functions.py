@@ -46,7 +46,7 @@ def owner_of(head):
     an impl for one parameter has it after it, as `Machine+WordArray` of `Machine<WordArray>`."""
     words = [word.rpartition("::")[2] for word in without_parameters(head).split()]
     if words[1:2] != ["for"]:
-        given = re.match(r" \w+<(\w+)>", head)
+        given = re.match(r"(?:<'\w+>)? \w+<(?:'\w+, )?(\w+)(?:<'\w+>)?>", head)
         return words[0], f"+{given[1]}" if given else ""
     given = re.search(rf"\b{words[0]}<(\w+)> for\b", head)
     return words[2], words[0] + (given[1] if given else "")
