@@ -6,7 +6,7 @@ ghost use Rattle.std.specs.Prelude.{◌≡◌, ◌<◌, ◌≤◌, []};
 
 use crate::refusing::{MOST_REQUESTS, met_none, refuse, was_refused};
 use lk_locks::LockKind;
-use lk_search::{Bounds, Run, Space, TourFault, tour};
+use lk_search::{Bounds, Heap, Run, Space, TourFault, tour};
 use std::alloc::Global;
 use std::process::Abort;
 
@@ -20,7 +20,7 @@ fn moves_of(runs: &[Run]) -> usize {
 }
 
 // A tour of the space has as many moves as transitions, or more, in runs that are not empty.
-fn runs_take(rt: &impl Abort, alloc: Global, space: &Space, transitions: usize)
+fn runs_take(rt: &impl Abort, alloc: Global, space: &Space<'_, Heap>, transitions: usize)
     requires { space.now.bounds.sketch ≡ [] }
 {
     match tour(alloc, space) {
@@ -38,7 +38,7 @@ fn tour_is_made(rt: &impl Abort, alloc: Global, kind: LockKind, threads: u8, tra
     requires some { 0 < threads }
     requires few { threads ≤ 64 }
 {
-    let bounds = Bounds::new(1, Vec::new(alloc));
+    let bounds = Bounds::new(1, &[]);
     match Space::explore(alloc, kind, threads, 64, bounds, 2000) {
         Ok(space) => {
             match space.graph(alloc) {
@@ -63,7 +63,7 @@ fn tours_of_small_locks(rt: HostRuntime) {
 
 // The tour of one thread has so many runs, and so many moves in all.
 fn ways_of_one(rt: &impl Abort, alloc: Global, kind: LockKind, runs: usize, moves: usize) {
-    let bounds = Bounds::new(1, Vec::new(alloc));
+    let bounds = Bounds::new(1, &[]);
     match Space::explore(alloc, kind, 1, 64, bounds, 10) {
         Ok(space) => match tour(alloc, &space) {
             Ok(found) => {
@@ -88,7 +88,7 @@ fn tours_of_one_thread(rt: HostRuntime) {
 #[test]
 fn each_request_refused_in_a_tour(rt: HostRuntime) {
     let alloc = rt.alloc();
-    let bounds = Bounds::new(1, Vec::new(alloc));
+    let bounds = Bounds::new(1, &[]);
     let Ok(space) = Space::explore(alloc, LockKind::Ticket, 2, 64, bounds, 41) else {
         return assert!(rt; false, "41 states");
     };
