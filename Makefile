@@ -8,7 +8,7 @@ PROGRAM := crates/lockreplay/out/lockreplay
 TRACER  := crates/locktrace/out/locktrace
 LESSON  := examples/ticket-hand-over.schedule
 MODULE  := crates/lk_page/out/lockreplay.wasm
-MODULE_SOURCES := $(call sources_of,lk_words lk_locks lk_replay lk_page)
+MODULE_SOURCES := $(call sources_of,lk_words lk_locks lk_replay lk_trace lk_search lk_page)
 # the check of a trace, for C
 LIBRARY := crates/lk_trace_c/out/liblk_trace_c.a
 # the crate with the tests, in some of which each request for memory is refused in turn
@@ -118,6 +118,7 @@ test-page: $(MODULE) $(PROGRAM) tools
 	tests/wanted.sh page browsers
 	node page/build.mjs $(MODULE) --check
 	tests/page/module.mjs $(MODULE)
+	tests/page/moments.mjs $(MODULE)
 	tests/page/known.mjs $(MODULE)
 	tests/page/run.py $(PROGRAM)
 

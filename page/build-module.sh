@@ -12,7 +12,7 @@ readonly TARGET=wasm64-unknown-unknown
 export JOBS=${JOBS:-$(nproc)}
 
 kit=$(dirname "$(rt doc)")
-[ -n "${BUILT-}" ] || (cd crates/lk_replay && rt lib --jobs "$JOBS")
+[ -n "${BUILT-}" ] || (cd crates/lk_search && rt lib --jobs "$JOBS")
 tests/static_library.py lk_page "$TARGET" out/liblk_page_wasm.a
 cd crates/lk_page/out
 "$kit/bin/rattle-link" --target "$TARGET" --toolchain "$kit/toolchain" \

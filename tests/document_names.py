@@ -17,7 +17,7 @@ FILE = re.compile(r"[\w./*-]+\.(md|py|rt|antt|sh|c|h|js|mjs|html|schedule|report
                   r"png|log|trace)")
 # What defines a name, in Rattle, in its definitions, and in the other languages.
 DEFINED = [re.compile(pattern, re.MULTILINE) for pattern in (
-    r"^\s*(?:export )?(?:pub(?:\(\w+\))? )?(?:unsafe )?"
+    r"^\s*(?:export )?(?:pub(?:\(\w+\))? )?(?:unsafe )?(?:extern \"C\" )?"
     r"(?:fn|struct|enum|trait|type|mod|const|static|class|function|let) (?:mut )?(\w+)",
     r"^(?:pub |pub\(\w+\) )?(?:abbrev|unfoldable|record|data|mod)(?: pub)? ([\w'-]+)",
     r"^(?:pub )?([\w'-]+) :",

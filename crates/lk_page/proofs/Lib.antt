@@ -11,3 +11,4 @@ pub mod Threads
 pub mod OwnedBytes
 pub mod Turns
 pub mod StateBytes
+pub mod Seeking

@@ -6,3 +6,5 @@ pub mod Changes
 pub mod Layout
 pub mod Written
 pub mod Playing
+pub mod Asked
+pub mod Sought

@@ -1,27 +1,37 @@
 //! A schedule in a page: its text is read and played by the proved machine, and written out move
-//! by move for a page to draw. This project's own.
+//! by move for a page to draw; and a shortest run is looked for that has the lines of a sketch.
+//! This project's own.
 //!
 //! It is built to a WebAssembly module that imports nothing. An exported function takes no memory
-//! there, so text, records and state are slices that the page lends. page/MODULE.md lists their
-//! bytes.
+//! there, so all that it reads and writes are slices that the page lends. page/MODULE.md lists
+//! their bytes.
 #![tactic(auto)]
 
 ghost use Rattle.std.specs.Prelude.{◌≡◌, ◌<◌, ◌≤◌, length};
 ghost use Rattle.lk_replay.specs.Schedule.{plan_of};
+ghost use Rattle.lk_search.specs.Kinds.{kind_count};
+ghost use Rattle.lk_page.specs.Asked.{IsAsked, asked_by, lock_of};
+ghost use Rattle.lk_page.specs.Sought.{IsAnswered, states_within};
 ghost use Rattle.lk_page.specs.Written.{IsTold};
 
+mod asking;
 mod changes;
 mod codes;
+mod finding;
+mod kind_texts;
 mod layout;
 mod next;
 mod owned;
 mod playing;
 mod record;
+mod sought;
 mod state;
 #[cfg(test)]
 mod tests;
 mod told;
 
+use finding::answer;
+use kind_texts::{count_kinds, put_kind};
 use playing::play_text;
 
 /// Reads a schedule text, plays at most `most` of its moves up to the first refused one, writes a
@@ -38,4 +48,62 @@ pub extern "C" fn play(text: &[u8], most: u64, records: &mut [u8], state: &mut [
         → IsTold (plan_of text.now) most result records.old records.new state.old state.new }
 {
     play_text(text, most, records, state)
+}
+
+/// Looks for a shortest run of a new lock with this number that has the lines of a sketch, in their
+/// order, with other moves between them. Each thread takes the lock at most `rounds` times, and at
+/// most `most` states are searched, or as many as fit into `cells` and `slots`.
+///
+/// It returns 0 if there is one, and writes the codes of its moves into the last places of `codes`;
+/// 1 if no run has the lines; 2 if there are more states; 3 if the run has more moves than `codes`
+/// has places; 4 if a line is none of a sketch, 5 if it is number 256, and 6 if there is no room
+/// for what it admits. The moves, states or line are written to the first place of `number`. It
+/// returns 7 if there is no such lock or the text has more than 65,535 bytes, and 8 if `number` is
+/// empty, and nothing is written then.
+#[unsafe(no_mangle)]
+pub extern "C" fn find_moment(
+    text: &[u8],
+    lock: u64,
+    threads: u64,
+    bits: u64,
+    rounds: u64,
+    most: u64,
+    cells: &mut [u64],
+    slots: &mut [u32],
+    codes: &mut [u64],
+    number: &mut [u64],
+) -> u64
+    ensures short { length number.old ≡ 0
+        → (result ≡ 8) × (codes.new ≡ codes.old) × (number.new ≡ number.old) }
+    ensures unasked { 0 < length number.old
+        → ¬ (IsAsked lock threads bits rounds × (length text.now < 65536))
+        → (result ≡ 7) × (codes.new ≡ codes.old) × (number.new ≡ number.old) }
+    ensures answered { let asked = asked_by lock threads bits rounds in
+        0 < length number.old → IsAsked lock threads bits rounds → length text.now < 65536
+        → IsAnswered text.now asked (states_within most (length cells.old) asked) codes.new result
+        number.old number.new }
+{
+    answer(
+        text, lock, threads, bits, rounds, most, cells, slots, codes, number,
+    )
+}
+
+/// How many kinds of transition the lock with this number has, and 0 if there is no such lock.
+#[unsafe(no_mangle)]
+pub extern "C" fn kinds(lock: u64) -> u64
+    ensures count { lock < 4 → result ≡ kind_count (lock_of lock) }
+    ensures none { 4 ≤ lock → result ≡ 0 }
+{
+    count_kinds(lock)
+}
+
+/// Writes what a kind of transition is called, and the lines of a sketch of which each shortest run
+/// of two threads has a transition of this kind. A line feed is between two of them. Returns how
+/// many bytes that are: 0 if there is no such kind, or `text` is too short.
+#[unsafe(no_mangle)]
+pub extern "C" fn kind_text(lock: u64, kind: u64, text: &mut [u8]) -> u64
+    ensures fits { result ≤ length text.old }
+    ensures size { length text.new ≡ length text.old }
+{
+    put_kind(lock, kind, text)
 }

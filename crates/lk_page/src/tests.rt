@@ -1,6 +1,6 @@
 //! What a page learns of short schedules. What they expect was made by hand.
 
-use crate::play;
+use crate::{find_moment, kind_text, kinds, play};
 use std::process::Abort;
 
 #[test]
@@ -150,4 +150,59 @@ fn so_many_moves_as_are_asked_for(rt: HostRuntime) {
     );
     assert_eq!(rt; play(LATE_LINK, 10, &mut [], &mut state), 0);
     assert_eq!(rt; (state[28], state[48]), (10, 2));
+}
+
+#[test]
+fn a_failed_compare_and_swap_is_found(rt: HostRuntime) {
+    let (mut cells, mut slots) = ([0u64; 2600], [0u32; 512]);
+    let (mut codes, mut number) = ([0u64; 16], [0u64; 1]);
+    let answer = find_moment(
+        b"* cas failed",
+        1,
+        2,
+        64,
+        1,
+        999,
+        &mut cells,
+        &mut slots,
+        &mut codes,
+        &mut number,
+    );
+    // nine moves, of which the last meets the line: the compare-and-swap, which has place 10
+    assert_eq!(rt; (answer, number[0], codes[15] / 256), (0, 9, 21));
+    // the first is a call, and meets none
+    assert_eq!(rt; (codes[6], codes[7] / 256), (0, 0));
+}
+
+#[test]
+fn who_has_left_does_not_come_back(rt: HostRuntime) {
+    let (mut cells, mut slots) = ([0u64; 2600], [0u32; 512]);
+    let (mut codes, mut number) = ([7u64; 16], [0u64; 1]);
+    let text = b"0 cas done\n0 swap\n";
+    let answer = find_moment(
+        text,
+        1,
+        2,
+        64,
+        1,
+        999,
+        &mut cells,
+        &mut slots,
+        &mut codes,
+        &mut number,
+    );
+    assert_eq!(rt; (answer, number[0]), (1, 76));
+}
+
+#[test]
+fn a_kind_has_a_name_and_a_sketch(rt: HostRuntime) {
+    assert_eq!(rt;
+        (kinds(0), kinds(1), kinds(2), kinds(3), kinds(4)),
+        (7, 16, 12, 15, 0)
+    );
+    let mut text = [0u8; 25];
+    assert_eq!(rt; kind_text(0, 0, &mut text), 25);
+    assert_eq!(rt; text.as_slice(), b"acquire: called\n* acquire".as_slice());
+    let mut short = [0u8; 24];
+    assert_eq!(rt; kind_text(0, 0, &mut short), 0);
 }

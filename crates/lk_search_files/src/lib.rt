@@ -6,7 +6,6 @@
 //! program `locktrace` gives them its words.
 #![tactic(auto)]
 
-mod admitting;
 mod asked;
 mod covering;
 mod drawing;

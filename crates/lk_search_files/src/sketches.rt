@@ -1,10 +1,9 @@
 //! A sketch of a run, read line by line: a header, and lines of a trace in which parts are open.
 
-use crate::admitting::admit;
 use crate::asked::Shape;
 use lk_replay::parts::{is_skipped, number_of};
-use lk_search::{Admitted, Bounds};
-use lk_trace::{MOST_OF_A_LINE, TextFault, read_header};
+use lk_search::{Admitted, Bounds, admit};
+use lk_trace::{TextFault, read_header};
 use std::alloc::{AllocError, Global};
 use thiserror::Error;
 
@@ -109,7 +108,8 @@ impl Sketch {
         let Ok(text) = str::from_utf8(line) else {
             return Ok(Some(SketchFault::BadLine));
         };
-        if line.len() > MOST_OF_A_LINE || !admit(alloc, &mut self.admitted, shape, number, line)? {
+        let (kind, threads) = (shape.kind, shape.threads);
+        if !admit(&mut self.admitted, kind, threads, number, line)? {
             return Ok(Some(SketchFault::BadLine));
         }
         self.lines.push(String::from_str(alloc, text)?)?;

@@ -4,6 +4,7 @@ pub mod rw_simple
 pub mod rw_fifo
 pub mod Names
 pub mod Lines
+pub mod Open
 pub mod Checks
 pub mod Agreement
 pub mod Traces

@@ -1,11 +1,11 @@
 //! A line of a trace or of a log, read: a move, and what its thread saw.
 
-ghost use Rattle.std.specs.Prelude.{◌≡◌, [], ◌∷◌, IfSome, MatchOption, None, Some};
+ghost use Rattle.std.specs.Prelude.{◌≡◌, [], ◌∷◌, IfSome, MatchOption, None, Some, codes};
 ghost use Rattle.lk_replay.specs.Lines.{words_of};
 ghost use Rattle.lk_trace.specs.Lines.{counted, counted_and, move_with, owner_of};
 ghost use Rattle.lk_trace.specs.Lines.{place_in, result_alone, result_of, section_of, seen_of};
 ghost use Rattle.lk_trace.specs.Lines.{short_line_of, short_log_line_of, tagged, values_of};
-ghost use Rattle.lk_trace.specs.Lines.{whole_number, words_left};
+ghost use Rattle.lk_trace.specs.Lines.{whole_number, with_found, words_left};
 
 use crate::WordName;
 use crate::numbers::whole_number;
@@ -43,10 +43,10 @@ pub struct TraceLine {
 }
 
 /// What is left of a line after a part of it.
-type Rest<'a> = Option<&'a [u8]>;
+pub(crate) type Rest<'a> = Option<&'a [u8]>;
 
 // The first word of what is left of a line, and what is left after it.
-fn first_word(rest: Rest<'_>) -> Option<(&[u8], Rest<'_>)>
+pub(crate) fn first_word(rest: Rest<'_>) -> Option<(&[u8], Rest<'_>)>
     ensures { MatchOption result (words_left rest.entry ≡ [])
         (λ cut. words_left rest.entry ≡ cut.0.now ∷ words_left cut.1) }
 {
@@ -149,6 +149,13 @@ fn values_of(rest: Rest<'_>, thread: u8, kind: StepKind) -> Option<Seen>
     ensures { result ≡ values_of thread kind (words_left rest.entry) }
 {
     let (word, rest) = place_in(rest, thread)?;
+    values_on(rest, word, kind)
+}
+
+// What a step saw of this word.
+pub(crate) fn values_on(rest: Rest<'_>, word: WordName, kind: StepKind) -> Option<Seen>
+    ensures { result ≡ with_found kind word (tagged (codes "found") (words_left rest.entry)) }
+{
     let (found, rest) = tagged(rest, b"found")?;
     let (left, rest) = tagged(rest, b"left")?;
     let wrote = result_of(rest, kind)?;
@@ -218,7 +225,7 @@ fn seen_of(rest: Rest<'_>, thread: u8, action: Move) -> Option<Seen>
 }
 
 // The move of this thread that the words are.
-fn move_with(rest: Rest<'_>, thread: u8) -> Option<TraceLine>
+pub(crate) fn move_with(rest: Rest<'_>, thread: u8) -> Option<TraceLine>
     ensures { result ≡ move_with thread (words_left rest.entry) }
 {
     let (word, rest) = first_word(rest)?;
