@@ -23,8 +23,8 @@ function clicks(page) {
     leave: () => page.toggleHall(), 'show-view': () => page.showView(), menu: () => toggleMenu(),
     link: () => address.copy(), print: () => page.showSheets(), theme: () => toggleTheme(page),
     'show-keys': () => page.showKeys(), 'show-about': () => page.showAbout(),
-    'show-take': () => page.showTake(), undo: () => playing.undo(),
-    'undo-own': () => playing.undo(), save: () => editing.save(),
+    'show-take': () => page.showTake(), 'show-find': () => page.showFind(),
+    undo: () => playing.undo(), 'undo-own': () => playing.undo(), save: () => editing.save(),
     copy: () => editing.copy(), open: () => byId('file').click(),
     clear: () => page.openOwn(new TextEncoder().encode(texts.own.template)),
   };
@@ -41,6 +41,11 @@ function partsThatAreDrawn(page) {
   byId('choices').addEventListener('click', (event) => {
     const { thread, word } = event.target.closest('[data-word]')?.dataset ?? {};
     if (word) page.playing.choose(Number(thread), word);
+  });
+  byId('soon').addEventListener('toggle', () => page.draw());
+  byId('soon-list').addEventListener('click', (event) => {
+    const { soon } = event.target.dataset;
+    if (soon) page.playing.chooseSoon(Number(soon));
   });
   for (const id of ['verdict', 'nothing-verdict']) {
     byId(id).addEventListener('click', (event) => {
@@ -77,11 +82,13 @@ function files(page) {
   });
 }
 
-// The numbers of a new schedule go as far as the machine takes them.
+// The numbers of a lock go as far as the machine takes them.
 function limitNumbers({ threads, bits }) {
-  const { elements } = byId('new');
-  for (const [name, [min, max]] of Object.entries({ threads, bits })) {
-    Object.assign(elements[name], { min, max });
+  for (const form of ['new', 'find-form']) {
+    const { elements } = byId(form);
+    for (const [name, [min, max]] of Object.entries({ threads, bits })) {
+      Object.assign(elements[name], { min, max });
+    }
   }
 }
 

@@ -26,7 +26,7 @@ export const german = {
       first: 'Erster Zug', back: 'Ein Zug zurück', forward: 'Ein Zug vor', last: 'Letzter Zug',
       run: 'Die Züge nacheinander abspielen', pause: 'Anhalten', slider: 'Zug',
       close: 'Schließen', wider: 'Breitere Spalten', narrower: 'Schmalere Spalten',
-      take: 'Exportieren', more: 'Mehr', leave: 'Saalmodus verlassen',
+      take: 'Exportieren', find: 'Suchen', more: 'Mehr', leave: 'Saalmodus verlassen',
       speed: 'Tempo, in dem die Züge abgespielt werden',
     },
     view: {
@@ -45,6 +45,29 @@ export const german = {
       ask: 'eine Frage bei diesem Zug', enters: 'auf dem Regler: ein Thread tritt ein',
       fails: 'auf dem Regler: ein cas scheitert, oder ein Zug ist abgelehnt',
       fold: 'Threads, die nicht gezeichnet sind, und wie viele',
+    },
+    find: {
+      title: 'Einen Moment suchen',
+      hint: 'Die bewiesene Suche geht alle Läufe einer neuen Sperre durch und nimmt einen '
+        + 'kürzesten, der hat, was du suchst.',
+      kind: 'Welcher Zug', own: 'wie die Zeilen unten sagen',
+      sketch: 'Zeilen, die der Lauf in dieser Folge hat, mit anderen Zügen dazwischen. * ist '
+        + 'irgendein Thread.',
+      roundsEach: 'wie oft jeder Thread die Sperre nimmt', search: 'Suchen',
+      searching: 'Die Suche läuft …',
+      rounds: (count) => (count === 1 ? 'einmal' : `${count}-mal`),
+      comment: (threads, rounds) => `Ein kürzester Lauf mit diesen Zeilen, mit ${threads}, von `
+        + `denen jeder die Sperre höchstens ${rounds} nimmt:`,
+      nowhere: (threads, rounds, states) => `Kein Lauf mit ${threads}, von denen jeder die Sperre `
+        + `höchstens ${rounds} nimmt, hat diese Zeilen: Alle ${states} Zustände sind durchsucht.`,
+      tooLarge: (states) => `Nicht entschieden: ${states} Zustände gefunden, mehr als diese Seite `
+        + 'durchsucht. Nimm weniger Threads oder Runden.',
+      longRun: 'Der kürzeste Lauf ist zu lang für diese Seite.',
+      badLine: (line) => `Zeile ${line} ist keine Zeile einer Skizze. Eine Zeile ist die Nummer `
+        + 'eines Threads oder *, und ein Aufruf oder Schritt, wie „* cas failed“.',
+      manyLines: (line) => `Zeile ${line} ist eine zu viel: Eine Skizze hat höchstens 255 Zeilen.`,
+      noRoom: (line) => `Zeile ${line} erlaubt zu viele Züge. Nenne ihren Thread oder ihr Wort.`,
+      notAsked: 'Eine solche Sperre gibt es nicht. Viele Threads brauchen breitere Wörter.',
     },
     take: {
       title: 'Exportieren', svg: 'Dieser Zustand als Bild (SVG)',
@@ -172,7 +195,12 @@ export const german = {
       hint: 'Wähle, wer als nächster zieht. Die Maschine spielt, was du wählst.',
       branch: (move) => `Was du hier wählst, ist der nächste Zug nach Zug ${move}.`,
       every: 'Jeder Zug, auch die, die abgelehnt werden',
-      undo: 'Rückgängig', next: 'nächster', may: 'darf aufrufen', newLock: 'Neuer Ablauf',
+      undo: 'Rückgängig', next: 'nächster', may: 'darf aufrufen',
+      soon: 'Was als Nächstes geschehen kann',
+      inMoves: (count) => (count === 1 ? 'in 1 Zug' : `in ${count} Zügen`),
+      soonCut: 'Was weiter weg ist, wurde nicht gesucht.',
+      soonFar: (most) => `Das wird nach höchstens ${most} Zügen gezeigt.`,
+      newLock: 'Neuer Ablauf',
       lock: 'Sperre', threads: 'Threads', bits: 'Bits', begin: 'Beginnen',
       full: 'Ein Ablauf hat höchstens 65.536 Züge.',
       faulty: 'Der Text hat einen Fehler. Behebe ihn, oder beginne einen neuen Ablauf.',
@@ -266,6 +294,7 @@ export const german = {
         ['L', 'Link zu diesem Zug kopieren'],
         ['P', 'drucken: mit Antworten, oder ein Übungsblatt'],
         ['H', 'Saalmodus: große Schrift, zwei Teile'],
+        ['M', 'einen Moment suchen: einen kürzesten Lauf mit einem Zug oder mit eigenen Zeilen'],
         ['V', 'Ansicht: welche Teile gezeigt werden'],
         ['F', 'spätere Züge blass zeichnen'],
         ['T', 'exportieren: Bild, Bericht, Ablauf, ein Rahmen für eine Folie'],

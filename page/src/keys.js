@@ -22,7 +22,7 @@ function actions(page) {
     q: () => modes.toggleQuiz(),
     w: () => page.mode === 'play' && playing.toggleEvery(),
     c: () => comparing.toggle(), u: () => playing.undo(), l: () => address.copy(),
-    t: () => page.showTake(),
+    t: () => page.showTake(), m: () => page.showFind(),
     h: () => page.toggleHall(), v: () => page.showView(), f: () => page.toggleFuture(),
     p: () => page.showSheets(), d: () => toggleTheme(page), '?': () => page.showKeys(),
     '.': () => stepping.faster(1), ',': () => stepping.faster(-1),

@@ -1,7 +1,6 @@
-// The proved machine, a WebAssembly module with 64-bit memory. Its one function reads a schedule
-// text, plays it, and writes a record for each move and the state after the last one. This file
-// copies the text in and the bytes out, and gives the bytes their names; it knows no rule of any
-// lock.
+// The proved machine, a WebAssembly module with 64-bit memory. Its `play` reads a schedule text,
+// plays it, and writes a record for each move and the state after the last one. This file copies
+// the text in and the bytes out, and gives the bytes their names; it knows no rule of any lock.
 
 import { linesIn } from './bytes.js';
 import { MOST_MOVES, UNLINKED, WAITS } from './codes.js';
@@ -111,6 +110,12 @@ export class State {
   recordName(thread) { return this.bytes[threadAt(thread) + 5]; }
   phaseNumber(thread) { return this.view.getBigUint64(threadAt(thread) + 8, true); }
   word(index) { return this.view.getBigUint64(WORDS_AT + 8 * index, true); }
+  // Threads and words alone: the same for two states, however they were reached.
+  get situation() {
+    const threads = this.bytes.subarray(THREADS_AT, threadAt(this.threads));
+    const words = this.bytes.subarray(WORDS_AT, WORDS_AT + 8 * this.wordCount);
+    return `${threads.join()};${words.join()}`;
+  }
 }
 
 // The records of all moves played. Moves are counted from 1.

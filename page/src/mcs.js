@@ -297,7 +297,18 @@ function mark(view, move) {
   return valueText(records.touched(move), records.found(move), view);
 }
 
+// Its kinds of transition in the module's order: phase before, outcome, phase after.
+const KINDS = [
+  'Idle called ClearNext', 'ClearNext moved SwapTail', 'SwapTail entered McsInside',
+  'SwapTail moved SetLocked', 'SetLocked moved LinkTo', 'LinkTo moved AwaitGrant',
+  'AwaitGrant waits AwaitGrant', 'AwaitGrant entered McsInside', 'McsInside called ReadNext',
+  'ReadNext moved CasTail', 'ReadNext moved Grant', 'CasTail left Idle',
+  'CasTail moved AwaitLink', 'AwaitLink waits AwaitLink', 'AwaitLink moved Grant',
+  'Grant left Idle',
+];
+
 export const mcs = {
+  kinds: KINDS,
   name: 'mcs', title: T.title, lesson: 'mcs', memory: T.memory,
   signs: ['fails', 'inCall', 'line', 'holds', 'unlinked', 'ended'],
   says, mark, variant, values,

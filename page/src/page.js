@@ -5,6 +5,7 @@ import { aboutDialog } from './about.js';
 import { Address } from './address.js';
 import { Comparing } from './comparing.js';
 import { Editing } from './editing.js';
+import { findDialog } from './find.js';
 import { keysDialog } from './keys.js';
 import { lessonsDialog } from './lessons.js';
 import { Modes } from './modes.js';
@@ -37,6 +38,7 @@ export class Page {
     this.showAbout = aboutDialog((name) => this.address.inLanguage(name));
     this.showTake = takeDialog(this);
     this.showView = viewDialog(this);
+    this.showFind = findDialog(this);
     this.sheet = 'worked';
     this.showSheets = sheetsDialog((sheet) => this.print(sheet));
   }

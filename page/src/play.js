@@ -52,10 +52,13 @@ export function playView(session, state, every) {
     <ul class="threads">${threads.map(row)}</ul>`;
 }
 
+export const headerOf = (lock, threads, bits) => (
+  `lock ${lock} threads ${threads}${String(bits) === '64' ? '' : ` bits ${bits}`}\n`);
+
 // The header of a new schedule. Whether it is one the machine says.
 export function newHeader(form) {
   const { lock, threads, bits } = Object.fromEntries(new FormData(form));
-  return `lock ${lock} threads ${threads}${bits === '64' ? '' : ` bits ${bits}`}\n`;
+  return headerOf(lock, threads, bits);
 }
 
 export function lockOptions() {

@@ -3,6 +3,7 @@
 import { bytesOf } from './bytes.js';
 import { byId } from './markup.js';
 import { hasRoom, newHeader } from './play.js';
+import { Soon } from './soon.js';
 
 const MOST_UNDONE_BYTES = 16000000;
 
@@ -12,6 +13,8 @@ export class Playing {
     this.undone = [];
     // Whether moves are offered that would be refused.
     this.every = false;
+    // What can happen next, if the reader wants to see it.
+    this.soon = new Soon(page.session);
   }
 
   get possible() {
@@ -19,12 +22,17 @@ export class Playing {
     return mode === 'play' && session.run.hasLock && !session.machine.stored;
   }
 
-  choose(thread, word) {
+  choose(thread, word) { this.goOn([`${thread} ${word}`]); }
+
+  // Goes on with the moves to a transition that can happen next.
+  chooseSoon(at) { this.goOn(this.soon.now().ways[at][1]); }
+
+  goOn(moves) {
     const { session } = this.page;
     if (!this.possible || !hasRoom(session)) return;
     this.remember('play');
-    const { letters, plain } = session.textWith(`${thread} ${word}`);
-    this.page.derive(bytesOf(letters, plain), session.move + 1);
+    const { letters, plain } = session.textWith(moves.join('\n'));
+    this.page.derive(bytesOf(letters, plain), session.move + moves.length);
     if (!session.stale.length) return;
     session.leaveOutStale();
     this.page.show();

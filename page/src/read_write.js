@@ -142,6 +142,15 @@ export function sectionMark(lock, shortNames) {
 }
 
 // What the entries of `locks.js` share. The calls have long words, so the columns are wide.
+// The kinds of transition of both in the module's order: phase before, outcome, phase after.
+const KINDS = [
+  'Idle called TryRead', 'TryRead entered Reading', 'TryRead waits TryRead',
+  'Reading called LeaveRead', 'LeaveRead left Idle', 'Idle called TryWrite',
+  'TryWrite entered Writing', 'TryWrite waits TryWrite', 'Writing called LeaveWrite',
+  'LeaveWrite left Idle', 'Writing called TryDowngrade', 'TryDowngrade entered Reading',
+];
+
 export const readWrite = {
+  kinds: KINDS,
   memory: T.memory, leastColumn: 56, valueText: (_, value) => String(value),
 };

@@ -90,8 +90,15 @@ function values(view, move) {
 
 const leastWidth = (view) => (hasWheel(view.run.bits) ? 494 : 380);
 
+// The kinds that the simple lock does not have.
+const MORE_KINDS = [
+  'TryWrite moved AwaitReaders', 'AwaitReaders waits AwaitReaders',
+  'AwaitReaders entered Writing',
+];
+
 export const rwFifo = {
   ...readWrite, name: NAME, title: T.title, lesson: 'fifo',
+  kinds: [...readWrite.kinds, ...MORE_KINDS],
   signs: ['inCall', 'line', 'reads', 'writes', 'ended'],
   says, wraps: ['TryRead', 'LeaveRead', 'TryDowngrade'],
   mark: sectionMark(NAME, { [ACQUIRES]: 'acq.', [RELEASES]: 'rel.' }), values,

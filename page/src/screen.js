@@ -30,6 +30,7 @@ export function drawPage(page) {
   if (run.hasLock) drawTexts(page, view, state);
   if (run.hasLock && page.mode === 'play') {
     show(byId('choices'), playView(session, state, page.playing.every));
+    if (byId('soon').open) show(byId('soon-list'), page.playing.soon.view());
   }
   drawPictures(page, view, state, sizes);
 }

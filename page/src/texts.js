@@ -44,8 +44,31 @@ const english = {
     copyLink: 'Link', print: 'Print', dark: 'Dark', light: 'Light', keys: 'Keys',
     first: 'First move', back: 'One move back', forward: 'One move forward', last: 'Last move',
     run: 'Play the moves one after another', pause: 'Pause', slider: 'Move', close: 'Close',
-    wider: 'Wider columns', narrower: 'Narrower columns', take: 'Export',
+    wider: 'Wider columns', narrower: 'Narrower columns', take: 'Export', find: 'Find',
     more: 'More', leave: 'Leave hall mode', speed: 'Speed at which the moves are played',
+  },
+  find: {
+    title: 'Find a moment',
+    hint: 'The proved search looks through all runs of a new lock for a shortest one that has what '
+      + 'you ask for.',
+    kind: 'Which move', own: 'as the lines below say',
+    sketch: 'Lines that the run has, in this order, with other moves between them. * is any '
+      + 'thread.',
+    roundsEach: 'times that each thread may take the lock', search: 'Find',
+    searching: 'Searching …',
+    rounds: (count) => (count === 1 ? 'once' : `${count} times`),
+    comment: (threads, rounds) => `A shortest run of ${threads}, each of which takes the lock at `
+      + `most ${rounds}, with these lines:`,
+    nowhere: (threads, rounds, states) => `No run of ${threads}, each of which takes the lock at `
+      + `most ${rounds}, has these lines: all ${states} states were searched.`,
+    tooLarge: (states) => `Not decided: ${states} states were found, more than this page searches. `
+      + 'Take fewer threads or rounds.',
+    longRun: 'The shortest run is too long for this page.',
+    badLine: (line) => `Line ${line} is not a line of a sketch. A line is a thread’s number or *, `
+      + 'and a call or a step, as in “* cas failed”.',
+    manyLines: (line) => `Line ${line} is one too many: a sketch has at most 255 lines.`,
+    noRoom: (line) => `Line ${line} allows too many moves. Name its thread or its word.`,
+    notAsked: 'There is no such lock. Many threads need wider words.',
   },
   take: {
     title: 'Export', svg: 'This state as a picture (SVG)',
@@ -193,6 +216,10 @@ const english = {
     next: 'next',
     may: 'may call',
     newLock: 'New schedule',
+    soon: 'What can happen next',
+    inMoves: (count) => (count === 1 ? 'in 1 move' : `in ${count} moves`),
+    soonCut: 'What is further away was not searched.',
+    soonFar: (most) => `This is shown after at most ${most} moves.`,
     lock: 'lock', threads: 'threads', bits: 'bits', begin: 'Begin',
     full: 'A schedule has at most 65,536 moves.',
     faulty: 'The text has a fault. Correct it, or begin a new schedule.',
@@ -253,6 +280,7 @@ const english = {
       ['L', 'copy a link to this move'],
       ['P', 'print: with answers, or an exercise sheet'],
       ['H', 'hall mode: large letters, two parts'],
+      ['M', 'find a moment: a shortest run with a move, or with lines that you write'],
       ['V', 'view: which parts are shown'],
       ['F', 'draw later moves too, faintly'],
       ['T', 'export: picture, report, schedule, a frame for a slide'],

@@ -186,7 +186,15 @@ const values = (view, move) => ({ number: view.run.phaseNumberBefore(move) });
 
 const leastWidth = (view) => (hasWheel(view.run.bits) ? 466 : 446);
 
+// Its kinds of transition in the module's order: phase before, outcome, phase after.
+const KINDS = [
+  'Idle called TakeTicket', 'TakeTicket moved AwaitTurn', 'AwaitTurn entered TicketInside',
+  'AwaitTurn waits AwaitTurn', 'TicketInside called ReadServing', 'ReadServing moved PassOn',
+  'PassOn left Idle',
+];
+
 export const ticket = {
+  kinds: KINDS,
   name: NAME, title: T.title, lesson: 'ticket', memory: T.memory,
   signs: ['inCall', 'line', 'holds', 'ended'],
   says, wraps: ['TakeTicket', 'PassOn'], mark, values,

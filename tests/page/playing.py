@@ -13,7 +13,7 @@ POSITION = "return document.getElementById('position').textContent"
 
 
 def begin(driver, lock, threads, bits):
-    details = driver.find_element(By.CSS_SELECTOR, "#play details")
+    details = driver.find_element(By.CSS_SELECTOR, "#play details:has(#new)")
     if details.get_attribute("open") is None:
         details.find_element(By.TAG_NAME, "summary").click()
     Select(driver.find_element(By.ID, "new-lock")).select_by_value(lock)

@@ -48,6 +48,7 @@ IN_BOTH = [
     "guide",
     "edits",
     "undoing",
+    "finding",
 ]
 # Measured, so by itself.
 ALONE = ["large"]

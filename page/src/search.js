@@ -1,0 +1,81 @@
+// Looking for a moment: the module searches all schedules of a lock for a shortest run that has the
+// lines of a sketch. This file lends the memory, and gives the numbers their names. Whether a run
+// has a line the module says.
+
+import { bytesOf, lettersOf } from './bytes.js';
+import { CALLS, STEPS } from './codes.js';
+
+export const FOUND = {
+  run: 0, nowhere: 1, tooLarge: 2, longRun: 3, badLine: 4, manyLines: 5, noRoom: 6, notAsked: 7,
+};
+
+// About a second of search. A state of 64 threads takes 261 cells, so the cells have a bound of
+// their own, 64 MB.
+const MOST_STATES = 250000;
+const MOST_CELLS = 1 << 23;
+const MOST_MOVES_FOUND = 4096;
+const LONGEST_KIND = 256;
+const BYTE = 1;
+const SLOT = 4;
+const CELL = 8;
+
+// Slices one after another, from the beginning of the memory that the page may use.
+function lendSlices(machine, shapes) {
+  let end = machine.base;
+  const slices = shapes.map(([length, size]) => {
+    const at = end;
+    end += length * size;
+    return { at, length };
+  });
+  machine.lend(end - machine.base);
+  // The text that was played last is overwritten.
+  machine.text = null;
+  return slices;
+}
+
+const asked = (slices) => slices.flatMap(({ at, length }) => [BigInt(at), BigInt(length)]);
+
+// How many states a search may have: as many as their cells have room for.
+const statesFor = (width) => Math.min(MOST_STATES, Math.floor(MOST_CELLS / width));
+
+// Of each kind of transition of a lock what it is called, and the lines of a sketch that has it.
+export function textsOfKinds(machine, lock) {
+  const count = Number(machine.exports.kinds(BigInt(lock)));
+  return Array.from({ length: count }, (_, kind) => {
+    const [text] = lendSlices(machine, [[LONGEST_KIND, BYTE]]);
+    const length = machine.exports.kind_text(BigInt(lock), BigInt(kind), ...asked([text]));
+    const { buffer } = machine.exports.memory;
+    const { letters } = lettersOf(new Uint8Array(buffer, text.at, Number(length)));
+    return letters.split('\n');
+  });
+}
+
+// A move by its code: 512 times its place among calls and steps, and its thread.
+function moveOf(code) {
+  const place = code >> 9;
+  const word = place < CALLS.length ? CALLS[place] : STEPS[place - CALLS.length + 1];
+  return `${code & 255} ${word}`;
+}
+
+// A shortest run of a new lock with the lines of the sketch, as lines of a schedule. `state` is the
+// lock's in the beginning, as played; each thread takes the lock at most `rounds` times. Answers
+// what the module answered, its number, and the run.
+export function find(machine, state, rounds, sketch) {
+  const text = bytesOf(sketch);
+  const width = 4 + state.wordCount + 2 * state.threads;
+  const states = statesFor(width);
+  const [number, codes, cells, slots, lines] = lendSlices(machine, [
+    [1, CELL], [MOST_MOVES_FOUND, CELL], [states * width, CELL], [2 * states, SLOT],
+    [text.length, BYTE],
+  ]);
+  new Uint8Array(machine.exports.memory.buffer, lines.at, lines.length).set(text);
+  const numbers = [state.kind, state.threads, state.bits, rounds, states].map(BigInt);
+  const answer = Number(machine.exports.find_moment(...asked([lines]), ...numbers,
+    ...asked([cells, slots, codes, number])));
+  const { buffer } = machine.exports.memory;
+  const count = Number(new BigUint64Array(buffer, number.at, 1)[0]);
+  if (answer !== FOUND.run) return { answer, count, run: [] };
+  const first = codes.at + CELL * (codes.length - count);
+  const run = [...new BigUint64Array(buffer, first, count)].map((code) => moveOf(Number(code)));
+  return { answer, count, run };
+}
