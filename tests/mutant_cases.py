@@ -3,8 +3,8 @@
 
     mutant_cases.py
 
-The output of checks is that of `rt check`, shortened. No crate is checked. Each mutant and twin of
-the crates has to change the text as it is now.
+The output of checks is that of `rt check` and `rt ci`, shortened. No crate is checked. Each mutant
+and twin of the crates has to change the text as it is now.
 """
 import sys
 import tempfile
@@ -12,7 +12,7 @@ from pathlib import Path
 
 from mutant_checks import verdict_on
 from mutant_edits import BadEdit, Edit
-from mutants import TRIES, group_of
+from mutants import TRIES, group_of, proved_in
 from rattle_functions import functions_of
 from rattle_words import TOP
 from tally import Tally
@@ -75,6 +75,12 @@ VERDICTS = {
     "names that are gone": (f"{GONE}\nfn c::f: not proved", "shape"),
     "a name and an answer": (f"{GONE}\n{FALSE}\nfn c::f: not proved", "refused"),
 }
+SAID_BY_CI = """fn lk_words::most: proved
+rt: lk_words proved
+rt: lk_locks is kept: an earlier run on this machine proved the same files
+rt: lk_page: its tests are proved
+rt: lk_order NOT PROVED
+"""
 EDITS = {
     "a value": ("function: c::pairs::least\nold: 0\nnew: 1\n", "    1\n"),
     "a line that is twice in the file":
@@ -145,6 +151,7 @@ def main():
         for name, (text, part) in EDITS.items():
             tally.check(name, outcome(Path(folder), text),
                         lambda got, part=part: got is None if part is None else part in got)
+    tally.check("proved or kept", proved_in(SAID_BY_CI), {"lk_words", "lk_locks"})
     try_groups(tally)
     try_edits(tally)
     return tally.end()

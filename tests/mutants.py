@@ -13,18 +13,20 @@ if the check names its function with goals of its own; if all that is wrong is t
 what the mutant took away, only if it has a twin. One that is unclear, since its function only
 calls another that is not proved, is tried again with others, and then alone. A change of what is
 no function, as a constant, is tried alone, and the function that its edit names has to notice it.
-Crates are tried side by side, over what earlier checks kept in `out`; with --beside, each when
-`rt ci`, whose output LOG is, has proved what is below it.
+Crates are tried side by side, one check of each at a time, over what earlier checks kept in `out`;
+with --beside, each when `rt ci`, whose output LOG is, has proved what is below it.
 
 Prints each one that fares as it must not, then a table, then `N passed, M failed`.
 """
 import argparse
 import os
+import re
 import sys
 import tempfile
 import time
 from concurrent.futures import ThreadPoolExecutor
 from pathlib import Path
+from threading import BoundedSemaphore
 
 from mutant_checks import Lab, NotChecked, verdict_on
 from mutant_edits import BadEdit, Edit
@@ -32,25 +34,24 @@ from rattle_words import TOP, libraries_below
 
 SIZE = 24  # mutants in one check: more of them take more memory, and gain little
 TRIES = 2  # in company, before an unclear one is tried alone
+PROVED = re.compile(r"^rt: (\S+) (?:proved$|is kept: )", re.MULTILINE)
 
 
 class Crate:
     """The mutants and twins of one crate, and how they fare."""
 
-    def __init__(self, name, edits):
-        self.name, self.edits, self.faults = name, edits, []
+    def __init__(self, name, edits, lanes):
+        self.name, self.edits, self.lanes, self.faults = name, edits, lanes, []
         self.tries = dict.fromkeys(edits, 0)
         self.well = {True: 0, False: 0}
         self.checks, self.seconds = 0, 0.0
 
     def run(self, log):
         wait_for(libraries_below(self.name), log)
-        began = time.monotonic()
         with tempfile.TemporaryDirectory(prefix=f"mutants-{self.name}-") as room:
             lab = Lab(self.name, Path(room))
             for is_twin in (False, True):
                 self.try_all(lab, [edit for edit in self.edits if edit.is_twin is is_twin])
-        self.seconds = time.monotonic() - began
 
     def try_all(self, lab, waiting):
         """Tries edits in groups; those that are left unclear wait for another group."""
@@ -62,9 +63,8 @@ class Crate:
     def try_group(self, lab, group):
         """Tries edits in one check, and answers those that are to be tried again."""
         files, group = self.put_in(lab.files, group)
-        self.checks += 1
         try:
-            is_proved, said = lab.check(files, functions_in(group))
+            is_proved, said = self.check(lab, files, functions_in(group))
         except NotChecked as why:
             return self.without_those_in(lab, why, group)
         unclear = [edit for edit in group
@@ -72,6 +72,16 @@ class Crate:
         for edit in unclear:
             self.tries[edit] += 1
         return unclear
+
+    def check(self, lab, files, functions):
+        """A check of the lab, when there is a lane for it."""
+        with self.lanes:
+            began = time.monotonic()
+            self.checks += 1
+            try:
+                return lab.check(files, functions)
+            finally:
+                self.seconds += time.monotonic() - began
 
     def put_in(self, files, group):
         """The files with each edit in them that can be put in, and these edits."""
@@ -118,9 +128,13 @@ def functions_in(group):
 def wait_for(libraries, log):
     """Waits until the output of `rt ci`, if there is any, says that libraries are proved. Whoever
     runs both ends this if `rt ci` fails."""
-    due = {f"rt: {name} proved" for name in libraries}
-    while log and not due <= set(log.read_text().splitlines()):
+    while log and not libraries <= proved_in(log.read_text()):
         time.sleep(1)
+
+
+def proved_in(said):
+    """The crates that `rt ci` has proved, or need not prove again, by its output so far."""
+    return set(PROVED.findall(said))
 
 
 def verdict(edit, is_proved, said):
@@ -181,11 +195,10 @@ def main(words, lanes, log):
     named = {word.partition("/")[0] for word in words} - {edit.crate for edit in edits}
     for name in sorted(named):
         print(f"FAILED {name}: it has no such mutant")
-    crates = [Crate(name, [edit for edit in edits if edit.crate == name])
+    lanes = BoundedSemaphore(lanes)
+    crates = [Crate(name, [edit for edit in edits if edit.crate == name], lanes)
               for name in sorted({edit.crate for edit in edits})]
-    # those that can begin first, and of these the longest
-    crates.sort(key=lambda it: (len(libraries_below(it.name)) if log else 0, -len(it.edits)))
-    with ThreadPoolExecutor(lanes) as pool:
+    with ThreadPoolExecutor(max(len(crates), 1)) as pool:
         list(pool.map(lambda it: it.run(log), crates))
     print(*table(crates), sep="\n")
     failed = len(bad) + len(named) + sum(len(crate.faults) for crate in crates)
@@ -196,7 +209,7 @@ def main(words, lanes, log):
 if __name__ == "__main__":
     parser = argparse.ArgumentParser(description=__doc__.splitlines()[0])
     parser.add_argument("--lanes", type=int, default=len(os.sched_getaffinity(0)),
-                        help="crates that are tried side by side")
+                        help="checks that run side by side")
     parser.add_argument("--beside", type=Path, metavar="LOG", help="the output of `rt ci` so far")
     parser.add_argument("words", nargs="*", metavar="CRATE | CRATE/MISTAKE")
     given = parser.parse_args()
