@@ -4,6 +4,7 @@
 //! one `Replay`: into a `Vec` here, and into a buffer that goes out in `run`.
 
 ghost use Rattle.std.specs.Prelude.{◌≡◌, ◌++◌, IfErr, IfOk, Ok, OnOk};
+ghost use Rattle.lk_replay.specs.Ending.{ending_of};
 ghost use Rattle.lk_replay.specs.Report.{report_text};
 ghost use Rattle.lk_replay.specs.Schedule.{plan_of};
 ghost use Rattle.lk_replay.specs.Whole.{IsReportOfText};
@@ -15,6 +16,7 @@ mod status;
 mod text;
 mod words;
 
+use crate::ending::Ending;
 use crate::output_buffer::Source;
 use crate::{ReadFault, Schedule, read_schedule};
 use closings::{Closing, fault_text};
@@ -36,16 +38,24 @@ const PLACE: usize = 4_096;
 // be refused at its first.
 const FIRST_LINES: usize = 1_024;
 
-// Appends what is printed.
-fn print_into(out: &mut Vec<u8>, replay: &mut Replay<'_>) -> Result<(), AllocError>
-    ensures { OnOk result
-        (out.new.items ≡ out.old.items ++ (replay.old.lines ++ replay.old.last)) }
+/// A report, and how it ends.
+#[derive(Drop)]
+pub struct Report {
+    pub text: Vec<u8>,
+    pub ending: Ending,
+    ghost told: { ending ≡ ending_of text.items },
+}
+
+// Appends the lines that are printed, and returns the last one.
+fn print_into(out: &mut Vec<u8>, replay: &mut Replay<'_>) -> Result<Closing, AllocError>
+    ensures lines { OnOk result (out.new.items ≡ out.old.items ++ replay.old.lines) }
+    ensures last { IfOk result (λ closing. closing.line ≡ replay.old.last) }
 {
     let mut lines = [0; PLACE];
     loop {
         let len = replay.fill(&mut lines);
         if len == 0 {
-            return out.extend_from_slice(replay.closing().line.as_slice());
+            return Ok(replay.closing());
         }
         out.extend_from_slice(&lines[..len])?;
     }
@@ -66,37 +76,42 @@ pub fn read_or_fault(alloc: Global, bytes: &[u8]) -> Result<Result<Schedule, Clo
     }
 }
 
-// Reads a text, and prints its report.
-#[tactic(auto, unfolding(crate::specs::Report::report_text))]
-fn printed(alloc: Global, bytes: &[u8]) -> Result<Vec<u8>, AllocError>
-    ensures { IfOk result (λ report. report.items ≡ report_text bytes.now) }
-{
-    match read_or_fault(alloc, bytes)? {
-        Ok(schedule) => {
-            let longest = LONGEST_LINE + LONGEST_LISTED * usize::from(schedule.threads());
-            let lines = schedule.moves().len().min(FIRST_LINES);
-            let mut out = Vec::with_capacity(alloc, longest * lines + LONGEST_LAST)?;
-            print_into(&mut out, &mut Replay::new(&schedule))?;
-            out.shrink_to_fit();
-            Ok(out)
-        }
-        Err(fault) => {
-            let mut out = Vec::new(alloc);
-            out.extend_from_slice(fault.line.as_slice())?;
-            Ok(out)
-        }
+impl Report {
+    /// The report of a schedule text. A fault of the text is a report, not an error.
+    ///
+    /// # Errors
+    ///
+    /// There was no memory for the schedule or the report.
+    #[tactic(auto, unfolding(crate::specs::Report::report_text))]
+    pub fn of(alloc: Global, bytes: &[u8]) -> Result<Report, AllocError>
+        ensures { IfOk result (λ report. report.text.items ≡ report_text bytes.now) }
+    {
+        let mut text = Vec::new(alloc);
+        let closing = match read_or_fault(alloc, bytes)? {
+            Ok(schedule) => {
+                let longest = LONGEST_LINE + LONGEST_LISTED * usize::from(schedule.threads());
+                let lines = schedule.moves().len().min(FIRST_LINES);
+                text.reserve(longest * lines + LONGEST_LAST)?;
+                print_into(&mut text, &mut Replay::new(&schedule))?
+            }
+            Err(closing) => closing,
+        };
+        text.extend_from_slice(closing.line.as_slice())?;
+        text.shrink_to_fit();
+        let ending = closing.ending;
+        Ok(Report { text, ending })
     }
 }
 
-/// The report of a schedule text. A fault of the text is a report, not an error. The report of
-/// a schedule shows the legal history that its moves leave.
+/// The text of a `Report` alone. The report of a schedule shows the legal history that its moves
+/// leave.
 ///
 /// # Errors
 ///
-/// There was no memory for the schedule or the report.
+/// As of `Report::of`.
 pub fn report_of(alloc: Global, bytes: &[u8]) -> Result<Vec<u8>, AllocError>
     ensures report { IfOk result (λ report. report.items ≡ report_text bytes.now) }
     ensures promised { IfOk result (λ report. IsReportOfText bytes.now report.items) }
 {
-    printed(alloc, bytes)
+    Ok(Report::of(alloc, bytes)?.text)
 }

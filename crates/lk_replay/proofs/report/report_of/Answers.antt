@@ -1,9 +1,7 @@
 -- The law from bytes to bytes, of this report.
-use Rattle.std.proofs.lemmas.Result.{IfOk-weaker}
 use Rattle.lk_replay.proofs.Promised.{report_of_text}
 use Rattle.lk_replay.proofs.report.report_of.Goals as goal
 
 pub returns-clause-promised : goal.returns-clause-promised
 returns-clause-promised c =
-    IfOk-weaker c.printed.result _ _ (λ report is. report_of_text c.args.bytes.now report.items is)
-    c.printed.ensures
+    report_of_text c.args.bytes.now _ c.in_ok-of.ensures
