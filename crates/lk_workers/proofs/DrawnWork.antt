@@ -7,6 +7,7 @@ use native.Mathlib.Decide.{dec_le}
 use Rattle.std.proofs.Math.Nat.{add-mul}
 use Rattle.std.proofs.lemmas.List.Elements.{filter-append}
 use mathlib.Core.List.{map-append}
+use Rattle.lk_replay.specs.declared.report.Report.{Report}
 use Rattle.lk_workers.specs.Counting.{occurrences, indicator, IsEachBelow}
 use Rattle.lk_workers.proofs.Sums.{sum_over-append}
 use Rattle.lk_workers.specs.Drawing.{Counter, Drawer, drawer}
@@ -89,7 +90,7 @@ each_once texts ps drawn word work each = (
 
 -- what two groups of workers bring back is what all of them bring back
 pub done_both : (c : Counter) (texts : List (Vec ℕ Global)) (workers half rest : ℕ)
-    (front back s : Drawer) (ps qs all : List (ℕ × Vec ℕ Global))
+    (front back s : Drawer) (ps qs all : List (ℕ × Report))
     → half + rest ≡ workers
     → IsDone c texts half front ps → IsDone c texts rest back qs
     → s ≡ drawer c (front.drawn ++ back.drawn) (front.left + back.left) → all ≡ ps ++ qs
@@ -103,7 +104,7 @@ done_both c texts workers half rest front back s ps qs all sum f b seat reports 
     (drawer c (front.drawn ++ back.drawn) (front.left + back.left)) (ps ++ qs) = (
       ((refl, refl), omega (arith, k, long, x, y)),
       (
-        together (λ p. (p.0, p.1.items))
+        together (λ p. (p.0, p.1.text.items))
             (bytes_of texts) ps qs front.drawn back.drawn f.1.0 b.1.0,
         through_both (bytes_of texts) front.drawn back.drawn f.1.1,
       ),

@@ -5,7 +5,8 @@ use Rattle.std.proofs.Common.{replicate, Some, None, option_map, IsSome, drop, s
 use Rattle.std.proofs.Common.{◌∙◌, arith, append_assoc, get_or-set_same, get_or-set_other}
 use Rattle.std.proofs.Common.{ext_get_or, length-set}
 use Rattle.std.specs.Prelude.{Option}
-use mathlib.Core.List.{map-append}
+use Rattle.std.specs.List.{flat_map}
+use Rattle.std.specs.Option.{option_to_list}
 use mathlib.Core.Logic.{dite}
 use native.Mathlib.Decide.{ℕ_discrete}
 use lib.Seq.{map-set}
@@ -15,20 +16,6 @@ use Rattle.std.proofs.lemmas.List.Elements.{All-head, All-tail, All-cons}
 use Rattle.std.proofs.lemmas.List.{get_or-map, length-replicate}
 use Rattle.lk_replay.specs.Report.{report_text}
 use Rattle.lk_workers.specs.invariants.Collected.{placed, report_at, IsEachOnce}
-
-module _ {X L : Type 0} (h : X → L) where
-  pub took : (all : List X) (old rest : List (Option X)) (slot : Option X) (x : X)
-      (whole : List (Option L))
-      → old ≡ slot ∷ rest → slot ≡ Some x
-      → map (λ r. Some (h r)) all ++ map (option_map h) old ≡ whole
-      → map (λ r. Some (h r)) (all ++ x ∷ []) ++ map (option_map h) rest ≡ whole
-  took all old rest slot x whole s e i =
-      let f : X → Option L = λ r. Some (h r) in
-      let g : Option X → Option L = option_map h in
-      ap (λ l. l ++ map g rest) (map-append f all (x ∷ []))
-      ∙ append_assoc (map f all) (f x ∷ []) (map g rest)
-      ∙ ap (λ o. map f all ++ (g o ∷ map g rest)) (sym e)
-      ∙ ap (λ o. map f all ++ map g o) (sym s) ∙ i
 
 pub put : {X : Type 0} (h : X → List ℕ) (slots : List (Option X)) (old rest : List (ℕ × X)) (n : ℕ)
     (x : X) (whole : List (Option (List ℕ)))
@@ -119,14 +106,6 @@ pub unmapped : {X Y : Type 0} (P : Y → Type 0) (f : X → Y) (xs : List X) →
 unmapped P f xs a k d h =
     subst P (get_or-map f xs k d (f d) h) (a k (f d) (let l = length-map xs f in omega arith))
 
-pub all_some : {X L T : Type 0} (h : X → L) (g : T → L) (os : List (Option X)) (ts : List T)
-    → map (option_map h) os ≡ map (λ t. Some (g t)) ts → All (λ o. IsSome o) os
-all_some h g [] ts e = λ k d b. absurd (omega arith)
-all_some h g (o ∷ os) [] e = grind arith
-all_some h g (None ∷ os) (t ∷ ts) e = grind arith
-all_some h g (Some x ∷ os) (t ∷ ts) e =
-    All-cons (λ o. IsSome o) (Some x) os refl (all_some h g os ts (ap (drop 1) e))
-
 pub no_values : {X L : Type 0} (h : X → L) (n : ℕ)
     → map (option_map h) (replicate n None) ≡ replicate n None
 no_values h zero = refl
@@ -163,9 +142,13 @@ first {X} n k x rest old s a =
     let P : ℕ × X → Type 0 = λ p. p.0 < n in
     All-head P (k, x) rest (subst (All P) s a)
 
-pub unsome : {X T : Type 0} (h : X → List ℕ) (g : T → List ℕ) (xs : List X) (ts : List T)
-    → map (λ x. Some (h x)) xs ≡ map (λ t. Some (g t)) ts → map h xs ≡ map g ts
-unsome h g [] [] e = refl
-unsome h g [] (t ∷ ts) e = grind arith
-unsome h g (x ∷ xs) [] e = grind arith
-unsome h g (x ∷ xs) (t ∷ ts) e = ap₂ (λ a l. a ∷ l) (grind arith) (unsome h g xs ts (ap (drop 1) e))
+-- what is in the places, if each is filled
+pub taken : {X T : Type 0} (h : X → List ℕ) (g : T → List ℕ) (os : List (Option X)) (ts : List T)
+    → map (option_map h) os ≡ map (λ t. Some (g t)) ts
+    → map h (flat_map option_to_list os) ≡ map g ts
+taken h g [] [] e = refl
+taken h g [] (t ∷ ts) e = grind arith
+taken h g (o ∷ os) [] e = grind arith
+taken h g (None ∷ os) (t ∷ ts) e = grind arith
+taken h g (Some x ∷ os) (t ∷ ts) e =
+    ap₂ (λ a l. a ∷ l) (grind arith) (taken h g os ts (ap (drop 1) e))

@@ -20,4 +20,4 @@ pub use live::laws::{
     take_is_the_add,
 };
 pub use live::{LivePhase, LiveSeat, LiveTicket};
-pub use many::replay_many;
+pub use many::{replay_many, report_many};

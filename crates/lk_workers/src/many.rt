@@ -6,7 +6,7 @@
 //! each. So each report has one place, and no place stays empty.
 
 ghost use Rattle.std.specs.Prelude.{◌≡◌, ℕ, ◌+◌, ◌-◌, ◌*◌, ◌<◌, ◌≤◌, ◌++◌, length, map, All};
-ghost use Rattle.std.specs.Prelude.{IsSome, None, Some, option_map, replicate, IfOk};
+ghost use Rattle.std.specs.Prelude.{None, option_map, replicate, IfOk};
 ghost use Rattle.std.specs.Thread.{IsSync};
 ghost use Rattle.lk_replay.specs.Report.{report_text};
 ghost use Rattle.lk_workers.specs.Drawing.{IsSeatOf, drawer};
@@ -15,12 +15,12 @@ ghost use Rattle.lk_workers.specs.invariants.Collected.{IsEachOnce, placed};
 
 use crate::draws::{DrawSeat, Draws};
 use crate::gate::{Gate, Opened};
-use lk_replay::report_of;
+use lk_replay::Report;
 use std::alloc::{AllocError, Global};
 use std::thread::{Threads, join};
 
 // A text's number and its report.
-type Numbered = (usize, Vec<u8>);
+type Numbered = (usize, Report);
 
 // A seat that comes back, and the reports of the texts whose numbers it drew.
 type Done = (DrawSeat, Vec<Numbered>);
@@ -47,11 +47,11 @@ impl<'a, G: Gate> Batch<'a, G> {
     }
 
     // The report of one text, between the gate's two calls.
-    fn replay_one(&self, text: &[u8], number: u32) -> Result<Vec<u8>, AllocError>
-        ensures { IfOk result (λ v. v.items ≡ report_text text.now) }
+    fn replay_one(&self, text: &[u8], number: u32) -> Result<Report, AllocError>
+        ensures { IfOk result (λ report. report.text.items ≡ report_text text.now) }
     {
         let opened = Opened::begin(self.gate, number);
-        opened.end(report_of(self.alloc, text))
+        opened.end(Report::of(self.alloc, text))
     }
 
     // One worker: the reports of the texts whose numbers its seat draws.
@@ -162,7 +162,7 @@ fn draw_all<G: Gate, R: Threads + Sync>(
     Ok(reports)
 }
 
-fn empty_places(alloc: Global, count: usize) -> Result<Vec<Option<Vec<u8>>>, AllocError>
+fn empty_places(alloc: Global, count: usize) -> Result<Vec<Option<Report>>, AllocError>
     ensures { IfOk result (λ v. v.items ≡ replicate count None) }
 {
     let mut places = Vec::with_capacity(alloc, count)?;
@@ -172,28 +172,15 @@ fn empty_places(alloc: Global, count: usize) -> Result<Vec<Option<Vec<u8>>>, All
     Ok(places)
 }
 
-fn place_all(mut places: Vec<Option<Vec<u8>>>, reports: Vec<Numbered>) -> Vec<Option<Vec<u8>>>
+fn place_all(mut places: Vec<Option<Report>>, reports: Vec<Numbered>) -> Vec<Option<Report>>
     requires { All (λ p. p.0 < length places.items) reports.items }
-    ensures { map (option_map (λ v. v.items)) result.items
-        ≡ placed (map (option_map (λ v. v.items)) places.items) (numbered reports.items) }
+    ensures { map (option_map (λ r. r.text.items)) result.items
+        ≡ placed (map (option_map (λ r. r.text.items)) places.items) (numbered reports.items) }
 {
     for (number, report) in reports {
         places[number] = Some(report);
     }
     places
-}
-
-fn take_all(alloc: Global, places: Vec<Option<Vec<u8>>>) -> Result<Vec<Vec<u8>>, AllocError>
-    requires { All (λ o. IsSome o) places.items }
-    ensures { IfOk result
-        (λ v. map (λ r. Some r.items) v.items ≡ map (option_map (λ v. v.items)) places.items) }
-{
-    let mut all = Vec::with_capacity(alloc, places.len())?;
-    for place in places {
-        let Some(report) = place else { unreachable!() };
-        all.push(report)?;
-    }
-    Ok(all)
 }
 
 /// The reports of the texts, in the order of the texts, by this many workers side by side.
@@ -205,6 +192,28 @@ fn take_all(alloc: Global, places: Vec<Option<Vec<u8>>>) -> Result<Vec<Vec<u8>>,
 ///
 /// Memory was refused. The other workers go on to their end, all are joined, and their reports are
 /// dropped.
+pub fn report_many<G: Gate, R: Threads + Sync>(
+    rt: &R,
+    alloc: Global,
+    texts: &[Vec<u8>],
+    workers: u8,
+    gate: &G,
+) -> Result<Vec<Report>, AllocError>
+    requires workers { (1 ≤ workers) × (workers ≤ 8) }
+    requires texts { length texts.now ≤ 65536 }
+    ensures { IfOk result (λ reports. map (λ r. r.text.items) reports.items
+        ≡ map (λ t. report_text t.items) texts.now) }
+{
+    let reports = draw_all(rt, alloc, texts, workers, gate)?;
+    let places = place_all(empty_places(alloc, texts.len())?, reports);
+    places.into_iter().flatten().collect(alloc)
+}
+
+/// The texts of `report_many` alone.
+///
+/// # Errors
+///
+/// As of `report_many`.
 pub fn replay_many<G: Gate, R: Threads + Sync>(
     rt: &R,
     alloc: Global,
@@ -217,7 +226,6 @@ pub fn replay_many<G: Gate, R: Threads + Sync>(
     ensures { IfOk result
         (λ reports. map (λ r. r.items) reports.items ≡ map (λ t. report_text t.items) texts.now) }
 {
-    let reports = draw_all(rt, alloc, texts, workers, gate)?;
-    let places = place_all(empty_places(alloc, texts.len())?, reports);
-    take_all(alloc, places)
+    let reports = report_many(rt, alloc, texts, workers, gate)?;
+    reports.into_iter().map(|report| report.text).collect(alloc)
 }

@@ -7,6 +7,7 @@ use Rattle.lk_replay.specs.declared.devices.RunFault.{RunFault}
 use Rattle.lk_replay.specs.declared.devices.RunFault.TheVariants.{Read, Write, OutOfMemory}
 use Rattle.lk_replay.specs.Devices.{AppendsPrefix, IfErrOf}
 use Rattle.lk_replay.specs.Report.{report_text}
+use Rattle.lk_replay.specs.declared.report.Report.{Report}
 use Rattle.lk_workers.specs.Batch.{batch_text_of}
 use Rattle.lockreplay.specs.Batches.{IsCutBatch}
 use Rattle.lockreplay.specs.Faults.{fault_from}
@@ -15,12 +16,16 @@ use Rattle.lockreplay.specs.Faults.{fault_from}
 abbrev pub bytes_of : List (Vec ℕ Global) → List (List ℕ)
 bytes_of = map (λ v. v.items)
 
+-- the texts of reports
+abbrev pub texts_of : List Report → List (List ℕ)
+texts_of = map (λ r. r.text.items)
+
 -- the reports, if the slices that were handed on are the lists
-pub same_reports : (texts given reports lent : List (Vec ℕ Global)) → given ≡ texts → lent ≡ reports
-    → bytes_of reports ≡ map (λ t. report_text t.items) given
-    → bytes_of lent ≡ map report_text (bytes_of texts)
+pub same_reports : (texts given : List (Vec ℕ Global)) (reports lent : List Report)
+    → given ≡ texts → lent ≡ reports → texts_of reports ≡ map (λ t. report_text t.items) given
+    → texts_of lent ≡ map report_text (bytes_of texts)
 same_reports texts given reports lent as_texts as_reports replayed =
-    ap bytes_of as_reports ∙ replayed ∙ ap (map (λ t. report_text t.items)) as_texts
+    ap texts_of as_reports ∙ replayed ∙ ap (map (λ t. report_text t.items)) as_texts
     ∙ sym (map-map report_text (λ t. t.items) texts)
 
 -- what a batch leaves whose sending ends with this fault

@@ -10,7 +10,7 @@ use crate::faults::ProgramFault;
 use crate::sending::send_reports;
 use crate::status::batch_status;
 use lk_replay::{RunFault, read_text, run, status_of};
-use lk_workers::{OpenGate, replay_many};
+use lk_workers::{OpenGate, report_many};
 use std::alloc::Global;
 use std::fs;
 use std::io::{Read, Write};
@@ -87,7 +87,7 @@ pub fn replay_files<R: Files + Threads + Sync, W: Write>(
     ensures { EndsBatch (length files.now) (W.contents output.old) (W.contents output.new) result }
 {
     let texts = file_texts(rt, alloc, files)?;
-    let Ok(reports) = replay_many(rt, alloc, &texts, workers, &OpenGate) else {
+    let Ok(reports) = report_many(rt, alloc, &texts, workers, &OpenGate) else {
         return Err(ProgramFault::Memory);
     };
     match send_reports(alloc, output, &reports) {

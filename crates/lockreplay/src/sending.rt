@@ -11,7 +11,7 @@ ghost use Rattle.lk_replay.specs.Devices.{AppendsPrefix, IfErrOf, Passes};
 ghost use Rattle.lk_workers.specs.Batch.{batch_text_of, file_line};
 
 use itoa::Buffer;
-use lk_replay::{OutputBuffer, RunFault};
+use lk_replay::{OutputBuffer, Report, RunFault};
 use std::alloc::Global;
 use std::io::Write;
 
@@ -44,14 +44,14 @@ fn push_file_line<W: Write>(
 pub fn send_reports<W: Write>(
     alloc: Global,
     output: &mut W,
-    reports: &[Vec<u8>],
+    reports: &[Report],
 ) -> Result<(), RunFault>
     ensures written { OnOk result
         (Appends (W.contents output.old) (W.contents output.new)
-        (batch_text_of (map (λ r. r.items) reports.now))) }
+        (batch_text_of (map (λ r. r.text.items) reports.now))) }
     ensures prefix { IfErrOf result RunFault.Write
         (AppendsPrefix (W.contents output.old) (W.contents output.new)
-        (batch_text_of (map (λ r. r.items) reports.now))) }
+        (batch_text_of (map (λ r. r.text.items) reports.now))) }
     ensures no_memory { IfErrOf result RunFault.OutOfMemory
         (Keeps (W.contents output.old) (W.contents output.new)) }
     ensures fault { IfErr result (λ e. e ≢ RunFault.Read) }
@@ -61,7 +61,7 @@ pub fn send_reports<W: Write>(
     };
     for (place, report) in reports.iter().enumerate() {
         push_file_line(&mut waiting, output, place + 1)?;
-        waiting.push(output, report)?;
+        waiting.push(output, &report.text)?;
     }
     waiting.send_whole(output)
 }

@@ -3,19 +3,15 @@
 ghost use Rattle.std.specs.Prelude.{◌≡◌, map};
 ghost use Rattle.lockreplay.specs.Batches.{status_of_reports};
 
-use lk_replay::{Ending, ending_of};
+use lk_replay::{Ending, Report};
 
 /// The status of a batch with these reports: 0 if every move of every schedule was accepted, as
 /// if there is no report, else 1.
-pub fn batch_status(reports: &[Vec<u8>]) -> u8
-    ensures { result ≡ status_of_reports (map (λ r. r.items) reports.now) }
+pub fn batch_status(reports: &[Report]) -> u8
+    ensures { result ≡ status_of_reports (map (λ r. r.text.items) reports.now) }
 {
-    if reports
+    let accepted = reports
         .iter()
-        .all(|report| ending_of(report) == Ending::Accepted)
-    {
-        0
-    } else {
-        1
-    }
+        .all(|report| report.ending == Ending::Accepted);
+    u8::from(!accepted)
 }

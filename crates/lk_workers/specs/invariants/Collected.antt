@@ -3,6 +3,7 @@ use Rattle.std.specs.Prelude.{Option, Some, Vec, slice_set, ◌∷◌, ◌≡◌
 use Rattle.std.specs.Prelude.{[], map, length, filter, ltb, slice_index_or}
 use Rattle.std.specs.declared.alloc.Global.{Global}
 use Rattle.lk_replay.specs.Report.{report_text}
+use Rattle.lk_replay.specs.declared.report.Report.{Report}
 use Rattle.lk_workers.specs.Counting.{occurrences}
 use Rattle.lk_workers.specs.Drawing.{Counter, Drawer, IsSeatOf}
 
@@ -10,8 +11,8 @@ use Rattle.lk_workers.specs.Drawing.{Counter, Drawer, IsSeatOf}
 abbrev pub bytes_of : List (Vec ℕ Global) → List (List ℕ)
 bytes_of texts = map (λ t. t.items) texts
 
-abbrev pub numbered : List (ℕ × Vec ℕ Global) → List (ℕ × List ℕ)
-numbered reports = map (λ p. (p.0, p.1.items)) reports
+abbrev pub numbered : List (ℕ × Report) → List (ℕ × List ℕ)
+numbered reports = map (λ p. (p.0, p.1.text.items)) reports
 
 -- the report of text k
 abbrev pub report_at : List (List ℕ) → ℕ → List ℕ
@@ -43,7 +44,7 @@ MayWork c texts workers s =
     IsFresh c (workers * (length texts + 1)) s × (1 ≤ workers) × (length texts ≤ 65536)
 
 -- a seat that comes back from these many workers, with their reports
-abbrev pub IsDone : Counter → List (Vec ℕ Global) → ℕ → Drawer → List (ℕ × Vec ℕ Global) → Type 0
+abbrev pub IsDone : Counter → List (Vec ℕ Global) → ℕ → Drawer → List (ℕ × Report) → Type 0
 IsDone c texts workers s reports =
     IsBack c (workers * (length texts + 1)) s × IsWorkOf (bytes_of texts) s.drawn (numbered reports)
 

@@ -4,10 +4,10 @@ use Rattle.lk_workers.proofs.many.place_all.Given as goal
 
 abbrev pub invariant-loop-number : goal.invariant-loop-number
 invariant-loop-number l =
-    (placed (map (option_map (λ v. v.items)) l.places.items)
-    (map (λ p. (p.0, p.1.items)) l.number-iterator.rest.items)
-    ≡ placed (map (option_map (λ v. v.items)) l.fn.places.items)
-    (map (λ p. (p.0, p.1.items)) l.fn.reports.items))
+    (placed (map (option_map (λ r. r.text.items)) l.places.items)
+    (map (λ p. (p.0, p.1.text.items)) l.number-iterator.rest.items)
+    ≡ placed (map (option_map (λ r. r.text.items)) l.fn.places.items)
+    (map (λ p. (p.0, p.1.text.items)) l.fn.reports.items))
     ×
     All (λ p. p.0 < length l.places.items) l.number-iterator.rest.items ×
     (length l.places.items ≡ length l.fn.places.items) ×

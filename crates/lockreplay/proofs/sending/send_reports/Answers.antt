@@ -27,7 +27,7 @@ returns-in_err-push-clause-prefix g c = λ _.
     let prefix =
     subst (λ (r : List ℕ). AppendsPrefix mid new (c.push_file_line.new.waiting ++ r))
     c.deref.ensures.value c.in_err-push.ensures.prefix in
-    prefix_of_whole _ (done ++ line) _ report.items _ _ _ _
+    prefix_of_whole _ (done ++ line) _ report.text.items _ _ _ _
     (passes_on [] done _ line _ _ _ _ passed c.in_ok-push_file_line.ensures.passed) prefix
     (append_assoc done line _ ∙ report_next _ done place c.args.reports.now report
     c.loop-place-test.true c.index-reports-place.is parts)
@@ -43,10 +43,10 @@ loop-place-preserved g c =
     let passes =
     subst (λ (r : List ℕ). Passes c.push_file_line.new.waiting mid r c.push.new.self new)
     c.deref.ensures.value c.in_ok-push.ensures.passed in (
-      (done ++ line) ++ report.items,
-      passes_on [] (done ++ line) _ report.items _ _ _ _
+      (done ++ line) ++ report.text.items,
+      passes_on [] (done ++ line) _ report.text.items _ _ _ _
           (passes_on [] done _ line _ _ _ _ passed c.in_ok-push_file_line.ensures.passed) passes,
-      report_gone _ done line report.items _
+      report_gone _ done line report.text.items _
           (report_next _ done place c.args.reports.now report c.loop-place-test.true
           c.index-reports-place.is parts),
     )

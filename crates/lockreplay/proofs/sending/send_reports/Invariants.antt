@@ -8,5 +8,5 @@ abbrev pub invariant-loop-place : goal.invariant-loop-place
 invariant-loop-place g l =
     (done : List ℕ)
     × Passes [] (g.W.Write.contents l.initial.output) done l.waiting (g.W.Write.contents l.output)
-    × (done ++ numbered_from (l.place + 1) (map (λ r. r.items) (drop l.place l.reports))
-    ≡ batch_text_of (map (λ r. r.items) l.reports))
+    × (done ++ numbered_from (l.place + 1) (map (λ r. r.text.items) (drop l.place l.reports))
+    ≡ batch_text_of (map (λ r. r.text.items) l.reports))

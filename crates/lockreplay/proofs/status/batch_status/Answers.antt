@@ -1,28 +1,28 @@
--- `all` over the reports is the test over their bytes.
-use Rattle.std.proofs.Common.{rules, tests, ◌∙◌, ap, sym, if◌then◌else◌}
+-- `all` over the endings is the test over the texts, since each ending is its text's.
+use Rattle.std.proofs.Common.{Bool, true, false, not, ◌&&◌, if◌then◌else◌, ◌≡◌, ◌∙◌, refl, ap, ap₂}
+use Rattle.std.proofs.Common.{ℕ, List, [], ◌∷◌, map, rules, tests}
 use Rattle.std.proofs.lemmas.Iterator.{YieldsList-from_slice}
 use Rattle.std.proofs.lemmas.Iterator.Search.{all_from_yields_List}
-use Rattle.std.proofs.lemmas.List.Folds.{list_all-map}
+use Rattle.std.specs.Int.{from_bool}
+use Rattle.std.specs.List.{list_all}
 use Rattle.lk_replay.specs.Ending.{ending_of}
+use Rattle.lk_replay.specs.declared.report.Report.{Report}
 use Rattle.lockreplay.specs.Batches.{is_accepted}
 use Rattle.lockreplay.proofs.status.batch_status.Goals as goal
 
-pub returns-then-all : goal.returns-then-all
-returns-then-all c =
-    let xs = c.args.reports.now in
-    let all =
-    all_from_yields_List (λ r. is_accepted (ending_of r.items)) _ _ c.all.result
-    c.all.ensures.ran (YieldsList-from_slice xs cc) (λ x b q k. search (rules, tests)) in
-    sym (ap (λ b. if b then 0 else 1)
-    (list_all-map (λ r. is_accepted (ending_of r)) (λ r. r.items) xs ∙ sym all ∙ c.if-all.true)
-    ∙ search rules)
+judged : (rs : List Report) → list_all (λ r. is_accepted r.ending) rs
+    ≡ list_all (λ t. is_accepted (ending_of t)) (map (λ r. r.text.items) rs)
+judged [] = refl
+judged (r ∷ rs) = ap₂ (λ e b. is_accepted e && b) r.told (judged rs)
 
-pub returns-else-all : goal.returns-else-all
-returns-else-all c =
+none_else_one : (b : Bool) (n : ℕ) → n ≡ from_bool (not b) → n ≡ (if b then 0 else 1)
+none_else_one true n is = is
+none_else_one false n is = is
+
+pub returns : goal.returns
+returns c =
     let xs = c.args.reports.now in
     let all =
-    all_from_yields_List (λ r. is_accepted (ending_of r.items)) _ _ c.all.result
-    c.all.ensures.ran (YieldsList-from_slice xs cc) (λ x b q k. search (rules, tests)) in
-    sym (ap (λ b. if b then 0 else 1)
-    (list_all-map (λ r. is_accepted (ending_of r)) (λ r. r.items) xs ∙ sym all
-    ∙ c.if-all.false))
+    all_from_yields_List (λ r. is_accepted r.ending) _ _ c.all-accepted.result
+    c.all-accepted.ensures.ran (YieldsList-from_slice xs cc) (λ x b q k. search (rules, tests)) in
+    none_else_one _ _ (c.from.ensures ∙ ap (λ b. from_bool (not b)) (all ∙ judged xs))

@@ -8,5 +8,5 @@ invariant-loop g l =
     IsSeatOf l.self.draws.now l.seat × (length l.seat.drawn ≡ l.counter)
     × (l.seat.left + l.counter ≡ length l.self.texts.now + 1)
     × (l.counter ≤ length l.self.texts.now)
-    × (map (λ p. (p.0, p.1.items)) l.reports.items
+    × (map (λ p. (p.0, p.1.text.items)) l.reports.items
     ≡ reports_of (map (λ t. t.items) l.self.texts.now) l.seat.drawn)
