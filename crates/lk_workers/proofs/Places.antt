@@ -1,8 +1,8 @@
 -- Reports put into their places, and taken out of them.
 use Rattle.std.proofs.Common.{Bool, true, false, cond, ltb, ltb-true, filter, All, subst, ◌≡◌, ℕ}
-use Rattle.std.proofs.Common.{zero, suc, ◌<◌, ◌≤◌, List, [], ◌∷◌, ◌++◌, length, map, set, get_or}
-use Rattle.std.proofs.Common.{replicate, Some, None, option_map, IsSome, drop, sym, refl, ap, ap₂}
-use Rattle.std.proofs.Common.{◌∙◌, arith, append_assoc, get_or-set_same, get_or-set_other}
+use Rattle.std.proofs.Common.{◌<◌, ◌≤◌, List, [], ◌∷◌, length, map, set, get_or, replicate, drop}
+use Rattle.std.proofs.Common.{Some, None, option_map, sym, refl, ap, ap₂}
+use Rattle.std.proofs.Common.{◌∙◌, arith, get_or-set_same, get_or-set_other}
 use Rattle.std.proofs.Common.{ext_get_or, length-set}
 use Rattle.std.specs.Prelude.{Option}
 use Rattle.std.specs.List.{flat_map}
@@ -106,10 +106,9 @@ pub unmapped : {X Y : Type 0} (P : Y → Type 0) (f : X → Y) (xs : List X) →
 unmapped P f xs a k d h =
     subst P (get_or-map f xs k d (f d) h) (a k (f d) (let l = length-map xs f in omega arith))
 
-pub no_values : {X L : Type 0} (h : X → L) (n : ℕ)
-    → map (option_map h) (replicate n None) ≡ replicate n None
-no_values h zero = refl
-no_values h (suc n) = ap (λ l. None ∷ l) (no_values h n)
+alike : {X T : Type 0} (x : X) (ts : List T) → replicate (length ts) x ≡ map (λ _. x) ts
+alike x [] = refl
+alike x (t ∷ ts) = ap (λ l. x ∷ l) (alike x ts)
 
 twice : {T : Type 0} (it : T → List ℕ) (F : List ℕ → Option (List ℕ)) (ts : List T)
     → map F (map it ts) ≡ map (λ t. F (it t)) ts
@@ -117,23 +116,19 @@ twice it F [] = refl
 twice it F (t ∷ ts) = ap (λ l. F (it t) ∷ l) (twice it F ts)
 
 module _ {X T : Type 0} (h : X → List ℕ) (it : T → List ℕ) (ts : List T) (reports : List (ℕ × X))
-    (slots : List (Option X)) (once : IsEachOnce (map it ts) (map (λ p. (p.0, h p.1)) reports))
-    (s : slots ≡ replicate (length ts) None) where
-  pub fits : (n : ℕ) → n ≡ length slots → All (λ p. p.0 < n) reports
-  fits n e =
-      let nothing : Option X = None in
-      let l : length (map it ts) ≡ n =
-      length-map ts it ∙ sym (e ∙ ap length s ∙ length-replicate (length ts) nothing) in
-      subst (λ k. All (λ (p : ℕ × X). p.0 < k) reports) l
+    (once : IsEachOnce (map it ts) (map (λ p. (p.0, h p.1)) reports)) where
+  pub fits : All (λ p. p.0 < length ts) reports
+  fits =
+      subst (λ k. All (λ (p : ℕ × X). p.0 < k) reports) (length-map ts it)
       (unmapped (Below (length (map it ts))) (λ p. (p.0, h p.1)) reports
       (each_below (map it ts) (map (λ p. (p.0, h p.1)) reports) once))
 
-  pub finished : (out : List (Option X))
-      → map (option_map h) out ≡ placed (map (option_map h) slots) (map (λ p. (p.0, h p.1)) reports)
-      → map (option_map h) out ≡ map (λ t. Some (report_text (it t))) ts
-  finished out p = let ps : List (ℕ × List ℕ) = map (λ p. (p.0, h p.1)) reports in
-      p ∙ ap (λ os. placed os ps) (ap (map (option_map h)) s ∙ no_values h (length ts)
-      ∙ ap (λ n. replicate n None) (sym (length-map ts it)))
+  pub finished : placed (map (λ _. None) ts) (map (λ p. (p.0, h p.1)) reports)
+      ≡ map (λ t. Some (report_text (it t))) ts
+  finished =
+      let ps : List (ℕ × List ℕ) = map (λ p. (p.0, h p.1)) reports in
+      ap (λ os. placed os ps)
+      (sym (alike None ts) ∙ ap (λ n. replicate n None) (sym (length-map ts it)))
       ∙ filled (map it ts) ps once ∙ twice it (λ t. Some (report_text t)) ts
 
 pub first : {X : Type 0} (n k : ℕ) (x : X) (rest old : List (ℕ × X)) → old ≡ (k, x) ∷ rest

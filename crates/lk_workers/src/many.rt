@@ -6,7 +6,7 @@
 //! each. So each report has one place, and no place stays empty.
 
 ghost use Rattle.std.specs.Prelude.{◌≡◌, ℕ, ◌+◌, ◌-◌, ◌*◌, ◌<◌, ◌≤◌, ◌++◌, length, map, All};
-ghost use Rattle.std.specs.Prelude.{None, option_map, replicate, IfOk};
+ghost use Rattle.std.specs.Prelude.{None, option_map, IfOk};
 ghost use Rattle.std.specs.Thread.{IsSync};
 ghost use Rattle.lk_replay.specs.Report.{report_text};
 ghost use Rattle.lk_workers.specs.Drawing.{IsSeatOf, drawer};
@@ -151,36 +151,27 @@ fn draw_all<G: Gate, R: Threads + Sync>(
 {
     let share = texts.len() as u64 + 1;
     let (draws, seat) = Draws::open(alloc, u64::from(workers) * share)?;
-    let batch = Batch {
-        alloc,
-        draws: &draws,
-        texts,
-        gate,
-    };
+    let batch = Batch::new(alloc, &draws, texts, gate);
     let (seat, reports) = work_all(rt, batch, seat, workers)?;
     draws.close(seat);
     Ok(reports)
 }
 
-fn empty_places(alloc: Global, count: usize) -> Result<Vec<Option<Report>>, AllocError>
-    ensures { IfOk result (λ v. v.items ≡ replicate count None) }
+// The reports in the places of their texts.
+fn place_all(
+    alloc: Global,
+    texts: &[Vec<u8>],
+    reports: Vec<Numbered>,
+) -> Result<Vec<Option<Report>>, AllocError>
+    requires { All (λ p. p.0 < length texts.now) reports.items }
+    ensures { IfOk result (λ places. map (option_map (λ r. r.text.items)) places.items
+        ≡ placed (map (λ _. None) texts.now) (numbered reports.items)) }
 {
-    let mut places = Vec::with_capacity(alloc, count)?;
-    for _ in 0..count {
-        places.push(None)?;
-    }
-    Ok(places)
-}
-
-fn place_all(mut places: Vec<Option<Report>>, reports: Vec<Numbered>) -> Vec<Option<Report>>
-    requires { All (λ p. p.0 < length places.items) reports.items }
-    ensures { map (option_map (λ r. r.text.items)) result.items
-        ≡ placed (map (option_map (λ r. r.text.items)) places.items) (numbered reports.items) }
-{
+    let mut places: Vec<_> = texts.iter().map(|_| None).collect(alloc)?;
     for (number, report) in reports {
         places[number] = Some(report);
     }
-    places
+    Ok(places)
 }
 
 /// The reports of the texts, in the order of the texts, by this many workers side by side.
@@ -205,7 +196,7 @@ pub fn report_many<G: Gate, R: Threads + Sync>(
         ≡ map (λ t. report_text t.items) texts.now) }
 {
     let reports = draw_all(rt, alloc, texts, workers, gate)?;
-    let places = place_all(empty_places(alloc, texts.len())?, reports);
+    let places = place_all(alloc, texts, reports)?;
     places.into_iter().flatten().collect(alloc)
 }
 
