@@ -1,15 +1,14 @@
 //! The two jobs of the program, over any devices.
 
-ghost use Rattle.std.specs.Prelude.{◌≡◌, ◌⊎◌, ◌≤◌, length, IfOk, IfErr};
-ghost use Rattle.lockreplay.specs.Batches.{EndsBatch, IsFileFault};
+ghost use Rattle.std.specs.Prelude.{◌≡◌, ◌⊎◌, ◌≤◌, length, map, IfOk, IfErr};
+ghost use Rattle.lockreplay.specs.Batches.{EndsBatch, IsFileFault, status_of_reports};
 ghost use Rattle.lockreplay.specs.Replays.{EndsReplay};
 ghost use Rattle.lockreplay.specs.Jobs.{EndsJob, IsFitJob};
 
 use crate::command_line::Job;
 use crate::faults::ProgramFault;
 use crate::sending::send_reports;
-use crate::status::batch_status;
-use lk_replay::{RunFault, read_text, run, status_of};
+use lk_replay::{Ending, Report, RunFault, read_text, run, status_of};
 use lk_workers::{OpenGate, report_many};
 use std::alloc::Global;
 use std::fs;
@@ -71,6 +70,17 @@ fn file_texts<R: Files>(
         }
     }
     Ok(texts)
+}
+
+/// The status of a batch with these reports: 0 if every move of every schedule was accepted, as
+/// if there is no report, else 1.
+pub fn batch_status(reports: &[Report]) -> u8
+    ensures { result ≡ status_of_reports (map (λ r. r.text.items) reports.now) }
+{
+    let accepted = reports
+        .iter()
+        .all(|report| report.ending == Ending::Accepted);
+    u8::from(!accepted)
 }
 
 /// Replays the schedule of each file by this many workers, writes the reports in the order of the

@@ -13,7 +13,6 @@ mod command_line;
 mod faults;
 mod jobs;
 mod sending;
-mod status;
 
 use answers::answer;
 use command_line::{Job, ParseFault, parse_words};

@@ -8,7 +8,7 @@ use Rattle.std.specs.List.{list_all}
 use Rattle.lk_replay.specs.Ending.{ending_of}
 use Rattle.lk_replay.specs.declared.report.Report.{Report}
 use Rattle.lockreplay.specs.Batches.{is_accepted}
-use Rattle.lockreplay.proofs.status.batch_status.Goals as goal
+use Rattle.lockreplay.proofs.jobs.batch_status.Goals as goal
 
 judged : (rs : List Report) → list_all (λ r. is_accepted r.ending) rs
     ≡ list_all (λ t. is_accepted (ending_of t)) (map (λ r. r.text.items) rs)
