@@ -1,5 +1,5 @@
 -- Definitions. The log of one thread, and how it is read line by line. This project's own.
-use Rattle.std.specs.Prelude.{◌≡◌, ◌<◌, ◌≤◌, ◌^◌, ◌+◌, ◌==◌, ◌++◌, ◌∷◌, [], ℕ, List, length, drop}
+use Rattle.std.specs.Prelude.{◌≡◌, ◌<◌, ◌+◌, ◌==◌, ◌++◌, ◌∷◌, [], ℕ, List, length, drop}
 use Rattle.std.specs.Prelude.{Bool, Option, Some, None, Result, Ok, Err, is_some, nat_eq, nat_lt}
 use Rattle.std.specs.Prelude.{codes, if◌then◌else◌}
 use Rattle.std.specs.List.{All, starts_with}
@@ -7,7 +7,7 @@ use Rattle.std.specs.Str.{bytes_eq}
 use Rattle.lk_locks.specs.declared.kinds.LockKind.{LockKind}
 use Rattle.lk_replay.specs.Lines.{is_skipped}
 use Rattle.lk_replay.specs.Vocabulary.{number_of}
-use Rattle.lk_replay.specs.declared.header.Header.{Header}
+use Rattle.lk_replay.specs.Header.{Header}
 use Rattle.lk_trace.specs.Lines.{short_log_line_of, whole_number}
 use Rattle.lk_trace.specs.Traces.{read_header_of}
 use Rattle.lk_trace.specs.declared.line.TraceLine.{TraceLine}
@@ -26,13 +26,8 @@ pub record ThreadLog : Type 0 where
   pub lines : List ℕ
   pub dropped : Option ℕ
 
--- there is such a lock, it has this thread, and each move is the thread's own
-pub record IsSound (threads bits thread : ℕ) (moves : List TraceLine) : Type 0 where
-  pub some : 0 < threads
-  pub few : threads ≤ 64
-  pub narrow : threads < 2 ^ bits
-  pub least : 2 ≤ bits
-  pub most : bits ≤ 64
+-- the lock has this thread, and each move is the thread's own
+pub record IsSound (threads thread : ℕ) (moves : List TraceLine) : Type 0 where
   pub has : thread < threads
   pub own : All (λ line. line.thread ≡ thread) moves
 

@@ -7,6 +7,7 @@ ghost use Rattle.std.specs.List.{All, slice_get};
 mod reader;
 
 use lk_locks::LockKind;
+use lk_replay::parts::Header;
 use lk_trace::TraceLine;
 pub use reader::{LogFault, LogReader};
 use std::marker::Model;
@@ -14,9 +15,7 @@ use std::marker::Model;
 /// The log of one thread.
 #[derive(Drop)]
 pub struct Log {
-    kind: LockKind,
-    threads: u8,
-    bits: u8,
+    header: Header,
     owner: u8,
     moves: Vec<TraceLine>,
     // the line of each move in its text
@@ -28,16 +27,16 @@ impl Model for Log {
     ghost Value = { ThreadLog };
 
     ghost view = { λ a. record {
-      kind = a.kind;
-      threads = a.threads;
-      bits = a.bits;
+      kind = a.header.kind;
+      threads = a.header.threads;
+      bits = a.header.bits;
       thread = a.owner;
       moves = a.moves.items;
       lines = a.lines.items;
       dropped = a.dropped;
     } };
 
-    ghost invariant = { λ a. IsSound a.threads a.bits a.owner a.moves.items };
+    ghost invariant = { λ a. IsSound a.header.threads a.owner a.moves.items };
 }
 
 impl Log {
@@ -45,7 +44,7 @@ impl Log {
     pub fn kind(&self) -> LockKind
         ensures { result ≡ self.now.kind }
     {
-        self.kind
+        self.header.kind()
     }
 
     /// How many threads the lock has.
@@ -55,7 +54,7 @@ impl Log {
         ensures few { result ≤ 64 }
         ensures narrow { result < 2 ^ self.now.bits }
     {
-        self.threads
+        self.header.threads()
     }
 
     /// How many bits the lock's words have.
@@ -64,7 +63,7 @@ impl Log {
         ensures least { 2 ≤ result }
         ensures most { result ≤ 64 }
     {
-        self.bits
+        self.header.bits()
     }
 
     /// Whose log it is.

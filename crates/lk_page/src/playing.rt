@@ -77,9 +77,9 @@ fn new_lock(reader: &ScheduleReader) -> Tracker<WordArray>
         result ≡ tracked (start plan.kind plan.bits
         (replicate (word_count plan.kind plan.threads) 0) plan.threads) [] }
 {
-    let kind = reader.kind();
-    let threads = reader.threads();
-    let words = WordArray::with_bits(words_needed(kind, threads), reader.bits());
+    let header = reader.header();
+    let (kind, threads) = (header.kind(), header.threads());
+    let words = WordArray::with_bits(words_needed(kind, threads), header.bits());
     Tracker::new(kind, threads, words)
 }
 
@@ -102,7 +102,7 @@ pub fn play_text(text: &[u8], most: u64, records: &mut [u8], state: &mut [u8]) -
         }
     };
     let moves = reader.moves_left();
-    let threads = reader.threads();
+    let threads = reader.header().threads();
     let mut lock = new_lock(&reader);
     let stopped = play_moves(&mut lock, &mut reader, most, records);
     let bytes = state_bytes(&lock, threads, moves as u32, stopped);

@@ -80,12 +80,12 @@ pub move_missing : (from taken number : ℕ) (lines : List (List ℕ)) (line : L
 move_missing from taken number lines line others moves skips read none e =
     subst WasRead (sym e ∙ line_bad from taken number lines line others skips read none) tt
 
-abbrev plan_with : Plan → List Line → Plan
-plan_with p moves = record { kind = p.kind; threads = p.threads; bits = p.bits; moves = moves }
+abbrev with_moves : Plan → List Line → Plan
+with_moves p moves = record { kind = p.kind; threads = p.threads; bits = p.bits; moves = moves }
 
 -- a plan after its first move, and one with no moves
 pub next_plan : (now view : Plan) (first : Line) (rest : List Line) → view ≡ now
-    → now.moves ≡ first ∷ rest → plan_with view rest ≡ plan_with now (drop 1 now.moves)
+    → now.moves ≡ first ∷ rest → with_moves view rest ≡ with_moves now (drop 1 now.moves)
 next_plan now view first rest v m = rw (v, m) refl
 
 pub emptied : (now : Plan) (kind : LockKind) (threads bits : ℕ)
@@ -93,12 +93,12 @@ pub emptied : (now : Plan) (kind : LockKind) (threads bits : ℕ)
     → record { kind = kind; threads = threads; bits = bits; moves = moves_in old } ≡ now
     → old ≡ new → moves_in old ≡ []
     → record { kind = kind; threads = threads; bits = bits; moves = moves_in new }
-    ≡ plan_with now (drop 1 now.moves)
+    ≡ with_moves now (drop 1 now.moves)
 emptied now kind threads bits old new is same none =
     let none_now : now.moves ≡ [] = sym (ap (λ (p : Plan). p.moves) is) ∙ none in
-    ap (plan_with (record { kind = kind; threads = threads; bits = bits; moves = [] }))
+    ap (with_moves (record { kind = kind; threads = threads; bits = bits; moves = [] }))
     (ap moves_in (sym same))
-    ∙ is ∙ ap (plan_with now) (none_now ∙ sym (ap (drop 1) none_now))
+    ∙ is ∙ ap (with_moves now) (none_now ∙ sym (ap (drop 1) none_now))
 
 pub one_left : (now view : Plan) (left : ℕ) (first : Line) (rest : List Line) → view ≡ now
     → now.moves ≡ first ∷ rest → left ≡ length view.moves → left ≡ 1 + length rest

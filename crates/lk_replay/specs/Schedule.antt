@@ -51,9 +51,12 @@ pub record Plan : Type 0 where
   pub bits : ℕ
   pub moves : List Line
 
+abbrev pub plan_with : Header → List Line → Plan
+plan_with header moves =
+    record { kind = header.kind; threads = header.threads; bits = header.bits; moves = moves }
+
 abbrev pub with_header : Result Header Fault → Result (List Line) Fault → Result Plan Fault
-with_header (Ok header) (Ok moves) =
-    Ok (record { kind = header.kind; threads = header.threads; bits = header.bits; moves = moves })
+with_header (Ok header) (Ok moves) = Ok (plan_with header moves)
 with_header (Ok header) (Err fault) = Err fault
 with_header (Err fault) moves = Err fault
 

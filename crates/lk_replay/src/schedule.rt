@@ -3,7 +3,8 @@
 ghost use Rattle.std.specs.Prelude.{◌≡◌, ◌<◌, ◌≤◌, ◌^◌, length, IfErr, IfOk, Ok};
 ghost use Rattle.lk_replay.specs.Reads.{Fails, Gives};
 ghost use Rattle.lk_replay.specs.Reading.{IsOfText};
-ghost use Rattle.lk_replay.specs.Schedule.{move_of, moves_from, plan_of, with_header, Plan};
+ghost use Rattle.lk_replay.specs.Schedule.{move_of, moves_from, plan_of, plan_with, with_header};
+ghost use Rattle.lk_replay.specs.Schedule.{Plan};
 
 mod reader;
 
@@ -66,20 +67,16 @@ pub enum ReadFault {
 /// What a schedule text says.
 #[derive(Drop)]
 pub struct Schedule {
-    kind: LockKind,
-    threads: u8,
-    bits: u8,
+    header: Header,
     moves: Vec<Line>,
 }
 
 impl Model for Schedule {
     ghost Value = { Plan };
 
-    ghost view = { λ a.
-        record { kind = a.kind; threads = a.threads; bits = a.bits; moves = a.moves.items } };
+    ghost view = { λ a. plan_with a.header a.moves.items };
 
-    ghost invariant = { λ a. (0 < a.threads) × (a.threads ≤ 64) × (a.threads < 2 ^ a.bits)
-        × (2 ≤ a.bits) × (a.bits ≤ 64) × (length a.moves.items ≤ 65536) };
+    ghost invariant = { λ a. length a.moves.items ≤ 65536 };
 }
 
 impl Schedule {
@@ -87,7 +84,7 @@ impl Schedule {
     pub fn kind(&self) -> LockKind
         ensures { result ≡ self.now.kind }
     {
-        self.kind
+        self.header.kind()
     }
 
     /// How many threads it has.
@@ -97,7 +94,7 @@ impl Schedule {
         ensures few { result ≤ 64 }
         ensures narrow { result < 2 ^ self.now.bits }
     {
-        self.threads
+        self.header.threads()
     }
 
     /// How many bits its words have.
@@ -106,7 +103,7 @@ impl Schedule {
         ensures least { 2 ≤ result }
         ensures most { result ≤ 64 }
     {
-        self.bits
+        self.header.bits()
     }
 
     /// The moves, in order.
@@ -132,14 +129,8 @@ fn move_of(line: &[u8]) -> Option<(u8, Move)>
 // The header of a text, and the lines after it.
 #[tactic(auto, unfolding(crate::specs::Schedule::plan_of))]
 fn read_header(text: &[u8]) -> Result<(Header, Lines<'_>), ReadFault>
-    ensures some { IfOk result (λ read. 0 < read.0.threads) }
-    ensures few { IfOk result (λ read. read.0.threads ≤ 64) }
-    ensures narrow { IfOk result (λ read. read.0.threads < 2 ^ read.0.bits) }
-    ensures least { IfOk result (λ read. 2 ≤ read.0.bits) }
-    ensures most { IfOk result (λ read. read.0.bits ≤ 64) }
-    ensures read { IfOk result (λ read. plan_of text.now ≡ with_header
-        (Ok (record { kind = read.0.kind; threads = read.0.threads; bits = read.0.bits }))
-        (moves_from read.1.number 0 read.1.lines)) }
+    ensures read { IfOk result (λ read. plan_of text.now
+        ≡ with_header (Ok read.0) (moves_from read.1.number 0 read.1.lines)) }
     ensures fault { IfErr result (λ fault. Fails fault (plan_of text.now)) }
     ensures no_memory { IfErr result IsOfText }
 {
@@ -196,10 +187,5 @@ pub fn read_schedule(alloc: Global, bytes: &[u8]) -> Result<Schedule, ReadFault>
     let (header, lines) = read_header(bytes)?;
     let most = (bytes.len() / SHORTEST_MOVE).min(MOST_MOVES);
     let moves = read_moves(alloc, lines, most)?;
-    Ok(Schedule {
-        kind: header.kind,
-        threads: header.threads,
-        bits: header.bits,
-        moves,
-    })
+    Ok(Schedule { header, moves })
 }

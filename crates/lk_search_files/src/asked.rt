@@ -22,19 +22,14 @@ pub struct Shape {
 impl Shape {
     /// The lock of a header that was read.
     pub fn of_header(header: Header) -> Shape
-        requires some { 0 < header.threads }
-        requires few { header.threads ≤ 64 }
-        requires narrow { header.threads < 2 ^ header.bits }
-        requires least { 2 ≤ header.bits }
-        requires most { header.bits ≤ 64 }
         ensures kind { result.kind ≡ header.kind }
         ensures threads { result.threads ≡ header.threads }
         ensures bits { result.bits ≡ header.bits }
     {
         Shape {
-            kind: header.kind,
-            threads: header.threads,
-            bits: header.bits,
+            kind: header.kind(),
+            threads: header.threads(),
+            bits: header.bits(),
         }
     }
 }

@@ -3,12 +3,11 @@
 use Rattle.std.specs.Prelude.{ℕ, List, Option, Some, None, Result, Ok, Err, length, nat_lt}
 use Rattle.std.specs.Prelude.{if◌then◌else◌}
 use Rattle.lk_replay.specs.Lines.{is_skipped}
-use Rattle.lk_replay.specs.Header as text
+use Rattle.lk_replay.specs.Header.{Header, header_of}
 use Rattle.lk_replay.specs.Faults.{Fault}
 use Rattle.lk_replay.specs.Faults as of_text
 use Rattle.lk_replay.specs.declared.schedule.ReadFault.{ReadFault}
 use Rattle.lk_replay.specs.declared.schedule.ReadFault.TheVariants as reading
-use Rattle.lk_replay.specs.declared.header.Header.{Header}
 use Rattle.lk_trace.specs.Lines.{short_line_of}
 use Rattle.lk_trace.specs.Checks.{Checked, new_lock, answer_to, after_line}
 use Rattle.lk_trace.specs.declared.checker.Made.{Made as MadeMove}
@@ -33,15 +32,14 @@ fault_named (reading.BadThreads line) = BadThreads
 fault_named (reading.WordsTooNarrow line) = WordsTooNarrow
 fault_named fault = BadHeader
 
-abbrev pub header_read : Result text.Header Fault → Result Header TextFault
-header_read (Ok header) =
-    Ok (record { kind = header.kind; threads = header.threads; bits = header.bits })
+abbrev pub header_read : Result Header Fault → Result Header TextFault
+header_read (Ok header) = Ok header
 header_read (Err fault) = Err (fault_of fault)
 
 -- the header that a line of at most 96 bytes is
 abbrev pub read_header_of : List ℕ → Result Header TextFault
 read_header_of line =
-    if nat_lt 96 (length line) then Err BadHeader else header_read (text.header_of 0 line)
+    if nat_lt 96 (length line) then Err BadHeader else header_read (header_of 0 line)
 
 -- the lock of a header, on which nothing was done
 abbrev pub new_checked : Header → Checked

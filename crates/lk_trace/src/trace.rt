@@ -1,6 +1,6 @@
 //! A trace, read line by line: the header, and then the moves, each checked on the header's lock.
 
-ghost use Rattle.std.specs.Prelude.{◌≡◌, ◌<◌, ◌≤◌, ◌^◌, IfOk, None, option_map, Option};
+ghost use Rattle.std.specs.Prelude.{◌≡◌, None, option_map, Option};
 ghost use Rattle.lk_trace.specs.Traces.{after_text_line, event_of, fault_named, read_header_of};
 ghost use Rattle.lk_trace.specs.Checks.{Checked};
 
@@ -75,12 +75,7 @@ fn fault_of(fault: ReadFault) -> TextFault
 ///
 /// `BadHeader`, `BadThreads` or `WordsTooNarrow`, the first of these that applies.
 pub fn read_header(line: &[u8]) -> Result<Header, TextFault>
-    ensures some { IfOk result (λ header. 0 < header.threads) }
-    ensures few { IfOk result (λ header. header.threads ≤ 64) }
-    ensures narrow { IfOk result (λ header. header.threads < 2 ^ header.bits) }
-    ensures least { IfOk result (λ header. 2 ≤ header.bits) }
-    ensures most { IfOk result (λ header. header.bits ≤ 64) }
-    ensures read { result ≡ read_header_of line.now }
+    ensures { result ≡ read_header_of line.now }
 {
     if line.len() > MOST_OF_A_LINE {
         return Err(TextFault::BadHeader);
@@ -117,7 +112,8 @@ impl TraceReader {
         let Some(checker) = self.checker.as_mut() else {
             return match read_header(line) {
                 Ok(header) => {
-                    self.checker = Some(Checker::new(header.kind, header.threads, header.bits));
+                    let checker = Checker::new(header.kind(), header.threads(), header.bits());
+                    self.checker = Some(checker);
                     Event::Began(header)
                 }
                 Err(fault) => Event::Fault(fault),

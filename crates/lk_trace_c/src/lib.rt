@@ -78,7 +78,7 @@ fn take_line(
     match trace.line(line) {
         Event::Skipped => 0,
         Event::Began(header) => {
-            answer.threads = u32::from(header.threads);
+            answer.threads = u32::from(header.threads());
             0
         }
         Event::Made(read, made) => {

@@ -5,7 +5,7 @@ use Rattle.std.specs.Prelude.{Option, Result, ◌≢◌}
 use Rattle.std.proofs.lemmas.Bool.{cond-true, cond-false, cases_Bool}
 use Rattle.lk_locks.specs.invariants.WellFormed.{WellFormed}
 use Rattle.lk_replay.specs.Lines.{is_skipped, lines_of}
-use Rattle.lk_replay.specs.declared.header.Header.{Header}
+use Rattle.lk_replay.specs.Header.{Header}
 use Rattle.lk_trace.proofs.Agreeing.{agreed, agrees, new_is_well, stays_well}
 use Rattle.lk_trace.specs.Checks.{Checked, answer_unless, checked, difference_of, made_of}
 use Rattle.lk_trace.specs.Checks.{unless_other}

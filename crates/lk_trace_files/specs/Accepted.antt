@@ -2,7 +2,7 @@
 -- line agrees with the lock.
 use Rattle.std.specs.Prelude.{◌≡◌, ◌⊎◌, ℕ, List, [], ◌∷◌, true, false, Some, Ok}
 use Rattle.lk_replay.specs.Lines.{is_skipped}
-use Rattle.lk_replay.specs.declared.header.Header.{Header}
+use Rattle.lk_replay.specs.Header.{Header}
 use Rattle.lk_trace.specs.Agreement.{Agrees}
 use Rattle.lk_trace.specs.Checks.{Checked, checked}
 use Rattle.lk_trace.specs.Lines.{short_line_of}

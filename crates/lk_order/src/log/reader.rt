@@ -1,7 +1,7 @@
 //! A log, read line by line: the header, the moves, and how many were dropped.
 
-ghost use Rattle.std.specs.Prelude.{◌≡◌, ◌<◌, ◌≤◌, ◌^◌, ◌++◌, ◌∷◌, [], None, MatchOption, IfOk};
-ghost use Rattle.std.specs.Prelude.{IfSome, OnOk, OnErr, IfErr, Ok, Err};
+ghost use Rattle.std.specs.Prelude.{◌≡◌, ◌<◌, ◌++◌, ◌∷◌, [], None, MatchOption, IfSome, OnOk};
+ghost use Rattle.std.specs.Prelude.{OnErr, IfErr, Ok, Err};
 ghost use Rattle.lk_order.specs.Logs.{after_header, cut_last, dropped_of, empty_log, IsFaultOf};
 ghost use Rattle.lk_order.specs.Logs.{line_read, log_header_of, log_read, Reading};
 
@@ -62,11 +62,6 @@ fn cut_last_word(line: &[u8]) -> Option<(&[u8], &[u8])>
 // The header of a log: a trace's, and `thread T` after it.
 fn header_of(line: &[u8]) -> Option<(Header, u8)>
     ensures header { result ≡ log_header_of line.now }
-    ensures some { IfSome result (λ read. 0 < read.0.threads) }
-    ensures few { IfSome result (λ read. read.0.threads ≤ 64) }
-    ensures narrow { IfSome result (λ read. read.0.threads < 2 ^ read.0.bits) }
-    ensures least { IfSome result (λ read. 2 ≤ read.0.bits) }
-    ensures most { IfSome result (λ read. read.0.bits ≤ 64) }
     ensures has { IfSome result (λ read. read.1 < read.0.threads) }
 {
     if line.len() > MOST_OF_A_LINE {
@@ -79,7 +74,7 @@ fn header_of(line: &[u8]) -> Option<(Header, u8)>
         return None;
     }
     match read_header(front) {
-        Ok(header) if thread < header.threads => Some((header, thread)),
+        Ok(header) if thread < header.threads() => Some((header, thread)),
         _ => None,
     }
 }
@@ -95,18 +90,11 @@ fn dropped_of(line: &[u8]) -> Option<u64>
 impl Log {
     // A log without moves.
     fn begun(alloc: Global, header: Header, thread: u8) -> Log
-        requires some { 0 < header.threads }
-        requires few { header.threads ≤ 64 }
-        requires narrow { header.threads < 2 ^ header.bits }
-        requires least { 2 ≤ header.bits }
-        requires most { header.bits ≤ 64 }
-        requires has { thread < header.threads }
+        requires { thread < header.threads }
         ensures { result ≡ empty_log header thread }
     {
         Log {
-            kind: header.kind,
-            threads: header.threads,
-            bits: header.bits,
+            header,
             owner: thread,
             moves: Vec::new(alloc),
             lines: Vec::new(alloc),

@@ -2,22 +2,20 @@
 //! project's own: the text is gone through once before its first move, so that each fault is known
 //! by then, and its moves are read again as they are asked for.
 
-ghost use Rattle.std.specs.Prelude.{◌≡◌, ◌<◌, ◌≤◌, ◌^◌, length, IfOk, IfErr, ◌+◌, Ok, drop};
+ghost use Rattle.std.specs.Prelude.{◌≡◌, ◌≤◌, length, IfOk, IfErr, ◌+◌, Ok, drop};
 ghost use Rattle.lk_replay.specs.Reads.{Gives};
 ghost use Rattle.lk_replay.specs.Reading.{IsOfText, counted, moves_in, first_of};
-ghost use Rattle.lk_replay.specs.Schedule.{moves_from, Plan, plan_of};
+ghost use Rattle.lk_replay.specs.Schedule.{moves_from, Plan, plan_of, plan_with};
 
 use super::{Line, MOST_MOVES, ReadFault, move_of, read_header};
+use crate::header::Header;
 use crate::lines::Lines;
-use lk_locks::LockKind;
 use std::marker::Model;
 
 /// What a schedule text says, with the moves that were not read yet.
 #[derive(Drop)]
 pub struct ScheduleReader<'a> {
-    kind: LockKind,
-    threads: u8,
-    bits: u8,
+    header: Header,
     // how many moves were read, and how many are left
     taken: usize,
     left: usize,
@@ -28,16 +26,10 @@ pub struct ScheduleReader<'a> {
 impl<'a> Model for ScheduleReader<'a> {
     ghost Value = { Plan };
 
-    ghost view = { λ a. record {
-      kind = a.kind;
-      threads = a.threads;
-      bits = a.bits;
-      moves = moves_in (moves_from a.lines.number a.taken a.lines.lines);
-    } };
+    ghost view = { λ a. plan_with a.header
+        (moves_in (moves_from a.lines.number a.taken a.lines.lines)) };
 
-    ghost invariant = { λ a.
-        (0 < a.threads) × (a.threads ≤ 64) × (a.threads < 2 ^ a.bits) × (2 ≤ a.bits) × (a.bits ≤ 64)
-        × (a.taken + a.left ≤ 65536)
+    ghost invariant = { λ a. (a.taken + a.left ≤ 65536)
         × (moves_from a.lines.number a.taken a.lines.lines
         ≡ Ok (moves_in (moves_from a.lines.number a.taken a.lines.lines)))
         × (a.left ≡ length (moves_in (moves_from a.lines.number a.taken a.lines.lines))) };
@@ -56,39 +48,20 @@ impl<'a> ScheduleReader<'a> {
         let (header, lines) = read_header(text)?;
         let left = count_moves(lines.copy())?;
         Ok(ScheduleReader {
-            kind: header.kind,
-            threads: header.threads,
-            bits: header.bits,
+            header,
             taken: 0,
             left,
             lines,
         })
     }
 
-    /// The lock.
-    pub fn kind(&self) -> LockKind
-        ensures { result ≡ self.now.kind }
+    /// The text's header.
+    pub fn header(&self) -> Header
+        ensures kind { result.kind ≡ self.now.kind }
+        ensures threads { result.threads ≡ self.now.threads }
+        ensures bits { result.bits ≡ self.now.bits }
     {
-        self.kind
-    }
-
-    /// How many threads it has.
-    pub fn threads(&self) -> u8
-        ensures threads { result ≡ self.now.threads }
-        ensures some { 0 < result }
-        ensures few { result ≤ 64 }
-        ensures narrow { result < 2 ^ self.now.bits }
-    {
-        self.threads
-    }
-
-    /// How many bits its words have.
-    pub fn bits(&self) -> u8
-        ensures bits { result ≡ self.now.bits }
-        ensures least { 2 ≤ result }
-        ensures most { result ≤ 64 }
-    {
-        self.bits
+        self.header
     }
 
     /// How many moves were not read yet.

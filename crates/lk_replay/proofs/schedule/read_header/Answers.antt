@@ -37,8 +37,5 @@ returns-clause-read c =
     (skips_same _ _ c.new-lines.ensures _ _ _ c.in-Some.ensures.found refl) c.in-Some.ensures.read
     ∙ ap (λ h. with_header h (moves_from (c.in-Some.number + 1) 0 others))
     c.in_ok-header.ensures.read
-    ∙ ap (λ n. with_header (Ok (record {
-      kind = c.in_ok-header.header.kind;
-      threads = c.in_ok-header.header.threads;
-      bits = c.in_ok-header.header.bits;
-    })) (moves_from n 0 others)) (sym c.in-Some.ensures.counted)
+    ∙ ap (λ n. with_header (Ok c.in_ok-header.header) (moves_from n 0 others))
+    (sym c.in-Some.ensures.counted)

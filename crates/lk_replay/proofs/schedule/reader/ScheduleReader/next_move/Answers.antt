@@ -14,13 +14,8 @@ invariant_of-self c =
     let i = c.self.invariant in
     let same = moves_skip _ c.self.inside.taken _ _ _ c.in_err-number.ensures.end in (
       i.0,
-      i.1,
-      i.2,
-      i.3,
-      i.4,
-      i.5,
-      subst (λ (r : Result (List Line) Fault). r ≡ Ok (moves_in r)) same i.6,
-      subst (λ (r : Result (List Line) Fault). c.self.inside.left ≡ length (moves_in r)) same i.7,
+      subst (λ (r : Result (List Line) Fault). r ≡ Ok (moves_in r)) same i.1,
+      subst (λ (r : Result (List Line) Fault). c.self.inside.left ≡ length (moves_in r)) same i.2,
     )
 
 pub returns-in_err-number-clause-first : goal.returns-in_err-number-clause-first
@@ -40,17 +35,17 @@ returns-in_err-number-clause-rest c =
 pub invariant_of-self-in_err-thread : goal.invariant_of-self-in_err-thread
 invariant_of-self-in_err-thread c =
     absurd (move_missing _ c.self.inside.taken _ _ _ _ _ c.in_ok-number.ensures.found
-    c.in_ok-number.ensures.read (sym c.move_of.ensures ∙ c.in_err-thread.was) c.self.invariant.6)
+    c.in_ok-number.ensures.read (sym c.move_of.ensures ∙ c.in_err-thread.was) c.self.invariant.1)
 
 pub returns-in_err-thread-clause-first : goal.returns-in_err-thread-clause-first
 returns-in_err-thread-clause-first c =
     absurd (move_missing _ c.self.inside.taken _ _ _ _ _ c.in_ok-number.ensures.found
-    c.in_ok-number.ensures.read (sym c.move_of.ensures ∙ c.in_err-thread.was) c.self.invariant.6)
+    c.in_ok-number.ensures.read (sym c.move_of.ensures ∙ c.in_err-thread.was) c.self.invariant.1)
 
 pub returns-in_err-thread-clause-rest : goal.returns-in_err-thread-clause-rest
 returns-in_err-thread-clause-rest c =
     absurd (move_missing _ c.self.inside.taken _ _ _ _ _ c.in_ok-number.ensures.found
-    c.in_ok-number.ensures.read (sym c.move_of.ensures ∙ c.in_err-thread.was) c.self.invariant.6)
+    c.in_ok-number.ensures.read (sym c.move_of.ensures ∙ c.in_err-thread.was) c.self.invariant.1)
 
 pub overflow_sub-self : goal.overflow_sub-self
 overflow_sub-self c =
@@ -58,8 +53,8 @@ overflow_sub-self c =
     move_read _ c.self.inside.taken _ _ _ _ _ _ _ c.in_ok-number.ensures.counted
     c.in_ok-number.ensures.found c.in_ok-number.ensures.read
     (sym c.move_of.ensures ∙ c.in_ok-thread.was)
-    (c.self.invariant.6 ∙ ap (λ (p : Plan). Ok p.moves) c.self.view_is) in
-    omega (arith, one_left _ _ _ _ _ c.self.view_is m.2 c.self.invariant.7)
+    (c.self.invariant.1 ∙ ap (λ (p : Plan). Ok p.moves) c.self.view_is) in
+    omega (arith, one_left _ _ _ _ _ c.self.view_is m.2 c.self.invariant.2)
 
 pub invariant_of-self-2 : goal.invariant_of-self-2
 invariant_of-self-2 c =
@@ -68,9 +63,9 @@ invariant_of-self-2 c =
     move_read _ c.self.inside.taken _ _ _ _ _ _ _ c.in_ok-number.ensures.counted
     c.in_ok-number.ensures.found c.in_ok-number.ensures.read
     (sym c.move_of.ensures ∙ c.in_ok-thread.was)
-    (c.self.invariant.6 ∙ ap (λ (p : Plan). Ok p.moves) c.self.view_is) in
-    let left = one_left _ _ _ _ _ c.self.view_is m.2 c.self.invariant.7 in
-    (i.0, i.1, i.2, i.3, i.4, omega (arith, i.5, left), m.1, omega (arith, left))
+    (c.self.invariant.1 ∙ ap (λ (p : Plan). Ok p.moves) c.self.view_is) in
+    let left = one_left _ _ _ _ _ c.self.view_is m.2 c.self.invariant.2 in
+    (omega (arith, i.0, left), m.1, omega (arith, left))
 
 pub returns-clause-first : goal.returns-clause-first
 returns-clause-first c =
@@ -78,7 +73,7 @@ returns-clause-first c =
     move_read _ c.self.inside.taken _ _ _ _ _ _ _ c.in_ok-number.ensures.counted
     c.in_ok-number.ensures.found c.in_ok-number.ensures.read
     (sym c.move_of.ensures ∙ c.in_ok-thread.was)
-    (c.self.invariant.6 ∙ ap (λ (p : Plan). Ok p.moves) c.self.view_is) in
+    (c.self.invariant.1 ∙ ap (λ (p : Plan). Ok p.moves) c.self.view_is) in
     sym (ap first_of m.2)
 
 pub returns-clause-rest : goal.returns-clause-rest
@@ -87,5 +82,5 @@ returns-clause-rest c =
     move_read _ c.self.inside.taken _ _ _ _ _ _ _ c.in_ok-number.ensures.counted
     c.in_ok-number.ensures.found c.in_ok-number.ensures.read
     (sym c.move_of.ensures ∙ c.in_ok-thread.was)
-    (c.self.invariant.6 ∙ ap (λ (p : Plan). Ok p.moves) c.self.view_is) in
+    (c.self.invariant.1 ∙ ap (λ (p : Plan). Ok p.moves) c.self.view_is) in
     next_plan _ _ _ _ c.self.view_is m.2
