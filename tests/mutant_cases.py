@@ -8,11 +8,13 @@ and twin of the crates has to change the text as it is now.
 """
 import sys
 import tempfile
+import time
+from concurrent.futures import ThreadPoolExecutor
 from pathlib import Path
 
 from mutant_checks import verdict_on
 from mutant_edits import BadEdit, Edit
-from mutants import TRIES, group_of, proved_in
+from mutants import TRIES, Lanes, group_of, proved_in
 from rattle_functions import functions_of
 from rattle_words import TOP
 from tally import Tally
@@ -126,6 +128,25 @@ def try_groups(tally):
     tally.check("alone at last", group_of([first, other], {**new, first: TRIES}), [first])
 
 
+def order_of(*crates):
+    """The order in which these crates, which wait for the one lane, get it."""
+    lanes, order = Lanes(1), []
+
+    def take(crate):
+        with lanes.lane(crate):
+            order.append(crate)
+
+    with ThreadPoolExecutor(len(crates)) as pool:
+        with lanes.lane("lk_words"):
+            taken = [pool.submit(take, crate) for crate in crates]
+            while len(lanes.waiting) < len(crates):
+                time.sleep(0.01)
+            assert not order
+        for one in taken:
+            one.result()
+    return order
+
+
 def changes(path, files):
     """Whether an edit of a crate can be put into its files, and changes one."""
     try:
@@ -152,6 +173,8 @@ def main():
             tally.check(name, outcome(Path(folder), text),
                         lambda got, part=part: got is None if part is None else part in got)
     tally.check("proved or kept", proved_in(SAID_BY_CI), {"lk_words", "lk_locks"})
+    tally.check("lanes", order_of("lk_locks", "lk_trace_files", "lk_replay"),
+                ["lk_trace_files", "lk_replay", "lk_locks"])
     try_groups(tally)
     try_edits(tally)
     return tally.end()

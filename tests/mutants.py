@@ -19,14 +19,16 @@ with --beside, each when `rt ci`, whose output LOG is, has proved what is below 
 Prints each one that fares as it must not, then a table, then `N passed, M failed`.
 """
 import argparse
+import heapq
 import os
 import re
 import sys
 import tempfile
 import time
 from concurrent.futures import ThreadPoolExecutor
+from contextlib import contextmanager
 from pathlib import Path
-from threading import BoundedSemaphore
+from threading import Condition
 
 from mutant_checks import Lab, NotChecked, verdict_on
 from mutant_edits import BadEdit, Edit
@@ -35,6 +37,30 @@ from rattle_words import TOP, libraries_below
 SIZE = 24  # mutants in one check: more of them take more memory, and gain little
 TRIES = 2  # in company, before an unclear one is tried alone
 PROVED = re.compile(r"^rt: (\S+) (?:proved$|is kept: )", re.MULTILINE)
+
+
+class Lanes:
+    """So many checks side by side. Of the crates that wait for a lane, the one over most libraries
+    is first: its checks take longest."""
+
+    def __init__(self, count):
+        self.free, self.waiting, self.change = count, [], Condition()
+
+    @contextmanager
+    def lane(self, crate):
+        place = (-len(libraries_below(crate)), crate)
+        with self.change:
+            heapq.heappush(self.waiting, place)
+            self.change.wait_for(lambda: self.free and self.waiting[0] == place)
+            heapq.heappop(self.waiting)
+            self.free -= 1
+            self.change.notify_all()
+        try:
+            yield
+        finally:
+            with self.change:
+                self.free += 1
+                self.change.notify_all()
 
 
 class Crate:
@@ -75,7 +101,7 @@ class Crate:
 
     def check(self, lab, files, functions):
         """A check of the lab, when there is a lane for it."""
-        with self.lanes:
+        with self.lanes.lane(self.name):
             began = time.monotonic()
             self.checks += 1
             try:
@@ -195,7 +221,7 @@ def main(words, lanes, log):
     named = {word.partition("/")[0] for word in words} - {edit.crate for edit in edits}
     for name in sorted(named):
         print(f"FAILED {name}: it has no such mutant")
-    lanes = BoundedSemaphore(lanes)
+    lanes = Lanes(lanes)
     crates = [Crate(name, [edit for edit in edits if edit.crate == name], lanes)
               for name in sorted({edit.crate for edit in edits})]
     with ThreadPoolExecutor(max(len(crates), 1)) as pool:
