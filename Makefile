@@ -89,6 +89,7 @@ tried-oracle:
 tried-layout:
 	tests/locks_code.py
 	tests/page_codes.py
+	tests/vocabulary.py
 	tests/definitions.py
 	tests/style.py
 	tests/formatted.py
