@@ -204,22 +204,22 @@ fn take_line(
 {
     let event = trace.line(line);
     course.take(number, line, event);
-    match event {
+    match &event {
         Event::Skipped | Event::Began(_) => Ok(true),
         Event::Made(line, made) => {
-            report.count(trace, line, made);
+            report.count(trace, *line, *made);
             Ok(true)
         }
         Event::Differs(line, difference) => {
             report.settle(Ending::Refused, number);
             if let Some(checker) = trace.checker() {
-                report.explain(checker, course.trail(), line, difference)?;
+                report.explain(checker, course.trail(), *line, *difference)?;
             }
             Ok(false)
         }
         Event::Fault(fault) => {
             report.settle(Ending::Faulty, number);
-            report.fault(fault)?;
+            report.fault(*fault)?;
             Ok(false)
         }
     }
