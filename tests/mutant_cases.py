@@ -9,10 +9,11 @@ and twin of the crates has to change the text as it is now.
 import sys
 import tempfile
 import time
+from collections import defaultdict
 from concurrent.futures import ThreadPoolExecutor
 from pathlib import Path
 
-from mutant_checks import verdict_on
+from mutant_checks import unproved_below, verdict_on
 from mutant_edits import BadEdit, Edit
 from mutants import TRIES, Lanes, group_of, proved_in
 from rattle_functions import functions_of
@@ -77,6 +78,12 @@ VERDICTS = {
     "names that are gone": (f"{GONE}\nfn c::f: not proved", "shape"),
     "a name and an answer": (f"{GONE}\n{FALSE}\nfn c::f: not proved", "refused"),
 }
+CHAIN = """fn c::f: no proof: it calls `c::g` and `c::h`, which are not proved
+fn c::g: no proof: expected answers in ./p; `search` did not prove `r`; it calls `c::i`, which is \
+not proved
+fn c::i: no proof: expected answers in ./p; `search` did not prove `r`
+fn c::j: no proof: it calls `c::k`, which is not proved
+"""
 SAID_BY_CI = """fn lk_words::most: proved
 rt: lk_words proved
 rt: lk_locks is kept: an earlier run on this machine proved the same files
@@ -122,10 +129,14 @@ class Named:
 
 def try_groups(tally):
     first, same, other, alone = map(Named, ("f", "f", "g", ""))
-    new = dict.fromkeys((first, same, other, alone), 0)
-    tally.check("functions apart", group_of([first, same, other, alone], new), [first, other])
-    tally.check("a constant alone", group_of([alone, first], new), [alone])
-    tally.check("alone at last", group_of([first, other], {**new, first: TRIES}), [first])
+    new, known = dict.fromkeys((first, same, other, alone), 0), defaultdict(set)
+    both = [first, same, other, alone]
+    tally.check("one of a function", group_of(both, new, known), [first, other])
+    tally.check("functions apart", group_of(both, new, known | {"g": {"f"}}), [first])
+    tally.check("a constant alone", group_of([alone, first], new, known), [alone])
+    tally.check("alone at last", group_of([first, other], {**new, first: TRIES}, known), [first])
+    tally.check("callees", unproved_below("c::f", CHAIN), {"c::g", "c::h", "c::i"})
+    tally.check("no callee", unproved_below("c::i", CHAIN), set())
 
 
 def order_of(*crates):

@@ -12,6 +12,7 @@ from rattle_words import TOP, words_of
 
 PARTS = ["src", "specs", "proofs", "out/incremental"]
 VERDICT = re.compile(r"^fn (\S+): (proved|not proved|no proof|could not tell)(.*)$", re.MULTILINE)
+CALLED = re.compile(r"`(\S+?)`(?=(?:, `\S+?`| and `\S+?`)*, which (?:is|are) not proved)")
 OWN_GOALS = re.compile(r"expected answers in|did not prove")
 # Errors of a proof that names what an edit took away: they say nothing of the contract.
 OF_NAMES = re.compile(r"has no field|is not in scope|has no `|was not admitted")
@@ -64,6 +65,19 @@ def verdict_on(function, said):
              if name == function or name.startswith(f"{function}::")]
     order = ("refused", "shape", "unclear", "proved")
     return min(found, key=lambda it: order.index(it[0]), default=("unclear", ""))
+
+
+def unproved_below(function, said):
+    """The functions that are not proved and that a function calls, itself or through others."""
+    calls = {}
+    for name, _, more in VERDICT.findall(said):
+        calls.setdefault(name.partition("::{")[0], set()).update(CALLED.findall(more))
+    found, waiting = set(), [function]
+    while waiting:
+        new = calls.get(waiting.pop(), set()) - found
+        found |= new
+        waiting += new
+    return found
 
 
 def word_for(name, status, more, said):

@@ -11,8 +11,10 @@ speaks. A twin of an edit in `must-fail` has the name of that edit.
 Mutants of different functions of a crate are tried in one check. A mutant counts as refused only
 if the check names its function with goals of its own; if all that is wrong is that a proof names
 what the mutant took away, only if it has a twin. One that is unclear, since its function only
-calls another that is not proved, is tried again with others, and then alone. A change of what is
-no function, as a constant, is tried alone, and the function that its edit names has to notice it.
+calls another that is not proved, is tried again without that one, and at last alone. A change of
+what is no function, as a constant, is tried alone, and the function that its edit names has to
+notice it.
+
 Crates are tried side by side, one check of each at a time, over what earlier checks kept in `out`;
 with --beside, each when `rt ci`, whose output LOG is, has proved what is below it.
 
@@ -25,17 +27,18 @@ import re
 import sys
 import tempfile
 import time
+from collections import defaultdict
 from concurrent.futures import ThreadPoolExecutor
 from contextlib import contextmanager
 from pathlib import Path
 from threading import Condition
 
-from mutant_checks import Lab, NotChecked, verdict_on
+from mutant_checks import Lab, NotChecked, unproved_below, verdict_on
 from mutant_edits import BadEdit, Edit
 from rattle_words import TOP, libraries_below
 
 SIZE = 24  # mutants in one check: more of them take more memory, and gain little
-TRIES = 2  # in company, before an unclear one is tried alone
+TRIES = 2  # in company that nothing speaks against, before an unclear one is tried alone
 PROVED = re.compile(r"^rt: (\S+) (?:proved$|is kept: )", re.MULTILINE)
 
 
@@ -69,6 +72,7 @@ class Crate:
     def __init__(self, name, edits, lanes):
         self.name, self.edits, self.lanes, self.faults = name, edits, lanes, []
         self.tries = dict.fromkeys(edits, 0)
+        self.apart = defaultdict(set)  # functions, by one of which nothing was clear beside them
         self.well = {True: 0, False: 0}
         self.checks, self.seconds = 0, 0.0
 
@@ -82,7 +86,7 @@ class Crate:
     def try_all(self, lab, waiting):
         """Tries edits in groups; those that are left unclear wait for another group."""
         while waiting:
-            group = group_of(waiting, self.tries)
+            group = group_of(waiting, self.tries, self.apart)
             rest = [edit for edit in waiting if edit not in group]
             waiting = rest + self.try_group(lab, group)
 
@@ -96,8 +100,19 @@ class Crate:
         unclear = [edit for edit in group
                    if not self.is_settled(edit, *verdict(edit, is_proved, said), len(group) == 1)]
         for edit in unclear:
-            self.tries[edit] += 1
+            if not self.keeps_apart(edit, said, functions_in(group) - edit.functions):
+                self.tries[edit] += 1
         return unclear
+
+    def keeps_apart(self, edit, said, others):
+        """Whether a check says that an edit's functions call others of the group, which was not
+        known. They are tried apart from now on."""
+        found = {(function, other) for function in edit.functions
+                 for other in unproved_below(function, said) & others - self.apart[function]}
+        for function, other in found:
+            self.apart[function].add(other)
+            self.apart[other].add(function)
+        return bool(found)
 
     def check(self, lab, files, functions):
         """A check of the lab, when there is a lane for it."""
@@ -171,18 +186,24 @@ def verdict(edit, is_proved, said):
     return next((it for it in found if it[0] == "refused"), found[0])
 
 
-def group_of(waiting, tries):
-    """The next edits to try together: of different functions, or one that has to be alone."""
+def group_of(waiting, tries, apart):
+    """The next edits to try together: of different functions, none of which is to be apart from
+    another; or one that has to be alone."""
     first = waiting[0]
     if first.is_alone or tries[first] >= TRIES:
         return [first]
     group, functions = [], set()
     for edit in waiting:
         if len(group) < SIZE and not edit.is_alone and tries[edit] == tries[first] \
-                and functions.isdisjoint(edit.functions):
+                and functions.isdisjoint(those_near(edit, apart)):
             group.append(edit)
             functions |= edit.functions
     return group
+
+
+def those_near(edit, apart):
+    """An edit's functions, and those that are to be apart from them."""
+    return edit.functions.union(*(apart[function] for function in edit.functions))
 
 
 def edits_of(words):
