@@ -14,7 +14,8 @@ copy_from_slice-requires c =
 
 pub state_bytes-bytes-requires : goal.state_bytes-bytes-requires
 state_bytes-bytes-requires c = record {
-  threads = c.threads-threads.ensures.threads ∙ sym (c.play_moves-stopped.ensures.threads
+  threads = c.threads-threads.ensures.threads ∙ c.header.ensures.threads
+      ∙ sym (c.play_moves-stopped.ensures.threads
       ∙ ap (λ (k : Tracked). length k.state.phases) c.new_lock-lock.ensures ∙ length-replicate _ _);
 }
 
