@@ -198,7 +198,7 @@ for (const file of files) {
 }
 const threads = Array.from({ length: 64 }, (_, thread) => thread);
 checkOwned(machine, threads);
-checkOwned(machine, threads.toReversed());
+checkOwned(machine, [...threads].reverse());
 checkNumbers(machine, module);
 checkRoom(machine);
 console.log(`module: ${files.length} examples as their reports say`);
