@@ -8,6 +8,7 @@
 - A file of code has at most 400 lines, and the body of a function at most 40.
 - A file opens with what it is: a comment or a docstring. Lists of modules, and the answers and
   invariants of one function's proof, are named by their place.
+- JavaScript calls none of the later methods that Node 18, which Debian 12 has, lacks.
 
 Nothing is left out. Prints each breach with its place, then `N files, M breaches`.
 """
@@ -38,6 +39,8 @@ FUNCTION = {
 }
 FUNCTION[".mjs"], FUNCTION[".h"] = FUNCTION[".js"], FUNCTION[".c"]
 FUNCTION[".rs"] = FUNCTION[".rt"]
+TOO_NEW = re.compile(r"\.(to(?:Reversed|Sorted|Spliced|WellFormed)|isWellFormed|groupBy|fromAsync"
+                     r"|withResolvers)\(")
 NO_FUNCTION = {"if", "for", "while", "switch", "catch"}
 
 
@@ -117,7 +120,15 @@ def missing_head(path, lines):
         yield 1, "it does not open with what it is"
 
 
-RULES = (long_lines, long_file, long_bodies, missing_head)
+def too_new(path, lines):
+    """Calls of methods that Node 18 lacks."""
+    if path.suffix in (".js", ".mjs"):
+        for number, line in enumerate(lines, 1):
+            for name in TOO_NEW.findall(line):
+                yield number, f"Node 18 has no {name}"
+
+
+RULES = (long_lines, long_file, long_bodies, missing_head, too_new)
 
 
 def breaches_of(path):
