@@ -96,6 +96,8 @@ SHELLS = {
         bind \\cu 'commandline ""'
     """),
 }
+# If it is not there, fish begins to fill it from all manual pages, and goes on after its end.
+GENERATED = ".local/share/fish/generated_completions"
 PATIENCE = 20  # seconds
 CLEAR, LINE = "\x15", "\x14"
 
@@ -149,6 +151,7 @@ def try_completions(tally, name, tree):
     with tempfile.TemporaryDirectory() as folder:
         for file in ("handed-on.schedule", "a.schedule"):
             Path(folder, file).write_text("lock ticket threads 1\n")
+        Path(folder, GENERATED).mkdir(parents=True)
         shell = Shell(name, tree, folder)
         for typed, due in CASES:
             tally.check(f"{name}: '{typed}' and Tab", shell.completed(typed), due)
