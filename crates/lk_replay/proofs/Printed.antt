@@ -179,6 +179,7 @@ last_some count (Some refused) = omega arith
 
 -- each word with the spaces around it
 pub words_joined : (count thread word outcome : List ℕ)
-    → ((count ++ 32 ∷ thread) ++ (codes " " ++ word ++ codes " ")) ++ (outcome ++ codes " hold ")
+    → (((count ++ codes " ") ++ thread) ++ (codes " " ++ word ++ codes " "))
+    ++ (outcome ++ codes " hold ")
     ≡ count ++ codes " " ++ thread ++ codes " " ++ word ++ codes " " ++ outcome ++ codes " hold "
 words_joined count thread word outcome = simp append_assoc

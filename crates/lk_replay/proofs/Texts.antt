@@ -1,7 +1,7 @@
 -- A text at the front of an array, edited in place.
 use Rattle.std.proofs.Common.{◌≡◌, ℕ, ◌+◌, ◌-◌, ◌≤◌, List, [], ◌∷◌, ◌++◌, length, take, drop, sym}
 use Rattle.std.proofs.Common.{ap, ◌∙◌, arith, length-append, length-drop, length-take-le}
-use Rattle.std.proofs.Common.{append_assoc, take-append-drop}
+use Rattle.std.proofs.Common.{append_assoc, take-append-drop, take_all}
 use Rattle.std.proofs.Math.Seq.{take-append-add, take-append_seam}
 use Rattle.std.proofs.lemmas.List.{drop-take, drop_at, take-append-le, take-take}
 use lib.Seq.{paste, take-paste, length-paste}
@@ -36,6 +36,19 @@ block_pushed xs now block at len wide is size fits within =
     written_after xs now (post_of at (at + wide - at) xs) at len within
     (omega (arith, ap length is))
     ∙ ap (λ (ys : List ℕ). take at xs ++ take len ys) is
+
+-- digits that were written after those before them
+pub digits_written : (xs now digits : List ℕ) (from at wide : ℕ) → from ≡ at → wide ≡ length digits
+    → at ≤ length xs → take from now ≡ take from xs
+    → drop from now ≡ digits ++ drop (at + wide) xs → take (at + wide) now ≡ take at xs ++ digits
+digits_written xs now digits from at wide start size within before is =
+    let post : List ℕ = drop (at + wide) xs in
+    let whole : now ≡ take at xs ++ (digits ++ post) =
+    sym (take-append-drop from now) ∙ ap (λ (ys : List ℕ). ys ++ drop from now) before
+    ∙ ap (λ (ys : List ℕ). take from xs ++ ys) is
+    ∙ ap (λ (k : ℕ). take k xs ++ (digits ++ post)) start in
+    ap (take (at + wide)) whole ∙ written_after xs digits post at wide within (omega arith)
+    ∙ ap (λ (ys : List ℕ). take at xs ++ ys) (take_all wide digits (omega arith))
 
 -- the first bytes of a text without its first
 pub rest_taken : (xs : List ℕ) (len wide : ℕ) → len ≤ wide

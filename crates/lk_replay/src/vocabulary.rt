@@ -1,5 +1,5 @@
 //! What a word of a text means: a number, a lock, a call, a step or an outcome. Each word is
-//! written once, in a table that is read both ways.
+//! written once, in a table that is read both ways and listed.
 
 ghost use Rattle.std.specs.Prelude.{◌≡◌, ◌≤◌, IfSome};
 ghost use Rattle.lk_replay.specs.Vocabulary.{lock_name, lock_named, move_named, move_word};
@@ -66,6 +66,20 @@ macro_rules! text {
         match $value { $($($pattern)+ => $text,)+ }
     };
 }
+
+// All words of such a table.
+macro_rules! words {
+    ($given:expr; $([$($value:tt)+] $text:literal,)+) => { [$($text,)+] };
+}
+
+/// The names of all locks.
+pub const LOCK_NAMES: [&str; 4] = lock_words!(words, ());
+
+/// The words of all moves.
+pub const MOVE_WORDS: [&str; 13] = move_words!(words, ());
+
+/// The words of all outcomes of a step.
+pub const OUTCOME_WORDS: [&str; 4] = outcome_words!(words, ());
 
 /// The number from `least` to `most` that the text is, without leading zeros.
 #[tactic(auto, unfolding(crate::specs::Vocabulary::number_of))]

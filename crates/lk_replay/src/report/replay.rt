@@ -13,7 +13,7 @@ ghost use Rattle.lk_replay.specs.Ending.{ending_of};
 use crate::output_buffer::{LEAST_PLACE, Source};
 use crate::played::Accepted;
 use crate::report::closings::{Closing, last_line};
-use crate::report::numerals::{Numeral, thread_block};
+use crate::report::numerals::{Numeral, put_number};
 use crate::report::status::StatusText;
 use crate::report::text::put_block;
 use crate::report::words::{move_block, outcome_block};
@@ -54,8 +54,8 @@ fn write_prefix(line: &mut [u8], count: &Numeral, accepted: &Accepted) -> usize
 {
     let (block, len) = count.block();
     let count_end = put_block(line, 0, block, len);
-    let (block, len) = thread_block(b' ', accepted.thread);
-    let thread_end = put_block(line, count_end, &block, len);
+    let space_end = put_block(line, count_end, b" ", 1);
+    let thread_end = put_number(line, space_end, accepted.thread);
     let (block, len) = move_block(accepted.action);
     let move_end = put_block(line, thread_end, block, len);
     let (block, len) = outcome_block(accepted.outcome);

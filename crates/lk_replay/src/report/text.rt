@@ -2,7 +2,8 @@
 //!
 //! It is an `ArrayVec<u8, 320>` but for two things: a block of a fixed size is copied whole, beyond
 //! the text's end, and the bytes after a short text are read with it. So neither copy depends on a
-//! length, while an `ArrayVec` gives and takes its bytes up to its length alone.
+//! length, while an `ArrayVec` gives and takes its bytes up to its length alone, which takes up to
+//! 5 % more instructions for a move.
 
 ghost use Rattle.std.specs.Prelude.{◌≡◌, ◌+◌, ◌≤◌, ◌++◌, length, take, ℕ, List, ◌<◌, ◌↔◌, []};
 ghost use Rattle.std.specs.Prelude.{IsTrue, drop};

@@ -9,10 +9,10 @@ returns-clause-text c =
     rw (
       c.put_block.ensures.text,
       c.put_block-move_end.ensures.text,
-      c.put_block-thread_end.ensures.text,
+      c.put_number-thread_end.ensures.text,
+      c.put_block-space_end.ensures.text,
       c.put_block-count_end.ensures.text,
       c.block-len.ensures.text,
-      c.thread_block-len.ensures.text,
       c.move_block-len.ensures.text,
       c.outcome_block-len.ensures.text,
     ) (words_joined _ _ _ _)
