@@ -16,7 +16,7 @@ mod mcs;
 mod read_write;
 mod ticket;
 
-use crate::Order;
+use crate::{MOST_THREADS, Order};
 use lk_locks::{LockKind, Move, Phase, StepKind, operation_of};
 use lk_trace::{Seen, TraceLine};
 use lk_words::Words;
@@ -25,9 +25,6 @@ pub use read_write::count_of;
 use read_write::lowest_section;
 use std::alloc::{AllocError, Global};
 use ticket::Tickets;
-
-// The most threads of a lock.
-const MOST_THREADS: usize = 64;
 
 /// When a step is proposed.
 #[derive(Clone, Copy, PartialEq, Eq)]

@@ -33,4 +33,4 @@ pub use find::{Ending, Found, Stuck, find_order};
 pub use log::{Log, LogFault, LogReader};
 pub use order::{Order, Placed};
 pub use pieces::{MOST_MOVES, Piece, Pieces};
-pub use shelf::{Shelf, Unfit};
+pub use shelf::{MOST_THREADS, Shelf, Unfit};

@@ -10,8 +10,8 @@ use std::alloc::{AllocError, Global};
 use std::marker::Model;
 use thiserror::Error;
 
-// The most threads of a lock.
-const MOST_THREADS: usize = 64;
+/// The most threads of a lock.
+pub const MOST_THREADS: usize = 64;
 
 /// Why a log does not belong to the run.
 #[derive(Clone, Copy, PartialEq, Eq, Debug, Error)]

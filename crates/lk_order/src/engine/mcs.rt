@@ -6,8 +6,8 @@
 mod chains;
 mod instances;
 
-use super::{MOST_THREADS, Round};
-use crate::Order;
+use super::Round;
+use crate::{MOST_THREADS, Order};
 use chains::{Chains, End};
 use instances::{Instance, Neighbor, instances_of};
 use lk_locks::{LockKind, Phase, StepKind, operation_of};

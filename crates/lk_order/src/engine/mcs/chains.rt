@@ -7,7 +7,7 @@
 //! end comes last, since no later swap can find nobody; before it one whose end is cut off.
 
 use super::instances::{Instance, Neighbor};
-use crate::engine::MOST_THREADS;
+use crate::MOST_THREADS;
 use std::alloc::{AllocError, Global};
 
 const NONE: u32 = u32::MAX;
