@@ -12,6 +12,7 @@ use crate::devices::{RunFault, read_text, send};
 use crate::ending::Ending;
 use crate::output_buffer::OutputBuffer;
 use crate::report::{Replay, read_or_fault};
+use crate::status::Status;
 use std::alloc::Global;
 use std::io::{Read, Write};
 
@@ -110,9 +111,10 @@ pub fn run<R: Read, W: Write>(
 pub fn status_of(ran: &Result<Ending, RunFault>) -> u8
     ensures { result ≡ status_of ran.now }
 {
-    match ran {
-        Ok(Ending::Accepted) => 0,
-        Ok(Ending::Refused | Ending::Faulty) => 1,
-        Err(_) => 3,
-    }
+    let status = match ran {
+        Ok(Ending::Accepted) => Status::Accepted,
+        Ok(Ending::Refused | Ending::Faulty) => Status::Refused,
+        Err(_) => Status::Failed,
+    };
+    status as u8
 }

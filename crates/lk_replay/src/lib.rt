@@ -11,6 +11,7 @@ pub mod parts;
 mod played;
 mod report;
 mod schedule;
+mod status;
 mod theorems;
 mod unreadable;
 mod vocabulary;

@@ -3,6 +3,8 @@
 ghost use Rattle.std.specs.Prelude.{◌≡◌, ◌⊎◌, max};
 ghost use Rattle.lk_search_files.specs.Endings.{status_of};
 
+use lk_replay::parts::Status;
+
 /// How a job ended.
 #[derive(Clone, Copy, PartialEq, Eq, Debug)]
 pub enum Ending {
@@ -25,13 +27,14 @@ impl Ending {
     pub fn status(self) -> u8
         ensures { result ≡ status_of self }
     {
-        match self {
-            Ending::Found => 0,
-            Ending::Missing | Ending::Refused => 1,
-            Ending::Misused => 2,
-            Ending::Undecided => 3,
-            Ending::Faulty => 4,
-        }
+        let status = match self {
+            Ending::Found => Status::Accepted,
+            Ending::Missing | Ending::Refused => Status::Refused,
+            Ending::Misused => Status::Misused,
+            Ending::Undecided => Status::Failed,
+            Ending::Faulty => Status::Faulty,
+        };
+        status as u8
     }
 
     /// The one with the greater status.

@@ -17,6 +17,7 @@ use crate::summary::Summary;
 use crate::texts::{Standing, Wrong};
 use crate::trail::Trail;
 use crate::waiting::{HANGS, put_waits};
+use lk_replay::parts::Status;
 use lk_trace::{Checker, Difference, Event, Made, TextFault, TraceLine, TraceReader};
 use std::alloc::{AllocError, Global};
 use std::fmt::Write;
@@ -42,12 +43,13 @@ impl Ending {
     pub fn status(self) -> u8
         ensures { result ≡ status_of self }
     {
-        match self {
-            Ending::Accepted => 0,
-            Ending::Refused | Ending::Hangs => 1,
-            Ending::Unread => 3,
-            Ending::Faulty => 4,
-        }
+        let status = match self {
+            Ending::Accepted => Status::Accepted,
+            Ending::Refused | Ending::Hangs => Status::Refused,
+            Ending::Unread => Status::Failed,
+            Ending::Faulty => Status::Faulty,
+        };
+        status as u8
     }
 
     /// Its name in JSON.

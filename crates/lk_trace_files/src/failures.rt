@@ -2,6 +2,7 @@
 
 ghost use Rattle.std.specs.Prelude.{◌≡◌};
 
+use lk_replay::parts::Status;
 use std::alloc::AllocError;
 use std::io;
 use thiserror::Error;
@@ -16,14 +17,11 @@ pub enum Failure {
     Memory(#[from(alloc)] AllocError),
 }
 
-// The status of the program after any of them.
-const FAILED: u8 = 3;
-
 impl Failure {
     /// The status of the program.
     pub fn status(&self) -> u8
         ensures { result ≡ 3 }
     {
-        FAILED
+        Status::Failed as u8
     }
 }

@@ -11,14 +11,12 @@ ghost use Rattle.lockreplay.specs.Jobs.{FitsJob};
 use crate::command_line::{Job, ParseFault};
 use crate::faults::ProgramFault;
 use crate::jobs::perform;
+use lk_replay::parts::Status;
 use lk_replay::send;
 use std::alloc::Global;
 use std::io::{Read, Write};
 use std::rt::Files;
 use std::thread::Threads;
-
-/// The status of a command line that asks for nothing that the program does.
-const USAGE_STATUS: u8 = 2;
 
 /// The end of the program.
 #[derive(Clone, Copy, PartialEq, Eq, Debug)]
@@ -40,7 +38,7 @@ fn help<W: Write>(output: &mut W, text: &str) -> Result<u8, ProgramFault>
     let Ok(()) = send(output, text.as_bytes()) else {
         return Err(ProgramFault::Output);
     };
-    Ok(0)
+    Ok(Status::Accepted as u8)
 }
 
 /// Says in one line what ends the program. The line is put together here, and not by `Display`,
@@ -78,7 +76,7 @@ fn tell_usage<E: Write>(errors: &mut E, text: &str) -> Ended
 {
     let told = send(errors, text.as_bytes()).is_ok();
     Ended {
-        status: USAGE_STATUS,
+        status: Status::Misused as u8,
         told,
     }
 }

@@ -4,6 +4,7 @@ ghost use Rattle.std.specs.Prelude.{◌≡◌};
 ghost use Rattle.lockreplay.specs.Faults.{fault_from, fault_status, fault_words};
 
 use lk_replay::RunFault;
+use lk_replay::parts::Status;
 use thiserror::Error;
 
 /// Why the program gives no report. Shown, it is the line for standard error, without its end: the
@@ -43,13 +44,14 @@ impl ProgramFault {
     pub fn status(&self) -> u8
         ensures { result ≡ fault_status self.now }
     {
-        match self {
-            ProgramFault::TooManyFiles => 2,
+        let status = match self {
+            ProgramFault::TooManyFiles => Status::Misused,
             ProgramFault::Input
             | ProgramFault::Output
             | ProgramFault::Memory
-            | ProgramFault::File(_) => 3,
-        }
+            | ProgramFault::File(_) => Status::Failed,
+        };
+        status as u8
     }
 }
 

@@ -12,8 +12,8 @@ use command_line::{Color, Job, ParseFault, parse_words};
 use folders::files_named;
 use lk_search_files::{count_space, cover_traces, find_run, write_tour};
 use lk_trace_files::{
-    Asked, CheckJob, Ending, Failure, Unscheduled, check_files, explain_input, order_logs, worst,
-    write_schedule,
+    Asked, CheckJob, Ending, Failure, Status, Unscheduled, check_files, explain_input, order_logs,
+    worst, write_schedule,
 };
 use searches::SearchJob;
 use std::alloc::{AllocError, Global};
@@ -22,9 +22,6 @@ use std::process::ExitCode;
 use std::rt::Runtime;
 use std::thread::Threads;
 use std::{env, fs};
-
-/// The status of a command line that asks for nothing that the program does.
-const USAGE_STATUS: u8 = 2;
 
 /// Of words that are not UTF-8 the parser can read none.
 const FOREIGN_WORDS: &str = "locktrace: the words are not UTF-8 text\n";
@@ -211,19 +208,20 @@ fn main(rt: HostRuntime) -> ExitCode {
             perform(&rt, rt.alloc(), job, terminals, &mut rt.stdout())
         }
         Err(ParseFault::Told(text)) => match rt.stdout().write_all(text.as_bytes()) {
-            Ok(()) => Ok(0),
+            Ok(()) => Ok(Status::Accepted as u8),
             Err(error) => Err(Failure::Output(error)),
         },
         Err(ParseFault::Usage(text)) => {
             let _ = rt.stderr().write_all(text.as_bytes());
-            Ok(USAGE_STATUS)
+            Ok(Status::Misused as u8)
         }
         Err(ParseFault::Memory(error)) => Err(Failure::Memory(error)),
     };
     let status = match ended {
         Ok(status) => status,
         // who reads has read enough
-        Err(Failure::Output(error)) if error.kind() == ErrorKind::BrokenPipe => 0,
+        Err(Failure::Output(error)) if error.kind() == ErrorKind::BrokenPipe =>
+            Status::Accepted as u8,
         Err(failure) => {
             let _ = eprintln!(rt; "locktrace: {failure}");
             failure.status()

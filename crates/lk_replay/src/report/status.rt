@@ -13,7 +13,7 @@ ghost use Rattle.lk_locks.specs.Holding.{held_by_one, one_or_none, shared_by};
 ghost use Rattle.lk_replay.specs.Report.{holding_text, later_numbers, queue_text};
 ghost use Rattle.lk_locks.specs.Legal.{AreEnabled, IsEnabled};
 
-use crate::report::numerals::{number_block, thread_block, width};
+use crate::report::numerals::{put_number, thread_block, width};
 use crate::report::text::{Text, put_block};
 use lk_locks::{Act, Entry, Family, LockKind, Op, SeqLock, family_of};
 use std::marker::Model;
@@ -106,10 +106,7 @@ fn write_one(line: &mut [u8], at: usize, thread: Option<u8>) -> usize
     ensures most { result ≤ at + 4 }
 {
     match thread {
-        Some(thread) => {
-            let (block, len) = number_block(thread);
-            put_block(line, at, &block, len)
-        }
+        Some(thread) => put_number(line, at, thread),
         None => put_block(line, at, b"-", 1),
     }
 }
@@ -195,8 +192,8 @@ impl StatusText {
         ensures most { result ≤ at + 321 }
     {
         if let Some(thread) = self.sequential.writer() {
-            let (block, len) = thread_block(b'w', thread);
-            put_block(line, at, &block, len)
+            let at = put_block(line, at, b"w", 1);
+            put_number(line, at, thread)
         } else if self.readers.is_empty() {
             put_block(line, at, b"-", 1)
         } else {
