@@ -3,3 +3,6 @@ mod Own
 mod HeaderFaults
 mod Naming
 pub mod Agreeing
+mod Columns
+mod Readable
+mod OpenLines

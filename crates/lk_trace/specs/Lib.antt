@@ -2,9 +2,11 @@ pub mod ticket
 pub mod mcs
 pub mod rw_simple
 pub mod rw_fifo
+pub mod Codes
 pub mod Names
 pub mod Lines
 pub mod Open
+pub mod Unreadable
 pub mod Checks
 pub mod Agreement
 pub mod Traces

@@ -6,8 +6,11 @@
 #![tactic(auto)]
 
 mod checker;
+mod codes;
 mod compare;
 mod difference;
+mod due;
+mod due_texts;
 mod line;
 mod mcs;
 mod names;
@@ -17,12 +20,16 @@ mod rw_fifo;
 mod rw_simple;
 mod ticket;
 mod trace;
+mod unreadable;
 
 pub use checker::{Checker, Made};
+pub use codes::{move_number, outcome_number, refusal_number};
 pub use compare::first_difference;
 pub use difference::Difference;
+pub use due::Due;
 pub use line::{MOST_OF_A_LINE, Seen, TraceLine, read_line, read_log_line};
 pub use names::{WordName, name_at};
 pub use numbers::whole_number;
 pub use open::{Doer, doer_of, filled_line, filled_line_on};
 pub use trace::{Event, TextFault, TraceReader, read_header};
+pub use unreadable::{unreadable_line, unreadable_sketch_line};

@@ -117,7 +117,7 @@ fn tagged<'a>(rest: Rest<'a>, tag: &[u8]) -> Option<(Option<u64>, Rest<'a>)>
 }
 
 // Whether a compare-and-swap wrote. No other step says so.
-fn result_alone(kind: StepKind, word: &[u8]) -> Option<Option<bool>>
+pub(crate) fn result_alone(kind: StepKind, word: &[u8]) -> Option<Option<bool>>
     ensures { result ≡ result_alone kind word.now }
 {
     if !matches!(kind, StepKind::Cas) {

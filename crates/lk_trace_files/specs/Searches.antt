@@ -1,6 +1,6 @@
 -- Definitions. How the search for the order of a run's logs ends, and how the job ends by it. This
 -- project's own.
-use Rattle.std.specs.Prelude.{◌≡◌, ◌<◌, ⊤, ℕ, List, Bool, true, Option, None, Some, IfSome}
+use Rattle.std.specs.Prelude.{◌≡◌, ◌<◌, ⊤, ℕ, List, true, Option, None, Some, IfSome}
 use Rattle.lk_order.specs.Orders.{Ordered, IsOrder, next_line}
 use Rattle.lk_order.specs.Endings.{EndsAs}
 use Rattle.lk_order.specs.declared.find.Ending.{Ending as SearchEnding}

@@ -2,7 +2,6 @@
 //! the first wrong one is wrong.
 
 mod faulty;
-mod grammar;
 
 use crate::check::Ending;
 use crate::failures::Failure;
@@ -10,11 +9,9 @@ use crate::rewriting::{Rewriter, Stopped, rewrite};
 use crate::sentences::sentence;
 use crate::texts::{Called, Lock, Standing, Wrong};
 use faulty::put_fault;
-pub use faulty::put_wrong;
-use grammar::MOVES;
-pub use grammar::{Due, wrong_in_header, wrong_in_sketch};
+pub use faulty::{put_wrong, wrong_in_header};
 use lk_locks::{Machine, Move};
-use lk_replay::parts::{move_named, move_text, outcome_text};
+use lk_replay::parts::{MOVE_WORDS, move_named, move_text, outcome_text};
 use lk_trace::{Event, Made, TextFault, TraceLine, TraceReader, name_at};
 use lk_words::{Effect, WordArray};
 use std::alloc::{AllocError, Global};
@@ -86,7 +83,7 @@ fn put_due(text: &mut String, machine: &Machine<WordArray>, thread: u8) -> Resul
         return writeln!(text, "  due: {thread} {next}");
     }
     write!(text, "  accepted would be:")?;
-    for word in MOVES {
+    for word in MOVE_WORDS {
         match move_named(word.as_bytes()) {
             Some(action) if machine.check(thread, action).is_ok() => {
                 write!(text, " {thread} {word}")?;

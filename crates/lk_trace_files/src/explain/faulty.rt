@@ -1,9 +1,8 @@
 //! A line that is not a trace's: the column, what is there, what could be there, and the
 //! nearest word.
 
-use crate::explain::grammar::{Due, wrong_in_header, wrong_in_move};
-use lk_replay::parts::cut_word;
-use lk_trace::{MOST_OF_A_LINE, TextFault};
+use lk_replay::parts::{cut_word, unreadable_header};
+use lk_trace::{Due, MOST_OF_A_LINE, TextFault, unreadable_line};
 use std::alloc::{AllocError, Global};
 use std::fmt::Write;
 use strsim::levenshtein;
@@ -29,6 +28,12 @@ fn nearest(
         }
     }
     Ok(best.map(|(_, known)| known))
+}
+
+/// The column, from 1, at which a line stops to be a header, and what could be there.
+pub fn wrong_in_header(line: &[u8]) -> Option<(usize, Due)> {
+    let place = unreadable_header(line)?;
+    Some((place.column, Due::OfSchedule(place.expected)))
 }
 
 /// Writes what is at a column of a line, what could be there, and the nearest word.
@@ -67,7 +72,7 @@ pub fn put_fault(
         return writeln!(text, "  no header and no move has more than 96 bytes");
     }
     let wrong = match fault {
-        TextFault::BadLine => wrong_in_move(line),
+        TextFault::BadLine => unreadable_line(line),
         _ => wrong_in_header(line),
     };
     match wrong {

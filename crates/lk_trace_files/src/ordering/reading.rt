@@ -4,15 +4,12 @@ use super::bad_log::{BadLog, worse};
 use super::report::OrderReport;
 use crate::course::said_of;
 use crate::lines::{Line, Lines};
-use lk_order::{Log, LogFault, LogReader, Shelf, Unfit};
+use lk_order::{Log, LogFault, LogReader, MOST_THREADS, Shelf, Unfit};
 use std::alloc::{AllocError, Global};
 use std::io::{Error, ErrorKind, Read};
 use std::rt::Files;
 use std::{fmt, fs, str};
 use thiserror::Error;
-
-// The most threads of a lock.
-const MOST_THREADS: usize = 64;
 
 // What is said of a log whose run has another number.
 const OTHER_RUN: &str = "of another run than the first log's";

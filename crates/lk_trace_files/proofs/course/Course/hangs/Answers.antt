@@ -1,10 +1,9 @@
 -- What is left begins with the thread that is looked at.
-use Rattle.std.proofs.Common.{◌≡◌, ◌+◌, ◌∷◌, Bool, List, [], true, false, drop, take, get_or, sym}
+use Rattle.std.proofs.Common.{◌+◌, Bool, drop, take, sym}
 use Rattle.std.proofs.Common.{ap, ◌∙◌, inl, inr}
-use Rattle.std.proofs.lemmas.List.{at_drop_more, at_drop_all}
+use Rattle.std.proofs.lemmas.List.{at_drop_all}
 use Rattle.lk_trace_files.proofs.FatesLeft.{ended, hung, moved, polled}
 use Rattle.lk_trace_files.specs.Fates.{hang_from}
-use Rattle.lk_trace_files.specs.declared.course.Fate.TheVariants.{Moved}
 use Rattle.lk_trace_files.proofs.course.Course.hangs.Goals.{in-Ended, in-Hangs}
 use Rattle.lk_trace_files.proofs.course.Course.hangs.Goals as goal
 

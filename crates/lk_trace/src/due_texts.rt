@@ -1,0 +1,83 @@
+//! The texts of what is due in a line: for a message, and the words that could be there.
+
+use crate::due::Due;
+use lk_locks::StepKind;
+use lk_replay::parts::{Expected, LOCK_NAMES, MOVE_WORDS, OUTCOME_WORDS};
+use std::fmt;
+
+const OUTCOME: &str = "moved, waits, entered or left";
+
+// The words of the locks, and the parts that may come if a sketch names no word.
+const OPEN: [&str; 9] = [
+    "next_ticket",
+    "now_serving",
+    "tail",
+    "next",
+    "locked",
+    "found",
+    "left",
+    "done",
+    "failed",
+];
+
+// What may follow a word of the lock, in this order. The last two are a compare-and-swap's.
+const PARTS: [&str; 5] = ["of", "found", "left", "done", "failed"];
+
+// The parts from this one on.
+fn parts_from(kind: StepKind, first: usize) -> &'static [&'static str] {
+    let end = if matches!(kind, StepKind::Cas) { 5 } else { 3 };
+    PARTS.get(first..end).unwrap_or(&[])
+}
+
+impl Due {
+    /// The words that could be here.
+    pub fn words(self) -> &'static [&'static str] {
+        match self {
+            Due::OfSchedule(Expected::Lock) => &["lock"],
+            Due::OfSchedule(Expected::Name) => &LOCK_NAMES,
+            Due::OfSchedule(Expected::Threads) => &["threads"],
+            Due::OfSchedule(Expected::Bits) => &["bits"],
+            Due::OfSchedule(Expected::Action) | Due::OpenMove => &MOVE_WORDS,
+            Due::Count | Due::Outcome => &OUTCOME_WORDS,
+            Due::Place(_) => OPEN.get(..5).unwrap_or(&[]),
+            Due::Open(StepKind::Cas) => &OPEN,
+            Due::Open(_) => OPEN.get(..7).unwrap_or(&[]),
+            Due::Of(kind) => parts_from(kind, 0),
+            Due::Found(kind) => parts_from(kind, 1),
+            Due::Left(kind) => parts_from(kind, 2),
+            Due::Result(kind) => parts_from(kind, 3),
+            _ => &[],
+        }
+    }
+}
+
+impl fmt::Display for Due {
+    fn fmt<W: fmt::Write>(&self, f: &mut fmt::Formatter<W>) -> fmt::Result {
+        match self {
+            Due::OfSchedule(expected) => write!(f, "{expected}"),
+            Due::OpenMove => write!(f, "{}", Expected::Action),
+            Due::Count => write!(f, "the end, the section's count, or {OUTCOME}"),
+            Due::Outcome => write!(f, "the end, or {OUTCOME}"),
+            Due::Place(_) => f.write_str(
+                "the end, or a word: next_ticket, now_serving, tail, next or locked",
+            ),
+            Due::Owner(_) => f.write_str("a thread's number, from 0 to 255"),
+            Due::FoundValue(_) | Due::LeftValue(_) => { f.write_str("a number of at most 64 bits") }
+            Due::AnyThread => f.write_str("'*', or a thread's number, from 0 to 255"),
+            _ => {
+                let words = self.words();
+                f.write_str("the end")?;
+                for (at, word) in words.iter().enumerate() {
+                    let last = at.saturating_add(1) == words.len();
+                    f.write_str(match (last, words.len()) {
+                        (true, 1) => ", or",
+                        (true, _) => " or",
+                        _ => ",",
+                    })?;
+                    write!(f, " '{word}'")?;
+                }
+                Ok(())
+            }
+        }
+    }
+}
