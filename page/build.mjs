@@ -16,7 +16,7 @@ import { setFlagsFromString } from 'node:v8';
 import { bundle } from './build/bundle.mjs';
 import { lessonsOf, storedOf } from './build/lessons.mjs';
 import { rangesOf } from './build/ranges.mjs';
-import { codeOf, wordsOf } from './src/locks_code.js';
+import { codeOf, linesOf, wordsOf } from './src/locks_code.js';
 
 const HERE = dirname(fileURLToPath(import.meta.url));
 const PAGE = join(HERE, 'lockreplay.html');
@@ -41,9 +41,10 @@ function policy(script) {
 function build(module) {
   const lessons = lessonsOf(join(HERE, '..', 'examples'));
   const locks = read('..', 'docs', 'LOCKS.md');
+  const [code, ranges] = [codeOf(locks), rangesOf(module)];
   const data = {
-    module: module.toString('base64'), code: codeOf(locks), words: wordsOf(locks), lessons, 
-    stored: storedOf(module, lessons), ranges: rangesOf(module),
+    module: module.toString('base64'), code, words: wordsOf(locks), lessons,
+    stored: storedOf(module, lessons, ranges, linesOf(code)), ranges,
   };
   const script = `${bundle(SOURCES, 'main.js')}\nstart(${asScript(data)});`;
   // Functions, so that no `$` of a source is taken for a sign of the replacement.

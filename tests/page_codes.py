@@ -1,11 +1,11 @@
 #!/usr/bin/env python3
 """Compares the numbers that the page knows with the definitions of the page's module.
 
-The module's code is proved against the definitions of crates/lk_page/specs. That the page reads its
-numbers as these definitions mean them is not proved. Here each name and number of
-page/src/codes.js, and the order of the page's locks and of its ways to hold one, is compared with
-the definitions. So is the table of codes in page/MODULE.md. Prints `N passed, M failed`, and ends
-with 1 if one failed.
+The module's code is proved against the definitions of crates/lk_page/specs, and its numbers of
+moves, outcomes and refusals against those of crates/lk_trace/specs. That the page reads its numbers
+as these definitions mean them is not proved. Here each name and number of page/src/codes.js, and
+the order of the page's locks and of its ways to hold one, is compared with the definitions. So is
+the table of codes in page/MODULE.md. Prints `N passed, M failed`, and ends with 1 if one failed.
 """
 import pathlib
 import re
@@ -16,18 +16,17 @@ from tally import Tally
 
 TOP = pathlib.Path(__file__).resolve().parent.parent
 SPECS = TOP / "crates" / "lk_page" / "specs"
+OF_TRACES = TOP / "crates" / "lk_trace" / "specs"
 PAGE = TOP / "page" / "src"
 LOCKS = {"Ticket": "ticket", "Mcs": "mcs", "RwSimple": "rw-simple", "RwFifo": "rw-fifo"}
-ACTIONS = {"Call": "call", "Step": "step"}
 # who holds: a report's letter, and the page's text
 HELD = {"ReadBy": ("r", "asReader"), "WrittenBy": ("w", "asWriter")}
 # of a kind of code: its definition, its list in codes.js, its row in page/MODULE.md, and its words
-KINDS = (("op_code", "CALLS", "call", CALLS.get),
-         ("step_code", "STEPS", "step", str.lower),
-         ("outcome_code", "OUTCOMES", "outcome", str.lower),
-         ("refusal_code", "REFUSALS", "refusal", str),
+KINDS = (("outcome_number", "OUTCOMES", "outcome", str.lower),
+         ("refusal_number", "REFUSALS", "refusal", str),
          ("fault_code", "FAULTS", "fault", str),
-         ("phase_code", "PHASES", "phase", str))
+         ("phase_code", "PHASES", "phase", str),
+         ("expected_code", "EXPECTED", "expected", str.lower))
 # of the bits of a record's thread: what the definition has there, and its name in codes.js
 BITS = {"r.standing.holds": "HOLDS", "r.standing.is_queued": "IN_LINE",
         "r.standing.writes": "AS_WRITER", "(is_unlinked r.phase)": "UNLINKED", "r.waits": "WAITS"}
@@ -52,9 +51,10 @@ def listed(text, name, entry=r"'([\w-]*)'"):
 
 
 def named(text, name):
-    """The numbers of an object of JavaScript."""
-    pairs = re.search(rf"\b{name} = \{{(.*?)\}};", text).group(1)
-    return {word: int(number) for word, number in re.findall(r"(\w+): (\d+)", pairs)}
+    """The numbers of an object of JavaScript, before or after its words."""
+    pairs = re.search(rf"\b{name} = \{{(.*?)\}};", text, re.DOTALL).group(1)
+    found = re.findall(r"(\w+): (\d+)|(\d+): '(\w+)'", pairs)
+    return {word or last: int(number or first) for word, number, first, last in found}
 
 
 def constant(text, name):
@@ -67,13 +67,21 @@ def in_table(text, row):
     return {word: int(number) for number, word in re.findall(r"(\d+) ([\w-]+)", codes)}
 
 
+def compare_moves(tally, codes, page, table):
+    calls = defined(codes, r"move_number \(Call", CALLS.get)
+    steps = defined(codes, r"move_number \(Step", str.lower)
+    tally.check("MOVES in codes.js", named(page, "MOVES"), {**calls, **steps})
+    tally.check("move in MODULE.md", in_table(table, "move"), {**calls, **steps})
+    tally.check("FIRST_STEP", constant(page, "FIRST_STEP"),
+                lambda first: max(calls.values()) < first <= min(steps.values()))
+
+
 def compare_codes(tally, codes, page, table):
     for definition, name, row, word in KINDS:
         due = defined(codes, definition, word)
         more = OF_THE_LIBRARY if name == "FAULTS" else {}
         tally.check(f"{name} in codes.js", listed(page, name), {**due, **more})
         tally.check(f"{row} in MODULE.md", in_table(table, row), due)
-    tally.check("ACTION", named(page, "ACTION"), defined(codes, "action_code", ACTIONS.get))
     locks = defined(codes, "lock_code", LOCKS.get)
     files = listed(read(PAGE / "locks.js"), "LOCKS", r"(\w+)")
     names = {re.sub("[A-Z]", lambda big: f"-{big[0].lower()}", name): at
@@ -119,7 +127,10 @@ def compare_limits(tally, page):
 def main():
     tally = Tally()
     page = read(PAGE / "codes.js")
-    compare_codes(tally, read(SPECS / "Codes.antt"), page, read(TOP / "page" / "MODULE.md"))
+    codes = read(SPECS / "Codes.antt") + read(OF_TRACES / "Codes.antt")
+    table = read(TOP / "page" / "MODULE.md")
+    compare_moves(tally, codes, page, table)
+    compare_codes(tally, codes, page, table)
     compare_layout(tally, read(SPECS / "Layout.antt"), page)
     compare_answers(tally, page)
     compare_limits(tally, page)

@@ -6,8 +6,8 @@
 The words of locks, calls, steps and outcomes are in crates/lk_replay/src/vocabulary.rt, those for
 the words of the queue locks in crates/lk_trace/src/names.rt. What is written in another language,
 or in a sentence, has them once more, and nothing is generated. The names and numbers of
-record/locktrace.h are compared with crates/lk_trace_c/specs/Numbers.antt, against which the library
-is proved. Prints `N passed, M failed`, and ends with 1 if one failed.
+record/locktrace.h are compared with the definitions NUMBERS, against which the library is proved.
+Prints `N passed, M failed`, and ends with 1 if one failed.
 """
 import re
 import sys
@@ -18,16 +18,13 @@ from tally import Tally
 RECORDING = "record/lockreplay_record"
 RUST = "record/rust/src"
 COMPLETIONS = "packaging/completions/locktrace"
-GRAMMAR = "crates/lk_trace_files/src/explain/grammar.rt"
+DUE = "crates/lk_trace/src/due_texts.rt"
+NUMBERS = ("crates/lk_trace/specs/Codes.antt", "crates/lk_trace_c/specs/Numbers.antt")
 # of a list: its file, what is before and after it, and which tables it has
 LISTS = (
-    ("page/src/codes.js", r"CALLS = \[", r"\];", "calls"),
-    ("page/src/codes.js", r"STEPS = \[", r"\];", "steps"),
+    ("page/src/codes.js", r"MOVES = \{", r"\};", "calls steps"),
     ("page/src/codes.js", r"OUTCOMES = \[", r"\];", "outcomes called"),
-    (GRAMMAR, r"MOVES: \[&str; \d+\] = \[", r"\];", "calls steps"),
-    (GRAMMAR, r"LOCKS: \[&str; \d+\] = \[", r"\];", "locks"),
-    (GRAMMAR, r"OUTCOMES: \[&str; \d+\] = \[", r"\];", "outcomes"),
-    (GRAMMAR, r"PLACES: \[&str; \d+\] = \[", r"\];", "places"),
+    (DUE, r"OPEN: \[&str; \d+\] = \[", r'"found"', "places"),
     (f"{RECORDING}/run.h", r"words\[\] = \{", r"\};", "calls steps"),
     (f"{RECORDING}/open.h", r"strcmp\(lock, ", r"\)\);", "locks"),
     (f"{RUST}/lock.rs", r"fn name\(self\)", r"\}\n", "locks"),
@@ -39,7 +36,7 @@ LISTS = (
 SENTENCES = (
     ("crates/lk_replay/src/unreadable.rt", "locks"), ("crates/locktrace/src/searches.rt", "locks"),
     ("record/lockreplay_record.h", "locks"), (f"{RECORDING}/open.h", "locks"),
-    (GRAMMAR, "outcomes"),
+    (DUE, "outcomes"),
 )
 SHELLS = ((f"{COMPLETIONS}.bash", 1), (f"{COMPLETIONS}.zsh", 3), (f"{COMPLETIONS}.fish", 1))
 
@@ -78,10 +75,10 @@ def numbers(text, definition, constructor=""):
 
 def due_numbers(words):
     """The names and numbers that record/locktrace.h has to have."""
-    text = read("crates/lk_trace_c/specs/Numbers.antt")
+    text = "".join(read(path) for path in NUMBERS)
     due = {"accepted": 0}
     for constructor, kind in (("Call ", "calls"), ("Step ", "steps")):
-        of_kind = numbers(text, "action_number", constructor)
+        of_kind = numbers(text, "move_number", constructor)
         due.update({words[kind][name]: number for name, number in of_kind.items()})
     named = {**words["outcomes"], **words["called"]}
     due.update({named[name]: number

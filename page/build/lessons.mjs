@@ -2,7 +2,9 @@
 
 import { readFileSync, readdirSync } from 'node:fs';
 import { join } from 'node:path';
+import { faultAdvice } from '../src/advice.js';
 import { LOCK_NAMES, LOCKS } from '../src/locks.js';
+import { ownWords } from '../src/locks_code.js';
 import { Machine } from '../src/machine.js';
 import { remarksOf } from '../src/remarks.js';
 import { Run } from '../src/run.js';
@@ -32,11 +34,12 @@ export function lessonsOf(folder) {
 }
 
 // Each lesson played to its end, with what a page asks of it.
-export function storedOf(module, lessons) {
-  const recorder = new Recorder(new Machine(module));
+export function storedOf(module, lessons, ranges, lines) {
+  const recorder = Object.assign(new Recorder(new Machine(module)), { ranges });
   for (const { text } of lessons) {
     const run = new Run(recorder, new Uint8Array(Buffer.from(text, 'base64')));
     if (run.hasLock) run.replayed(0);
+    if (run.fault) faultAdvice(run, run.hasLock ? ownWords(lines[run.kind]) : []);
   }
   return recorder.kept();
 }

@@ -18,7 +18,7 @@ function prefixMarks(run) {
     marks[lane][0] = mark;
     for (let move = 1; move <= run.count; move += 1) {
       const { records } = run;
-      const made = records.thread(move) << 8 | records.action(move) << 4 | records.code(move);
+      const made = records.thread(move) << 8 | records.action(move);
       mark = Math.imul(mark ^ made, FNV);
       marks[lane][move] = mark;
     }

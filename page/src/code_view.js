@@ -1,6 +1,6 @@
 // The lock's code, with the line of the move just made and the line that each thread does next.
 
-import { ACTION, CALLS, PHASES } from './codes.js';
+import { MOVES, PHASES } from './codes.js';
 import { html } from './markup.js';
 import { standingOf } from './shapes.js';
 
@@ -9,8 +9,8 @@ function madeLine({ run, move, refused }, state) {
   if (refused) return dueOf(run, state);
   if (!move) return null;
   const { records } = run;
-  return records.action(move) === ACTION.call
-    ? { call: CALLS[records.code(move)] } : { phase: run.phaseBefore(move) };
+  return records.isCall(move)
+    ? { call: MOVES[records.action(move)] } : { phase: run.phaseBefore(move) };
 }
 
 function dueOf({ refusal: { thread }, threads }, state) {

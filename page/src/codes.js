@@ -1,7 +1,13 @@
 // The numbers of the machine's records and states, by name, as crates/lk_page writes them.
 
-export const CALLS = ['acquire', 'release', 'rlock', 'runlock', 'wlock', 'wunlock', 'downgrade'];
-export const STEPS = ['', 'read', 'write', 'swap', 'cas', 'add', 'section'];
+// The word in a schedule of each move: of calls, and from FIRST_STEP on of steps.
+export const MOVES = {
+  0: 'acquire', 1: 'release', 2: 'rlock', 3: 'runlock', 4: 'wlock', 5: 'wunlock', 6: 'downgrade',
+  16: 'read', 17: 'write', 18: 'swap', 19: 'cas', 20: 'add', 21: 'section',
+};
+const FIRST_STEP = 16;
+export const isStep = (action) => action >= FIRST_STEP;
+export const CALLS = Object.keys(MOVES).map(Number).filter((action) => !isStep(action));
 export const OUTCOMES = ['called', 'moved', 'waits', 'entered', 'left'];
 export const PHASES = [
   'Idle', 'TakeTicket', 'AwaitTurn', 'TicketInside', 'ReadServing', 'PassOn', 'ClearNext',
@@ -16,10 +22,12 @@ export const FAULTS = [
 export const REFUSALS = [
   '', 'NoSuchThread', 'WrongLock', 'Busy', 'NotHolder', 'AlreadyHolds', 'NoCall', 'WrongStep',
 ];
+// What may come next in a header or a move.
+export const EXPECTED = [
+  '', 'lock', 'name', 'threads', 'count', 'bits', 'width', 'thread', 'action', 'end',
+];
 
 export const ANSWER = { accepted: 0, refused: 1, fault: 2, short: 3 };
-export const ACTION = { call: 0, step: 1 };
-export const CAS = STEPS.indexOf('cas');
 export const OUTCOME = Object.fromEntries(OUTCOMES.map((name, code) => [name, code]));
 export const PHASE = Object.fromEntries(PHASES.map((name, code) => [name, code]));
 
@@ -35,6 +43,3 @@ export const NO_WORD = 65535;
 // Limits of a schedule text. Those of its numbers the build asks the module for.
 export const MOST_BYTES = 1048576;
 export const MOST_MOVES = 65536;
-
-// The word of a call or step in a schedule.
-export const wordOf = (action, code) => (action === ACTION.call ? CALLS : STEPS)[code];

@@ -11,8 +11,7 @@ const OTHER = { 'rw-simple': 'rw-fifo', 'rw-fifo': 'rw-simple' };
 const MOST_MOVES = 2000;
 
 const sameMove = (one, other, move) => one.records.thread(move) === other.records.thread(move)
-  && one.records.action(move) === other.records.action(move)
-  && one.records.code(move) === other.records.code(move);
+  && one.records.action(move) === other.records.action(move);
 
 // How many moves both begin with.
 export function commonMoves(one, other) {

@@ -1,6 +1,6 @@
 // One lane a thread: its calls and steps, and what it was doing between them.
 
-import { ACTION, CAS, OUTCOME, OUTCOMES, wordOf } from './codes.js';
+import { MOVES, OUTCOME, OUTCOMES } from './codes.js';
 import { arrowsBetween } from './arrows.js';
 import { fitted } from './fitting.js';
 import { columnX, laneMiddle, LOW_LANE, NAME_EDGES } from './layout.js';
@@ -83,8 +83,8 @@ function unlinkedLines(view, layout, thread, middle) {
 }
 
 // A compare-and-swap that fails leaves the word as it found it.
-export const casFails = (records, move) => records.action(move) === ACTION.step
-  && records.code(move) === CAS && records.left(move) === records.found(move);
+export const casFails = (records, move) => MOVES[records.action(move)] === 'cas'
+  && records.left(move) === records.found(move);
 
 const SHAPES = {
   [OUTCOME.waits]: (x, y) => html`<circle class="step waits" cx="${x}" cy="${y}" r="7.5"/>`,
@@ -107,8 +107,8 @@ function shape(records, move, x, y) {
 // Below the mark: what was found, or what a section left.
 function foundText(view, move) {
   const { records } = view.run;
-  const word = wordOf(records.action(move), records.code(move));
-  if (records.action(move) === ACTION.call) return '';
+  const word = MOVES[records.action(move)];
+  if (records.isCall(move)) return '';
   if (word === 'cas') return casFails(records, move) ? texts.marks.fails : texts.marks.done;
   return LOOKS.includes(word) ? lockOf(view.run).mark(view, move) : '';
 }
@@ -118,8 +118,8 @@ function label(view, layout, move, at, tall) {
   const { records } = view.run;
   const here = move === layout.now;
   if (!tall && !here) return null;
-  const call = records.action(move) === ACTION.call;
-  const word = wordOf(records.action(move), records.code(move));
+  const call = records.isCall(move);
+  const word = MOVES[records.action(move)];
   return html`<text class="word-label ${call && 'call'} ${here && 'here'}" x="${at.x}"
     y="${Math.max(HIGHEST, at.y - (tall ? 20 : 13))}" text-anchor="middle">${word}</text>`;
 }
@@ -207,7 +207,7 @@ function laneOption(view, layout, index, drawn) {
   const { records } = view.run;
   const moves = (view.run.movesOf.get(thread) ?? [])
     .filter((move) => move >= layout.first && move <= Math.min(layout.now, view.run.count))
-    .map((move) => `${move} ${wordOf(records.action(move), records.code(move))} ${
+    .map((move) => `${move} ${MOVES[records.action(move)]} ${
       texts.outcomes[OUTCOMES[records.outcome(move)]]}`);
   const chosen = thread === layout.chosen;
   const standing = texts.standing[standingOf(view.run, view.move, thread)];

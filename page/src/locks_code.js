@@ -19,6 +19,9 @@ export function codeOf(document) {
   }));
 }
 
+// The blocks' lines, in the order of the locks.
+export const linesOf = (code) => LOCK_NAMES.map((lock) => code[lock].map(codeLine));
+
 const WORD = /^\| (?<number>\d+) \| `(?<name>\w+)` \|$/gm;
 
 // The names of each lock's words by their numbers, as the table above its block has them.

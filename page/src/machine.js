@@ -1,9 +1,10 @@
 // The proved machine, a WebAssembly module with 64-bit memory. Its `play` reads a schedule text,
-// plays it, and writes a record for each move and the state after the last one. This file copies
-// the text in and the bytes out, and gives the bytes their names; it knows no rule of any lock.
+// plays it, and writes a record for each move and the state after the last one. Its `stops_at` and
+// `expected` tell where a line cannot be read. This file copies the text in and the bytes out, and
+// gives the bytes their names; it knows no rule of any lock.
 
-import { linesIn } from './bytes.js';
-import { MOST_MOVES, UNLINKED, WAITS } from './codes.js';
+import { bytesOf, linesIn } from './bytes.js';
+import { EXPECTED, isStep, MOST_MOVES, UNLINKED, WAITS } from './codes.js';
 
 export const RECORD_BYTES = 56;
 export const STATE_BYTES = 2304;
@@ -58,6 +59,17 @@ export class Machine {
     const state = new State(bytes.slice(0, STATE_BYTES));
     const played = withRecords ? state.played * RECORD_BYTES : 0;
     return { state, records: bytes.slice(recordsAt, recordsAt + played) };
+  }
+
+  // Where a line stops to be a header, or a move: the column, in bytes from 1, and what is expected
+  // there. Null if it does not.
+  stop(line, isMove) {
+    const bytes = bytesOf(line);
+    this.lend(bytes.length).set(bytes, this.base);
+    this.text = null;
+    const asked = [this.base, bytes.length, isMove].map(BigInt);
+    const column = Number(this.exports.stops_at(...asked));
+    return column ? { column, expected: EXPECTED[this.exports.expected(...asked)] } : null;
   }
 }
 
@@ -134,7 +146,7 @@ export class Records {
   line(move) { return this.view.getUint32((move - 1) * RECORD_BYTES, true); }
   thread(move) { return this.byte(move, 4); }
   action(move) { return this.byte(move, 5); }
-  code(move) { return this.byte(move, 6); }
+  isCall(move) { return !isStep(this.action(move)); }
   outcome(move) { return this.byte(move, 7); }
   phase(move) { return this.byte(move, 8); }
   standing(move) { return this.byte(move, 9); }

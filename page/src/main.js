@@ -3,6 +3,7 @@
 import { fromBase64 } from './bytes.js';
 import { listen } from './controls.js';
 import { differences, language, LANGUAGES, sources } from './language.js';
+import { linesOf } from './locks_code.js';
 import { looks } from './looks.js';
 import { Machine } from './machine.js';
 import { byId } from './markup.js';
@@ -10,7 +11,7 @@ import { Page } from './page.js';
 import { reportOf } from './report.js';
 import { Run } from './run.js';
 import { drawPaper, drawTheme } from './screen.js';
-import { linesOf, Session } from './session.js';
+import { Session } from './session.js';
 import { StoredMachine } from './stored.js';
 import { frameOf, pictureOf, pngOf } from './take.js';
 import { texts } from './texts.js';

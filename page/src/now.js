@@ -1,7 +1,7 @@
 // The move just made: its outcome, one sentence on what it did, what it wrote, who holds, who is
 // in the queue, and the report's own line.
 
-import { OUTCOMES, wordOf } from './codes.js';
+import { MOVES, OUTCOMES } from './codes.js';
 import { folding, movingThread } from './folding.js';
 import { casFails } from './lanes.js';
 import { html } from './markup.js';
@@ -105,7 +105,7 @@ export function nowView(view, state) {
   const { run, move, names } = view;
   if (!move) return startView(view, state);
   const { records } = run;
-  const word = wordOf(records.action(move), records.code(move));
+  const word = MOVES[records.action(move)];
   const wrote = writtenWords(view, move, useOf).join(', ');
   const rows = html`<dt class="wrote">${texts.facts.wrote}</dt>
     <dd class="mono wrote">${wrote || html`<span class="soft">${texts.noWord}</span>`}</dd>`;
@@ -118,7 +118,7 @@ export function nowView(view, state) {
 
 function spokenMove({ run: { records }, names }, move) {
   const who = names.of(records.thread(move));
-  const word = wordOf(records.action(move), records.code(move));
+  const word = MOVES[records.action(move)];
   return texts.spoken.did(who, word, OUTCOMES[records.outcome(move)]);
 }
 

@@ -1,6 +1,6 @@
 // Choosing who moves: for each thread its due step, or the calls that the machine would accept.
 
-import { ACTION, CALLS, MOST_BYTES, MOST_MOVES, STEPS } from './codes.js';
+import { CALLS, MOST_BYTES, MOST_MOVES, MOVES } from './codes.js';
 import { movingThread } from './folding.js';
 import { ownWords } from './locks_code.js';
 import { LOCKS } from './locks.js';
@@ -10,14 +10,13 @@ import { texts } from './texts.js';
 
 const T = texts.play;
 const LONGEST_LINE = 32;
-const LOOKS = { [ACTION.call]: 'may', [ACTION.step]: 'due' };
 
 // The moves that the machine accepts next from this thread, as words of a schedule.
 export function choicesOf(state, thread) {
   const due = state.dueStep(thread);
-  if (due) return [{ word: STEPS[due], action: ACTION.step }];
-  return CALLS.filter((_, call) => state.allows(thread, call))
-    .map((word) => ({ word, action: ACTION.call }));
+  if (due) return [{ word: MOVES[due], look: 'due' }];
+  return CALLS.filter((call) => state.allows(thread, call))
+    .map((call) => ({ word: MOVES[call], look: 'may' }));
 }
 
 // Every move of the lock, whether it would be accepted or not; nothing shows which would be.
@@ -26,8 +25,8 @@ const everyMove = (lines) => ownWords(lines).map((word) => ({ word }));
 function threadRow(view, thread, choices) {
   const name = view.names.of(thread);
   const standing = standingOf(view.run, view.move, thread);
-  const buttons = choices.map(({ word, action }) => html`<button type="button"
-    class="mono ${LOOKS[action]}" data-thread="${thread}"
+  const buttons = choices.map(({ word, look }) => html`<button type="button"
+    class="mono ${look}" data-thread="${thread}"
     data-word="${word}" aria-label="${name}: ${word}">${word}</button>`);
   const here = thread === movingThread(view) && 'data-here';
   return html`<li ${here}><span class="disc ${standing}">${view.names.mark(thread)}</span>

@@ -2,7 +2,7 @@
 // table of moves. With answers, or with blanks as an exercise.
 
 import { codeView } from './code_view.js';
-import { OUTCOMES, wordOf } from './codes.js';
+import { MOVES, OUTCOMES } from './codes.js';
 import { lanesPicture, numbersPicture } from './lanes.js';
 import { legend } from './legend.js';
 import { lockOf } from './locks.js';
@@ -65,7 +65,7 @@ function row(view, move) {
   const { run: { records }, names, blank } = view;
   const cells = [
     move, threadName(names, records.thread(move)),
-    html`<code>${wordOf(records.action(move), records.code(move))}</code>`,
+    html`<code>${MOVES[records.action(move)]}</code>`,
     ...(blank ? ['', '', '', ''] : answers(view, move)),
   ];
   return html`<tr>${cells.map((cell) => html`<td>${cell}</td>`)}</tr>`;

@@ -3,7 +3,7 @@
 // it is now", is right more than half of the time; since a wrong answer takes a point away, such
 // answers earn nothing.
 
-import { ACTION, OUTCOMES } from './codes.js';
+import { OUTCOMES } from './codes.js';
 import { holdersText, queueText } from './report.js';
 
 export const KINDS = ['outcome', 'holders', 'queue'];
@@ -27,7 +27,7 @@ function questionOf(run, move, kind) {
 function candidates(run) {
   const found = [];
   for (let move = 1; move <= Math.min(run.count, MOST_ASKED); move += 1) {
-    if (run.records.action(move) === ACTION.call) continue;
+    if (run.records.isCall(move)) continue;
     const all = KINDS.map((_, i) => questionOf(run, move, KINDS[(i + found.length) % 3]));
     found.push(all.find(({ same }) => !same) ?? all[0]);
   }

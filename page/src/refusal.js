@@ -2,7 +2,7 @@
 // name and which step is due, the machine said; who moved and which line of code is due is read
 // off its state and the text.
 
-import { ACTION, CALLS, NO_WORD, STEPS, wordOf } from './codes.js';
+import { CALLS, MOVES, NO_WORD } from './codes.js';
 import { lineOf } from './bytes.js';
 import { moveText } from './report.js';
 import { lockOf } from './locks.js';
@@ -14,8 +14,9 @@ const BY_HEADER = { NoSuchThread: 3, WrongLock: 1 };
 
 // The line of code whose step the thread has to make next; null between calls.
 export function dueLine(lines, state, thread) {
-  const step = STEPS[state.dueStep(thread)];
-  if (!step) return null;
+  const due = state.dueStep(thread);
+  if (!due) return null;
+  const step = MOVES[due];
   const at = lines.findIndex(({ phase, kind }) => phase === state.phase(thread) && kind === step);
   return { step, number: at + 1, code: lines[at].code.trim() };
 }
@@ -23,9 +24,9 @@ export function dueLine(lines, state, thread) {
 // What the thread could do instead.
 function possibleMoves(state, thread) {
   const due = state.dueStep(thread);
-  if (due) return [fill(T.step, { word: wordOf(ACTION.step, due) })];
-  return CALLS.filter((_, call) => state.allows(thread, call))
-    .map((word) => fill(T.call, { word }));
+  if (due) return [fill(T.step, { word: MOVES[due] })];
+  return CALLS.filter((call) => state.allows(thread, call))
+    .map((call) => fill(T.call, { word: MOVES[call] }));
 }
 
 // One sentence on who holds the lock.

@@ -1,6 +1,6 @@
 // Lines of the report, from what the machine answered.
 
-import { OUTCOMES, STEPS, wordOf } from './codes.js';
+import { MOVES, OUTCOMES } from './codes.js';
 
 const HOLDER_LETTERS = ['', '', 'r', 'w'];
 
@@ -10,7 +10,7 @@ export const queueText = (state) => state.queue.join(',') || '-';
 
 export function moveText(run, move) {
   const { records } = run;
-  return `${records.thread(move)} ${wordOf(records.action(move), records.code(move))}`;
+  return `${records.thread(move)} ${MOVES[records.action(move)]}`;
 }
 
 export function reportLine(run, move) {
@@ -25,7 +25,7 @@ function faultLine(fault) {
 }
 
 function refusedLine(refusal) {
-  const wanted = refusal.wanted ? ` next ${STEPS[refusal.wanted]}` : '';
+  const wanted = refusal.wanted ? ` next ${MOVES[refusal.wanted]}` : '';
   return `refused line ${refusal.line} ${refusal.name}${wanted}`;
 }
 

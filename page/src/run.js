@@ -1,6 +1,6 @@
 // One schedule text as the machine plays it: its records, its states, and where it ends.
 
-import { ANSWER, CALLS, FAULTS, MOST_BYTES, MOST_MOVES, REFUSALS } from './codes.js';
+import { ANSWER, CALLS, FAULTS, MOST_BYTES, MOST_MOVES, MOVES, REFUSALS } from './codes.js';
 import { answerInLines, Records } from './machine.js';
 import { Moment } from './moment.js';
 import { Owned } from './owned.js';
@@ -10,7 +10,7 @@ import {
   beforeLine, beginsWith, lineOf, linesIn, sameBytes, throughLine, withoutLines,
 } from './bytes.js';
 
-const RLOCK = CALLS.indexOf('rlock');
+const RLOCK = CALLS.find((call) => MOVES[call] === 'rlock');
 // Faults that moves may come before.
 const LATE_FAULTS = ['BadLine', 'TooManyMoves'];
 

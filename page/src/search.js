@@ -3,7 +3,7 @@
 // has a line the module says.
 
 import { bytesOf, lettersOf } from './bytes.js';
-import { CALLS, STEPS } from './codes.js';
+import { MOVES } from './codes.js';
 
 export const FOUND = {
   run: 0, nowhere: 1, tooLarge: 2, longRun: 3, badLine: 4, manyLines: 5, noRoom: 6, notAsked: 7,
@@ -50,12 +50,10 @@ export function textsOfKinds(machine, lock) {
   });
 }
 
+const WORDS = Object.values(MOVES);
+
 // A move by its code: 512 times its place among calls and steps, and its thread.
-function moveOf(code) {
-  const place = code >> 9;
-  const word = place < CALLS.length ? CALLS[place] : STEPS[place - CALLS.length + 1];
-  return `${code & 255} ${word}`;
-}
+const moveOf = (code) => `${code & 255} ${WORDS[code >> 9]}`;
 
 // A shortest run of a new lock with the lines of the sketch, as lines of a schedule. `state` is the
 // lock's in the beginning, as played; each thread takes the lock at most `rounds` times. Answers

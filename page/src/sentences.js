@@ -1,7 +1,7 @@
 // One sentence on what a move did: by the lock, the phase in which it found its thread, and its
 // outcome.
 
-import { ACTION, CALLS, NO_WORD, OUTCOMES, PHASES } from './codes.js';
+import { MOVES, NO_WORD, OUTCOMES, PHASES } from './codes.js';
 import { lockOf } from './locks.js';
 import { say, texts } from './texts.js';
 
@@ -9,8 +9,7 @@ export function sentence(view, move) {
   const { run, names } = view;
   const { records } = run;
   const who = names.of(records.thread(move));
-  const code = records.code(move);
-  if (records.action(move) === ACTION.call) return say(texts.says[CALLS[code]], { who });
+  if (records.isCall(move)) return say(texts.says[MOVES[records.action(move)]], { who });
   const lock = lockOf(run);
   const phase = run.phaseBefore(move);
   const key = lock.variant?.(run, move, phase) ?? OUTCOMES[records.outcome(move)];

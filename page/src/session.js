@@ -3,8 +3,8 @@
 import { arrowsOf } from './arrows.js';
 import { Bound } from './bound.js';
 import { lettersOf, throughLine, withoutLines } from './bytes.js';
-import { awaitedLines, codeLine } from './locks_code.js';
-import { LOCK_NAMES, lockOf } from './locks.js';
+import { awaitedLines } from './locks_code.js';
+import { lockOf } from './locks.js';
 import { Names } from './names.js';
 import { remarksOf } from './remarks.js';
 import { runOf } from './run.js';
@@ -123,8 +123,6 @@ export class Session {
 }
 
 // The code of each lock, line by line.
-export const linesOf = (code) => LOCK_NAMES.map((lock) => code[lock].map(codeLine));
-
 // The first line that is neither empty nor a comment.
 export function headerLine(text) {
   const { letters } = lettersOf(text);

@@ -1,6 +1,6 @@
 // Shapes that more than one picture uses.
 
-import { STEPS } from './codes.js';
+import { MOVES } from './codes.js';
 import { fitted } from './fitting.js';
 import { folding, movingThread } from './folding.js';
 import { html } from './markup.js';
@@ -62,8 +62,8 @@ export function useOf(run, move, word) {
 }
 
 // The steps that count as a change, even if they write the value that the word had.
-const WRITING = new Set(['write', 'swap', 'add'].map((step) => STEPS.indexOf(step)));
-const writes = (records, move) => WRITING.has(records.code(move));
+const WRITING = ['write', 'swap', 'add'];
+const writes = (records, move) => WRITING.includes(MOVES[records.action(move)]);
 
 // A picture as wide as the view. Its `height` is how tall it is on the screen.
 export function picture(view, height, label, body) {

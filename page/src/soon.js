@@ -3,7 +3,7 @@
 // The module searches from a new lock only, so this search is the page's own: tested, not proved.
 
 import { bytesOf } from './bytes.js';
-import { MOST_MOVES, wordOf } from './codes.js';
+import { MOST_MOVES, MOVES } from './codes.js';
 import { kindsOf, markOf } from './kinds.js';
 import { LOCK_NAMES } from './locks.js';
 import { Records } from './machine.js';
@@ -19,7 +19,7 @@ const MOST_SHOWN = 200;
 // The first moves of a run, as lines of a schedule.
 const linesOf = (records, count) => Array.from({ length: count }, (_, at) => {
   const move = at + 1;
-  return `${records.thread(move)} ${wordOf(records.action(move), records.code(move))}\n`;
+  return `${records.thread(move)} ${MOVES[records.action(move)]}\n`;
 }).join('');
 
 // The moves that the machine allows in this state, and what came of each.

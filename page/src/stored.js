@@ -1,16 +1,17 @@
 // What the machine answered when the page was built, for a browser that cannot run it: the
 // lessons' texts with their records, and of the states in the beginning and at the end what differs
-// from the one before.
+// from the one before; and of the lines with a fault where they stop.
 
 import { ANSWER } from './codes.js';
 import { State, STATE_BYTES } from './machine.js';
 import { fromBase64, sameBytes, toBase64 } from './bytes.js';
 
-// Written by the build: passes each play on, and keeps what came of it.
+// Written by the build: passes each question on, and keeps what came of it.
 export class Recorder {
   constructor(machine) {
     this.machine = machine;
     this.texts = [];
+    this.stops = [];
   }
 
   play(text, most, withRecords, length) {
@@ -25,10 +26,17 @@ export class Recorder {
     return answer;
   }
 
+  stop(line, isMove) {
+    const stop = this.machine.stop(line, isMove);
+    this.stops.push({ line, isMove, stop });
+    return stop;
+  }
+
   kept() {
-    return this.texts.map(({ bytes, records, states }) => ({
+    const texts = this.texts.map(({ bytes, records, states }) => ({
       text: toBase64(bytes), records: toBase64(records), states: differences(states),
     }));
+    return { texts, stops: this.stops };
   }
 }
 
@@ -53,9 +61,10 @@ function restored(pairs) {
 }
 
 export class StoredMachine {
-  constructor(kept) {
+  constructor({ texts, stops }) {
     this.stored = true;
-    this.texts = kept.map(({ text, records, states }) => ({
+    this.stops = stops;
+    this.texts = texts.map(({ text, records, states }) => ({
       bytes: fromBase64(text), records: fromBase64(records), states: restored(states),
     }));
   }
@@ -68,5 +77,9 @@ export class StoredMachine {
     const bytes = kept.states.get(Math.min(most, last));
     const records = new State(bytes).answer === ANSWER.fault ? new Uint8Array() : kept.records;
     return { state: new State(bytes), records };
+  }
+  // Where a line stops of which the build asked it.
+  stop(line, isMove) {
+    return this.stops.find((one) => one.line === line && one.isMove === isMove).stop;
   }
 }

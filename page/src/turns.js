@@ -4,7 +4,7 @@
 // A guess that was wrong costs a replay, and all others together cost one.
 
 import { beginsWith } from './bytes.js';
-import { ACTION, CALLS, STEPS } from './codes.js';
+import { MOVES } from './codes.js';
 import { otherLock } from './compare.js';
 import { moveText } from './report.js';
 import { Run, runOf } from './run.js';
@@ -22,7 +22,7 @@ const atFirst = ({ begun }, thread) => ({
 function guess(run, move, kind, there) {
   const here = after(run, move);
   const word = moveText(run, move).split(' ')[1];
-  const same = kind === (run.records.action(move) === ACTION.call ? word : run.phaseBefore(move));
+  const same = kind === (run.records.isCall(move) ? word : run.phaseBefore(move));
   return !there || (same && here.phase === there.phase) ? here : there;
 }
 
@@ -40,7 +40,7 @@ class There {
     const { known, lines, seen, threads } = this;
     const { due, phase, allows } = threads[thread];
     if (!due && !(calls.length && allows(calls[0]))) return;
-    const word = due ? STEPS[due] : CALLS[calls.shift()];
+    const word = MOVES[due || calls.shift()];
     const kind = due ? phase : word;
     const made = lines.push(`${thread} ${word}`);
     this.follows &&= made <= known.count && moveText(known, made) === lines[made - 1];
@@ -60,7 +60,7 @@ function attempt(machine, run, known) {
   const calls = there.threads.map(() => []);
   for (let move = 1; move <= run.count; move += 1) {
     const thread = run.records.thread(move);
-    if (run.records.action(move) === ACTION.call) calls[thread].push(run.records.code(move));
+    if (run.records.isCall(move)) calls[thread].push(run.records.action(move));
     there.take(thread, calls[thread], move);
     at.push(there.lines.length);
   }

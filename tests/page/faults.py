@@ -34,6 +34,13 @@ FAULTS = [
     ("lock ticket threads 02\n", 1, ["no leading zero", "BadThreads"], 0),
     ("lock ticket threads 2 bits 1\n", 1, ["“1” is not a number of bits", "from 2 to 64"], 0),
     ("lock ticket threads 2 bit 8\n", 1, ["only “bits” may follow"], 0),
+    ("lock ticket threads\n", 1, ["This is not a header"], 0),
+    (
+        "lock ticket threads 2 bits 8 9\n",
+        1,
+        ["This is not a header", "Write “lock ticket threads 2 bits 8”"],
+        0,
+    ),
     (
         "lock ticket threads 4 bits 2\n",
         1,

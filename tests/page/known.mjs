@@ -13,7 +13,7 @@ import { dirname, join } from 'node:path';
 import { fileURLToPath } from 'node:url';
 import { setFlagsFromString } from 'node:v8';
 import { withoutLines } from '../../page/src/bytes.js';
-import { ACTION, CALLS, STEPS } from '../../page/src/codes.js';
+import { CALLS, MOVES } from '../../page/src/codes.js';
 import { otherLock } from '../../page/src/compare.js';
 import { Machine } from '../../page/src/machine.js';
 import { lastLine, reportOf } from '../../page/src/report.js';
@@ -97,12 +97,12 @@ function moveByMove(machine, run) {
   let text = `lock ${otherLock(run)} threads ${run.threads} bits ${run.bits}\n`;
   for (let move = 1; move <= run.count; move += 1) {
     const thread = records.thread(move);
-    if (records.action(move) === ACTION.call) calls[thread].push(records.code(move));
+    if (records.isCall(move)) calls[thread].push(records.action(move));
     const { state } = machine.play(bytesOf(text), run.count, false);
     const due = state.dueStep(thread);
     const [call] = calls[thread];
     const mayCall = !due && call !== undefined && state.allows(thread, call);
-    const word = due ? STEPS[due] : mayCall && CALLS[calls[thread].shift()];
+    const word = due ? MOVES[due] : mayCall && MOVES[calls[thread].shift()];
     if (word) text += `${thread} ${word}\n`;
     at.push(at[move - 1] + (word ? 1 : 0));
   }
@@ -133,8 +133,8 @@ function drawn(machine, lock, threads, seed) {
     const { state } = machine.play(bytesOf(text), move, false);
     const thread = draw(threads);
     const due = state.dueStep(thread);
-    const calls = CALLS.filter((_, call) => state.allows(thread, call));
-    text += `${thread} ${due ? STEPS[due] : calls[draw(calls.length)]}\n`;
+    const calls = CALLS.filter((call) => state.allows(thread, call));
+    text += `${thread} ${MOVES[due || calls[draw(calls.length)]]}\n`;
   }
   return bytesOf(text);
 }

@@ -8,8 +8,8 @@
 // allowed calls, against those that the machine writes; who waits, against what is answered to the
 // same moves with the due step after them, and so each thread's allowed calls and due step at the
 // end. Then where words and names of an MCS lock are, from which to which number a header goes,
-// and what `play` answers to a text that is too long, to a state that is too short, and where
-// there is room for one record of two.
+// where a line stops to be a header or a move, and what `play` answers to a text that is too long,
+// to a state that is too short, and where there is room for one record of two.
 
 import assert from 'node:assert/strict';
 import { readFileSync, readdirSync } from 'node:fs';
@@ -18,7 +18,7 @@ import { fileURLToPath } from 'node:url';
 import { setFlagsFromString } from 'node:v8';
 import { rangesOf } from '../../page/build/ranges.mjs';
 import {
-  ANSWER, AS_WRITER, CALLS, HOLDS, IN_LINE, OUTCOME, STEPS, UNLINKED, WAITS,
+  ANSWER, AS_WRITER, CALLS, HOLDS, IN_LINE, isStep, MOVES, OUTCOME, UNLINKED, WAITS,
 } from '../../page/src/codes.js';
 import { Machine, Records, RECORD_BYTES, STATE_BYTES } from '../../page/src/machine.js';
 import { reportOf } from '../../page/src/report.js';
@@ -75,7 +75,7 @@ function checkWaits(machine, text, run, move, after) {
   const { records } = run;
   const thread = records.thread(move);
   const due = after.dueStep(thread);
-  const before = bytesOf(`${textUpTo(text, records.line(move))}\n${thread} ${STEPS[due]}\n`);
+  const before = bytesOf(`${textUpTo(text, records.line(move))}\n${thread} ${MOVES[due]}\n`);
   const next = due ? machine.play(before, move + 1, true) : null;
   const vain = next !== null && new Records(next.records).outcome(move + 1) === OUTCOME.waits;
   const waits = records.outcome(move) === OUTCOME.waits
@@ -104,7 +104,7 @@ function checkMoment(run, move) {
   const [read, said] = [run.state(move), run.replayed(move)].map((state) => ({
     holders: [state.holderKind, ...state.holders], queue: state.queue,
     threads: threads.map((one) => [state.phase(one), state.dueStep(one), state.phaseNumber(one)]),
-    calls: threads.map((one) => CALLS.filter((_, call) => state.allows(one, call))),
+    calls: threads.map((one) => CALLS.filter((call) => state.allows(one, call))),
     words: words.map((index) => state.word(index)),
   }));
   assert.deepEqual(read, said, `after move ${move}`);
@@ -117,11 +117,11 @@ function checkNext(machine, text, moves, state) {
     return machine.play(longer, moves + 1, false).state.answer === ANSWER.accepted;
   };
   for (let thread = 0; thread < state.threads; thread += 1) {
-    for (const [code, call] of CALLS.entries()) {
-      assert.equal(state.allows(thread, code), accepts(thread, call), `${thread} ${call}`);
-    }
-    const due = STEPS.findIndex((step) => step && accepts(thread, step));
-    assert.equal(state.dueStep(thread), Math.max(0, due));
+    const accepted = Object.keys(MOVES).map(Number)
+      .filter((action) => accepts(thread, MOVES[action]));
+    assert.deepEqual(CALLS.filter((call) => state.allows(thread, call)),
+      accepted.filter((action) => !isStep(action)), `calls of ${thread}`);
+    assert.equal(state.dueStep(thread), accepted.find(isStep) ?? 0);
   }
 }
 
@@ -171,6 +171,29 @@ function checkNumbers(machine, bytes) {
   assert.deepEqual(rangesOf(bytes), { threads: [1, 64], bits: [2, 64], thread: [0, 255] });
 }
 
+// Where lines stop, by docs/SCHEDULE.md. A word that is missing would be after one blank more.
+const HEADERS = [
+  ['', 1, 'lock'], ['Lock mcs threads 2', 1, 'lock'], ['lock', 6, 'name'], ['lock clh', 6, 'name'],
+  ['lock mcs', 10, 'threads'], ['lock mcs thread 2', 10, 'threads'],
+  ['lock mcs threads 65', 18, 'count'], ['lock mcs threads 2 bit 8', 20, 'bits'],
+  ['lock mcs threads 2 bits', 25, 'width'], ['lock mcs threads 2 bits 1', 25, 'width'],
+  ['lock mcs threads 2 bits 8 ', 27, 'end'],
+];
+const MOVE_LINES = [
+  ['', 1, 'thread'], ['00 read', 1, 'thread'], ['256 read', 1, 'thread'], ['255', 5, 'action'],
+  ['0 Read', 3, 'action'], ['63 acquire 1', 12, 'end'],
+];
+
+function checkStops(machine) {
+  const check = (rows, isMove) => rows.forEach(([line, column, expected]) => {
+    assert.deepEqual(machine.stop(line, isMove), { column, expected }, line);
+  });
+  check(HEADERS, false);
+  check(MOVE_LINES, true);
+  assert.equal(machine.stop('lock mcs threads 64 bits 2', false), null);
+  assert.equal(machine.stop('255 downgrade', true), null);
+}
+
 function checkRoom(machine) {
   const long = new Run(machine, new Uint8Array(1048577).fill(10));
   assert.equal(reportOf(long), 'fault TooLong\n');
@@ -200,5 +223,6 @@ const threads = Array.from({ length: 64 }, (_, thread) => thread);
 checkOwned(machine, threads);
 checkOwned(machine, [...threads].reverse());
 checkNumbers(machine, module);
+checkStops(machine);
 checkRoom(machine);
 console.log(`module: ${files.length} examples as their reports say`);

@@ -14,7 +14,7 @@ import { readFileSync } from 'node:fs';
 import { dirname, join } from 'node:path';
 import { fileURLToPath } from 'node:url';
 import { setFlagsFromString } from 'node:v8';
-import { ANSWER, CALLS, OUTCOMES, PHASES, STEPS, wordOf } from '../../page/src/codes.js';
+import { ANSWER, MOVES, OUTCOMES, PHASES } from '../../page/src/codes.js';
 import { Machine, Records } from '../../page/src/machine.js';
 import { FOUND } from '../../page/src/search.js';
 
@@ -22,20 +22,19 @@ const ROWS = join(dirname(fileURLToPath(import.meta.url)), '..', 'rows');
 const LOCKS = ['ticket', 'mcs', 'rw-simple', 'rw-fifo'];
 const CELLS = 200000;
 const SLOTS = 1 << 15;
-const MOVES = 64;
+const MOST_FOUND = 64;
 
 const bytesOf = (text) => new TextEncoder().encode(text);
 
 // The move that a code names.
 function moveOf(code) {
-  const move = Math.floor(code / 512);
-  const word = move < CALLS.length ? CALLS[move] : STEPS[move - CALLS.length + 1];
+  const word = Object.values(MOVES)[Math.floor(code / 512)];
   return { thread: code % 256, word, meets: Math.floor(code / 256) % 2 === 1 };
 }
 
 // What is found for these lines, by a search in so many cells.
 function find(machine, { lock, threads, bits, rounds }, lines, room = {}) {
-  const { cells = CELLS, moves = MOVES, most = 1e6 } = room;
+  const { cells = CELLS, moves = MOST_FOUND, most = 1e6 } = room;
   const text = bytesOf(lines.join('\n'));
   const sizes = [8, 8 * moves, 8 * cells, 4 * SLOTS, text.length];
   const places = sizes.map((_, i) => machine.base
@@ -66,7 +65,7 @@ function transitionsOf(machine, { lock, threads, bits }, run) {
   return run.map(({ thread }, at) => {
     const [move, from] = [at + 1, phases[thread]];
     phases[thread] = PHASES[read.phase(move)];
-    const word = wordOf(read.action(move), read.code(move));
+    const word = MOVES[read.action(move)];
     return `${from} ${word} ${OUTCOMES[read.outcome(move)]} ${phases[thread]}`;
   });
 }

@@ -9,9 +9,9 @@ use Rattle.lk_locks.specs.Locks.{step_due}
 use Rattle.lk_locks.specs.Holding.{Holding, Free, HeldBy, ReadBy, WrittenBy, holding_of, waiting_of}
 use Rattle.lk_locks.specs.declared.kinds.Refusal.{Refusal}
 use Rattle.lk_replay.specs.Faults.{Fault}
-use Rattle.lk_page.specs.Codes.{lock_code, action_code, word_code, outcome_code, phase_code}
-use Rattle.lk_page.specs.Codes.{phase_number, due_code, refusal_code, refusal_step, fault_code}
-use Rattle.lk_page.specs.Codes.{bit, fault_line, is_unlinked}
+use Rattle.lk_trace.specs.Codes.{move_number, outcome_number, refusal_number}
+use Rattle.lk_page.specs.Codes.{bit, lock_code, phase_code, phase_number, is_unlinked, due_code}
+use Rattle.lk_page.specs.Codes.{refusal_step, fault_code, fault_line}
 use Rattle.lk_page.specs.Next.{allowed_calls}
 use Rattle.lk_page.specs.Owned.{next_word, locked_word, record_name}
 use Rattle.lk_page.specs.Told.{Moment}
@@ -41,7 +41,7 @@ thread_code r =
 unfoldable pub record_bytes : Record → List ℕ
 record_bytes r =
     to_le_bytes w32 r.line
-    ++ (r.thread ∷ action_code r.action ∷ word_code r.action ∷ outcome_code r.outcome
+    ++ (r.thread ∷ move_number r.action ∷ 0 ∷ outcome_number r.outcome
     ∷ phase_code r.phase ∷ thread_code r ∷ [])
     ++ to_le_bytes w16 (touched_word r.first) ++ to_le_bytes w16 (touched_word r.second)
     ++ (due_code r.due ∷ r.calls ∷ [])
@@ -84,7 +84,7 @@ threads_bytes s t (suc n) = thread_bytes s t ++ threads_bytes s (t + 1) n
 -- the refusal, its line, and the due step that it names
 abbrev pub stop_numbers : Option (ℕ × Refusal) → List ℕ
 stop_numbers None = 0 ∷ 0 ∷ 0 ∷ 0 ∷ []
-stop_numbers (Some r) = 1 ∷ refusal_code r.1 ∷ r.0 ∷ refusal_step r.1 ∷ []
+stop_numbers (Some r) = 1 ∷ refusal_number r.1 ∷ r.0 ∷ refusal_step r.1 ∷ []
 
 -- of a lock in this state after `count` of `moves` moves
 abbrev pub numbers : ℕ → ℕ → Option (ℕ × Refusal) → State → Holding → List ℕ → List ℕ

@@ -8,3 +8,4 @@ pub mod Written
 pub mod Playing
 pub mod Asked
 pub mod Sought
+pub mod Stops

@@ -1,50 +1,22 @@
-//! The numbers by which a page knows locks, moves, outcomes, phases, refusals and faults. Enums
-//! without fields are numbered in their order: from 0, and steps from 1, since 0 is no step.
+//! The numbers by which a page knows locks, phases, due steps and faults, and what may come next in
+//! a line. Enums without fields are numbered in their order: from 0, and from 1 if 0 is none of
+//! them. Moves, outcomes and refusals have the numbers of `lk_trace`.
 
 ghost use Rattle.std.specs.Prelude.{◌≡◌, IfSome};
-ghost use Rattle.lk_page.specs.Codes.{lock_code, op_code, step_code, action_code, word_code};
-ghost use Rattle.lk_page.specs.Codes.{outcome_code, phase_code, phase_number, due_code};
-ghost use Rattle.lk_page.specs.Codes.{is_unlinked};
-ghost use Rattle.lk_page.specs.Codes.{refusal_code, refusal_step, fault_code, fault_line, as_fault};
+ghost use Rattle.lk_page.specs.Codes.{lock_code, phase_code, phase_number, is_unlinked, due_code};
+ghost use Rattle.lk_page.specs.Codes.{refusal_step, fault_code, fault_line, as_fault};
+ghost use Rattle.lk_page.specs.Codes.{expected_code};
 
-use lk_locks::{LockKind, Move, Op, Outcome, Phase, Refusal, StepKind};
+use lk_locks::{LockKind, Move, Phase, Refusal, StepKind};
 use lk_replay::ReadFault;
+use lk_replay::parts::Expected;
+use lk_trace::move_number;
 
 /// The number of a lock.
 pub fn lock_code(kind: LockKind) -> u8
     ensures { result ≡ lock_code kind }
 {
     kind as u8
-}
-
-fn op_code(op: Op) -> u8
-    ensures { result ≡ op_code op }
-{
-    op as u8
-}
-
-fn step_code(step: StepKind) -> u8
-    ensures { result ≡ step_code step }
-{
-    step as u8 + 1
-}
-
-/// Whether a move is a call or a step, and which.
-pub fn action_codes(action: Move) -> (u8, u8)
-    ensures action { result.0 ≡ action_code action }
-    ensures word { result.1 ≡ word_code action }
-{
-    match action {
-        Move::Call(op) => (0, op_code(op)),
-        Move::Step(step) => (1, step_code(step)),
-    }
-}
-
-/// The number of an outcome.
-pub fn outcome_code(outcome: Outcome) -> u8
-    ensures { result ≡ outcome_code outcome }
-{
-    outcome as u8
 }
 
 /// The number of a phase, without what it carries.
@@ -99,28 +71,13 @@ pub fn is_unlinked(phase: Phase) -> bool
     matches!(phase, Phase::SetLocked(_) | Phase::LinkTo(_))
 }
 
-/// The step that is due, and 0 if none is.
+/// The step that is due, and 0, which no step has, if none is.
 pub fn due_code(due: Option<StepKind>) -> u8
     ensures { result ≡ due_code due }
 {
     match due {
-        Some(step) => step_code(step),
+        Some(step) => move_number(Move::Step(step)),
         None => 0,
-    }
-}
-
-/// The number of a refusal, without the step that it names.
-pub fn refusal_code(refusal: Refusal) -> u32
-    ensures { result ≡ refusal_code refusal }
-{
-    match refusal {
-        Refusal::NoSuchThread => 1,
-        Refusal::WrongLock => 2,
-        Refusal::Busy => 3,
-        Refusal::NotHolder => 4,
-        Refusal::AlreadyHolds => 5,
-        Refusal::NoCall => 6,
-        Refusal::WrongStep { .. } => 7,
     }
 }
 
@@ -129,7 +86,7 @@ pub fn refusal_step(refusal: Refusal) -> u8
     ensures { result ≡ refusal_step refusal }
 {
     match refusal {
-        Refusal::WrongStep { next } => step_code(next),
+        Refusal::WrongStep { next } => move_number(Move::Step(next)),
         _ => 0,
     }
 }
@@ -148,4 +105,11 @@ pub fn fault_codes(fault: ReadFault) -> (u32, u32)
         ReadFault::OutOfMemory => (7, 0),
         ReadFault::WordsTooNarrow(line) => (8, line),
     }
+}
+
+/// The number of what may come next.
+pub fn expected_code(expected: Expected) -> u64
+    ensures { result ≡ expected_code expected }
+{
+    expected as u64 + 1
 }

@@ -1,6 +1,6 @@
 //! A schedule in a page: its text is read and played by the proved machine, and written out move
-//! by move for a page to draw; and a shortest run is looked for that has the lines of a sketch.
-//! This project's own.
+//! by move for a page to draw; a shortest run is looked for that has the lines of a sketch; and of
+//! a line that cannot be read, it is told where it stops. This project's own.
 //!
 //! It is built to a WebAssembly module that imports nothing. An exported function takes no memory
 //! there, so all that it reads and writes are slices that the page lends. page/MODULE.md lists
@@ -12,6 +12,7 @@ ghost use Rattle.lk_replay.specs.Schedule.{plan_of};
 ghost use Rattle.lk_search.specs.Kinds.{kind_count};
 ghost use Rattle.lk_page.specs.Asked.{IsAsked, asked_by, lock_of};
 ghost use Rattle.lk_page.specs.Sought.{IsAnswered, states_within};
+ghost use Rattle.lk_page.specs.Stops.{column_of, expected_at, stop_of};
 ghost use Rattle.lk_page.specs.Written.{IsTold};
 
 mod asking;
@@ -26,6 +27,7 @@ mod playing;
 mod record;
 mod sought;
 mod state;
+mod stops;
 #[cfg(test)]
 mod tests;
 mod told;
@@ -33,6 +35,7 @@ mod told;
 use finding::answer;
 use kind_texts::{count_kinds, put_kind};
 use playing::play_text;
+use stops::{column_of, expected_at, stop_of};
 
 /// Reads a schedule text, plays at most `most` of its moves up to the first refused one, writes a
 /// record of 56 bytes of each, as many as fit, and the state after the last into the first 2,304
@@ -106,4 +109,22 @@ pub extern "C" fn kind_text(lock: u64, kind: u64, text: &mut [u8]) -> u64
     ensures size { length text.new ≡ length text.old }
 {
     put_kind(lock, kind, text)
+}
+
+/// The column, in bytes from 1, at which a line stops to be a header if `is_move` is 0, and else a
+/// move: where the first word begins that may not be there, or the place at which one is missing.
+/// It returns 0 if there is no such place.
+#[unsafe(no_mangle)]
+pub extern "C" fn stops_at(line: &[u8], is_move: u64) -> u64
+    ensures { result ≡ column_of (stop_of is_move line.now) }
+{
+    column_of(stop_of(line, is_move))
+}
+
+/// The number of what is expected at that column, and 0 if there is no such place.
+#[unsafe(no_mangle)]
+pub extern "C" fn expected(line: &[u8], is_move: u64) -> u64
+    ensures { result ≡ expected_at (stop_of is_move line.now) }
+{
+    expected_at(stop_of(line, is_move))
 }

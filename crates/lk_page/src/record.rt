@@ -10,13 +10,14 @@ ghost use Rattle.lk_page.specs.Layout.{record_bytes, touched_word, found_of, lef
 ghost use Rattle.lk_page.specs.Layout.{thread_code};
 
 use crate::changes::make;
-use crate::codes::{action_codes, due_code, is_unlinked, outcome_code, phase_code, phase_number};
+use crate::codes::{due_code, is_unlinked, phase_code, phase_number};
 use crate::layout::{put_bytes, put_u16, put_u32, put_u64};
 use crate::next::{allowed_calls, waits_after};
 use crate::told::{Record, Standing, Touch};
 use arrayvec::ArrayVec;
 use lk_locks::{Holders, Refusal, Tracker};
 use lk_replay::Line;
+use lk_trace::{move_number, outcome_number};
 use lk_words::WordArray;
 
 /// How many bytes a record has.
@@ -111,7 +112,6 @@ pub fn record_bytes(told: &Record) -> ArrayVec<u8, 56>
     ensures size { length result.items ≡ 56 }
 {
     let mut out = ArrayVec::new();
-    let (action, code) = action_codes(told.action);
     let (found, left) = values_of(told.first);
     let (found_second, left_second) = values_of(told.second);
     put_u32(&mut out, told.line);
@@ -119,9 +119,9 @@ pub fn record_bytes(told: &Record) -> ArrayVec<u8, 56>
         &mut out,
         &[
             told.thread,
-            action,
-            code,
-            outcome_code(told.outcome),
+            move_number(told.action),
+            0,
+            outcome_number(told.outcome),
             phase_code(told.phase),
             thread_code(told),
         ],

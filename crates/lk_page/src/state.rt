@@ -8,13 +8,14 @@ ghost use Rattle.lk_page.specs.Layout.{own_bytes, thread_bytes, threads_bytes, s
 ghost use Rattle.lk_page.specs.Layout.{bytes_of_state, bytes_of_fault};
 
 use crate::changes::words_of;
-use crate::codes::{due_code, lock_code, phase_code, phase_number, refusal_code, refusal_step};
+use crate::codes::{due_code, lock_code, phase_code, phase_number, refusal_step};
 use crate::layout::{copy_of, put_bytes, put_u32s, put_u64, put_u64s, put_zeros};
 use crate::next::allowed_calls;
 use crate::owned::owned;
 use crate::told::Stopped;
 use arrayvec::ArrayVec;
 use lk_locks::{Holders, LockKind, Machine, Refusal, Tracker};
+use lk_trace::refusal_number;
 use lk_words::{WordArray, Words};
 
 /// How many bytes a state has.
@@ -134,7 +135,7 @@ fn stop_numbers(refused: Option<(u32, Refusal)>) -> [u32; 4]
     match refused {
         Some((line, refusal)) => [
             1,
-            refusal_code(refusal),
+            u32::from(refusal_number(refusal)),
             line,
             u32::from(refusal_step(refusal)),
         ],

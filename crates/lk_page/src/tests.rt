@@ -27,7 +27,7 @@ fn a_late_link_is_seen(rt: HostRuntime) {
     let mut state = [0u8; 2304];
     assert_eq!(rt; play(LATE_LINK, 99, &mut [], &mut state), 1);
     // the refused move: its number, its line, and the due step
-    assert_eq!(rt; (state[4], state[8], state[12]), (7, 13, 2));
+    assert_eq!(rt; (state[4], state[8], state[12]), (7, 13, 17));
     // ten of eleven moves, five words; held by thread 0, with 0 and 1 in the queue
     assert_eq!(rt;
         (
@@ -38,10 +38,10 @@ fn a_late_link_is_seen(rt: HostRuntime) {
     assert_eq!(rt; (state[40], state[44], state[48]), (1, 1, 2));
     assert_eq!(rt; (state[64], state[128], state[129]), (0, 0, 1));
     // thread 0 awaits the link, thread 1 is to set its own `locked`; neither may call
-    assert_eq!(rt; (state[192], state[193], state[194]), (14, 1, 0));
+    assert_eq!(rt; (state[192], state[193], state[194]), (14, 16, 0));
     assert_eq!(rt;
         (state[208], state[209], state[210], state[216]),
-        (8, 2, 0, 0)
+        (8, 17, 0, 0)
     );
     // the tail names record 2, and no record has a next
     assert_eq!(rt; (state[1216], state[1224], state[1240]), (2, 0, 0));
@@ -64,7 +64,7 @@ fn a_swap_and_a_failed_compare_and_swap_are_recorded(rt: HostRuntime) {
             records[118],
             records[119]
         ),
-        (5, 0, 1, 3, 3)
+        (5, 0, 18, 0, 3)
     );
     assert_eq!(rt; (records[120], records[121]), (11, 3));
     assert_eq!(rt;
@@ -74,8 +74,8 @@ fn a_swap_and_a_failed_compare_and_swap_are_recorded(rt: HostRuntime) {
     assert_eq!(rt; (records[128], records[136]), (0, 1));
     // the ninth move: a compare-and-swap of the tail that fails
     assert_eq!(rt;
-        (records[448], records[454], records[455], records[456]),
-        (11, 4, 1, 14)
+        (records[448], records[453], records[455], records[456]),
+        (11, 19, 1, 14)
     );
     assert_eq!(rt;
         (records[458], records[459], records[464], records[472]),

@@ -5,13 +5,13 @@ use Rattle.std.specs.Prelude.{None, slice_set, if◌then◌else◌}
 use Rattle.lk_words.specs.declared.operation.Effect.{Effect}
 use Rattle.lk_replay.specs.Lines.{lines_of}
 use Rattle.lk_trace.specs.Checks.{Checked}
+use Rattle.lk_trace.specs.Codes.{move_number, outcome_number}
 use Rattle.lk_trace.specs.Traces.{event_of, after_text_line}
 use Rattle.lk_trace.specs.declared.checker.Made.{Made as MadeMove}
 use Rattle.lk_trace.specs.declared.line.TraceLine.{TraceLine}
 use Rattle.lk_trace.specs.declared.trace.Event.{Event}
 use Rattle.lk_trace.specs.declared.trace.Event.TheVariants.{Began, Made}
 use Rattle.lk_trace_c.specs.Ends.{event_number, end_number}
-use Rattle.lk_trace_c.specs.Numbers.{action_number, outcome_number}
 use Rattle.lk_trace_c.specs.declared.LtAnswer.{LtAnswer}
 use Rattle.lk_trace_c.specs.declared.LtStep.{LtStep}
 
@@ -36,7 +36,7 @@ record_of number l made = record {
   found = found_of made.effect;
   left = left_of made.effect;
   thread = l.thread;
-  action = action_number l.action;
+  action = move_number l.action;
   outcome = outcome_number made.outcome;
   word = word_number made.effect;
 }

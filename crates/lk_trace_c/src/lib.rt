@@ -11,8 +11,8 @@ ghost use Rattle.lk_trace_c.specs.Records.{answer_by, nothing, record_of, steps_
 ghost use Rattle.lk_trace_c.specs.Texts.{text_of_number};
 
 use lk_replay::parts::cut_line;
-use lk_trace::{Event, Made, TextFault, TraceLine, TraceReader};
-use numbers::{action_number, difference_number, fault_number, fault_text, outcome_number};
+use lk_trace::{Event, Made, TextFault, TraceLine, TraceReader, move_number, outcome_number};
+use numbers::{difference_number, fault_number, fault_text};
 
 /// A move that was made. `word` is the place of its word, or the greatest number if it is on
 /// none; what it found and left is 0 then.
@@ -54,8 +54,8 @@ fn step_of(line: u64, read: TraceLine, made: Made) -> LtStep
         found,
         left,
         thread: u32::from(read.thread),
-        action: action_number(read.action),
-        outcome: outcome_number(made.outcome),
+        action: u32::from(move_number(read.action)),
+        outcome: u32::from(outcome_number(made.outcome)),
         word: match made.effect {
             Some(effect) if effect.word < 129 => effect.word as u32,
             _ => NO_WORD,

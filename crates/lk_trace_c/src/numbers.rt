@@ -1,51 +1,17 @@
-//! Moves, outcomes and faults as numbers, and the texts of the faults. `record/locktrace.h` has the
-//! same numbers.
+//! Faults as numbers, and their texts. `record/locktrace.h` has the same numbers.
 
 ghost use Rattle.std.specs.Prelude.{◌≡◌};
-ghost use Rattle.lk_trace_c.specs.Numbers.{action_number, difference_number, fault_number};
-ghost use Rattle.lk_trace_c.specs.Numbers.{outcome_number, refusal_number};
+ghost use Rattle.lk_trace_c.specs.Numbers.{difference_number, fault_number};
 ghost use Rattle.lk_trace_c.specs.Texts.{text_of_number};
 
-use lk_locks::{Move, Outcome, Refusal};
-use lk_trace::{Difference, TextFault};
-
-/// Calls from 0, steps from 16, each in the order of its enum.
-pub fn action_number(action: Move) -> u32
-    ensures { result ≡ action_number action }
-{
-    match action {
-        Move::Call(op) => op as u32,
-        Move::Step(step) => 16 + step as u32,
-    }
-}
-
-/// What came of a move, from 0 in the order of the enum.
-pub fn outcome_number(outcome: Outcome) -> u32
-    ensures { result ≡ outcome_number outcome }
-{
-    outcome as u32
-}
-
-fn refusal_number(refusal: Refusal) -> u32
-    ensures { result ≡ refusal_number refusal }
-{
-    match refusal {
-        Refusal::NoSuchThread => 1,
-        Refusal::WrongLock => 2,
-        Refusal::Busy => 3,
-        Refusal::NotHolder => 4,
-        Refusal::AlreadyHolds => 5,
-        Refusal::NoCall => 6,
-        Refusal::WrongStep { .. } => 7,
-    }
-}
+use lk_trace::{Difference, TextFault, refusal_number};
 
 /// Refusals from 1, values from 8.
 pub fn difference_number(difference: Difference) -> u32
     ensures { result ≡ difference_number difference }
 {
     match difference {
-        Difference::Refused(refusal) => refusal_number(refusal),
+        Difference::Refused(refusal) => u32::from(refusal_number(refusal)),
         Difference::OtherWord { .. } => 8,
         Difference::FoundOther { .. } => 9,
         Difference::LeftOther { .. } => 10,

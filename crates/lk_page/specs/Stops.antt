@@ -1,0 +1,20 @@
+-- Definitions: where a line stops to be a header or a move, and what could be there, as numbers.
+-- This project's own.
+use Rattle.std.specs.Prelude.{ℕ, ◌==◌, List, Option, None, Some, if◌then◌else◌}
+use Rattle.lk_replay.specs.Lines.{words_of}
+use Rattle.lk_replay.specs.Unreadable.{unreadable_from}
+use Rattle.lk_replay.specs.declared.unreadable.Expected.TheVariants.{Lock, Thread}
+use Rattle.lk_replay.specs.declared.unreadable.Unreadable.{Unreadable}
+use Rattle.lk_page.specs.Codes.{expected_code}
+
+-- of a header if the number is 0, and else of a move
+abbrev pub stop_of : ℕ → List ℕ → Option Unreadable
+stop_of is_move line = unreadable_from 1 (if is_move == 0 then Lock else Thread) (words_of line)
+
+abbrev pub column_of : Option Unreadable → ℕ
+column_of None = 0
+column_of (Some stop) = stop.column
+
+abbrev pub expected_at : Option Unreadable → ℕ
+expected_at None = 0
+expected_at (Some stop) = expected_code stop.expected
