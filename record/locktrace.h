@@ -11,7 +11,8 @@
        while (lt_next(&run, &step)) ..
        if (run.answer.fault) ..       // lt_fault_text says what it is, in line answer.line
 
-   Moves for which there is no room are checked too, and are not stepped through. */
+   Moves for which there is no room are checked too, and are not stepped through. A run that hangs
+   is accepted: only `locktrace check` reads which threads have ended. */
 #ifndef LOCKTRACE_H
 #define LOCKTRACE_H
 

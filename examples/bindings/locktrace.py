@@ -8,7 +8,8 @@ LIBRARY is a shared library, made once from liblk_trace_c.a. In the folder of th
 
     cc -shared -o liblocktrace.so -Wl,--whole-archive liblk_trace_c.a -Wl,--no-whole-archive
 
-Status: 0 an accepted trace, 1 a refused one, 2 other words on the command line than these.
+Status: 0 an accepted trace; 1 a refused one, or a text that is no trace; 2 other words on the
+command line than these.
 
 SPDX-License-Identifier: Apache-2.0 OR MIT
 """

@@ -7,10 +7,10 @@
    An example defines LOCK, the lock's name in a trace, and BITS, the width of its counters, and
    includes this file; then it defines `open_lock`, which makes its lock new, `one_round`: a call
    that takes the lock, `inside`, and a call that gives it back, and with LR_FOLLOW `one_call`. The
-   logs go to DIRECTORY. Status: 0 all threads ended, every schedule was followed, no run was
-   refused; 1 some threads hang, after SECONDS (60) or if a run hangs, and their logs end
-   there, or a schedule was not followed, or a run was refused; 2 usage; 3 memory, a thread or a
-   write was refused.
+   logs go to DIRECTORY. Status: 0 all is well; 1 a thread has not ended after SECONDS (60), the run
+   hangs, a schedule was not followed, or a run was refused; 2 usage; 3 out of memory, a wrong
+   argument of lr_open, no thread, a failed read or write, or a file that is no schedule of this
+   lock.
 
    SPDX-License-Identifier: Apache-2.0 OR MIT */
 #include <pthread.h>

@@ -67,7 +67,8 @@ export const german = {
         + 'eines Threads oder *, und ein Aufruf oder Schritt, wie „* cas failed“.',
       manyLines: (line) => `Zeile ${line} ist eine zu viel: Eine Skizze hat höchstens 255 Zeilen.`,
       noRoom: (line) => `Zeile ${line} erlaubt zu viele Züge. Nenne ihren Thread oder ihr Wort.`,
-      notAsked: 'Eine solche Sperre gibt es nicht. Viele Threads brauchen breitere Wörter.',
+      notAsked: 'Eine solche Sperre gibt es nicht, der Text ist zu lang, oder viele Threads '
+        + 'brauchen breitere Wörter.',
     },
     take: {
       title: 'Exportieren', svg: 'Dieser Zustand als Bild (SVG)',
@@ -79,13 +80,12 @@ export const german = {
       title: 'Über diese Seite',
       proved: 'Auf dieser Seite läuft die Maschine von lockreplay selbst, nach WebAssembly '
         + 'übersetzt. Von jeder ihrer Funktionen ist bewiesen, dass sie tut, was ihr Vertrag sagt: '
-        + 'Was angenommen, abgelehnt und berichtet wird, folgt aus den Definitionen der vier '
-        + 'Sperren. Bilder und Sätze sind nicht bewiesen.',
+        + 'Was angenommen und abgelehnt wird, und was jeder Zug tut, folgt aus den Definitionen '
+        + 'der vier Sperren. Bilder, Sätze und der Text des Berichts sind nur getestet.',
       documents: {
         PROOF: 'Was bewiesen ist', LOCKS: 'Die Sperren als Code', GUIDE: 'Für den Unterricht',
       },
-      source: 'Der Quelltext liegt in dem Ordner, mit dem diese Seite kam: page/src, '
-        + 'crates/lk_page.',
+      source: 'Der Quelltext ist im Repository von lockreplay: page/src, crates/lk_page.',
       licence: 'Lizenz: Apache-2.0 OR MIT.',
       browsers: 'Sie braucht WebAssembly-Speicher mit 64 Bit: Chromium ab 133 oder Firefox ab 134. '
         + 'Ein anderer Browser zeigt die Lektionen, wie sie vorher gespielt wurden.',
@@ -158,7 +158,7 @@ export const german = {
     },
     lessons: {
       title: 'Lektionen',
-      hint: 'Jede ist ein Ablauf mit seinen Fragen. Die Pfeiltasten gehen Zug um Zug.',
+      hint: 'Die meisten sind Abläufe mit Fragen. Die Pfeiltasten gehen Zug um Zug.',
       groups: { refused: 'Abgelehnte Züge', fault: 'Texte, die keine Abläufe sind' },
       kept: 'In diesem Browser aufgehoben', keptMove: (place) => `bei Zug ${place}`,
       moves: (count) => (count === 1 ? '1 Zug' : `${count} Züge`),
@@ -218,7 +218,7 @@ export const german = {
       },
       check: 'Prüfen',
       score: ({ right, wrong, points }) => `Punkte: ${points} (${right} richtig, ${wrong} falsch)`,
-      rule: 'Eine falsche Antwort kostet einen Punkt.',
+      rule: 'Eine falsche Antwort kostet einen Punkt, aber nie unter 0.',
       save: 'Für die Lehrkraft speichern',
       fileHead: '# lockreplay: Antworten eines Quiz. Eine falsche Antwort kostet einen Punkt.',
       wrong: (given) => `nicht ${given || 'nichts'}`,

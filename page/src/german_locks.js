@@ -47,7 +47,7 @@ export const germanLocks = {
       },
       CasTail: {
         moved: 'Das compare-and-swap scheitert: tail ist {foundName}, nicht {whom}. {whom} hat '
-          + 'einen Nachfolger und sieht nicht, wer es ist.',
+          + 'einen Nachfolger und hat noch nicht gesehen, wer es ist.',
         left: 'tail ist noch {whom}: Das compare-and-swap setzt es auf nil, und {whom} hat die '
           + 'Sperre verlassen.',
       },
@@ -109,8 +109,8 @@ export const germanLocks = {
     says: {
       TryWrite: {
         waits: '{who} fragt ab und wartet: Das flag ist gesetzt. {who} ist nicht in der Schlange.',
-        moved: '{who} setzt das flag und ist damit angekündigt: Kein Leser kommt mehr hinein. Die '
-          + 'Zähler sind {acquires} und {releases}, also wartet {who} auf die Leser.',
+        moved: '{who} setzt das flag und ist damit angekündigt: Vor ihm kommt kein Leser mehr '
+          + 'hinein. Die Zähler sind {acquires} und {releases}, also wartet {who} auf die Leser.',
         entered: '{who} setzt das flag, findet die Zähler gleich und schreibt.',
       },
       AwaitReaders: {

@@ -61,7 +61,7 @@ export class Machine {
     return { state, records: bytes.slice(recordsAt, recordsAt + played) };
   }
 
-  // Where a line stops to be a header, or a move: the column, in bytes from 1, and what is expected
+  // Where a line stops being a header, or a move: the column, in bytes from 1, and what is expected
   // there. Null if it does not.
   stop(line, isMove) {
     const bytes = bytesOf(line);

@@ -35,7 +35,7 @@ const T = translated('mcs', {
     },
     CasTail: {
       moved: 'The compare-and-swap fails: the tail is {foundName}, not {whom}. {whom} has '
-        + 'a successor, and cannot see who it is.',
+        + 'a successor, and has not seen yet who it is.',
       left: 'The tail is still {whom}: the compare-and-swap sets it to nil, and {whom} has '
         + 'left.',
     },

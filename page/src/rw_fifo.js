@@ -17,7 +17,7 @@ const T = translated('rwFifo', {
   says: {
     TryWrite: {
       waits: '{who} polls and waits: the flag is set. {who} is not in the queue.',
-      moved: '{who} sets the flag, and so is announced: no reader enters any more. The '
+      moved: '{who} sets the flag, and so is announced: no reader enters before it. The '
         + 'counts are {acquires} and {releases}, so {who} waits for the readers.',
       entered: '{who} sets the flag, finds the counts equal, and writes.',
     },

@@ -68,7 +68,7 @@ const english = {
       + 'and a call or a step, as in “* cas failed”.',
     manyLines: (line) => `Line ${line} is one too many: a sketch has at most 255 lines.`,
     noRoom: (line) => `Line ${line} allows too many moves. Name its thread or its word.`,
-    notAsked: 'There is no such lock. Many threads need wider words.',
+    notAsked: 'There is no such lock, the text is too long, or many threads need wider words.',
   },
   take: {
     title: 'Export', svg: 'This state as a picture (SVG)',
@@ -79,12 +79,13 @@ const english = {
   about: {
     title: 'About this page',
     proved: 'This page runs the machine of lockreplay itself, compiled to WebAssembly. Each of its '
-      + 'functions is proved to do what its contract says: what is accepted, refused and reported '
-      + 'follows from the definitions of the four locks. Pictures and sentences are not proved.',
+      + 'functions is proved to do what its contract says: what is accepted and refused, and what '
+      + 'each move does, follows from the definitions of the four locks. Pictures, sentences and '
+      + 'the text of the report are tested, not proved.',
     documents: {
       PROOF: 'What is proved', LOCKS: 'The locks as code', GUIDE: 'Guide for teachers',
     },
-    source: 'The source is in the folder that this page came with: page/src, crates/lk_page.',
+    source: 'The source is in the repository of lockreplay: page/src, crates/lk_page.',
     licence: 'Licence: Apache-2.0 OR MIT.',
     browsers: 'It needs 64-bit WebAssembly memory: Chromium from 133 or Firefox from 134 on. '
       + 'Another browser shows the lessons as they were played before.',
@@ -169,7 +170,7 @@ const english = {
 
   lessons: {
     title: 'Lessons',
-    hint: 'Each is a schedule with its questions. Arrow keys step through it.',
+    hint: 'Most are schedules with questions. Arrow keys step through them.',
     groups: {
       refused: 'Refused moves', fault: 'Texts that are not schedules',
     },
@@ -239,7 +240,7 @@ const english = {
     },
     check: 'Check',
     score: ({ right, wrong, points }) => `Points: ${points} (${right} right, ${wrong} wrong)`,
-    rule: 'A wrong answer takes a point away.',
+    rule: 'A wrong answer takes a point away, but never below 0.',
     save: 'Save for the teacher', fileName: 'quiz.txt',
     fileHead: '# lockreplay: answers of a quiz. A wrong answer takes a point away.',
     wrong: (given) => `not ${given || 'nothing'}`,

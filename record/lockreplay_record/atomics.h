@@ -1,4 +1,5 @@
-/* LR_ATOMICS: another thread may have its turn before every atomic operation.
+/* LR_ATOMICS: every atomic operation has a scheduling point before it, at which another thread may
+   have its turn.
    SPDX-License-Identifier: Apache-2.0 OR MIT
 
    Without it a turn changes at notes alone, so never inside an operation that is really two. These
@@ -9,8 +10,8 @@
 
    In C++ `lr::atomic<T>` stands for `std::atomic<T>`; without LR_ATOMICS it is that.
 
-   Include this header after all others: what is included after it has points too. With LR_VALUES
-   a point does nothing but make noise, if LR_NOISE is defined. */
+   Include this header after all others: what is included after it has scheduling points too. With
+   LR_VALUES these do nothing but make noise, if LR_NOISE is defined. */
 #ifndef LR_ATOMICS_H
 #define LR_ATOMICS_H
 

@@ -9,7 +9,7 @@
 
 typedef struct lr_driver {
     const char *lock;
-    unsigned threads, bits; /* threads: of a schedule it is its own number */
+    unsigned threads, bits; /* threads: not used with LR_FOLLOW, since each schedule has its own */
     void (*reset)(void);    /* makes the lock new; NULL if that is not needed */
     void (*work)(unsigned thread, lr_log *log); /* between lr_begin and lr_end */
 } lr_driver;

@@ -3,8 +3,8 @@
 
    If one thread runs at a time, the real wait is left out: a thread that waits for a condition
    gets no turn until another one signals that condition or broadcasts it. So a signal that is
-   missing makes the run hang. A turn may change before the mutex is taken and after it is
-   given back, never between: nobody ever finds the mutex taken. */
+   missing makes the run hang. A turn may change before the mutex is taken, after it is given back,
+   and in LR_WAIT, which gives it back too: nobody ever finds the mutex taken. */
 #ifndef LR_MONITOR_H
 #define LR_MONITOR_H
 

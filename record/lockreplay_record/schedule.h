@@ -7,7 +7,7 @@
    follows each `*.schedule` of the first folder, in one process. The trace of each is saved in the
    second folder; with LR_CHECK each is checked in the process, and only those are saved that are
    refused. A line on standard error says why a schedule was not followed. The answer is an errno,
-   or 0. */
+   EINVAL for a file that is no schedule of this lock, or 0. */
 #ifndef LR_SCHEDULE_H
 #define LR_SCHEDULE_H
 

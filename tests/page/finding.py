@@ -117,7 +117,7 @@ def what_cannot_be_asked(browser):
     said(browser, "Line 2 is not a line of a sketch. A line is a thread’s number or *, and a call "
          "or a step, as in “* cas failed”.")
     ask(browser, threads="4", bits="2", sketch="0 add")
-    said(browser, "There is no such lock. Many threads need wider words.")
+    said(browser, "There is no such lock, the text is too long, or many threads need wider words.")
     shown = browser.run(SHOWN)
     assert shown["title"] and shown["lines"][0].startswith("lock ticket"), shown
 

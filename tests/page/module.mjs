@@ -8,7 +8,7 @@
 // allowed calls, against those that the machine writes; who waits, against what is answered to the
 // same moves with the due step after them, and so each thread's allowed calls and due step at the
 // end. Then where words and names of an MCS lock are, from which to which number a header goes,
-// where a line stops to be a header or a move, and what `play` answers to a text that is too long,
+// where a line stops being a header or a move, and what `play` answers to a text that is too long,
 // to a state that is too short, and where there is room for one record of two.
 
 import assert from 'node:assert/strict';

@@ -1,4 +1,4 @@
--- Definitions: where a line stops to be a header or a move, and what could be there, as numbers.
+-- Definitions: where a line stops being a header or a move, and what could be there, as numbers.
 -- This project's own.
 use Rattle.std.specs.Prelude.{ℕ, ◌==◌, List, Option, None, Some, if◌then◌else◌}
 use Rattle.lk_replay.specs.Lines.{words_of}

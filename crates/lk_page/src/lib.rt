@@ -111,7 +111,7 @@ pub extern "C" fn kind_text(lock: u64, kind: u64, text: &mut [u8]) -> u64
     put_kind(lock, kind, text)
 }
 
-/// The column, in bytes from 1, at which a line stops to be a header if `is_move` is 0, and else a
+/// The column, in bytes from 1, at which a line stops being a header if `is_move` is 0, and else a
 /// move: where the first word begins that may not be there, or the place at which one is missing.
 /// It returns 0 if there is no such place.
 #[unsafe(no_mangle)]

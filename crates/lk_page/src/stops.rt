@@ -1,4 +1,4 @@
-//! Where a line stops to be a header or a move, and what could be there, as numbers.
+//! Where a line stops being a header or a move, and what could be there, as numbers.
 
 ghost use Rattle.std.specs.Prelude.{◌≡◌};
 ghost use Rattle.lk_page.specs.Stops.{column_of, expected_at, stop_of};

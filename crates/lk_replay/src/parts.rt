@@ -1,5 +1,5 @@
 //! The parts of a schedule text, for texts that are read line by line: its lines, its words, its
-//! header and its names, and where a line stops to be a header or a move. And the statuses of the
+//! header and its names, and where a line stops being a header or a move. And the statuses of the
 //! programs that read such texts.
 
 pub use crate::header::{Header, header_of};

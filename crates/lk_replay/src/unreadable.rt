@@ -1,4 +1,4 @@
-//! Where a line of a schedule text stops to be one, and what could be there: what a message to
+//! Where a line of a schedule text stops being one, and what could be there: what a message to
 //! its writer needs. Whether a line is a header or a move, `header_of` and `move_of` say; this goes
 //! along with them word by word.
 
@@ -99,7 +99,7 @@ fn unreadable_from(line: &[u8], first: Expected) -> Option<Unreadable>
     })
 }
 
-/// Where a line stops to be a header. Of a header whose words are too narrow for its threads there
+/// Where a line stops being a header. Of a header whose words are too narrow for its threads there
 /// is no such place.
 pub fn unreadable_header(line: &[u8]) -> Option<Unreadable>
     ensures { result ≡ unreadable_from 1 Lock (words_of line.now) }
@@ -107,7 +107,7 @@ pub fn unreadable_header(line: &[u8]) -> Option<Unreadable>
     unreadable_from(line, Expected::Lock)
 }
 
-/// Where a line stops to be a move.
+/// Where a line stops being a move.
 pub fn unreadable_move(line: &[u8]) -> Option<Unreadable>
     ensures place { result ≡ unreadable_from 1 Thread (words_of line.now) }
     ensures none { IsNone result ↔ IsSome (move_of line.now) }

@@ -1,4 +1,4 @@
-//! Where a line stops to be one of a trace or of a sketch, and what could be there: what a message
+//! Where a line stops being one of a trace or of a sketch, and what could be there: what a message
 //! to its writer needs.
 
 ghost use Rattle.std.specs.Prelude.{◌≡◌, ℕ, ◌≤◌, ◌↔◌, IsNone, IsSome, IsTrue, length};
@@ -36,7 +36,7 @@ fn unreadable_from(line: &[u8], first: Due) -> Option<(usize, Due)>
     Some((column + rest.len() + 1, next))
 }
 
-/// The column, from 1, at which a line stops to be a move of a trace, and what could be there. A
+/// The column, from 1, at which a line stops being a move of a trace, and what could be there. A
 /// move may have any length here.
 pub fn unreadable_line(line: &[u8]) -> Option<(usize, Due)>
     ensures place { result ≡ unreadable_from 1 (OfSchedule Thread) (words_of line.now) }
@@ -45,7 +45,7 @@ pub fn unreadable_line(line: &[u8]) -> Option<(usize, Due)>
     unreadable_from(line, Due::OfSchedule(Expected::Thread))
 }
 
-/// The column, from 1, at which a line stops to be one of a sketch, and what could be there.
+/// The column, from 1, at which a line stops being one of a sketch, and what could be there.
 pub fn unreadable_sketch_line(line: &[u8]) -> Option<(usize, Due)>
     ensures place { result ≡ unreadable_from 1 AnyThread (words_of line.now) }
     ensures none { length line.now ≤ 96 → (thread : ℕ) → (word : WordName)

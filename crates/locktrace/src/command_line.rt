@@ -90,7 +90,7 @@ fn check_command<'a>(alloc: Global) -> Result<Command<'a>, AllocError> {
         .long("summary")
         .help(
             "Counts threads, moves, waits, failed compare-and-swaps, polls of a late link, the \
-             longest queue and rounds",
+             longest queue, and wrap-arounds of the counter",
         )
         .action(ArgAction::SetTrue);
     let workers = Arg::new(alloc, "jobs")

@@ -30,7 +30,7 @@ fn nearest(
     Ok(best.map(|(_, known)| known))
 }
 
-/// The column, from 1, at which a line stops to be a header, and what could be there.
+/// The column, from 1, at which a line stops being a header, and what could be there.
 pub fn wrong_in_header(line: &[u8]) -> Option<(usize, Due)> {
     let place = unreadable_header(line)?;
     Some((place.column, Due::OfSchedule(place.expected)))
