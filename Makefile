@@ -129,20 +129,26 @@ test-page: $(MODULE) $(PROGRAM) tools
 test-library: $(LIBRARY) tools
 	tests/trace_library.py $(LIBRARY)
 
-.PHONY: test-traces
+# Side by side, those that take longest first. Each has a folder of its own.
+TRACED := recording recording_rust conform order_search recording_modes locktrace searches \
+	search_sketches search_counts trace_values
+.PHONY: test-traces $(addprefix traced-,$(TRACED))
 
 ## test-traces | tries locktrace on texts, random traces and logs, and recorded locks
 test-traces: $(TRACER) $(PROGRAM) $(LIBRARY) tools
-	tests/locktrace.py $(TRACER)
-	tests/searches.py $(TRACER) $(PROGRAM)
-	tests/search_counts.py $(TRACER)
-	tests/search_sketches.py $(TRACER)
-	tests/trace_values.py $(TRACER)
-	tests/order_search.py $(TRACER)
-	tests/recording.py $(TRACER) $(PROGRAM)
+	$(MAKE) --no-print-directory --jobs=$(shell nproc) --output-sync=target \
+	    $(addprefix traced-,$(TRACED))
+
+traced-recording traced-searches: traced-%:
+	tests/$*.py $(TRACER) $(PROGRAM)
+traced-recording_rust:
 	tests/recording_rust.py $(TRACER) $(LIBRARY)
+traced-recording_modes:
 	tests/recording_modes.py $(LIBRARY)
+traced-conform:
 	tests/conform.py $(LIBRARY) $(TRACER)
+$(addprefix traced-,locktrace search_counts search_sketches trace_values order_search): traced-%:
+	tests/$*.py $(TRACER)
 
 .PHONY: test-planted conform
 
