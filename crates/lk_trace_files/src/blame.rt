@@ -5,45 +5,12 @@ use crate::notes::Notes;
 use crate::sentences::{Awaited, polled_for};
 use crate::texts::{Called, Lock, Shown};
 use crate::trail::{Step, Trail};
+use crate::waiting::next_word;
 use lk_locks::{Move, Op, Outcome, Refusal};
 use lk_replay::parts::move_text;
 use lk_trace::{Difference, TraceLine, name_at};
 use std::alloc::AllocError;
 use std::fmt;
-
-// A move before the one that is refused.
-#[derive(Clone, Copy)]
-struct Before(Step);
-
-impl fmt::Display for Before {
-    fn fmt<W: fmt::Write>(&self, f: &mut fmt::Formatter<W>) -> fmt::Result {
-        let line = Shown(&self.0.line);
-        write!(f, "before it: {line}")
-    }
-}
-
-// A write: whose it was, what it wrote, and to which word.
-#[derive(Clone, Copy)]
-struct Wrote<'a> {
-    lock: &'a Lock,
-    line: TraceLine,
-    place: usize,
-    value: u64,
-}
-
-impl fmt::Display for Wrote<'_> {
-    fn fmt<W: fmt::Write>(&self, f: &mut fmt::Formatter<W>) -> fmt::Result {
-        let (called, value) = (Called(self.line.thread, &[]), self.value);
-        let step = move_text(self.line.action);
-        match name_at(self.lock.kind(), self.place) {
-            Some(word) => write!(
-                f,
-                "{word} was last written here: {called}'s {step} left {value}"
-            ),
-            None => Ok(()),
-        }
-    }
-}
 
 // What the last poll of a thread found, and what it polls for.
 #[derive(Clone, Copy)]
@@ -100,7 +67,8 @@ pub fn put_blame(
     let steps = trail.steps(line.thread);
     for step in steps.iter().rev() {
         if let Some(step) = step {
-            notes.put(step.number, Before(*step))?;
+            let line = Shown(&step.line);
+            notes.put(step.number, format_args!("before it: {line}"))?;
         }
     }
     match difference {
@@ -131,25 +99,19 @@ fn put_poll(
 
 // Says who wrote the word last that the thread's next step is on.
 fn put_write(notes: &mut Notes, lock: &Lock, trail: &Trail, thread: u8) -> Result<(), AllocError> {
-    let machine = lock.machine();
-    if thread >= machine.threads() {
-        return Ok(());
-    }
-    let Some(operation) = machine.operation(thread) else {
+    let Some(step) = next_word(lock, thread).and_then(|place| trail.written(place)) else {
         return Ok(());
     };
-    let place = operation.word();
-    let Some(written) = trail.written(place) else {
+    let Some(effect) = step.made.effect else {
         return Ok(());
     };
-    let (line, value) = (written.line, written.value);
+    let Some(word) = name_at(lock.kind(), effect.word) else {
+        return Ok(());
+    };
+    let (called, action) = (Called(step.line.thread, &[]), move_text(step.line.action));
+    let left = effect.left;
     notes.put(
-        written.number,
-        Wrote {
-            lock,
-            line,
-            place,
-            value,
-        },
+        step.number,
+        format_args!("{word} was last written here: {called}'s {action} left {left}"),
     )
 }

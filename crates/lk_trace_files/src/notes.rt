@@ -2,7 +2,6 @@
 
 use std::alloc::{AllocError, Global};
 use std::fmt;
-use std::fmt::Write;
 
 /// A text about a line, from 1; 0 if it is about no line of its own.
 #[derive(Debug, Drop)]
@@ -37,8 +36,7 @@ impl Notes {
         said: T,
     ) -> Result<(), AllocError> {
         let file = String::from_str(self.alloc, file)?;
-        let mut text = String::new(self.alloc);
-        write!(text, "{said}")?;
+        let text = format!(in self.alloc; "{said}")?;
         self.notes.push(Note { file, line, text })?;
         Ok(())
     }

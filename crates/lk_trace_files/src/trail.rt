@@ -9,23 +9,12 @@ const MOST_THREADS: usize = 64;
 
 const MOST_WORDS: usize = 129;
 
-/// How many moves of each thread are remembered.
-pub const MOST_STEPS: usize = 3;
-
 /// A move, and the line that it is in, from 1.
 #[derive(Clone, Copy)]
 pub struct Step {
     pub number: u64,
     pub line: TraceLine,
     pub made: Made,
-}
-
-/// A value that was written to a word.
-#[derive(Clone, Copy)]
-pub struct Written {
-    pub number: u64,
-    pub line: TraceLine,
-    pub value: u64,
 }
 
 /// The last moves of the threads.
@@ -35,26 +24,18 @@ pub struct Trail {
     steps: [[Option<Step>; 3]; 64],
     // the line of the first failed poll in a row; 0 if the last move was none
     since: [u64; 64],
-    writes: [Option<Written>; 129],
+    // the last write to each word
+    writes: [Option<Step>; 129],
 }
 
-// What a move writes, if it is one operation on one word.
-fn write_of(number: u64, line: TraceLine, made: Made) -> Option<(usize, Written)> {
+// The place of the word that a move writes, if it is one operation on one word.
+fn write_of(action: Move, made: Made) -> Option<usize> {
     let effect = made.effect?;
-    match line.action {
-        Move::Step(StepKind::Read) | Move::Call(_) => return None,
-        Move::Step(StepKind::Cas) if effect.found == effect.left => return None,
-        _ => {}
+    match action {
+        Move::Step(StepKind::Read) | Move::Call(_) => None,
+        Move::Step(StepKind::Cas) if effect.found == effect.left => None,
+        _ => Some(effect.word),
     }
-    let value = effect.left;
-    Some((
-        effect.word,
-        Written {
-            number,
-            line,
-            value,
-        },
-    ))
 }
 
 impl Trail {
@@ -74,40 +55,33 @@ impl Trail {
             return;
         }
         let (steps, since, writes) = (&mut self.steps, &mut self.since, &mut self.writes);
+        let step = Some(Step { number, line, made });
         let [last, before, _] = steps[t];
-        steps[t] = [Some(Step { number, line, made }), last, before];
+        steps[t] = [step, last, before];
         since[t] = match (made.outcome, since[t]) {
             (Outcome::Waits, 0) => number,
             (Outcome::Waits, first) => first,
             _ => 0,
         };
-        match write_of(number, line, made) {
-            Some((word, written)) if word < MOST_WORDS => writes[word] = Some(written),
+        match write_of(line.action, made) {
+            Some(place) if place < MOST_WORDS => writes[place] = step,
             _ => {}
         }
     }
 
     /// The thread's last moves, the last one first.
     pub fn steps(&self, thread: u8) -> [Option<Step>; 3] {
-        match self.steps.get(thread as usize) {
-            Some(steps) => *steps,
-            None => [None; 3],
-        }
+        let steps = self.steps.get(thread as usize);
+        steps.copied().unwrap_or([None; 3])
     }
 
     /// The line since which each move of the thread was a failed poll.
     pub fn since(&self, thread: u8) -> Option<u64> {
-        match self.since.get(thread as usize) {
-            Some(0) | None => None,
-            Some(number) => Some(*number),
-        }
+        self.since.get(thread as usize).copied().filter(|n| *n > 0)
     }
 
     /// The last write to the word at this place.
-    pub fn written(&self, place: usize) -> Option<Written> {
-        match self.writes.get(place) {
-            Some(written) => *written,
-            None => None,
-        }
+    pub fn written(&self, place: usize) -> Option<Step> {
+        *self.writes.get(place)?
     }
 }

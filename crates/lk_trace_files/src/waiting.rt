@@ -9,6 +9,15 @@ use lk_trace::name_at;
 use std::alloc::AllocError;
 use std::fmt;
 
+/// The place of the word that a thread's next step is on, if it is on one.
+pub fn next_word(lock: &Lock, thread: u8) -> Option<usize> {
+    let machine = lock.machine();
+    if thread >= machine.threads() {
+        return None;
+    }
+    Some(machine.operation(thread)?.word())
+}
+
 /// What is said of a run that hangs.
 pub const HANGS: &str = "hangs: each thread that has not ended waits";
 
@@ -47,18 +56,14 @@ impl Waiting<'_> {
 
     // Writes what the word that is polled is waited for to be, and what it is.
     fn put_word<W: fmt::Write>(&self, f: &mut fmt::Formatter<W>, due: Awaited) -> fmt::Result {
-        let machine = self.lock.machine();
-        if self.thread >= machine.threads() {
-            return Ok(());
-        }
-        let Some(operation) = machine.operation(self.thread) else {
+        let Some(place) = next_word(self.lock, self.thread) else {
             return Ok(());
         };
-        let place = operation.word();
-        let value = machine.words().as_slice().get(place).copied().unwrap_or(0);
         let Some(word) = name_at(self.lock.kind(), place) else {
             return Ok(());
         };
+        let words = self.lock.machine().words().as_slice();
+        let value = words.get(place).copied().unwrap_or(0);
         match due {
             Awaited::Ticket(due) => {
                 write!(f, "{word} to be {due}, its ticket; {word} is {value}")
@@ -87,22 +92,6 @@ impl fmt::Display for Waiting<'_> {
     }
 }
 
-// What is said of a thread that hangs.
-#[derive(Clone, Copy)]
-struct Hung<'a>(Waiting<'a>);
-
-impl fmt::Display for Hung<'_> {
-    fn fmt<W: fmt::Write>(&self, f: &mut fmt::Formatter<W>) -> fmt::Result {
-        let waiting = self.0;
-        let called = Called(waiting.thread, &[]);
-        write!(f, "{called} waits from here on for {waiting}")?;
-        if waiting.may_go_on() {
-            f.write_str(", so it did not look again")?;
-        }
-        Ok(())
-    }
-}
-
 /// Says of each thread that hangs what it waits for, and since which line of its file. If a thread
 /// has no file of its own, it is the one that the message is about.
 pub fn put_waits(
@@ -115,7 +104,14 @@ pub fn put_waits(
         if course.fate(thread) == Fate::Hangs {
             let file = files.get(thread as usize).copied().unwrap_or("");
             let since = course.trail().since(thread).unwrap_or(0);
-            notes.put_in(file, since, Hung(Waiting { lock, thread }))?;
+            let (called, waiting) = (Called(thread, &[]), Waiting { lock, thread });
+            let missed = if waiting.may_go_on() {
+                ", so it did not look again"
+            } else {
+                ""
+            };
+            let said = format_args!("{called} waits from here on for {waiting}{missed}");
+            notes.put_in(file, since, said)?;
         }
     }
     Ok(())
