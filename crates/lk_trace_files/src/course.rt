@@ -2,7 +2,7 @@
 //! text says of its end, in comments that a recorder writes after the last move.
 
 ghost use Rattle.std.specs.Prelude.{◌≡◌, List, Some};
-ghost use Rattle.lk_trace_files.specs.Fates.{after_comment, after_line, fate_after, hangs};
+ghost use Rattle.lk_trace_files.specs.Fates.{after_comment, after_line, hangs};
 ghost use Rattle.lk_trace_files.specs.Fates.{new_fates, open_in, said_before, said_in, said_of};
 ghost use Rattle.lk_trace_files.specs.declared.course.Fate.{Fate as OfThread};
 
@@ -68,16 +68,6 @@ pub fn said_of(line: &[u8]) -> Option<(u8, bool)>
     said_in(line.strip_prefix(b"# thread ".as_slice())?)
 }
 
-// How far a thread is after a move with this outcome.
-fn fate_after(outcome: Outcome) -> Fate
-    ensures { result ≡ fate_after outcome }
-{
-    match outcome {
-        Outcome::Waits => Fate::Polled,
-        _ => Fate::Moved,
-    }
-}
-
 /// How far each thread of a run has come. A contract sees a list with a place for each `u8`.
 #[derive(Drop)]
 pub struct Course {
@@ -115,25 +105,24 @@ impl Course {
         };
     }
 
-    // Reads a comment.
-    fn take_comment(&mut self, line: &[u8])
-        ensures { self.new ≡ after_comment self.old (said_of line.now) }
-    {
-        if let Some((thread, has_ended)) = said_of(line) {
-            self.end(thread, has_ended);
-        }
-    }
-
     /// The line of this number, from 1, was read, and came to this.
     pub fn take(&mut self, number: u64, line: &[u8], event: Event)
         ensures { self.new ≡ after_line self.old event line.now }
     {
         match event {
-            Event::Skipped => self.take_comment(line),
+            Event::Skipped => {
+                if let Some((thread, has_ended)) = said_of(line) {
+                    self.end(thread, has_ended);
+                }
+            }
             Event::Made(line, made) => {
                 self.trail.take(number, line, made);
+                let fate = match made.outcome {
+                    Outcome::Waits => Fate::Polled,
+                    _ => Fate::Moved,
+                };
                 let fates = &mut self.fates;
-                fates[line.thread as usize] = fate_after(made.outcome);
+                fates[line.thread as usize] = fate;
             }
             _ => {}
         }
