@@ -12,21 +12,21 @@ mod search;
 mod telling;
 mod writing;
 
-use crate::check::Ending;
 use crate::course::Course;
 use crate::facts::Facts;
 use crate::failures::Failure;
 use crate::formats::Format;
+use crate::summary::Count;
 pub use bad_log::BadLog;
-use lk_order::{Found, Order};
-use progress::{Progress, Stage};
+use lk_order::Order;
+use progress::Progress;
 use reading::take_logs;
 use report::OrderReport;
 pub use search::{Search, Sought, search_logs};
-use std::alloc::{AllocError, Global};
+use std::alloc::Global;
+use std::fs;
 use std::io::{Eprint, Write};
 use std::rt::Files;
-use std::{fmt, fs};
 use telling::{put_cut, put_hang, put_stuck};
 use writing::{write_schedules, write_trace};
 
@@ -44,19 +44,8 @@ pub struct OrderJob {
 // The folder that stands for the output.
 const OUTPUT: &str = "-";
 
-// How many moves are in no schedule.
-#[derive(Clone, Copy)]
-struct LeftOut(usize);
-
-impl fmt::Display for LeftOut {
-    fn fmt<W: fmt::Write>(&self, f: &mut fmt::Formatter<W>) -> fmt::Result {
-        match self.0 {
-            1 => f.write_str("1 move is in no schedule. ")?,
-            count => write!(f, "{count} moves are in no schedule. ")?,
-        }
-        f.write_str("A schedule has at most 65536 moves, and after those somebody was in a call")
-    }
-}
+// Why moves are in no schedule.
+const TOO_LONG: &str = "A schedule has at most 65536 moves, and after those somebody was in a call";
 
 // Writes the trace and the schedules of an order into a folder.
 fn write_found<R: Files>(
@@ -73,47 +62,10 @@ fn write_found<R: Files>(
     write_trace(alloc, order, hung, &mut file)?;
     let left_out = write_schedules(rt, alloc, order, folder)?;
     if left_out > 0 {
-        report.warnings.put(0, LeftOut(left_out))?;
+        let moves = Count(left_out as u64, "move is", "moves are");
+        let said = format_args!("{moves} in no schedule. {TOO_LONG}");
+        report.warnings.put(0, said)?;
     }
-    Ok(())
-}
-
-// Says how an order ends.
-fn put_ending(
-    report: &mut OrderReport,
-    found: &Found,
-    names: &[&str],
-    open: &[bool],
-    hung: Option<&Course>,
-) -> Result<(), AllocError> {
-    let order = &found.order;
-    report.placed = order.len();
-    match (found.ending, hung) {
-        (lk_order::Ending::Stuck(stuck), _) => put_stuck(report, order, names, stuck),
-        (_, Some(course)) => put_hang(report, order, names, course),
-        (lk_order::Ending::Whole, None) => Ok(()),
-        (lk_order::Ending::Cut, None) => put_cut(report, order, names, open),
-    }
-}
-
-// Writes what there is to say. The output is the trace's alone if it is what was asked for.
-fn write_report<O: Write>(
-    alloc: Global,
-    job: &OrderJob,
-    report: &OrderReport,
-    ending: Ending,
-    output: &mut O,
-    errors: &mut String,
-) -> Result<(), Failure> {
-    let folder = job.folder.as_str();
-    let mut text = String::new(alloc);
-    report.put(ending, job.format, folder, &mut text, errors)?;
-    if folder == OUTPUT {
-        errors.push_str(&text)?;
-        return Ok(());
-    }
-    output.write_all(text.as_bytes())?;
-    output.flush()?;
     Ok(())
 }
 
@@ -135,22 +87,25 @@ fn order_into<R: Files + Eprint, O: Write>(
             return Ok(Sought::Bad(bad));
         }
     };
-    progress.begin(Stage::Ordering, &taken.logs);
-    let Ok(searched) = search_logs(alloc, taken.logs, &taken.open) else {
-        return Err(Failure::Memory(AllocError));
-    };
-    let Some(search) = searched else {
+    progress.begin("ordering", &taken.logs);
+    let Some(search) = search_logs(alloc, taken.logs, &taken.open)? else {
         report.messages.put(0, "the logs are not of one run")?;
         return Ok(Sought::Bad(BadLog::OtherLock));
     };
-    let (order, hung) = (&search.found.order, search.hung.as_ref());
-    progress.begin(Stage::Writing, order.logs());
+    let (order, hung, names) = (&search.found.order, search.hung.as_ref(), &taken.names);
+    progress.begin("writing", order.logs());
     if job.folder.as_str() == OUTPUT {
         write_trace(alloc, order, hung, output)?;
     } else {
         write_found(rt, alloc, order, hung, &job.folder, report)?;
     }
-    put_ending(report, &search.found, &taken.names, &taken.open, hung)?;
+    report.placed = order.len();
+    match (search.found.ending, hung) {
+        (lk_order::Ending::Stuck(stuck), _) => put_stuck(report, order, names, stuck)?,
+        (_, Some(course)) => put_hang(report, order, names, course)?,
+        (lk_order::Ending::Cut, None) => put_cut(report, order, names, &taken.open)?,
+        (lk_order::Ending::Whole, None) => {}
+    }
     Ok(Sought::Order(search))
 }
 
@@ -176,8 +131,17 @@ pub fn order_logs<R: Files + Eprint, O: Write>(
     let sought = order_into(rt, alloc, job, &mut progress, &mut report, output);
     progress.end();
     let sought = sought?;
-    if !job.quiet {
-        write_report(alloc, job, &report, sought.ending(), output, errors)?;
+    if job.quiet {
+        return Ok(sought);
+    }
+    let folder = job.folder.as_str();
+    let mut text = String::new(alloc);
+    report.put(sought.ending(), job.format, folder, &mut text, errors)?;
+    if folder == OUTPUT {
+        errors.push_str(&text)?;
+    } else {
+        output.write_all(text.as_bytes())?;
+        output.flush()?;
     }
     Ok(sought)
 }

@@ -32,9 +32,9 @@ fn counter_of(lock: &Lock) -> Option<u64> {
     }
 }
 
-// How many there are, in the form of one or of several.
+/// How many there are, in the form of one or of several.
 #[derive(Clone, Copy)]
-struct Count(u64, &'static str, &'static str);
+pub struct Count(pub u64, pub &'static str, pub &'static str);
 
 impl fmt::Display for Count {
     fn fmt<W: fmt::Write>(&self, f: &mut fmt::Formatter<W>) -> fmt::Result {
@@ -91,16 +91,9 @@ impl Summary {
 
     /// Writes the counts as further fields of a JSON object.
     pub fn put_fields(&self, text: &mut String) -> Result<(), AllocError> {
-        let threads = self.seen.count_ones();
-        let Summary {
-            moves,
-            waits,
-            failed,
-            late,
-            longest,
-            rounds,
-            ..
-        } = *self;
+        let (threads, moves, waits) = (self.seen.count_ones(), self.moves, self.waits);
+        let (failed, late) = (self.failed, self.late);
+        let (longest, rounds) = (self.longest, self.rounds);
         write!(
             text,
             ",\"threads\":{threads},\"moves\":{moves},\"waits\":{waits}"

@@ -67,15 +67,3 @@ fn fault_code(fault: LogFault) -> &'static str {
         LogFault::OutOfMemory => "OutOfMemory",
     }
 }
-
-/// Of two bad logs that with the greater status, and of the same status the first.
-pub fn worse(first: Option<BadLog>, second: Option<BadLog>) -> Option<BadLog> {
-    let (Some(a), Some(b)) = (first, second) else {
-        return first.or(second);
-    };
-    if b.ending().status() > a.ending().status() {
-        second
-    } else {
-        first
-    }
-}

@@ -61,11 +61,7 @@ pub fn hung_course(order: &Order, unended: &[bool]) -> Option<Course>
 // Whether a thread that has not ended would find what it polls for.
 fn may_go_on(order: &Order, course: &Course) -> bool {
     let lock = order.checker().lock();
-    for thread in 0..order.threads() {
-        let waiting = Waiting { lock, thread };
-        if course.fate(thread) == Fate::Hangs && waiting.may_go_on() {
-            return true;
-        }
-    }
-    false
+    (0..order.threads()).any(|thread| {
+        course.fate(thread) == Fate::Hangs && Waiting { lock, thread }.may_go_on()
+    })
 }

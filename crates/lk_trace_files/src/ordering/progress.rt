@@ -2,27 +2,10 @@
 //! seconds.
 
 use lk_order::Log;
-use std::fmt;
 use std::io::Eprint;
 
 // From so many moves on something is shown.
 const MANY: usize = 100_000;
-
-/// What is done with the moves of a run.
-#[derive(Clone, Copy)]
-pub enum Stage {
-    Ordering,
-    Writing,
-}
-
-impl fmt::Display for Stage {
-    fn fmt<W: fmt::Write>(&self, f: &mut fmt::Formatter<W>) -> fmt::Result {
-        f.write_str(match self {
-            Stage::Ordering => "ordering",
-            Stage::Writing => "writing",
-        })
-    }
-}
 
 /// A line of a terminal, if standard error is one.
 #[derive(Drop)]
@@ -43,10 +26,12 @@ impl<'a, R: Eprint> Progress<'a, R> {
     }
 
     /// Says what is done with these logs, if they are long.
-    pub fn begin(&mut self, stage: Stage, logs: &[Log]) {
-        let moves = moves_in(logs);
+    pub fn begin(&mut self, done: &str, logs: &[Log]) {
+        let moves = logs
+            .iter()
+            .fold(0usize, |sum, log| sum.saturating_add(log.moves().len()));
         if self.is_terminal && moves >= MANY {
-            let _ = eprint!(self.rt; "\r\x1b[K{stage} {moves} moves");
+            let _ = eprint!(self.rt; "\r\x1b[K{done} {moves} moves");
             self.shown = true;
         }
     }
@@ -57,10 +42,4 @@ impl<'a, R: Eprint> Progress<'a, R> {
             let _ = eprint!(self.rt; "\r\x1b[K");
         }
     }
-}
-
-// How many moves logs have.
-fn moves_in(logs: &[Log]) -> usize {
-    logs.iter()
-        .fold(0usize, |sum, log| sum.saturating_add(log.moves().len()))
 }

@@ -1,14 +1,14 @@
 //! The logs of a run, read from their files.
 
-use super::bad_log::{BadLog, worse};
+use super::bad_log::BadLog;
 use super::report::OrderReport;
 use crate::course::said_of;
 use crate::lines::{Line, Lines};
 use lk_order::{Log, LogFault, LogReader, MOST_THREADS, Shelf, Unfit};
 use std::alloc::{AllocError, Global};
-use std::io::{Error, ErrorKind, Read};
+use std::io::{Error, ErrorKind};
 use std::rt::Files;
-use std::{fmt, fs, str};
+use std::{fs, str};
 use thiserror::Error;
 
 // What is said of a log whose run has another number.
@@ -19,7 +19,7 @@ const OTHER_RUN: &str = "of another run than the first log's";
 #[derive(Drop)]
 pub struct Taken<'a> {
     pub logs: Vec<Log>,
-    pub names: Vec<&'a str>,
+    pub names: [&'a str; 64],
     pub open: [bool; 64],
 }
 
@@ -32,14 +32,6 @@ enum Unread {
     Fault(u64, LogFault),
     #[error("out of memory")]
     Memory(#[from(alloc)] AllocError),
-}
-
-// A fault in a line of this number.
-fn fault_at(number: u64, fault: LogFault) -> Unread {
-    match fault {
-        LogFault::OutOfMemory => Unread::Memory(AllocError),
-        _ => Unread::Fault(number, fault),
-    }
 }
 
 // A log, with the number of its run, if it has that, and whether its thread has not ended.
@@ -57,20 +49,20 @@ fn run_of(line: &[u8]) -> Option<u64> {
     u64::from_str_radix(text, 16).ok()
 }
 
-// Reads a log to its end.
-fn read_log<R: Read + Drop>(alloc: Global, input: R) -> Result<LogRead, Unread> {
-    let mut lines = Lines::new(alloc, input)?;
+// Reads the log in the file of this name.
+fn read_log<R: Files>(rt: &R, alloc: Global, name: &str) -> Result<LogRead, Unread> {
+    let mut lines = Lines::new(alloc, fs::open(rt, name)?)?;
     let mut line = Line::new();
     let mut reader = LogReader::new(alloc);
     let (mut run, mut last) = (None, None);
     for number in 1..u64::MAX {
         if !lines.next_line(&mut line)? {
-            let log = reader.log().map_err(|fault| fault_at(number, fault))?;
+            let log = reader.log().map_err(|fault| Unread::Fault(number, fault))?;
             let is_open = last == Some((log.thread(), false)) && log.dropped().is_none();
             return Ok(LogRead { log, run, is_open });
         }
         let read = reader.line(line.bytes(), line.is_whole());
-        read.map_err(|fault| fault_at(number, fault))?;
+        read.map_err(|fault| Unread::Fault(number, fault))?;
         if number == 1 {
             run = run_of(line.bytes());
         }
@@ -79,79 +71,17 @@ fn read_log<R: Read + Drop>(alloc: Global, input: R) -> Result<LogRead, Unread> 
     Err(Unread::Input(Error::from(ErrorKind::FileTooLarge)))
 }
 
-fn log_in<R: Files>(rt: &R, alloc: Global, name: &str) -> Result<LogRead, Unread> {
-    read_log(alloc, fs::open(rt, name)?)
-}
-
 // The logs that were taken, the names of their files by thread, and who has not ended.
 #[derive(Drop)]
 struct Run<'a> {
     shelf: Shelf,
     // of the first log that has one
     number: Option<u64>,
-    names: Vec<&'a str>,
+    names: [&'a str; 64],
     open: [bool; 64],
 }
 
-// A second log of a thread.
-#[derive(Clone, Copy)]
-struct Second<'a>(u8, &'a str);
-
-impl fmt::Display for Second<'_> {
-    fn fmt<W: fmt::Write>(&self, f: &mut fmt::Formatter<W>) -> fmt::Result {
-        let Second(thread, other) = *self;
-        write!(f, "a second log of thread {thread}, beside {other}")
-    }
-}
-
-// No log of a thread.
-#[derive(Clone, Copy)]
-struct NoLog(u8);
-
-impl fmt::Display for NoLog {
-    fn fmt<W: fmt::Write>(&self, f: &mut fmt::Formatter<W>) -> fmt::Result {
-        let thread = self.0;
-        write!(f, "no log of thread {thread}")
-    }
-}
-
 impl<'a> Run<'a> {
-    fn new(alloc: Global) -> Result<Run<'a>, AllocError> {
-        let mut names = Vec::new(alloc);
-        for _ in 0..MOST_THREADS {
-            names.push("")?;
-        }
-        Ok(Run {
-            shelf: Shelf::new(alloc)?,
-            number: None,
-            names,
-            open: [false; 64],
-        })
-    }
-
-    // Whether a log with such a number is of another run than those before it.
-    fn is_other(&mut self, number: Option<u64>) -> bool {
-        match (self.number, number) {
-            (Some(first), Some(number)) => first != number,
-            (None, Some(_)) => {
-                self.number = number;
-                false
-            }
-            (_, None) => false,
-        }
-    }
-
-    // Keeps the name of a thread's log, and whether the thread has not ended.
-    fn keep(&mut self, thread: u8, is_open: bool, name: &'a str) {
-        let (names, open) = (&mut self.names, &mut self.open);
-        if let Some(place) = names.get_mut(thread as usize) {
-            *place = name;
-        }
-        if let Some(place) = open.get_mut(thread as usize) {
-            *place = is_open;
-        }
-    }
-
     // Takes a log. If it is none of the run, that is said.
     fn put(
         &mut self,
@@ -161,11 +91,13 @@ impl<'a> Run<'a> {
     ) -> Result<Option<BadLog>, AllocError> {
         let LogRead { log, run, is_open } = read;
         let thread = log.thread();
-        let other = self.names.get(thread as usize).copied().unwrap_or("");
+        let place = thread as usize;
         match self.shelf.put(log) {
             Ok(()) => {}
             Err(Unfit::SecondLog) => {
-                report.messages.put_in(name, 0, Second(thread, other))?;
+                let other = self.names.get(place).copied().unwrap_or("");
+                let said = format_args!("a second log of thread {thread}, beside {other}");
+                report.messages.put_in(name, 0, said)?;
                 return Ok(Some(BadLog::SecondLog(thread)));
             }
             Err(unfit) => {
@@ -173,8 +105,12 @@ impl<'a> Run<'a> {
                 return Ok(Some(BadLog::OtherLock));
             }
         }
-        self.keep(thread, is_open, name);
-        if self.is_other(run) {
+        if place < MOST_THREADS {
+            self.names[place] = name;
+            self.open[place] = is_open;
+        }
+        self.number = self.number.or(run);
+        if run.is_some() && self.number != run {
             report.messages.put_in(name, 0, OTHER_RUN)?;
             return Ok(Some(BadLog::OtherRun(thread)));
         }
@@ -189,9 +125,9 @@ impl<'a> Run<'a> {
         name: &'a str,
         report: &mut OrderReport,
     ) -> Result<Option<BadLog>, AllocError> {
-        match log_in(rt, alloc, name) {
+        match read_log(rt, alloc, name) {
             Ok(read) => self.put(read, name, report),
-            Err(Unread::Memory(error)) => Err(error),
+            Err(Unread::Memory(_) | Unread::Fault(_, LogFault::OutOfMemory)) => Err(AllocError),
             Err(Unread::Fault(number, fault)) => {
                 report.messages.put_in(name, number, fault)?;
                 Ok(Some(BadLog::Fault(fault)))
@@ -212,24 +148,30 @@ pub fn take_logs<'a, R: Files>(
     names: &'a [String],
     report: &mut OrderReport,
 ) -> Result<Result<Taken<'a>, BadLog>, AllocError> {
-    let mut run = Run::new(alloc)?;
-    let mut worst = None;
+    let mut run = Run {
+        shelf: Shelf::new(alloc)?,
+        number: None,
+        names: [""; 64],
+        open: [false; 64],
+    };
+    let mut worst: Option<BadLog> = None;
     for name in names {
-        worst = worse(worst, run.read(rt, alloc, name.as_str(), report)?);
+        if let Some(bad) = run.read(rt, alloc, name.as_str(), report)? {
+            let status = bad.ending().status();
+            if worst.is_none_or(|worst| worst.ending().status() < status) {
+                worst = Some(bad);
+            }
+        }
     }
     if let Some(bad) = worst {
         return Ok(Err(bad));
     }
-    let Run {
-        shelf,
-        names,
-        open,
-        ..
-    } = run;
-    if let Some(thread) = shelf.missing() {
-        report.messages.put(0, NoLog(thread))?;
+    if let Some(thread) = run.shelf.missing() {
+        let said = format_args!("no log of thread {thread}");
+        report.messages.put(0, said)?;
         return Ok(Err(BadLog::Missing(thread)));
     }
-    let logs = shelf.logs(alloc)?;
+    let (names, open) = (run.names, run.open);
+    let logs = run.shelf.logs(alloc)?;
     Ok(Ok(Taken { logs, names, open }))
 }

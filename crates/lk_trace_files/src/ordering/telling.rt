@@ -23,62 +23,21 @@ impl fmt::Display for Placed<'_> {
     }
 }
 
-// Why a step cannot be placed.
+// Why a thread's next step cannot be placed.
 #[derive(Clone, Copy)]
-struct Unplaced<'a> {
-    order: &'a Order,
-    stuck: Stuck,
-}
+struct Why<'a>(&'a Order, TraceLine);
 
-impl fmt::Display for Unplaced<'_> {
+impl fmt::Display for Why<'_> {
     fn fmt<W: fmt::Write>(&self, f: &mut fmt::Formatter<W>) -> fmt::Result {
-        let Some(line) = self.order.next(self.stuck.thread) else {
-            return Ok(());
-        };
-        match self.stuck.difference {
+        let Why(order, line) = *self;
+        let checker = order.checker();
+        match checker.difference(line) {
             Some(difference) => {
-                let wrong = Wrong::unnamed(self.order.checker().lock(), line, difference);
-                write!(f, "cannot be placed: {wrong}")
+                let wrong = Wrong::unnamed(checker.lock(), line, difference);
+                write!(f, "{wrong}")
             }
-            None => {
-                let line = Shown(&line);
-                write!(f, "'{line}' cannot be placed: ")?;
-                f.write_str("a step of another thread has to come before")
-            }
+            None => f.write_str("a step of another thread has to come before"),
         }
-    }
-}
-
-// A step that is its thread's next, and why it is not placed.
-#[derive(Clone, Copy)]
-struct Next<'a> {
-    order: &'a Order,
-    line: TraceLine,
-}
-
-impl fmt::Display for Next<'_> {
-    fn fmt<W: fmt::Write>(&self, f: &mut fmt::Formatter<W>) -> fmt::Result {
-        let (called, shown) = (Called(self.line.thread, &[]), Shown(&self.line));
-        write!(f, "{called}'s next step is '{shown}'")?;
-        let checker = self.order.checker();
-        match checker.difference(self.line) {
-            Some(difference) => {
-                let wrong = Wrong::unnamed(checker.lock(), self.line, difference);
-                write!(f, ": {wrong}")
-            }
-            None => f.write_str(": a step of another thread has to come before"),
-        }
-    }
-}
-
-// A part of a step without which logs may have no order.
-#[derive(Clone, Copy)]
-struct Missing(TraceLine, &'static str);
-
-impl fmt::Display for Missing {
-    fn fmt<W: fmt::Write>(&self, f: &mut fmt::Formatter<W>) -> fmt::Result {
-        let (line, part) = (Shown(&self.0), self.1);
-        write!(f, "'{line}' has no {part}, which an order needs")
     }
 }
 
@@ -109,7 +68,9 @@ fn put_missing(report: &mut OrderReport, log: &Log, name: &str) -> Result<(), Al
     for (at, line) in log.moves().iter().enumerate() {
         if let Some(part) = missing_in(log.kind(), *line) {
             let number = u64::from(log.line_of(at).unwrap_or(0));
-            return report.notes.put_in(name, number, Missing(*line, part));
+            let line = Shown(line);
+            let said = format_args!("'{line}' has no {part}, which an order needs");
+            return report.notes.put_in(name, number, said);
         }
     }
     Ok(())
@@ -133,18 +94,24 @@ pub fn put_stuck(
 ) -> Result<(), AllocError> {
     let name = names.get(stuck.thread as usize).copied().unwrap_or("");
     let number = next_number(order, stuck.thread);
-    report
-        .messages
-        .put_in(name, number, Unplaced { order, stuck })?;
-    if let (Some(line), Some(difference)) = (order.next(stuck.thread), stuck.difference) {
-        report.facts = Facts::of(order.checker().lock(), &Trail::new(), line, difference);
+    if let Some(line) = order.next(stuck.thread) {
+        let (shown, why) = (Shown(&line), Why(order, line));
+        if let Some(difference) = stuck.difference {
+            let said = format_args!("cannot be placed: {why}");
+            report.messages.put_in(name, number, said)?;
+            report.facts = Facts::of(order.checker().lock(), &Trail::new(), line, difference);
+        } else {
+            let said = format_args!("'{shown}' cannot be placed: {why}");
+            report.messages.put_in(name, number, said)?;
+        }
     }
     for thread in 0..order.threads() {
         let file = names.get(thread as usize).copied().unwrap_or("");
         match order.next(thread) {
             Some(line) if thread != stuck.thread => {
-                let number = next_number(order, thread);
-                report.notes.put_in(file, number, Next { order, line })?;
+                let (called, shown, why) = (Called(thread, &[]), Shown(&line), Why(order, line));
+                let said = format_args!("{called}'s next step is '{shown}': {why}");
+                report.notes.put_in(file, next_number(order, thread), said)?;
             }
             _ => {}
         }
@@ -173,17 +140,6 @@ impl fmt::Display for Cut<'_> {
     }
 }
 
-// How far an order came that ends at the end of a log.
-#[derive(Clone, Copy)]
-struct UpTo(usize);
-
-impl fmt::Display for UpTo {
-    fn fmt<W: fmt::Write>(&self, f: &mut fmt::Formatter<W>) -> fmt::Result {
-        let placed = self.0;
-        write!(f, "ordered up to there: {placed} steps")
-    }
-}
-
 /// Says that an order ends where a log was cut short. `open` has the threads that have not ended.
 pub fn put_cut(
     report: &mut OrderReport,
@@ -198,7 +154,9 @@ pub fn put_cut(
             report.warnings.put_in(name, 0, Cut { log, is_open })?;
         }
     }
-    report.notes.put(0, UpTo(order.len()))
+    let placed = order.len();
+    let said = format_args!("ordered up to there: {placed} steps");
+    report.notes.put(0, said)
 }
 
 /// Says that a run hangs, who waits for what, and who holds.

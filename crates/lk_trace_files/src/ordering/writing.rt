@@ -28,12 +28,12 @@ fn put_header(text: &mut String, order: &Order) -> Result<(), AllocError> {
 // Writes which threads of a run that hangs have ended, as a recorder writes it.
 fn put_ends(text: &mut String, threads: u8, course: &Course) -> Result<(), AllocError> {
     for thread in 0..threads {
-        let end = if course.fate(thread) == Fate::Ended {
-            "has ended"
+        let not = if course.fate(thread) == Fate::Ended {
+            ""
         } else {
-            "has not ended"
+            " not"
         };
-        writeln!(text, "# thread {thread} {end}")?;
+        writeln!(text, "# thread {thread} has{not} ended")?;
     }
     Ok(())
 }
@@ -107,16 +107,14 @@ pub fn write_schedules<R: Files>(
     folder: &str,
 ) -> Result<usize, Failure> {
     let mut pieces = Pieces::new(order);
-    let mut next = 1;
     for number in 1..usize::MAX {
         let Some(piece) = pieces.next_piece() else {
-            next = number;
+            remove_schedules(rt, alloc, folder, number)?;
             break;
         };
         let text = schedule_of(alloc, order, piece)?;
         let path = schedule_path(alloc, folder, number)?;
         fs::write(rt, path.as_str(), &text)?;
     }
-    remove_schedules(rt, alloc, folder, next)?;
     Ok(pieces.left_out())
 }
