@@ -16,7 +16,7 @@ mod mcs;
 mod read_write;
 mod ticket;
 
-use crate::{MOST_THREADS, Order};
+use crate::Order;
 use lk_locks::{LockKind, Move, Phase, StepKind, operation_of};
 use lk_trace::{Seen, TraceLine};
 use lk_words::Words;
@@ -111,7 +111,6 @@ fn has_other_value(order: &Order, next: &Next) -> bool {
 /// What is known of a run, and how far its steps are placed.
 #[derive(Drop)]
 pub struct Engine {
-    threads: usize,
     next: [Option<Next>; 64],
     // the thread that is asked first
     from: usize,
@@ -122,13 +121,11 @@ pub struct Engine {
 impl Engine {
     /// Nothing is placed yet.
     pub fn new(alloc: Global, order: &Order) -> Result<Engine, AllocError> {
-        let threads = order.logs().len().min(MOST_THREADS);
         let mut next = [None; 64];
-        for t in 0..threads {
-            next[t] = next_of(order, t as u8);
+        for t in 0..order.threads() {
+            next[t as usize] = next_of(order, t);
         }
         Ok(Engine {
-            threads,
             next,
             from: 0,
             acquires: Acquires::new(alloc, order)?,
@@ -155,7 +152,7 @@ impl Engine {
 
     // A thread that may make its step in this round. Those that may not are put to sleep.
     fn choose_in(&mut self, order: &Order, round: Round) -> Option<u8> {
-        let (from, threads) = (self.from, self.threads);
+        let (from, threads) = (self.from, order.threads() as usize);
         for i in 0..threads {
             let t = from.saturating_add(i) % threads;
             let Some(Some(next)) = self.next.get_mut(t) else {
@@ -181,12 +178,9 @@ impl Engine {
 
     /// The thread whose step is proposed.
     pub fn choose(&mut self, order: &Order) -> Option<u8> {
-        for round in ROUNDS {
-            if let Some(t) = self.choose_in(order, round) {
-                return Some(t);
-            }
-        }
-        None
+        ROUNDS
+            .into_iter()
+            .find_map(|round| self.choose_in(order, round))
     }
 
     fn put_asleep(&mut self, t: usize, asleep: bool) {
@@ -202,10 +196,9 @@ impl Engine {
 
     // Wakes the threads whose step is on this word.
     fn wake_on(&mut self, word: usize) {
-        for next in self.next.iter_mut() {
-            match next {
-                Some(next) if next.word == Some(word) => next.asleep = false,
-                _ => {}
+        for next in self.next.iter_mut().flatten() {
+            if next.word == Some(word) {
+                next.asleep = false;
             }
         }
     }

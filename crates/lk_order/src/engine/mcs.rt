@@ -71,14 +71,11 @@ impl Acquires {
 
     // Whether a release of a thread that is in the queue has still to find this in the tail.
     fn has_to_be_found(&self, order: &Order, tail: u64) -> bool {
-        for t in 0..order.threads() {
-            let acquire = self.instance(t as usize);
-            match acquire.and_then(|instance| instance.failed) {
-                Some((found, at)) if found == tail && order.placed(t) <= at => return true,
-                _ => {}
-            }
-        }
-        false
+        (0..order.threads()).any(|t| {
+            self.instance(t as usize)
+                .and_then(|instance| instance.failed)
+                .is_some_and(|(found, at)| found == tail && order.placed(t) <= at)
+        })
     }
 
     /// Whether a swap has to wait: for another acquire than the machine's tail names now, or for a
@@ -102,10 +99,8 @@ impl Acquires {
 
     /// Whether a link has to wait: the thread that it is written to has still to find none.
     pub fn link_waits(&self, order: &Order, before: u8) -> bool {
-        match self.instance(before as usize) {
-            Some(instance) => order.placed(before) < instance.unlinked,
-            None => false,
-        }
+        self.instance(before as usize)
+            .is_some_and(|instance| order.placed(before) < instance.unlinked)
     }
 
     /// When a swap that finds nobody is proposed.

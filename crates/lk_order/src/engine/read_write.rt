@@ -13,14 +13,9 @@ pub fn count_of(line: TraceLine) -> Option<u64> {
 
 /// The thread whose next section has the lowest count.
 pub fn lowest_section(steps: &[Option<Next>]) -> Option<usize> {
-    let mut lowest: Option<(u64, usize)> = None;
-    for (t, next) in steps.iter().enumerate() {
-        if let Some(count) = next.and_then(|next| count_of(next.line)) {
-            match lowest {
-                Some((least, _)) if least <= count => {}
-                _ => lowest = Some((count, t)),
-            }
-        }
-    }
-    lowest.map(|(_, t)| t)
+    let sections = steps
+        .iter()
+        .enumerate()
+        .filter_map(|(t, next)| Some((count_of(next.as_ref()?.line)?, t)));
+    sections.min().map(|(_, t)| t)
 }

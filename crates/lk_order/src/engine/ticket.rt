@@ -39,10 +39,9 @@ impl Tickets {
 
     /// Whether the next ticket is another thread's.
     pub fn wait(&self, t: usize) -> bool {
-        match self.threads.get(self.taken) {
-            Some(thread) => *thread as usize != t,
-            None => false,
-        }
+        self.threads
+            .get(self.taken)
+            .is_some_and(|thread| *thread as usize != t)
     }
 
     /// The next ticket is taken.
