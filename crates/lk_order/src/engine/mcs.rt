@@ -7,7 +7,7 @@ mod chains;
 mod instances;
 
 use super::Round;
-use crate::{MOST_THREADS, Order};
+use crate::Order;
 use chains::{Chains, End};
 use instances::{Instance, Neighbor, instances_of};
 use lk_locks::{LockKind, Phase, StepKind, operation_of};
@@ -39,14 +39,10 @@ impl Acquires {
     /// None has begun yet.
     pub fn new(alloc: Global, order: &Order) -> Result<Acquires, AllocError> {
         let mut instances = Vec::new(alloc);
-        let mut cut = [false; 64];
-        for (t, log) in order.logs().iter().enumerate() {
+        for log in order.logs() {
             instances.push(instances_of(alloc, order.kind(), log.moves())?)?;
-            if t < MOST_THREADS {
-                cut[t] = log.is_cut();
-            }
         }
-        let chains = Chains::new(alloc, &instances, cut)?;
+        let chains = Chains::new(alloc, order, &mut instances)?;
         Ok(Acquires {
             begun: [0; 64],
             instances,
@@ -58,6 +54,11 @@ impl Acquires {
     fn instance(&self, t: usize) -> Option<&Instance> {
         let last = self.begun.get(t)?.checked_sub(1)?;
         self.instances.get(t)?.get(last)
+    }
+
+    // The acquire that the next swap of a thread begins.
+    fn next(&self, t: usize) -> Option<&Instance> {
+        self.instances.get(t)?.get(*self.begun.get(t)?)
     }
 
     // Whether the acquire that a thread is in has another successor, or none.
@@ -81,16 +82,20 @@ impl Acquires {
     /// Whether a swap has to wait: for another acquire than the machine's tail names now, or for a
     /// release that finds that acquire in the tail.
     pub fn swap_waits(&self, order: &Order, t: usize, found: Option<u64>) -> bool {
-        if t >= MOST_THREADS {
-            return true;
-        }
+        let Some(next) = self.next(t) else {
+            return false;
+        };
         match found {
-            Some(0) => !self.chains.may_begin(t, self.begun[t], &self.begun),
+            Some(0) => next
+                .chain
+                .is_some_and(|chain| !self.chains.may_begin(chain, &self.begun)),
             Some(found) if found <= 64 => {
                 let before = (found - 1) as usize;
                 let last = self.begun[before].saturating_sub(1);
                 self.has_other_successor(before, t)
-                    || !self.chains.is_successor(t, self.begun[t], last)
+                    || next
+                        .predecessor
+                        .is_some_and(|predecessor| predecessor != last)
                     || self.has_to_be_found(order, found)
             }
             _ => false,
@@ -105,11 +110,7 @@ impl Acquires {
 
     /// When a swap that finds nobody is proposed.
     pub fn round_of_swap(&self, t: usize) -> Round {
-        match self
-            .begun
-            .get(t)
-            .and_then(|begun| self.chains.end(t, *begun))
-        {
+        match self.next(t).and_then(|next| self.chains.end(next.chain?)) {
             Some(End::CutOff) => Round::CutOff,
             Some(End::Never) => Round::Endless,
             Some(End::Seen) | None => Round::Last,

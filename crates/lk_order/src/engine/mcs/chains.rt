@@ -7,7 +7,7 @@
 //! end comes last, since no later swap can find nobody; before it one whose end is cut off.
 
 use super::instances::{Instance, Neighbor};
-use crate::MOST_THREADS;
+use crate::{MOST_THREADS, Order};
 use std::alloc::{AllocError, Global};
 
 const NONE: u32 = u32::MAX;
@@ -26,41 +26,23 @@ pub enum End {
 /// The chains of a run.
 #[derive(Drop)]
 pub struct Chains {
-    /// Of each thread and instance the predecessor's instance, or `NONE`.
-    before: Vec<Vec<u32>>,
-    /// Of each thread and instance its chain, or `NONE`.
-    chain: Vec<Vec<u32>>,
     /// Of each chain and thread the first instance in it, or `NONE`.
     first: Vec<u32>,
     ends: Vec<End>,
-    /// Whose logs are cut short.
-    cut: [bool; 64],
     threads: usize,
 }
 
-// The number of this thread and instance in a table, or NONE if the table has none.
-fn at(table: &[Vec<u32>], thread: usize, instance: usize) -> u32 {
-    match table.get(thread) {
-        Some(row) => row.get(instance).copied().unwrap_or(NONE),
-        None => NONE,
-    }
+fn at(instances: &mut [Vec<Instance>], thread: u8, instance: usize) -> Option<&mut Instance> {
+    instances.get_mut(thread as usize)?.get_mut(instance)
 }
 
-fn put(table: &mut [Vec<u32>], thread: usize, instance: usize, value: u32) {
-    if let Some(row) = table.get_mut(thread) {
-        if let Some(place) = row.get_mut(instance) {
-            *place = value;
-        }
-    }
+fn is_cut(order: &Order, thread: u8) -> bool {
+    let log = order.logs().get(thread as usize);
+    log.is_some_and(|log| log.is_cut())
 }
 
-// A row of NONE for each instance.
-fn blank(alloc: Global, instances: &[Vec<Instance>]) -> Result<Vec<Vec<u32>>, AllocError> {
-    let mut table = Vec::new(alloc);
-    for row in instances {
-        table.push(vec![in alloc; NONE; row.len()]?)?;
-    }
-    Ok(table)
+fn count_of(instances: &[Vec<Instance>], thread: u8) -> usize {
+    instances.get(thread as usize).map_or(0, |row| row.len())
 }
 
 // The next instance of a thread from `from` on whose successor is `thread`.
@@ -70,47 +52,36 @@ fn next_after(row: &[Instance], from: usize, thread: u8) -> Option<usize> {
     Some(from.saturating_add(ahead))
 }
 
-// Matches the instances of each thread with those of its predecessors, in order.
-fn match_all(
-    alloc: Global,
-    instances: &[Vec<Instance>],
-) -> Result<(Vec<Vec<u32>>, Vec<Vec<u32>>), AllocError> {
-    let mut before = blank(alloc, instances)?;
-    let mut after = blank(alloc, instances)?;
-    for (y, row) in instances.iter().enumerate() {
-        match_thread(instances, y, row, &mut before, &mut after);
-    }
-    Ok((before, after))
-}
-
-fn match_thread(
-    instances: &[Vec<Instance>],
-    y: usize,
-    row: &[Instance],
-    before: &mut [Vec<u32>],
-    after: &mut [Vec<u32>],
-) {
-    if y >= MOST_THREADS {
-        return;
-    }
+// Matches the instances of thread y with those of its predecessors, in order.
+fn match_thread(instances: &mut [Vec<Instance>], y: u8) {
     // how far the instances of each predecessor have been looked through for this thread
     let mut reached = [0usize; MOST_THREADS];
-    for (m, instance) in row.iter().enumerate() {
-        let Neighbor::Thread(predecessor) = instance.before else {
+    for m in 0..count_of(instances, y) {
+        let Some(Neighbor::Thread(x)) = at(instances, y, m).map(|instance| instance.before) else {
             continue;
         };
-        let x = predecessor as usize;
-        let (Some(others), Some(from)) = (instances.get(x), reached.get_mut(x)) else {
+        let x = x as usize;
+        let (Some(others), Some(from)) = (instances.get_mut(x), reached.get_mut(x)) else {
             continue;
         };
-        *from = match next_after(others, *from, y as u8) {
-            Some(k) => {
-                put(before, y, m, k.min(NONE as usize) as u32);
-                put(after, x, k, m.min(NONE as usize) as u32);
-                k.saturating_add(1)
-            }
-            None => others.len(),
+        let Some(k) = next_after(others, *from, y) else {
+            *from = others.len();
+            continue;
         };
+        *from = k.saturating_add(1);
+        if let Some(found) = others.get_mut(k) {
+            found.successor = Some(m);
+        }
+        if let Some(found) = at(instances, y, m) {
+            found.predecessor = Some(k);
+        }
+    }
+}
+
+// Matches the instances of each thread with those of its predecessors, in order.
+fn match_all(instances: &mut [Vec<Instance>], threads: u8) {
+    for y in 0..threads {
+        match_thread(instances, y);
     }
 }
 
@@ -123,58 +94,49 @@ fn swapped(row: &[Instance]) -> usize {
 }
 
 impl Chains {
-    // An instance of the thread is in the chain.
-    fn note(&mut self, number: u32, thread: usize, instance: usize) {
-        let place = (number as usize)
+    // An instance of the thread is in the chain that is added.
+    fn note(&mut self, thread: u8, instance: usize) {
+        let place = self
+            .ends
+            .len()
             .saturating_mul(self.threads)
-            .saturating_add(thread);
+            .saturating_add(thread as usize);
         if let Some(first) = self.first.get_mut(place) {
             *first = (*first).min(instance.min(NONE as usize) as u32);
-        }
-    }
-
-    // How a chain ends whose last thread's log has no end of it.
-    fn end_of_log(&self, thread: usize) -> End {
-        match self.cut.get(thread) {
-            Some(true) => End::CutOff,
-            _ => End::Never,
         }
     }
 
     // Goes along a chain from its first instance, and returns how it ends.
     fn follow(
         &mut self,
-        instances: &[Vec<Instance>],
-        after: &[Vec<u32>],
-        number: u32,
-        first: (usize, usize),
+        order: &Order,
+        instances: &mut [Vec<Instance>],
+        first: (u8, usize),
     ) -> End {
         let (mut thread, mut instance) = first;
-        let total = instances
-            .iter()
-            .fold(0, |total: usize, row| total.saturating_add(row.len()));
-        for _ in 0..total {
-            put(&mut self.chain, thread, instance, number);
-            self.note(number, thread, instance);
-            let row = instances.get(thread);
-            let successor = match row
-                .and_then(|row| row.get(instance))
-                .map(|found| found.after)
-            {
-                Some(Neighbor::Thread(successor)) => successor as usize,
-                Some(Neighbor::Nobody) => return End::Seen,
-                Some(Neighbor::Unknown) | None => return self.end_of_log(thread),
+        // no instance is met twice
+        for _ in 0..u64::MAX {
+            self.note(thread, instance);
+            let Some(found) = at(instances, thread, instance) else {
+                return End::Never;
             };
-            let next = at(after, thread, instance);
-            if next == NONE {
+            found.chain = Some(self.ends.len());
+            let (after, next) = (found.after, found.successor);
+            let successor = match after {
+                Neighbor::Thread(successor) => successor,
+                Neighbor::Nobody => return End::Seen,
+                Neighbor::Unknown if is_cut(order, thread) => return End::CutOff,
+                Neighbor::Unknown => return End::Never,
+            };
+            let Some(next) = next else {
                 // its acquire comes after all that its log has
-                if let Some(row) = instances.get(successor) {
-                    self.note(number, successor, swapped(row));
+                if let Some(row) = instances.get(successor as usize) {
+                    self.note(successor, swapped(row));
                 }
                 return End::CutOff;
-            }
+            };
             thread = successor;
-            instance = next as usize;
+            instance = next;
         }
         End::Never
     }
@@ -182,70 +144,52 @@ impl Chains {
     // Adds the chains that begin with an instance of this thread.
     fn add_all(
         &mut self,
-        instances: &[Vec<Instance>],
-        after: &[Vec<u32>],
-        thread: usize,
-        row: &[Instance],
+        order: &Order,
+        instances: &mut [Vec<Instance>],
+        thread: u8,
     ) -> Result<(), AllocError> {
-        for (instance, found) in row.iter().enumerate() {
-            if found.before == Neighbor::Nobody {
-                let number = self.ends.len().min(NONE as usize) as u32;
+        for instance in 0..count_of(instances, thread) {
+            let found = at(instances, thread, instance);
+            if found.is_some_and(|found| found.before == Neighbor::Nobody) {
                 let room = self.first.len().saturating_add(self.threads);
                 self.first.resize(room, NONE)?;
-                let end = self.follow(instances, after, number, (thread, instance));
+                let end = self.follow(order, instances, (thread, instance));
                 self.ends.push(end)?;
             }
         }
         Ok(())
     }
 
-    /// The chains of these instances, a list for each thread. `cut` says whose logs are cut short.
+    /// The chains of the order's instances, a list for each thread, in which matches and chains
+    /// are noted.
     pub fn new(
         alloc: Global,
-        instances: &[Vec<Instance>],
-        cut: [bool; 64],
+        order: &Order,
+        instances: &mut [Vec<Instance>],
     ) -> Result<Chains, AllocError> {
-        let (before, after) = match_all(alloc, instances)?;
+        match_all(instances, order.threads());
         let mut chains = Chains {
-            before,
-            chain: blank(alloc, instances)?,
             first: Vec::new(alloc),
             ends: Vec::new(alloc),
-            cut,
-            threads: instances.len(),
+            threads: order.threads() as usize,
         };
-        for (thread, row) in instances.iter().enumerate() {
-            chains.add_all(instances, &after, thread, row)?;
+        for thread in 0..order.threads() {
+            chains.add_all(order, instances, thread)?;
         }
         Ok(chains)
     }
 
-    /// Whether this instance's predecessor is this instance of it, or is not known.
-    pub fn is_successor(&self, thread: usize, instance: usize, predecessor: usize) -> bool {
-        let matched = at(&self.before, thread, instance);
-        matched == NONE || matched as usize == predecessor
+    /// How a chain ends.
+    pub fn end(&self, chain: usize) -> Option<End> {
+        self.ends.get(chain).copied()
     }
 
-    /// How the chain of this instance ends, if it is known.
-    pub fn end(&self, thread: usize, instance: usize) -> Option<End> {
-        let number = at(&self.chain, thread, instance);
-        self.ends.get(number as usize).copied()
-    }
-
-    /// Whether the chain of this instance may begin, when each thread has begun so many instances.
-    pub fn may_begin(&self, thread: usize, instance: usize, begun: &[usize; 64]) -> bool {
-        let number = at(&self.chain, thread, instance);
-        if number == NONE {
-            return true;
-        }
-        let base = (number as usize).saturating_mul(self.threads);
-        for t in 0..self.threads.min(MOST_THREADS) {
-            let place = base.saturating_add(t);
-            let first = self.first.get(place).copied().unwrap_or(NONE);
-            if first != NONE && first as usize > begun[t] {
-                return false;
-            }
-        }
-        true
+    /// Whether a chain may begin, when each thread has begun so many instances.
+    pub fn may_begin(&self, chain: usize, begun: &[usize; 64]) -> bool {
+        let base = chain.saturating_mul(self.threads);
+        let row = self.first.get(base..base.saturating_add(self.threads));
+        row.is_none_or(|row| {
+            row.iter().zip(begun).all(|(first, begun)| *first == NONE || *first as usize <= *begun)
+        })
     }
 }

@@ -26,6 +26,12 @@ pub struct Instance {
     /// What the release found in the tail if it failed to clear it, and the place of that in the
     /// log.
     pub failed: Option<(u64, usize)>,
+    /// Which instance of its thread the predecessor is.
+    pub predecessor: Option<usize>,
+    /// Which instance of its thread the successor is.
+    pub successor: Option<usize>,
+    /// The number of its chain.
+    pub chain: Option<usize>,
 }
 
 const NEW: Instance = Instance {
@@ -33,6 +39,9 @@ const NEW: Instance = Instance {
     after: Neighbor::Unknown,
     unlinked: 0,
     failed: None,
+    predecessor: None,
+    successor: None,
+    chain: None,
 };
 
 // The neighbor that a word of the lock names.
