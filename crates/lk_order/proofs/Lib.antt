@@ -4,4 +4,3 @@ mod Quiet
 mod Keeping
 mod Beginning
 mod Ends
-mod Taken

@@ -2,7 +2,8 @@
 -- project's own.
 use Rattle.std.specs.Prelude.{◌≡◌, ◌≢◌, ◌<◌, ℕ, List, replicate, slice_set, slice_index_or}
 use Rattle.std.specs.Prelude.{Option, Some, None, IfSome, IsSome, IsSomeAnd}
-use Rattle.std.specs.List.{filter_map}
+use Rattle.std.specs.List.{flat_map}
+use Rattle.std.specs.Option.{option_to_list}
 use Rattle.lk_locks.specs.declared.kinds.LockKind.{LockKind}
 use Rattle.lk_order.specs.Logs.{ThreadLog}
 use Rattle.lk_order.specs.declared.shelf.Unfit.{Unfit}
@@ -56,4 +57,4 @@ pub record IsFirstWithout (shelf : Shelved) (t : ℕ) : Type 0 where
 
 -- all logs, in the order of their threads
 abbrev pub logs_of : Shelved → List ThreadLog
-logs_of shelf = filter_map (λ place. place) shelf.places
+logs_of shelf = flat_map option_to_list shelf.places

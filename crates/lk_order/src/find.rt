@@ -1,7 +1,7 @@
 //! An order of all logs: the next thread is proposed, and what is placed is placed by the checker.
 
 ghost use Rattle.std.specs.Prelude.{◌≡◌, ◌<◌, ◌↔◌, ℕ, None, Some, IfOk, IfSome, IsSome, IsTrue};
-ghost use Rattle.std.specs.Prelude.{MatchOption, ◌⊎◌, true, false};
+ghost use Rattle.std.specs.Prelude.{MatchOption, true, false};
 ghost use Rattle.std.specs.List.{slice_get};
 ghost use Rattle.lk_order.specs.Logs.{ThreadLog};
 ghost use Rattle.lk_order.specs.Runs.{IsOneRun};
@@ -80,31 +80,20 @@ fn suspect_of(order: &Order, thread: u8) -> Option<Suspect>
     })
 }
 
-// Of two steps that cannot be placed the more certain one: of the same doubt that of the lower
-// count.
-fn more_certain(first: Option<Suspect>, second: Option<Suspect>) -> Option<Suspect>
-    ensures one { (result ≡ first) ⊎ (result ≡ second) }
-    ensures first { result ≡ None → first ≡ None }
-    ensures second { result ≡ None → second ≡ None }
-{
-    let (Some(a), Some(b)) = (first, second) else {
-        return first.or(second);
-    };
-    if b.doubt < a.doubt || (b.doubt == a.doubt && b.count < a.count) {
-        second
-    } else {
-        first
-    }
-}
-
-// The step that is most certainly wrong, if one is left.
+// The step that is most certainly wrong, if one is left: of the same doubt that of the lower count.
 fn suspect_in(order: &Order) -> Option<Suspect>
     ensures stuck { IfSome result (λ s. IsStuck order.now s.stuck) }
     ensures none { result ≡ None → (t : ℕ) → t < order.now.threads → next_line order.now t ≡ None }
 {
-    let mut worst = None;
+    let mut worst: Option<Suspect> = None;
     for t in 0..order.threads() {
-        worst = more_certain(worst, suspect_of(order, t));
+        let Some(suspect) = suspect_of(order, t) else {
+            continue;
+        };
+        match worst {
+            Some(worst) if (worst.doubt, worst.count) <= (suspect.doubt, suspect.count) => {}
+            _ => worst = Some(suspect),
+        }
     }
     worst
 }

@@ -107,13 +107,6 @@ impl Shelf {
     pub fn logs(self, alloc: Global) -> Result<Vec<Log>, AllocError>
         ensures { IfOk result (λ logs. logs.items ≡ logs_of self) }
     {
-        let mut logs = Vec::new(alloc);
-        for place in self.places {
-            match place {
-                Some(log) => logs.push(log)?,
-                None => {}
-            }
-        }
-        Ok(logs)
+        self.places.into_iter().flatten().collect(alloc)
     }
 }

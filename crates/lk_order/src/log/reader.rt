@@ -2,7 +2,7 @@
 
 ghost use Rattle.std.specs.Prelude.{◌≡◌, ◌<◌, ◌++◌, ◌∷◌, [], None, MatchOption, IfSome, OnOk};
 ghost use Rattle.std.specs.Prelude.{OnErr, IfErr, Ok, Err};
-ghost use Rattle.lk_order.specs.Logs.{after_header, cut_last, dropped_of, empty_log, IsFaultOf};
+ghost use Rattle.lk_order.specs.Logs.{after_header, cut_last, dropped_of, IsFaultOf};
 ghost use Rattle.lk_order.specs.Logs.{line_read, log_header_of, log_read, Reading};
 
 use super::Log;
@@ -88,20 +88,6 @@ fn dropped_of(line: &[u8]) -> Option<u64>
 }
 
 impl Log {
-    // A log without moves.
-    fn begun(alloc: Global, header: Header, thread: u8) -> Log
-        requires { thread < header.threads }
-        ensures { result ≡ empty_log header thread }
-    {
-        Log {
-            header,
-            owner: thread,
-            moves: Vec::new(alloc),
-            lines: Vec::new(alloc),
-            dropped: None,
-        }
-    }
-
     // One move more.
     fn note(&mut self, line: TraceLine, number: u32) -> Result<(), LogFault>
         requires own { line.thread ≡ self.old.thread }
@@ -184,10 +170,14 @@ impl LogReader {
             if let Some(log) = self.log.as_mut() {
                 log.take(line, number + 1, ended)?;
             } else {
-                let Some((header, thread)) = header_of(line) else {
-                    return Err(LogFault::BadHeader);
-                };
-                self.log = Some(Log::begun(self.alloc, header, thread));
+                let (header, owner) = header_of(line).ok_or(LogFault::BadHeader)?;
+                self.log = Some(Log {
+                    header,
+                    owner,
+                    moves: Vec::new(self.alloc),
+                    lines: Vec::new(self.alloc),
+                    dropped: None,
+                });
             }
         }
         self.number = number + 1;
@@ -202,9 +192,6 @@ impl LogReader {
     pub fn log(self) -> Result<Log, LogFault>
         ensures { result ≡ log_read self.log }
     {
-        match self.log {
-            Some(log) => Ok(log),
-            None => Err(LogFault::NoHeader),
-        }
+        self.log.ok_or(LogFault::NoHeader)
     }
 }
