@@ -44,9 +44,5 @@ pub fn asked_of(lock: u64, threads: u64, bits: u64, rounds: u64) -> Option<Asked
         bits: bits as u8,
         rounds: rounds as u8,
     };
-    if u128::from(asked.threads) < 1u128 << asked.bits {
-        Some(asked)
-    } else {
-        None
-    }
+    (u128::from(asked.threads) < 1u128 << asked.bits).then_some(asked)
 }

@@ -32,9 +32,15 @@ mod stops;
 mod tests;
 mod told;
 
-use finding::answer;
-use kind_texts::{count_kinds, put_kind};
-use playing::play_text;
+use asking::{asked_of, lock_of};
+use codes::fault_codes;
+use finding::{MOST_TEXT, seek};
+use kind_texts::put_kind;
+use lk_replay::ScheduleReader;
+use lk_search::kinds_of;
+use playing::{new_lock, play_moves};
+use sought::{sought_code, sought_number};
+use state::{STATE_BYTES, fault_bytes, state_bytes};
 use stops::{column_of, expected_at, stop_of};
 
 /// Reads a schedule text, plays at most `most` of its moves up to the first refused one, writes a
@@ -50,7 +56,23 @@ pub extern "C" fn play(text: &[u8], most: u64, records: &mut [u8], state: &mut [
     ensures told { 2304 ≤ length state.old
         → IsTold (plan_of text.now) most result records.old records.new state.old state.new }
 {
-    play_text(text, most, records, state)
+    if state.len() < STATE_BYTES {
+        return 3;
+    }
+    let mut reader = match ScheduleReader::open(text) {
+        Ok(reader) => reader,
+        Err(fault) => {
+            let (code, line) = fault_codes(fault);
+            state[..STATE_BYTES].copy_from_slice(fault_bytes(code, line).as_slice());
+            return 2;
+        }
+    };
+    let moves = reader.moves_left();
+    let mut lock = new_lock(&reader);
+    let stopped = play_moves(&mut lock, &mut reader, most, records);
+    let bytes = state_bytes(&lock, moves as u32, stopped);
+    state[..STATE_BYTES].copy_from_slice(bytes.as_slice());
+    u64::from(stopped.refused.is_some())
 }
 
 /// Looks for a shortest run of a new lock with this number that has the lines of a sketch, in their
@@ -63,6 +85,7 @@ pub extern "C" fn play(text: &[u8], most: u64, records: &mut [u8], state: &mut [
 /// for what it admits. The moves, states or line are written to the first place of `number`. It
 /// returns 7 if there is no such lock or the text has more than 65,535 bytes, and 8 if `number` is
 /// empty, and nothing is written then.
+#[tactic(auto, using(crate::proofs::Seeking::answered))]
 #[unsafe(no_mangle)]
 pub extern "C" fn find_moment(
     text: &[u8],
@@ -86,9 +109,18 @@ pub extern "C" fn find_moment(
         → IsAnswered text.now asked (states_within most (length cells.old) asked) codes.new result
         number.old number.new }
 {
-    answer(
-        text, lock, threads, bits, rounds, most, cells, slots, codes, number,
-    )
+    if number.is_empty() {
+        return 8;
+    }
+    if text.len() >= MOST_TEXT {
+        return 7;
+    }
+    let Some(asked) = asked_of(lock, threads, bits, rounds) else {
+        return 7;
+    };
+    let sought = seek(text, asked, most as usize, cells, slots, codes);
+    number[0] = sought_number(sought);
+    sought_code(sought)
 }
 
 /// How many kinds of transition the lock with this number has, and 0 if there is no such lock.
@@ -97,7 +129,10 @@ pub extern "C" fn kinds(lock: u64) -> u64
     ensures count { lock < 4 → result ≡ kind_count (lock_of lock) }
     ensures none { 4 ≤ lock → result ≡ 0 }
 {
-    count_kinds(lock)
+    if lock > 3 {
+        return 0;
+    }
+    kinds_of(lock_of(lock)).len() as u64
 }
 
 /// Writes what a kind of transition is called, and the lines of a sketch of which each shortest run
@@ -108,7 +143,10 @@ pub extern "C" fn kind_text(lock: u64, kind: u64, text: &mut [u8]) -> u64
     ensures fits { result ≤ length text.old }
     ensures size { length text.new ≡ length text.old }
 {
-    put_kind(lock, kind, text)
+    if kind >= kinds(lock) {
+        return 0;
+    }
+    put_kind(text, kinds_of(lock_of(lock))[kind as usize]).unwrap_or(0) as u64
 }
 
 /// The column, in bytes from 1, at which a line stops being a header if `is_move` is 0, and else a

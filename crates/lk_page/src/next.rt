@@ -11,10 +11,7 @@ fn call_bit(machine: &Machine<WordArray>, thread: u8, op: Op) -> u8
     ensures bit { result ≡ call_bit machine.now thread op }
     ensures small { result ≤ 1 }
 {
-    match machine.check(thread, Move::Call(op)) {
-        Ok(()) => 1,
-        Err(_) => 0,
-    }
+    u8::from(machine.check(thread, Move::Call(op)).is_ok())
 }
 
 /// The calls that would be accepted of a thread: bit k for the call with code k.
@@ -39,10 +36,7 @@ fn next_waits(machine: &Machine<WordArray>, thread: u8) -> bool
         return false;
     };
     let next = Move::Step(step);
-    match machine.check(thread, next) {
-        Ok(()) => matches!(machine.outcome(thread, next), Outcome::Waits),
-        Err(_) => false,
-    }
+    machine.check(thread, next).is_ok() && matches!(machine.outcome(thread, next), Outcome::Waits)
 }
 
 /// Whether a thread waits after a move of its own with this outcome: the move was a failed poll, or

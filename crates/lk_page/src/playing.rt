@@ -1,17 +1,14 @@
-//! From a schedule text to its records and its state.
+//! Plays the moves of a schedule, and writes a record of each.
 
 ghost use Rattle.std.specs.Prelude.{◌≡◌, ◌+◌, ◌*◌, ◌<◌, ◌≤◌, length, take, replicate, []};
 ghost use Rattle.lk_locks.specs.State.{start};
 ghost use Rattle.lk_locks.specs.Locks.{word_count};
 ghost use Rattle.lk_locks.specs.Tracked.{tracked};
-ghost use Rattle.lk_replay.specs.Schedule.{plan_of};
 ghost use Rattle.lk_page.specs.Layout.{record_bytes};
 ghost use Rattle.lk_page.specs.Playing.{HavePlayed};
-ghost use Rattle.lk_page.specs.Written.{placed, IsTold};
+ghost use Rattle.lk_page.specs.Written.{placed};
 
-use crate::codes::fault_codes;
 use crate::record::{RECORD_BYTES, play_line, record_bytes};
-use crate::state::{STATE_BYTES, fault_bytes, state_bytes};
 use crate::told::{Record, Stopped};
 use lk_locks::{Tracker, words_needed};
 use lk_replay::ScheduleReader;
@@ -30,8 +27,8 @@ fn put_record(records: &mut [u8], count: u32, told: &Record)
     }
 }
 
-// Plays at most `most` moves, up to the first refused one.
-fn play_moves(
+/// Plays at most `most` moves, up to the first refused one.
+pub fn play_moves(
     lock: &mut Tracker<WordArray>,
     reader: &mut ScheduleReader,
     most: u64,
@@ -71,8 +68,8 @@ fn play_moves(
     }
 }
 
-// The lock of a schedule, on which nothing was played.
-fn new_lock(reader: &ScheduleReader) -> Tracker<WordArray>
+/// The lock of a schedule, on which nothing was played.
+pub fn new_lock(reader: &ScheduleReader) -> Tracker<WordArray>
     ensures { let plan = reader.now in
         result ≡ tracked (start plan.kind plan.bits
         (replicate (word_count plan.kind plan.threads) 0) plan.threads) [] }
@@ -81,34 +78,4 @@ fn new_lock(reader: &ScheduleReader) -> Tracker<WordArray>
     let (kind, threads) = (header.kind(), header.threads());
     let words = WordArray::with_bits(words_needed(kind, threads), header.bits());
     Tracker::new(kind, threads, words)
-}
-
-/// What `play` does.
-pub fn play_text(text: &[u8], most: u64, records: &mut [u8], state: &mut [u8]) -> u64
-    ensures short { length state.old < 2304
-        → (result ≡ 3) × (records.new ≡ records.old) × (state.new ≡ state.old) }
-    ensures told { 2304 ≤ length state.old
-        → IsTold (plan_of text.now) most result records.old records.new state.old state.new }
-{
-    if state.len() < STATE_BYTES {
-        return 3;
-    }
-    let mut reader = match ScheduleReader::open(text) {
-        Ok(reader) => reader,
-        Err(fault) => {
-            let (code, line) = fault_codes(fault);
-            state[..STATE_BYTES].copy_from_slice(fault_bytes(code, line).as_slice());
-            return 2;
-        }
-    };
-    let moves = reader.moves_left();
-    let threads = reader.header().threads();
-    let mut lock = new_lock(&reader);
-    let stopped = play_moves(&mut lock, &mut reader, most, records);
-    let bytes = state_bytes(&lock, threads, moves as u32, stopped);
-    state[..STATE_BYTES].copy_from_slice(bytes.as_slice());
-    match stopped.refused {
-        Some(_) => 1,
-        None => 0,
-    }
 }

@@ -4,7 +4,7 @@ ghost use Rattle.std.specs.Prelude.{◌≡◌, ◌+◌, ◌<◌, ◌≤◌, ◌+
 ghost use Rattle.lk_locks.specs.Holding.{holding};
 ghost use Rattle.lk_locks.specs.Tracked.{holding_in, waiting_in};
 ghost use Rattle.lk_page.specs.Layout.{padded, holding_code, holder_list};
-ghost use Rattle.lk_page.specs.Layout.{own_bytes, thread_bytes, threads_bytes, stop_numbers};
+ghost use Rattle.lk_page.specs.Layout.{thread_bytes, threads_bytes, stop_numbers};
 ghost use Rattle.lk_page.specs.Layout.{bytes_of_state, bytes_of_fault};
 
 use crate::changes::words_of;
@@ -14,7 +14,7 @@ use crate::next::allowed_calls;
 use crate::owned::owned;
 use crate::told::Stopped;
 use arrayvec::ArrayVec;
-use lk_locks::{Holders, LockKind, Machine, Refusal, Tracker};
+use lk_locks::{Holders, Machine, Refusal, Tracker};
 use lk_trace::refusal_number;
 use lk_words::{WordArray, Words};
 
@@ -40,23 +40,21 @@ pub fn fault_bytes(code: u32, line: u32) -> ArrayVec<u8, 2304>
     out
 }
 
-fn put_thread(
-    out: &mut ArrayVec<u8, 2304>,
-    machine: &Machine<WordArray>,
-    kind: LockKind,
-    thread: u8,
-)
-    requires kind { kind ≡ machine.now.kind }
-    requires thread { thread < length machine.now.phases }
+// A thread, or zeros if the lock does not have it.
+fn put_place(out: &mut ArrayVec<u8, 2304>, machine: &Machine<WordArray>, thread: u8)
     requires few { thread < 64 }
     requires room { length out.old.items + 16 ≤ 2304 }
-    ensures bytes { out.new.items ≡ out.old.items ++ own_bytes machine.now thread }
+    ensures bytes { out.new.items ≡ out.old.items ++ thread_bytes machine.now thread }
     ensures size { length out.new.items ≡ length out.old.items + 16 }
 {
+    if thread >= machine.threads() {
+        put_zeros(out, THREAD_BYTES);
+        return;
+    }
     let phase = machine.phase(thread);
     let due = due_code(machine.next_step(thread));
     let calls = allowed_calls(machine, thread);
-    let (next, locked, name) = owned(kind, machine.words().bits(), thread);
+    let (next, locked, name) = owned(machine.kind(), machine.words().bits(), thread);
     put_bytes(
         out,
         &[phase_code(phase), due, calls, next, locked, name, 0, 0],
@@ -64,43 +62,14 @@ fn put_thread(
     put_u64(out, phase_number(phase));
 }
 
-// A thread, or zeros if the lock does not have it.
-fn put_place(
-    out: &mut ArrayVec<u8, 2304>,
-    machine: &Machine<WordArray>,
-    kind: LockKind,
-    threads: u8,
-    thread: u8,
-)
-    requires kind { kind ≡ machine.now.kind }
-    requires threads { threads ≡ length machine.now.phases }
-    requires few { thread < 64 }
-    requires room { length out.old.items + 16 ≤ 2304 }
-    ensures bytes { out.new.items ≡ out.old.items ++ thread_bytes machine.now thread }
-    ensures size { length out.new.items ≡ length out.old.items + 16 }
-{
-    if thread < threads {
-        put_thread(out, machine, kind, thread);
-    } else {
-        put_zeros(out, THREAD_BYTES);
-    }
-}
-
 // All threads, and zeros for those that the lock does not have.
-fn put_threads(
-    out: &mut ArrayVec<u8, 2304>,
-    machine: &Machine<WordArray>,
-    kind: LockKind,
-    threads: u8,
-)
-    requires kind { kind ≡ machine.now.kind }
-    requires threads { threads ≡ length machine.now.phases }
+fn put_threads(out: &mut ArrayVec<u8, 2304>, machine: &Machine<WordArray>)
     requires room { length out.old.items + 1024 ≤ 2304 }
     ensures bytes { out.new.items ≡ out.old.items ++ threads_bytes machine.now 0 64 }
     ensures size { length out.new.items ≡ length out.old.items + 1024 }
 {
     for thread in 0..64 {
-        put_place(out, machine, kind, threads, thread);
+        put_place(out, machine, thread);
     }
 }
 
@@ -145,13 +114,7 @@ fn stop_numbers(refused: Option<(u32, Refusal)>) -> [u32; 4]
 
 /// The bytes of a lock's state, of a schedule that has `moves` moves.
 #[tactic(auto, unfolding(crate::specs::Layout::bytes_of_state))]
-pub fn state_bytes(
-    lock: &Tracker<WordArray>,
-    threads: u8,
-    moves: u32,
-    stopped: Stopped,
-) -> ArrayVec<u8, 2304>
-    requires threads { threads ≡ length lock.now.state.phases }
+pub fn state_bytes(lock: &Tracker<WordArray>, moves: u32, stopped: Stopped) -> ArrayVec<u8, 2304>
     ensures bytes { result.items
         ≡ bytes_of_state moves stopped.count stopped.refused lock.now.state (holding_in lock.now)
         (waiting_in lock.now) }
@@ -163,14 +126,15 @@ pub fn state_bytes(
     let holder_slice = holders.as_slice();
     let queue_slice = queue.as_slice();
     let words = words_of(lock);
-    let bits = lock.machine().words().bits();
+    let machine = lock.machine();
+    let bits = machine.words().bits();
     let kind = lock_code(lock.kind());
     put_u32s(&mut out, &stop_numbers(stopped.refused));
     put_u32s(
         &mut out,
         &[
             kind as u32,
-            threads as u32,
+            machine.threads() as u32,
             bits as u32,
             stopped.count,
             moves,
@@ -185,7 +149,7 @@ pub fn state_bytes(
     );
     put_list(&mut out, holder_slice);
     put_list(&mut out, queue_slice);
-    put_threads(&mut out, lock.machine(), lock.kind(), threads);
+    put_threads(&mut out, machine);
     put_u64s(&mut out, words);
     put_zeros(&mut out, WORDS_BYTES - 8 * words.len());
     out

@@ -1,5 +1,5 @@
 -- Each part is what the lock says.
-use Rattle.std.proofs.Common.{ap, ◌∙◌, ◌++◌}
+use Rattle.std.proofs.Common.{ap, length, ◌∙◌, ◌++◌}
 use Rattle.lk_locks.specs.State.{State}
 use Rattle.lk_locks.specs.Tracked.{holding_in, waiting_in}
 use Rattle.lk_page.specs.Codes.{lock_code}
@@ -16,11 +16,11 @@ returns-clause-bytes c =
     c.new-out.result.items c.put_u32s.new.out.items c.put_u32s-2.new.out.items
     c.put_list.new.out.items c.put_list-2.new.out.items c.put_threads.new.out.items
     c.put_u64s.new.out.items c.put_zeros.new.out.items
-    c.lock_code-kind.result c.args.threads c.bits-bits.result c.holder_list-code.result.0
+    c.lock_code-kind.result c.threads.result c.bits-bits.result c.holder_list-code.result.0
     c.stop_numbers.ensures (c.lock_code-kind.ensures ∙ ap lock_code c.kind.ensures)
-    c.requires.threads
+    (c.threads.ensures ∙ ap (λ (s : State). length s.phases) c.machine-machine.ensures)
     (c.bits-bits.ensures.value ∙ c.words.ensures.width
-    ∙ ap (λ (s : State). s.bits) c.machine.ensures)
+    ∙ ap (λ (s : State). s.bits) c.machine-machine.ensures)
     (c.holder_list-code.ensures.code ∙ ap holding_code c.holders.ensures.holding)
     (c.as_slice-holder_slice.ensures.value ∙ c.holder_list-code.ensures.list
     ∙ ap holder_list c.holders.ensures.holding)
@@ -30,4 +30,4 @@ returns-clause-bytes c =
     c.put_list-2.ensures.bytes
     (c.put_threads.ensures.bytes
     ∙ ap (λ (s : State). c.put_list-2.new.out.items ++ threads_bytes s 0 64)
-    c.machine-2.ensures) c.put_u64s.ensures.bytes c.put_zeros.ensures.bytes
+    c.machine-machine.ensures) c.put_u64s.ensures.bytes c.put_zeros.ensures.bytes
