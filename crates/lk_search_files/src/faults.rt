@@ -23,13 +23,5 @@ pub fn put_fault(
         SketchFault::BadLine => unreadable_sketch_line(line),
         SketchFault::BadRounds | SketchFault::TooManyLines => return Ok(()),
     };
-    match wrong {
-        Some((column, due)) => put_wrong(text, alloc, line, column, due),
-        None => {
-            writeln!(
-                text,
-                "  expected fewer threads than words of that many bits have values"
-            )
-        }
-    }
+    put_wrong(text, alloc, line, wrong)
 }

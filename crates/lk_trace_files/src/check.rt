@@ -123,7 +123,7 @@ impl Report {
         ensures { IfOk result (λ _. verdict_in self.new ≡ verdict_in self.old) }
     {
         let lock = checker.lock();
-        let (wrong, standing) = (Wrong::unnamed(lock, line, difference), Standing(lock));
+        let (wrong, standing) = (Wrong::new(lock, line, difference, &[]), Standing(lock));
         write!(self.message, "refused: {wrong}")?;
         self.facts = Facts::of(lock, trail, line, difference);
         put_blame(&mut self.notes, lock, trail, line, difference)?;

@@ -146,15 +146,13 @@ pub fn check_side_by_side<R: Threads + Sync, I: Read + Send + Drop>(
     )
 }
 
-// The inputs of a round, and of each file that is none of them the report.
-type Round<I> = (Vec<I>, Vec<Option<Report>>);
-
-// Opens the files of a round. Standard input is checked at once.
+// Opens the files of a round, and gives of each that is no input its report. Standard input is
+// checked at once.
 fn open_round<R: Runtime>(
     rt: &R,
     alloc: Global,
     names: &[String],
-) -> Result<Round<R::File>, AllocError> {
+) -> Result<(Vec<R::File>, Vec<Option<Report>>), AllocError> {
     let mut inputs = Vec::new(alloc);
     let mut early = Vec::new(alloc);
     for name in names {

@@ -5,7 +5,7 @@ mod faulty;
 
 use crate::check::Ending;
 use crate::failures::Failure;
-use crate::rewriting::{Rewriter, Stopped, rewrite};
+use crate::rewriting::{Rewriter, rewrite};
 use crate::sentences::sentence;
 use crate::texts::{Called, Lock, Standing, Wrong};
 use faulty::put_fault;
@@ -134,13 +134,7 @@ impl Rewriter for Explainer<'_> {
                 Ok(None)
             }
             Event::Differs(line, difference) => {
-                let names = self.asked.names;
-                let wrong = Wrong {
-                    lock,
-                    line,
-                    difference,
-                    names,
-                };
+                let wrong = Wrong::new(lock, line, difference, self.asked.names);
                 let standing = Standing(lock);
                 writeln!(text, "{number}: refused: {wrong}\n  {standing}")?;
                 put_due(text, lock.machine(), line.thread)?;
@@ -171,14 +165,14 @@ pub fn explain_input<R: Read + Drop, O: Write>(
     let (number, stopped) = rewrite(alloc, input, &mut explainer, output)?;
     let mut text = String::new(alloc);
     let ending = match stopped {
-        Stopped::AtEnd if explainer.trace.checker().is_some() => Ending::Accepted,
-        Stopped::AtEnd => {
+        Ok(None) if explainer.trace.checker().is_some() => Ending::Accepted,
+        Ok(None) => {
             let fault = TextFault::NoHeader;
             writeln!(text, "{number}: {fault}")?;
             Ending::Faulty
         }
-        Stopped::At(ending) => ending,
-        Stopped::Unread(error) => {
+        Ok(Some(ending)) => ending,
+        Err(error) => {
             writeln!(text, "{number}: {error}")?;
             Ending::Unread
         }

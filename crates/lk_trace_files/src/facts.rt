@@ -32,23 +32,16 @@ pub enum Facts {
     Refused(TraceLine, Difference, Option<LastPoll>),
 }
 
-// The name of a refusal of the lock.
-fn refusal_code(refusal: Refusal) -> &'static str {
-    match refusal {
-        Refusal::NoSuchThread => "NoSuchThread",
-        Refusal::WrongLock => "WrongLock",
-        Refusal::Busy => "Busy",
-        Refusal::NotHolder => "NotHolder",
-        Refusal::AlreadyHolds => "AlreadyHolds",
-        Refusal::NoCall => "NoCall",
-        Refusal::WrongStep { .. } => "WrongStep",
-    }
-}
-
-// The name of a difference.
+// The name of a difference, or of the lock's refusal.
 fn difference_code(difference: Difference) -> &'static str {
     match difference {
-        Difference::Refused(refusal) => refusal_code(refusal),
+        Difference::Refused(Refusal::NoSuchThread) => "NoSuchThread",
+        Difference::Refused(Refusal::WrongLock) => "WrongLock",
+        Difference::Refused(Refusal::Busy) => "Busy",
+        Difference::Refused(Refusal::NotHolder) => "NotHolder",
+        Difference::Refused(Refusal::AlreadyHolds) => "AlreadyHolds",
+        Difference::Refused(Refusal::NoCall) => "NoCall",
+        Difference::Refused(Refusal::WrongStep { .. }) => "WrongStep",
         Difference::OtherWord { .. } => "OtherWord",
         Difference::FoundOther { .. } => "FoundOther",
         Difference::LeftOther { .. } => "LeftOther",
@@ -56,22 +49,6 @@ fn difference_code(difference: Difference) -> &'static str {
         Difference::CountNotAbove { .. } => "CountNotAbove",
         Difference::OtherOutcome { .. } => "OtherOutcome",
     }
-}
-
-// The name of a fault of a text.
-fn fault_code(fault: TextFault) -> &'static str {
-    match fault {
-        TextFault::NoHeader => "NoHeader",
-        TextFault::BadHeader => "BadHeader",
-        TextFault::BadThreads => "BadThreads",
-        TextFault::WordsTooNarrow => "WordsTooNarrow",
-        TextFault::BadLine => "BadLine",
-    }
-}
-
-// How a compare-and-swap ended, as a trace says it.
-fn result_text(wrote: bool) -> &'static str {
-    if wrote { "done" } else { "failed" }
 }
 
 // The last poll of a thread, if its last move was one.
@@ -104,17 +81,16 @@ impl Facts {
 
     /// Writes them as further fields of a JSON object.
     pub fn put_fields(&self, text: &mut String) -> Result<(), AllocError> {
-        let code = match self {
-            Facts::Nothing => return Ok(()),
-            Facts::Unread => "Unread",
-            Facts::Hangs => "Hangs",
-            Facts::Fault(fault) => fault_code(*fault),
-            Facts::BadLog(bad) => return put_bad_log(text, *bad),
+        match self {
+            Facts::Nothing => Ok(()),
+            Facts::Unread => text.push_str(",\"code\":\"Unread\""),
+            Facts::Hangs => text.push_str(",\"code\":\"Hangs\""),
+            Facts::Fault(fault) => write!(text, ",\"code\":\"{fault:?}\""),
+            Facts::BadLog(bad) => put_bad_log(text, *bad),
             Facts::Refused(line, difference, poll) => {
-                return put_refused(text, *line, *difference, *poll);
+                put_refused(text, *line, *difference, *poll)
             }
-        };
-        write!(text, ",\"code\":\"{code}\"")
+        }
     }
 }
 
@@ -175,20 +151,25 @@ fn put_value(text: &mut String, difference: Difference) -> Result<(), AllocError
             ",\"word\":\"{word}\",\"expected\":\"{word}\",\"found\":\"{given}\""
         ),
         Difference::OtherWord { word: None, given } => write!(text, ",\"found\":\"{given}\""),
-        Difference::FoundOther { word, found, given } => {
-            write!(
-                text,
-                ",\"word\":\"{word}\",\"expected\":{found},\"found\":{given}"
-            )
+        Difference::FoundOther {
+            word,
+            found: own,
+            given,
         }
-        Difference::LeftOther { word, left, given } => {
-            write!(
-                text,
-                ",\"word\":\"{word}\",\"expected\":{left},\"found\":{given}"
-            )
-        }
+        | Difference::LeftOther {
+            word,
+            left: own,
+            given,
+        } => write!(
+            text,
+            ",\"word\":\"{word}\",\"expected\":{own},\"found\":{given}"
+        ),
         Difference::WroteOther { wrote } => {
-            let (own, given) = (result_text(wrote), result_text(!wrote));
+            let (own, given) = if wrote {
+                ("done", "failed")
+            } else {
+                ("failed", "done")
+            };
             write!(text, ",\"expected\":\"{own}\",\"found\":\"{given}\"")
         }
         Difference::CountNotAbove { last, given } => {

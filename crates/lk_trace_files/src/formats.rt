@@ -17,63 +17,24 @@ pub enum Format {
 
 const UNCONTENDED: &str = "no thread ever waited, so the run shows nothing of contention";
 
-// The colors of a terminal, and the end of one.
+// The colors of a terminal.
 const RED: &str = "\x1b[1;31m";
 
 const PURPLE: &str = "\x1b[1;35m";
 
 const CYAN: &str = "\x1b[1;36m";
 
-const PLAIN: &str = "\x1b[0m";
-
-/// Text in a color, if there are colors.
+// Text in a color, if there are colors.
 #[derive(Clone, Copy)]
-pub struct Painted<'a> {
-    pub color: &'static str,
-    pub text: &'a str,
-    pub colored: bool,
-}
+struct Painted<'a>(bool, &'static str, &'a str);
 
 impl fmt::Display for Painted<'_> {
     fn fmt<W: fmt::Write>(&self, f: &mut fmt::Formatter<W>) -> fmt::Result {
-        let Painted {
-            color,
-            text,
-            colored,
-        } = *self;
+        let Painted(colored, color, text) = *self;
         if colored {
-            write!(f, "{color}{text}{PLAIN}")
+            write!(f, "{color}{text}\x1b[0m")
         } else {
             f.write_str(text)
-        }
-    }
-}
-
-impl<'a> Painted<'a> {
-    /// What is wrong.
-    pub fn wrong(text: &'a str, colored: bool) -> Painted<'a> {
-        Painted {
-            color: RED,
-            text,
-            colored,
-        }
-    }
-
-    /// The word that begins a warning.
-    pub fn warning(colored: bool) -> Painted<'a> {
-        Painted {
-            color: PURPLE,
-            text: "warning:",
-            colored,
-        }
-    }
-
-    /// The word that begins a note.
-    pub fn note(colored: bool) -> Painted<'a> {
-        Painted {
-            color: CYAN,
-            text: "note:",
-            colored,
         }
     }
 }
@@ -88,11 +49,11 @@ fn put_place(text: &mut String, name: &str, line: u64) -> Result<(), AllocError>
 }
 
 /// Writes texts about lines, each with this word before it. A text of no file is of the one named.
-pub fn put_noted(
+pub fn put_noted<T: fmt::Display + Drop>(
     text: &mut String,
     name: &str,
     notes: &Notes,
-    word: &str,
+    word: T,
 ) -> Result<(), AllocError> {
     for note in notes.as_slice() {
         let file = if note.file.is_empty() {
@@ -107,21 +68,6 @@ pub fn put_noted(
     Ok(())
 }
 
-// Writes the notes of a report as lines of text.
-fn put_notes(
-    text: &mut String,
-    name: &str,
-    notes: &Notes,
-    colored: bool,
-) -> Result<(), AllocError> {
-    for note in notes.as_slice() {
-        let (begin, said) = (Painted::note(colored), &note.text);
-        put_place(text, name, note.line)?;
-        writeln!(text, "{begin} {said}")?;
-    }
-    Ok(())
-}
-
 fn put_text(
     text: &mut String,
     name: &str,
@@ -130,23 +76,23 @@ fn put_text(
     colored: bool,
 ) -> Result<(), AllocError> {
     let (line, standing) = (report.line, &report.standing);
+    let note = Painted(colored, CYAN, "note:");
     if report.ending != Ending::Accepted {
-        let message = Painted::wrong(report.message.as_str(), colored);
+        let message = Painted(colored, RED, report.message.as_str());
         put_place(text, name, line)?;
         writeln!(text, "{message}")?;
     }
-    put_notes(text, name, &report.notes, colored)?;
+    put_noted(text, name, &report.notes, format_args!("{note} "))?;
     if !standing.is_empty() {
-        let begin = Painted::note(colored);
         put_place(text, name, line)?;
-        writeln!(text, "{begin} {standing}")?;
+        writeln!(text, "{note} {standing}")?;
     }
     if counted {
         let summary = &report.summary;
         writeln!(text, "{name}: {summary}")?;
         if !summary.is_contended() {
-            let begin = Painted::warning(colored);
-            writeln!(text, "{name}: {begin} {UNCONTENDED}")?;
+            let warning = Painted(colored, PURPLE, "warning:");
+            writeln!(text, "{name}: {warning} {UNCONTENDED}")?;
         }
     }
     Ok(())

@@ -22,34 +22,24 @@ pub trait Rewriter {
     ) -> Result<Option<Self::Stop>, AllocError>;
 }
 
-/// Where a text ended.
-#[derive(Drop)]
-pub enum Stopped<S> {
-    /// At the end of the input.
-    AtEnd,
-    At(S),
-    Unread(Error),
-}
-
-/// Writes what becomes of an input, and gives with its end the number of the last line, from 1: at
-/// the end of the input one more than it has.
+/// Writes what becomes of an input, and gives the number of the last line, from 1, and why the text
+/// stops there. At the end of the input there is no reason, and the number is one more than it has.
 pub fn rewrite<R: Read + Drop, W: Rewriter, O: Write>(
     alloc: Global,
     input: R,
     rewriter: &mut W,
     output: &mut O,
-) -> Result<(u64, Stopped<W::Stop>), Failure> {
+) -> Result<(u64, Result<Option<W::Stop>, Error>), Failure> {
     let mut lines = Lines::new(alloc, input)?;
     let mut line = Line::new();
     let mut text = String::new(alloc);
     for number in 1..u64::MAX {
         let stopped = match lines.next_line(&mut line) {
-            Ok(true) => match rewriter.line(number, line.bytes(), &mut text)? {
-                Some(stop) => Some(Stopped::At(stop)),
-                None => None,
-            },
-            Ok(false) => Some(Stopped::AtEnd),
-            Err(error) => Some(Stopped::Unread(error)),
+            Ok(true) => rewriter
+                .line(number, line.bytes(), &mut text)?
+                .map(|stop| Ok(Some(stop))),
+            Ok(false) => Some(Ok(None)),
+            Err(error) => Some(Err(error)),
         };
         if text.len() > MOST_WAITING || stopped.is_some() {
             output.write_all(text.as_bytes())?;
@@ -59,8 +49,5 @@ pub fn rewrite<R: Read + Drop, W: Rewriter, O: Write>(
             return Ok((number, stopped));
         }
     }
-    Ok((
-        u64::MAX,
-        Stopped::Unread(Error::from(ErrorKind::FileTooLarge)),
-    ))
+    Ok((u64::MAX, Err(Error::from(ErrorKind::FileTooLarge))))
 }

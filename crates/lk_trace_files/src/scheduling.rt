@@ -3,7 +3,7 @@
 
 use crate::check::Ending;
 use crate::failures::Failure;
-use crate::rewriting::{Rewriter, Stopped, rewrite};
+use crate::rewriting::{Rewriter, rewrite};
 use lk_replay::parts::{is_skipped, move_text};
 use lk_trace::{TextFault, read_header, read_line};
 use std::alloc::{AllocError, Global};
@@ -86,9 +86,9 @@ pub fn write_schedule<R: Read + Drop, O: Write>(
     let (number, stopped) = rewrite(alloc, input, &mut shortener, output)?;
     output.flush()?;
     Ok(match stopped {
-        Stopped::AtEnd if shortener.begun => Ok(()),
-        Stopped::AtEnd => Err(Unscheduled::Faulty(number, TextFault::NoHeader)),
-        Stopped::At(fault) => Err(Unscheduled::Faulty(number, fault)),
-        Stopped::Unread(error) => Err(Unscheduled::Unread(error)),
+        Ok(None) if shortener.begun => Ok(()),
+        Ok(None) => Err(Unscheduled::Faulty(number, TextFault::NoHeader)),
+        Ok(Some(fault)) => Err(Unscheduled::Faulty(number, fault)),
+        Err(error) => Err(Unscheduled::Unread(error)),
     })
 }

@@ -4,9 +4,7 @@ use lk_locks::{Holders, LockKind, Move, Refusal, Tracker};
 use lk_replay::parts::{lock_text, move_text, outcome_text};
 use lk_trace::{Difference, Seen, TraceLine, WordName};
 use lk_words::WordArray;
-use std::alloc::AllocError;
 use std::fmt;
-use std::fmt::Write;
 
 /// A lock that is followed along a trace.
 pub type Lock = Tracker<WordArray>;
@@ -15,33 +13,22 @@ pub type Lock = Tracker<WordArray>;
 #[derive(Clone, Copy)]
 pub struct Shown<'a>(pub &'a TraceLine);
 
-impl fmt::Display for Shown<'_> {
-    fn fmt<W: fmt::Write>(&self, f: &mut fmt::Formatter<W>) -> fmt::Result {
-        let (thread, word) = (self.0.thread, move_text(self.0.action));
-        write!(f, "{thread} {word}")?;
-        let seen = SeenBy(thread, self.0.seen);
-        write!(f, "{seen}")
-    }
-}
-
-// What a thread saw, each part with a space before it.
-#[derive(Clone, Copy)]
-struct SeenBy(u8, Seen);
-
-impl SeenBy {
+impl Shown<'_> {
     // Writes the word that a step was on. `of` is left out of the thread's own record.
     fn put_word<W: fmt::Write>(&self, f: &mut fmt::Formatter<W>, word: WordName) -> fmt::Result {
         match word {
-            WordName::Next(owner) if owner == self.0 => f.write_str(" next"),
-            WordName::Locked(owner) if owner == self.0 => f.write_str(" locked"),
+            WordName::Next(owner) if owner == self.0.thread => f.write_str(" next"),
+            WordName::Locked(owner) if owner == self.0.thread => f.write_str(" locked"),
             _ => write!(f, " {word}"),
         }
     }
 }
 
-impl fmt::Display for SeenBy {
+impl fmt::Display for Shown<'_> {
     fn fmt<W: fmt::Write>(&self, f: &mut fmt::Formatter<W>) -> fmt::Result {
-        match self.1 {
+        let (thread, word) = (self.0.thread, move_text(self.0.action));
+        write!(f, "{thread} {word}")?;
+        match self.0.seen {
             Seen::Nothing => {}
             Seen::OnWord {
                 word,
@@ -72,12 +59,6 @@ impl fmt::Display for SeenBy {
         }
         Ok(())
     }
-}
-
-/// Writes a line of a trace, with its end.
-pub fn put_line(text: &mut String, line: &TraceLine) -> Result<(), AllocError> {
-    let line = Shown(line);
-    writeln!(text, "{line}")
 }
 
 // A list of threads, or `nobody`.
@@ -140,20 +121,25 @@ impl fmt::Display for Called<'_> {
 /// In what a line differs from the machine, for threads of these names.
 #[derive(Clone, Copy)]
 pub struct Wrong<'a> {
-    pub lock: &'a Lock,
-    pub line: TraceLine,
-    pub difference: Difference,
-    pub names: &'a [String],
+    lock: &'a Lock,
+    line: TraceLine,
+    difference: Difference,
+    names: &'a [String],
 }
 
 impl<'a> Wrong<'a> {
-    /// The same for threads that are called by their numbers.
-    pub fn unnamed(lock: &'a Lock, line: TraceLine, difference: Difference) -> Wrong<'a> {
+    /// A thread without a name is called by its number.
+    pub fn new(
+        lock: &'a Lock,
+        line: TraceLine,
+        difference: Difference,
+        names: &'a [String],
+    ) -> Wrong<'a> {
         Wrong {
             lock,
             line,
             difference,
-            names: &[],
+            names,
         }
     }
 
@@ -185,41 +171,16 @@ impl<'a> Wrong<'a> {
     }
 }
 
-impl Wrong<'_> {
-    // Writes which word is another than the lock's.
-    fn put_other_word<W: fmt::Write>(
-        &self,
-        f: &mut fmt::Formatter<W>,
-        word: Option<WordName>,
-        given: WordName,
-    ) -> fmt::Result {
+impl fmt::Display for Wrong<'_> {
+    fn fmt<W: fmt::Write>(&self, f: &mut fmt::Formatter<W>) -> fmt::Result {
         let called = Called(self.line.thread, self.names);
-        let step = move_text(self.line.action);
-        write!(f, "{called}'s {step} is on {given}, and the lock's is on ")?;
-        match word {
-            Some(word) => write!(f, "{word}"),
-            None => f.write_str("no single word"),
-        }
-    }
-
-    // Writes which value, word or result is another than the lock's.
-    fn put_value<W: fmt::Write>(&self, f: &mut fmt::Formatter<W>) -> fmt::Result {
-        let called = Called(self.line.thread, self.names);
-        let step = move_text(self.line.action);
-        match self.difference {
-            Difference::FoundOther { word, found, given } => {
-                write!(
-                    f,
-                    "{called}'s {step} found {given} in {word}, and the lock has {found}"
-                )
+        let (step, difference) = (move_text(self.line.action), self.difference);
+        match difference {
+            Difference::Refused(refusal) => self.put_refusal(f, refusal),
+            Difference::OtherWord { .. } => write!(f, "{called}'s {step} is {difference}"),
+            Difference::FoundOther { .. } | Difference::LeftOther { .. } => {
+                write!(f, "{called}'s {step} {difference}")
             }
-            Difference::LeftOther { word, left, given } => {
-                write!(
-                    f,
-                    "{called}'s {step} left {given} in {word}, and the lock leaves {left}"
-                )
-            }
-            Difference::OtherWord { word, given } => self.put_other_word(f, word, given),
             Difference::WroteOther { wrote: true } => {
                 write!(f, "{called}'s {step} failed, and the lock's writes")
             }
@@ -239,16 +200,6 @@ impl Wrong<'_> {
                     "{called}'s section came to '{given}', and the lock's to '{outcome}'"
                 )
             }
-            Difference::Refused(_) => Ok(()),
-        }
-    }
-}
-
-impl fmt::Display for Wrong<'_> {
-    fn fmt<W: fmt::Write>(&self, f: &mut fmt::Formatter<W>) -> fmt::Result {
-        match self.difference {
-            Difference::Refused(refusal) => self.put_refusal(f, refusal),
-            _ => self.put_value(f),
         }
     }
 }

@@ -58,17 +58,12 @@ pub enum Color {
 /// The most workers of a check.
 pub const MOST_WORKERS: u8 = 64;
 
-const BAD_FORMAT: &str = "error: a format is text, tap or json\n";
-
-const BAD_COLOR: &str = "error: a color is auto, always or never\n";
-
-const BAD_LINES: &str = "error: --moves takes lines from 1 on, as 5..10, 5.. or 5\n";
-
-fn format_arg<'a>(alloc: Global) -> Arg<'a> {
+/// The option of a report's form: these are the forms.
+pub fn format_arg<'a>(alloc: Global, forms: &'a str) -> Arg<'a> {
     Arg::new(alloc, "format")
         .long("format")
         .value_name("FORMAT")
-        .help("text, tap or json")
+        .help(forms)
         .action(ArgAction::Set)
 }
 
@@ -107,7 +102,7 @@ fn check_command<'a>(alloc: Global) -> Result<Command<'a>, AllocError> {
         .action(ArgAction::Append);
     Command::new(alloc, "check")
         .about("Checks each move, and each value that is given, with the lock's machine")
-        .arg(format_arg(alloc))?
+        .arg(format_arg(alloc, "text, tap or json"))?
         .arg(summary)?
         .arg(quiet_arg(alloc))?
         .arg(color)?
@@ -159,7 +154,7 @@ fn order_command<'a>(alloc: Global) -> Result<Command<'a>, AllocError> {
              it found",
         )
         .arg(folder)?
-        .arg(format_arg(alloc))?
+        .arg(format_arg(alloc, "text, tap or json"))?
         .arg(quiet_arg(alloc))?
         .arg(logs)
 }
@@ -184,19 +179,19 @@ fn program_command<'a>(alloc: Global) -> Result<Command<'a>, AllocError> {
         .subcommand(schedule)
 }
 
-fn copied(alloc: Global, texts: &[&str]) -> Result<Vec<String>, AllocError> {
-    let mut copies = Vec::new(alloc);
-    for text in texts {
-        copies.push(String::from_str(alloc, *text)?)?;
-    }
-    Ok(copies)
+/// Copies of texts.
+pub fn copied<'a, I: Iterator<Item = &'a str>>(
+    alloc: Global,
+    texts: I,
+) -> Result<Vec<String>, AllocError> {
+    texts
+        .map(|text| String::from_str(alloc, text))
+        .try_collect(alloc)
 }
 
-fn usage(alloc: Global, text: &str) -> ParseFault {
-    match String::from_str(alloc, text) {
-        Ok(text) => ParseFault::Usage(text),
-        Err(error) => ParseFault::Memory(error),
-    }
+/// Says what is wrong with the words.
+pub fn usage<T>(alloc: Global, text: &str) -> Result<T, ParseFault> {
+    Err(ParseFault::Usage(String::from_str(alloc, text)?))
 }
 
 // The file that was named, or else standard input.
@@ -206,54 +201,39 @@ fn file_given(alloc: Global, matches: &ArgMatches<'_>) -> Result<String, AllocEr
 
 // The form of reports that was asked for.
 fn format_given(alloc: Global, matches: &ArgMatches<'_>) -> Result<Format, ParseFault> {
-    let format = matches.get_str("format").unwrap_or("text");
-    if format == "text" {
-        Ok(Format::Text)
-    } else if format == "tap" {
-        Ok(Format::Tap)
-    } else if format == "json" {
-        Ok(Format::Json)
-    } else {
-        Err(usage(alloc, BAD_FORMAT))
-    }
-}
-
-// When colors were asked for.
-fn color_given(alloc: Global, matches: &ArgMatches<'_>) -> Result<Color, ParseFault> {
-    let color = matches.get_str("color").unwrap_or("auto");
-    if color == "auto" {
-        Ok(Color::Auto)
-    } else if color == "always" {
-        Ok(Color::Always)
-    } else if color == "never" {
-        Ok(Color::Never)
-    } else {
-        Err(usage(alloc, BAD_COLOR))
+    match matches.get_str("format").unwrap_or("text").as_bytes() {
+        b"text" => Ok(Format::Text),
+        b"tap" => Ok(Format::Tap),
+        b"json" => Ok(Format::Json),
+        _ => usage(alloc, "error: a format is text, tap or json\n"),
     }
 }
 
 fn check_given(alloc: Global, matches: &ArgMatches<'_>) -> Result<Job, ParseFault> {
-    let mut files = copied(alloc, matches.get_strs("files").unwrap_or(&[]))?;
-    if files.is_empty() {
-        files.push(String::from_str(alloc, "-")?)?;
-    }
-    let color = color_given(alloc, matches)?;
+    let files = matches.get_strs("files").unwrap_or(&["-"]);
+    let color = match matches.get_str("color").unwrap_or("auto").as_bytes() {
+        b"auto" => Color::Auto,
+        b"always" => Color::Always,
+        b"never" => Color::Never,
+        _ => return usage(alloc, "error: a color is auto, always or never\n"),
+    };
     let job = CheckJob {
         format: format_given(alloc, matches)?,
         summary: matches.get_flag("summary"),
         quiet: matches.get_flag("quiet"),
         colored: false,
         workers: matches.get_one::<u8>("jobs").unwrap_or(1),
-        files,
+        files: copied(alloc, files.iter().copied())?,
     };
     Ok(Job::Check { job, color })
 }
 
 fn order_given(alloc: Global, matches: &ArgMatches<'_>) -> Result<Job, ParseFault> {
+    let logs = matches.get_strs("logs").unwrap_or(&[]);
     Ok(Job::Order(OrderJob {
         format: format_given(alloc, matches)?,
         quiet: matches.get_flag("quiet"),
-        logs: copied(alloc, matches.get_strs("logs").unwrap_or(&[]))?,
+        logs: copied(alloc, logs.iter().copied())?,
         folder: String::from_str(alloc, matches.get_str("folder").unwrap_or("."))?,
     }))
 }
@@ -274,35 +254,21 @@ fn lines_of(text: &str) -> Option<(u64, u64)> {
 }
 
 fn explain_given(alloc: Global, matches: &ArgMatches<'_>) -> Result<Job, ParseFault> {
-    let lines = match matches.get_str("moves") {
-        Some(text) => match lines_of(text) {
-            Some(lines) => lines,
-            None => return Err(usage(alloc, BAD_LINES)),
-        },
-        None => (1, u64::MAX),
+    let Some(lines) = lines_of(matches.get_str("moves").unwrap_or("1..")) else {
+        return usage(
+            alloc,
+            "error: --moves takes lines from 1 on, as 5..10, 5.. or 5\n",
+        );
     };
-    let mut names = Vec::new(alloc);
-    if let Some(text) = matches.get_str("names") {
-        for name in text.split(',') {
-            names.push(String::from_str(alloc, name)?)?;
-        }
-    }
+    let names = match matches.get_str("names") {
+        Some(names) => copied(alloc, names.split(','))?,
+        None => Vec::new(alloc),
+    };
     Ok(Job::Explain {
         file: file_given(alloc, matches)?,
         lines,
         names,
     })
-}
-
-// The job of a search, or what is wrong with its words.
-fn search_given(
-    alloc: Global,
-    given: Result<Result<SearchJob, &'static str>, AllocError>,
-) -> Result<Job, ParseFault> {
-    match given? {
-        Ok(job) => Ok(Job::Search(job)),
-        Err(text) => Err(usage(alloc, text)),
-    }
 }
 
 // What the parser's error is to the program.
@@ -322,19 +288,21 @@ pub fn parse_words(alloc: Global, words: &[String]) -> Result<Job, ParseFault> {
         Ok(matches) => matches,
         Err(error) => return Err(fault_of(alloc, &error)),
     };
-    match matches.subcommand() {
-        Some((name, check)) if name == "check" => check_given(alloc, check),
-        Some((name, explain)) if name == "explain" => explain_given(alloc, explain),
-        Some((name, order)) if name == "order" => order_given(alloc, order),
-        Some((name, find)) if name == "find" => search_given(alloc, find_given(alloc, find)),
-        Some((name, tour)) if name == "tour" => Ok(Job::Search(tour_given(alloc, tour)?)),
-        Some((name, space)) if name == "space" => search_given(alloc, space_given(alloc, space)),
-        Some((name, cover)) if name == "cover" => search_given(alloc, cover_given(alloc, cover)),
-        Some((_, schedule)) => Ok(Job::Schedule {
-            file: file_given(alloc, schedule)?,
-        }),
-        None => Ok(Job::Schedule {
+    let Some((name, given)) = matches.subcommand() else {
+        return Ok(Job::Schedule {
             file: String::from_str(alloc, "-")?,
+        });
+    };
+    match name.as_bytes() {
+        b"check" => check_given(alloc, given),
+        b"explain" => explain_given(alloc, given),
+        b"order" => order_given(alloc, given),
+        b"find" => Ok(Job::Search(find_given(alloc, given)?)),
+        b"tour" => Ok(Job::Search(tour_given(alloc, given)?)),
+        b"space" => Ok(Job::Search(space_given(alloc, given)?)),
+        b"cover" => Ok(Job::Search(cover_given(alloc, given)?)),
+        _ => Ok(Job::Schedule {
+            file: file_given(alloc, given)?,
         }),
     }
 }

@@ -5,11 +5,6 @@ use std::fs;
 use std::io::Error;
 use std::rt::Files;
 
-// Whether a file of this name has a trace or a schedule.
-fn is_run(name: &str) -> bool {
-    name.ends_with(".trace") || name.ends_with(".schedule")
-}
-
 // The traces and schedules in a folder, in the order of their names.
 fn runs_in<R: Files + Alloc + Clone + Drop>(
     rt: &R,
@@ -21,7 +16,7 @@ fn runs_in<R: Files + Alloc + Clone + Drop>(
     for entry in fs::read_dir(rt, folder)? {
         let entry = entry?;
         let name = entry.file_name();
-        if is_run(name) {
+        if name.ends_with(".trace") || name.ends_with(".schedule") {
             files.push(format!(in alloc; "{folder}{mark}{name}")?)?;
         }
     }
@@ -29,35 +24,23 @@ fn runs_in<R: Files + Alloc + Clone + Drop>(
     Ok(files)
 }
 
-// Whether there is a folder of this name.
-fn is_folder<R: Files>(rt: &R, name: &str) -> bool {
-    match fs::metadata(rt, name) {
-        Ok(metadata) => metadata.is_dir(),
-        Err(_) => false,
-    }
-}
-
 /// The files that these names mean. A folder that has no trace and no schedule, or that cannot be
 /// read, keeps its name.
 pub fn files_named<R: Files + Alloc + Clone + Drop>(
     rt: &R,
     alloc: Global,
-    names: Vec<String>,
+    names: &[String],
 ) -> Result<Vec<String>, AllocError> {
     let mut files = Vec::new(alloc);
     for name in names {
-        let found = if name.as_str() != "-" && is_folder(rt, name.as_str()) {
-            runs_in(rt, alloc, name.as_str()).unwrap_or(Vec::new(alloc))
-        } else {
-            Vec::new(alloc)
-        };
+        let mut found = Vec::new(alloc);
+        if name.as_str() != "-" {
+            found = runs_in(rt, alloc, name).unwrap_or(found);
+        }
         if found.is_empty() {
-            files.push(name)?;
-            continue;
+            found.push(name.clone()?)?;
         }
-        for file in found {
-            files.push(file)?;
-        }
+        files.extend(found)?;
     }
     Ok(files)
 }

@@ -12,8 +12,8 @@ use command_line::{Color, Job, ParseFault, parse_words};
 use folders::files_named;
 use lk_search_files::{count_space, cover_traces, find_run, write_tour};
 use lk_trace_files::{
-    Asked, CheckJob, Ending, Failure, Status, Unscheduled, check_files, explain_input, order_logs,
-    worst, write_schedule,
+    Asked, Ending, Failure, Status, Unscheduled, check_files, explain_input, order_logs, worst,
+    write_schedule,
 };
 use searches::SearchJob;
 use std::alloc::{AllocError, Global};
@@ -136,30 +136,6 @@ struct Terminals {
     errors: bool,
 }
 
-// Checks the files that a job names.
-fn check_named<R: Runtime + Threads + Sync + Clone + Drop, O: Write>(
-    rt: &R,
-    alloc: Global,
-    job: CheckJob,
-    colored: bool,
-    told: bool,
-    output: &mut O,
-) -> Result<u8, Failure>
-where
-    R::File: Send,
-{
-    let told = told && !job.quiet;
-    let job = CheckJob {
-        files: files_named(rt, alloc, job.files)?,
-        colored,
-        format: job.format,
-        summary: job.summary,
-        quiet: job.quiet,
-        workers: job.workers,
-    };
-    Ok(worst(&check_files(rt, alloc, &job, told, output)?))
-}
-
 // Does a job, and gives the status that the program ends with.
 fn perform<R: Runtime + Threads + Sync + Clone + Drop, O: Write>(
     rt: &R,
@@ -172,13 +148,15 @@ where
     R::File: Send,
 {
     match job {
-        Job::Check { job, color } => {
-            let colored = match color {
+        Job::Check { mut job, color } => {
+            job.colored = match color {
                 Color::Auto => terminals.output,
                 Color::Always => true,
                 Color::Never => false,
             };
-            check_named(rt, alloc, job, colored, terminals.errors, output)
+            job.files = files_named(rt, alloc, &job.files)?;
+            let told = terminals.errors && !job.quiet;
+            Ok(worst(&check_files(rt, alloc, &job, told, output)?))
         }
         Job::Schedule { file } => Ok(write_file(rt, alloc, &file, output)?.status()),
         Job::Explain { file, lines, names } => {

@@ -1,5 +1,6 @@
 //! The words of the commands that search a lock's space, and the jobs that they ask for.
 
+use crate::command_line::{ParseFault, copied, format_arg, usage};
 use clap::{Arg, ArgAction, ArgMatches, Command, value_parser};
 use lk_search_files::{Asked, CoverJob, Format, Source, SpaceFormat, is_kind};
 use std::alloc::{AllocError, Global};
@@ -29,15 +30,6 @@ pub enum SearchJob {
     },
     Cover(CoverJob),
 }
-
-const BAD_SKETCH: &str =
-    "error: give a lock, its threads and the lines of a sketch, or the file of one\n";
-
-const BAD_KIND: &str = "error: --require names a kind of transition that no lock has\n";
-
-const BAD_FORMAT: &str = "error: a format is text or json\n";
-
-const BAD_SPACE_FORMAT: &str = "error: a format is text, json or dot\n";
 
 fn with_bounds<'a>(alloc: Global, command: Command<'a>) -> Result<Command<'a>, AllocError> {
     let rounds = Arg::new(alloc, "rounds")
@@ -72,14 +64,6 @@ pub fn find_command<'a>(alloc: Global) -> Result<Command<'a>, AllocError> {
         "Finds a shortest run that has these lines in this order, or says that none has",
     );
     with_bounds(alloc, command)?.arg(words)
-}
-
-fn format_arg<'a>(alloc: Global, forms: &'a str) -> Arg<'a> {
-    Arg::new(alloc, "format")
-        .long("format")
-        .value_name("FORMAT")
-        .help(forms)
-        .action(ArgAction::Set)
 }
 
 fn with_lock<'a>(alloc: Global, command: Command<'a>) -> Result<Command<'a>, AllocError> {
@@ -159,73 +143,49 @@ fn header_of(
     }
 }
 
-/// The job of the command `find`, or what is wrong with its words.
-pub fn find_given(
-    alloc: Global,
-    matches: &ArgMatches<'_>,
-) -> Result<Result<SearchJob, &'static str>, AllocError> {
+/// The job of the command `find`.
+pub fn find_given(alloc: Global, matches: &ArgMatches<'_>) -> Result<SearchJob, ParseFault> {
     let words = matches.get_strs("words").unwrap_or(&[]);
     let source = match words {
         [file] => Source::File(String::from_str(alloc, *file)?),
         [lock, threads, _, ..] => {
             let mut lines = Vec::new(alloc);
             lines.push(header_of(alloc, matches, *lock, *threads)?)?;
-            for line in words.iter().skip(2) {
-                lines.push(String::from_str(alloc, *line)?)?;
-            }
+            lines.extend(copied(alloc, words.iter().copied().skip(2))?)?;
             Source::Words(lines)
         }
-        _ => return Ok(Err(BAD_SKETCH)),
+        _ => {
+            return usage(
+                alloc,
+                "error: give a lock, its threads and the lines of a sketch, or the file of one\n",
+            );
+        }
     };
     let asked = asked_of(matches);
-    Ok(Ok(SearchJob::Find { source, asked }))
-}
-
-fn format_of(matches: &ArgMatches<'_>) -> Option<Format> {
-    let format = matches.get_str("format").unwrap_or("text");
-    if format == "text" {
-        Some(Format::Text)
-    } else if format == "json" {
-        Some(Format::Json)
-    } else {
-        None
-    }
+    Ok(SearchJob::Find { source, asked })
 }
 
 // A sketch of no lines, of the lock that is named.
 fn lock_given(alloc: Global, matches: &ArgMatches<'_>) -> Result<Vec<String>, AllocError> {
     let lock = matches.get_str("lock").unwrap_or("");
     let threads = matches.get_str("threads").unwrap_or("");
-    let mut header = Vec::new(alloc);
-    header.push(header_of(alloc, matches, lock, threads)?)?;
-    Ok(header)
+    let header = header_of(alloc, matches, lock, threads)?;
+    vec![in alloc; header]
 }
 
-fn space_format_of(matches: &ArgMatches<'_>) -> Option<SpaceFormat> {
-    if matches.get_str("format").unwrap_or("text") == "dot" {
-        return Some(SpaceFormat::Dot);
-    }
-    match format_of(matches)? {
-        Format::Text => Some(SpaceFormat::Text),
-        Format::Json => Some(SpaceFormat::Json),
-    }
-}
-
-/// The job of the command `space`, or what is wrong with its words.
-pub fn space_given(
-    alloc: Global,
-    matches: &ArgMatches<'_>,
-) -> Result<Result<SearchJob, &'static str>, AllocError> {
-    let Some(format) = space_format_of(matches) else {
-        return Ok(Err(BAD_SPACE_FORMAT));
+/// The job of the command `space`.
+pub fn space_given(alloc: Global, matches: &ArgMatches<'_>) -> Result<SearchJob, ParseFault> {
+    let format = match matches.get_str("format").unwrap_or("text").as_bytes() {
+        b"text" => SpaceFormat::Text,
+        b"json" => SpaceFormat::Json,
+        b"dot" => SpaceFormat::Dot,
+        _ => return usage(alloc, "error: a format is text, json or dot\n"),
     };
-    let header = lock_given(alloc, matches)?;
-    let asked = asked_of(matches);
-    Ok(Ok(SearchJob::Space {
-        header,
-        asked,
+    Ok(SearchJob::Space {
+        header: lock_given(alloc, matches)?,
+        asked: asked_of(matches),
         format,
-    }))
+    })
 }
 
 /// The job of the command `tour`.
@@ -237,43 +197,29 @@ pub fn tour_given(alloc: Global, matches: &ArgMatches<'_>) -> Result<SearchJob, 
     })
 }
 
-// The kinds that are required, or none if one of them is not known.
-fn required_of(alloc: Global, text: &str) -> Result<Option<Vec<String>>, AllocError> {
-    let mut required = Vec::new(alloc);
-    for name in text.split(',') {
-        if !is_kind(name) {
-            return Ok(None);
+/// The job of the command `cover`.
+pub fn cover_given(alloc: Global, matches: &ArgMatches<'_>) -> Result<SearchJob, ParseFault> {
+    let format = match matches.get_str("format").unwrap_or("text").as_bytes() {
+        b"text" => Format::Text,
+        b"json" => Format::Json,
+        _ => return usage(alloc, "error: a format is text or json\n"),
+    };
+    let (all, required) = match matches.get_str("require") {
+        None => (false, Vec::new(alloc)),
+        Some(text) if text == "all" => (true, Vec::new(alloc)),
+        Some(text) if text.split(',').all(is_kind) => (false, copied(alloc, text.split(','))?),
+        Some(_) => {
+            return usage(
+                alloc,
+                "error: --require names a kind of transition that no lock has\n",
+            );
         }
-        required.push(String::from_str(alloc, name)?)?;
-    }
-    Ok(Some(required))
-}
-
-/// The job of the command `cover`, or what is wrong with its words.
-pub fn cover_given(
-    alloc: Global,
-    matches: &ArgMatches<'_>,
-) -> Result<Result<SearchJob, &'static str>, AllocError> {
-    let Some(format) = format_of(matches) else {
-        return Ok(Err(BAD_FORMAT));
     };
-    let required = matches.get_str("require");
-    let all = required.unwrap_or("") == "all";
-    let required = match required {
-        Some(text) if !all => match required_of(alloc, text)? {
-            Some(required) => required,
-            None => return Ok(Err(BAD_KIND)),
-        },
-        _ => Vec::new(alloc),
-    };
-    let mut files = Vec::new(alloc);
-    for file in matches.get_strs("files").unwrap_or(&["-"]) {
-        files.push(String::from_str(alloc, *file)?)?;
-    }
-    Ok(Ok(SearchJob::Cover(CoverJob {
+    let files = matches.get_strs("files").unwrap_or(&["-"]);
+    Ok(SearchJob::Cover(CoverJob {
         format,
         all,
         required,
-        files,
-    })))
+        files: copied(alloc, files.iter().copied())?,
+    }))
 }

@@ -16,18 +16,15 @@ fn nearest(
     word: &str,
     words: &'static [&'static str],
 ) -> Result<Option<&'static str>, AllocError> {
-    let mut best: Option<(usize, &'static str)> = None;
+    let (mut least, mut best) = (MOST_EDITS + 1, None);
     for known in words {
         let edits = levenshtein(alloc, word, known)?;
-        let nearer = match best {
-            Some((least, _)) => edits < least,
-            None => true,
-        };
-        if nearer && edits <= MOST_EDITS && edits.saturating_mul(2) <= known.len() {
-            best = Some((edits, *known));
+        if edits < least && edits.saturating_mul(2) <= known.len() {
+            least = edits;
+            best = Some(*known);
         }
     }
-    Ok(best.map(|(_, known)| known))
+    Ok(best)
 }
 
 /// The column, from 1, at which a line stops being a header, and what could be there.
@@ -36,14 +33,20 @@ pub fn wrong_in_header(line: &[u8]) -> Option<(usize, Due)> {
     Some((place.column, Due::OfSchedule(place.expected)))
 }
 
-/// Writes what is at a column of a line, what could be there, and the nearest word.
+/// Writes what is at this column of a line, what could be there, and the nearest word. A line with
+/// no such column is a header whose numbers do not go together.
 pub fn put_wrong(
     text: &mut String,
     alloc: Global,
     line: &[u8],
-    column: usize,
-    due: Due,
+    wrong: Option<(usize, Due)>,
 ) -> Result<(), AllocError> {
+    let Some((column, due)) = wrong else {
+        return writeln!(
+            text,
+            "  expected fewer threads than words of that many bits have values"
+        );
+    };
     write!(text, "  column {column}: ")?;
     let Some(rest) = line.get(column.saturating_sub(1)..) else {
         return writeln!(text, "the end of the line, expected {due}");
@@ -75,13 +78,5 @@ pub fn put_fault(
         TextFault::BadLine => unreadable_line(line),
         _ => wrong_in_header(line),
     };
-    match wrong {
-        Some((column, due)) => put_wrong(text, alloc, line, column, due),
-        None => {
-            writeln!(
-                text,
-                "  expected fewer threads than words of that many bits have values"
-            )
-        }
-    }
+    put_wrong(text, alloc, line, wrong)
 }

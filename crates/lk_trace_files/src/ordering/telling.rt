@@ -33,7 +33,7 @@ impl fmt::Display for Why<'_> {
         let checker = order.checker();
         match checker.difference(line) {
             Some(difference) => {
-                let wrong = Wrong::unnamed(checker.lock(), line, difference);
+                let wrong = Wrong::new(checker.lock(), line, difference, &[]);
                 write!(f, "{wrong}")
             }
             None => f.write_str("a step of another thread has to come before"),

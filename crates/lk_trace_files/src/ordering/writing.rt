@@ -3,7 +3,7 @@
 
 use crate::course::{Course, Fate};
 use crate::failures::Failure;
-use crate::texts::put_line;
+use crate::texts::Shown;
 use lk_order::{Order, Piece, Pieces};
 use lk_replay::parts::{lock_text, move_text};
 use std::alloc::{AllocError, Global};
@@ -49,7 +49,8 @@ pub fn write_trace<O: Write>(
     put_header(&mut text, order)?;
     for k in 0..order.len() {
         if let Some(line) = order.line(k) {
-            put_line(&mut text, &line)?;
+            let line = Shown(&line);
+            writeln!(text, "{line}")?;
         }
         if text.len() > MOST_WAITING {
             output.write_all(text.as_bytes())?;
