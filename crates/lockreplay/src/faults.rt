@@ -46,10 +46,7 @@ impl ProgramFault {
     {
         let status = match self {
             ProgramFault::TooManyFiles => Status::Misused,
-            ProgramFault::Input
-            | ProgramFault::Output
-            | ProgramFault::Memory
-            | ProgramFault::File(_) => Status::Failed,
+            _ => Status::Failed,
         };
         status as u8
     }

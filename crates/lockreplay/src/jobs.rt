@@ -27,10 +27,8 @@ pub fn replay_input<R: Read, W: Write>(
 {
     let ran = run(alloc, input, output);
     let status = status_of(&ran);
-    match ran {
-        Ok(_) => Ok(status),
-        Err(fault) => Err(ProgramFault::from(fault)),
-    }
+    ran?;
+    Ok(status)
 }
 
 /// The text of the file of this number, from 1.
@@ -100,10 +98,8 @@ pub fn replay_files<R: Files + Threads + Sync, W: Write>(
     let Ok(reports) = report_many(rt, alloc, &texts, workers, &OpenGate) else {
         return Err(ProgramFault::Memory);
     };
-    match send_reports(alloc, output, &reports) {
-        Ok(()) => Ok(batch_status(&reports)),
-        Err(fault) => Err(ProgramFault::from(fault)),
-    }
+    send_reports(alloc, output, &reports)?;
+    Ok(batch_status(&reports))
 }
 
 /// Does the job, and gives the status that the program ends with.
