@@ -180,12 +180,17 @@ fn program_command<'a>(alloc: Global) -> Result<Command<'a>, AllocError> {
 }
 
 /// Copies of texts.
-pub fn copied<'a, I: Iterator<Item = &'a str>>(
-    alloc: Global,
-    texts: I,
-) -> Result<Vec<String>, AllocError> {
+pub fn copied(alloc: Global, texts: &[&str]) -> Result<Vec<String>, AllocError> {
     texts
-        .map(|text| String::from_str(alloc, text))
+        .iter()
+        .map(|text| String::from_str(alloc, *text))
+        .try_collect(alloc)
+}
+
+/// The names in a text, with commas between them.
+pub fn names_in(alloc: Global, text: &str) -> Result<Vec<String>, AllocError> {
+    text.split(',')
+        .map(|name| String::from_str(alloc, name))
         .try_collect(alloc)
 }
 
@@ -210,7 +215,6 @@ fn format_given(alloc: Global, matches: &ArgMatches<'_>) -> Result<Format, Parse
 }
 
 fn check_given(alloc: Global, matches: &ArgMatches<'_>) -> Result<Job, ParseFault> {
-    let files = matches.get_strs("files").unwrap_or(&["-"]);
     let color = match matches.get_str("color").unwrap_or("auto").as_bytes() {
         b"auto" => Color::Auto,
         b"always" => Color::Always,
@@ -223,17 +227,16 @@ fn check_given(alloc: Global, matches: &ArgMatches<'_>) -> Result<Job, ParseFaul
         quiet: matches.get_flag("quiet"),
         colored: false,
         workers: matches.get_one::<u8>("jobs").unwrap_or(1),
-        files: copied(alloc, files.iter().copied())?,
+        files: copied(alloc, matches.get_strs("files").unwrap_or(&["-"]))?,
     };
     Ok(Job::Check { job, color })
 }
 
 fn order_given(alloc: Global, matches: &ArgMatches<'_>) -> Result<Job, ParseFault> {
-    let logs = matches.get_strs("logs").unwrap_or(&[]);
     Ok(Job::Order(OrderJob {
         format: format_given(alloc, matches)?,
         quiet: matches.get_flag("quiet"),
-        logs: copied(alloc, logs.iter().copied())?,
+        logs: copied(alloc, matches.get_strs("logs").unwrap_or(&[]))?,
         folder: String::from_str(alloc, matches.get_str("folder").unwrap_or("."))?,
     }))
 }
@@ -261,7 +264,7 @@ fn explain_given(alloc: Global, matches: &ArgMatches<'_>) -> Result<Job, ParseFa
         );
     };
     let names = match matches.get_str("names") {
-        Some(names) => copied(alloc, names.split(','))?,
+        Some(names) => names_in(alloc, names)?,
         None => Vec::new(alloc),
     };
     Ok(Job::Explain {

@@ -1,6 +1,6 @@
 //! The words of the commands that search a lock's space, and the jobs that they ask for.
 
-use crate::command_line::{ParseFault, copied, format_arg, usage};
+use crate::command_line::{ParseFault, copied, format_arg, names_in, usage};
 use clap::{Arg, ArgAction, ArgMatches, Command, value_parser};
 use lk_search_files::{Asked, CoverJob, Format, Source, SpaceFormat, is_kind};
 use std::alloc::{AllocError, Global};
@@ -148,10 +148,9 @@ pub fn find_given(alloc: Global, matches: &ArgMatches<'_>) -> Result<SearchJob, 
     let words = matches.get_strs("words").unwrap_or(&[]);
     let source = match words {
         [file] => Source::File(String::from_str(alloc, *file)?),
-        [lock, threads, _, ..] => {
-            let mut lines = Vec::new(alloc);
-            lines.push(header_of(alloc, matches, *lock, *threads)?)?;
-            lines.extend(copied(alloc, words.iter().copied().skip(2))?)?;
+        [lock, threads, parts @ ..] if !parts.is_empty() => {
+            let mut lines = vec![in alloc; header_of(alloc, matches, *lock, *threads)?]?;
+            lines.extend(copied(alloc, parts)?)?;
             Source::Words(lines)
         }
         _ => {
@@ -169,8 +168,7 @@ pub fn find_given(alloc: Global, matches: &ArgMatches<'_>) -> Result<SearchJob, 
 fn lock_given(alloc: Global, matches: &ArgMatches<'_>) -> Result<Vec<String>, AllocError> {
     let lock = matches.get_str("lock").unwrap_or("");
     let threads = matches.get_str("threads").unwrap_or("");
-    let header = header_of(alloc, matches, lock, threads)?;
-    vec![in alloc; header]
+    Ok(vec![in alloc; header_of(alloc, matches, lock, threads)?]?)
 }
 
 /// The job of the command `space`.
@@ -207,7 +205,7 @@ pub fn cover_given(alloc: Global, matches: &ArgMatches<'_>) -> Result<SearchJob,
     let (all, required) = match matches.get_str("require") {
         None => (false, Vec::new(alloc)),
         Some(text) if text == "all" => (true, Vec::new(alloc)),
-        Some(text) if text.split(',').all(is_kind) => (false, copied(alloc, text.split(','))?),
+        Some(text) if text.split(',').all(is_kind) => (false, names_in(alloc, text)?),
         Some(_) => {
             return usage(
                 alloc,
@@ -215,11 +213,10 @@ pub fn cover_given(alloc: Global, matches: &ArgMatches<'_>) -> Result<SearchJob,
             );
         }
     };
-    let files = matches.get_strs("files").unwrap_or(&["-"]);
     Ok(SearchJob::Cover(CoverJob {
         format,
         all,
         required,
-        files: copied(alloc, files.iter().copied())?,
+        files: copied(alloc, matches.get_strs("files").unwrap_or(&["-"]))?,
     }))
 }
