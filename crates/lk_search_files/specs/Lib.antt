@@ -1,4 +1,4 @@
-pub mod Endings
+pub mod Statuses
 pub mod Answered
 pub mod Counted
 pub mod Written

@@ -1,11 +1,13 @@
 //! The job of counting which kinds of transition traces took.
 
-use crate::endings::Ending;
+ghost use Rattle.std.specs.Prelude.{◌≡◌, max};
+ghost use Rattle.lk_search_files.specs.Statuses.{number_of};
+
 use crate::listing::{Format, put_coverage, put_missing};
 use lk_locks::LockKind;
 use lk_search::{Coverage, LOCKS, Observed};
 use lk_trace::{Event, Made, TextFault, TraceLine, TraceReader};
-use lk_trace_files::{Line, Lines, Summary};
+use lk_trace_files::{Line, Lines, Status, Summary};
 use std::alloc::{AllocError, Global};
 use std::fmt::Write;
 use std::fs;
@@ -81,14 +83,14 @@ fn note_end(coverages: &mut [Coverage], summary: &Summary, trace: &TraceReader) 
     }
 }
 
-// Reads a line of this number. An ending if it ends the trace.
+// Reads a line of this number. A status if it ends the trace.
 fn take_line(
     coverages: &mut [Coverage],
     summary: &mut Summary,
     trace: &mut TraceReader,
     (name, number, line): (&str, u64, &[u8]),
     errors: &mut String,
-) -> Result<Option<Ending>, AllocError> {
+) -> Result<Option<Status>, AllocError> {
     match trace.line(line) {
         Event::Skipped | Event::Began(_) => Ok(None),
         Event::Made(line, made) => {
@@ -97,11 +99,11 @@ fn take_line(
         }
         Event::Differs(_, difference) => {
             writeln!(errors, "{name}:{number}: refused: {difference}")?;
-            Ok(Some(Ending::Refused))
+            Ok(Some(Status::Refused))
         }
         Event::Fault(fault) => {
             writeln!(errors, "{name}:{number}: {fault}")?;
-            Ok(Some(Ending::Faulty))
+            Ok(Some(Status::Faulty))
         }
     }
 }
@@ -112,13 +114,13 @@ fn end_of(
     name: &str,
     number: u64,
     errors: &mut String,
-) -> Result<Ending, AllocError> {
+) -> Result<Status, AllocError> {
     if trace.checker().is_some() {
-        return Ok(Ending::Found);
+        return Ok(Status::Accepted);
     }
     let fault = TextFault::NoHeader;
     writeln!(errors, "{name}:{number}: {fault}")?;
-    Ok(Ending::Faulty)
+    Ok(Status::Faulty)
 }
 
 // Reads a trace up to its end, or up to a line that ends it.
@@ -128,7 +130,7 @@ fn take_trace<R: Read + Drop>(
     name: &str,
     coverages: &mut [Coverage],
     errors: &mut String,
-) -> Result<Ending, AllocError> {
+) -> Result<Status, AllocError> {
     let mut lines = Lines::new(alloc, input)?;
     let (mut line, mut trace, mut summary) = (Line::new(), TraceReader::new(), Summary::default());
     let mut ended = None;
@@ -141,7 +143,7 @@ fn take_trace<R: Read + Drop>(
             Ok(false) => Some(end_of(&trace, name, number, errors)?),
             Err(error) => {
                 writeln!(errors, "{name}: {error}")?;
-                Some(Ending::Undecided)
+                Some(Status::Failed)
             }
         };
         if ended.is_some() {
@@ -149,7 +151,7 @@ fn take_trace<R: Read + Drop>(
         }
     }
     note_end(coverages, &summary, &trace);
-    Ok(ended.unwrap_or(Ending::Undecided))
+    Ok(ended.unwrap_or(Status::Failed))
 }
 
 // Reads the trace in a file.
@@ -159,7 +161,7 @@ fn take_file<R: Runtime>(
     name: &str,
     coverages: &mut [Coverage],
     errors: &mut String,
-) -> Result<Ending, AllocError> {
+) -> Result<Status, AllocError> {
     if name == "-" {
         return take_trace(alloc, rt.reader(), name, coverages, errors);
     }
@@ -167,15 +169,22 @@ fn take_file<R: Runtime>(
         Ok(input) => take_trace(alloc, input, name, coverages, errors),
         Err(error) => {
             writeln!(errors, "{name}: {error}")?;
-            Ok(Ending::Undecided)
+            Ok(Status::Failed)
         }
     }
 }
 
+// The greater of two statuses.
+fn worse(one: Status, other: Status) -> Status
+    ensures { number_of result ≡ max (number_of one) (number_of other) }
+{
+    if other as u8 > one as u8 { other } else { one }
+}
+
 /// Counts which kinds of transition the traces took, and writes the counts to `text`, and what else
-/// there is to say to `errors`. The answer is `Found`; `Refused` if a move is refused, or a kind
-/// that is required is missing; `Undecided` if a trace could not be read; `Faulty` if a text is no
-/// trace. Of several the one with the greatest status is answered.
+/// there is to say to `errors`. The status is `Accepted`; `Refused` if a move is refused, or a kind
+/// that is required is missing; `Failed` if a trace could not be read; `Faulty` if a text is no
+/// trace. Of several the greatest is answered.
 ///
 /// # Errors
 ///
@@ -186,12 +195,12 @@ pub fn cover_traces<R: Runtime>(
     job: &CoverJob,
     text: &mut String,
     errors: &mut String,
-) -> Result<Ending, AllocError> {
+) -> Result<Status, AllocError> {
     let mut coverages = nothing_counted(alloc)?;
-    let mut worst = Ending::Found;
+    let mut worst = Status::Accepted;
     for name in &job.files {
-        let ending = take_file(rt, alloc, name, coverages.as_mut_slice(), errors)?;
-        worst = worst.or_worse(ending);
+        let status = take_file(rt, alloc, name, coverages.as_mut_slice(), errors)?;
+        worst = worse(worst, status);
     }
     put_coverage(text, job.format, coverages.as_slice())?;
     if put_missing(
@@ -200,7 +209,7 @@ pub fn cover_traces<R: Runtime>(
         job.all,
         job.required.as_slice(),
     )? {
-        worst = worst.or_worse(Ending::Refused);
+        worst = worse(worst, Status::Refused);
     }
     Ok(worst)
 }

@@ -9,7 +9,6 @@
 mod asked;
 mod covering;
 mod drawing;
-mod endings;
 mod faults;
 mod finding;
 mod listing;
@@ -21,12 +20,10 @@ mod tour_files;
 mod touring;
 mod writing;
 
-pub use asked::{Asked, Shape, Source};
+pub use asked::{Asked, Source};
 pub use covering::{CoverJob, cover_traces};
-pub use endings::Ending;
 pub use finding::find_run;
 pub use listing::Format;
 pub use lk_search::is_kind;
-pub use sketches::{Sketch, SketchFault};
 pub use spaces::{SpaceFormat, count_space};
 pub use touring::write_tour;

@@ -1,7 +1,6 @@
 //! The counts of kinds of transition, as text and as JSON, and which of the required ones are
 //! missing.
 
-use crate::numbers::Moves;
 use lk_locks::LockKind;
 use lk_replay::parts::lock_text;
 use lk_search::{Coverage, Kind, kinds_of};
@@ -25,16 +24,11 @@ impl fmt::Display for Command {
         let Command(lock, kind) = *self;
         let name = lock_text(lock);
         write!(f, "locktrace find {name} 2")?;
-        put_words(kind.sketch, f)
+        for line in kind.sketch.iter().copied() {
+            write!(f, " '{line}'")?;
+        }
+        Ok(())
     }
-}
-
-// Writes each line as a word of a command.
-fn put_words<W: fmt::Write>(lines: &[&str], f: &mut fmt::Formatter<W>) -> fmt::Result {
-    for line in lines {
-        write!(f, " '{line}'")?;
-    }
-    Ok(())
 }
 
 // Whether the lock has a word that counts without end.
@@ -45,10 +39,11 @@ fn has_counter(kind: LockKind) -> bool {
 fn put_text(text: &mut String, coverage: &Coverage) -> Result<(), AllocError> {
     let (lock, kinds) = (coverage.kind(), kinds_of(coverage.kind()));
     let (name, seen, all) = (lock_text(lock), coverage.seen(), kinds.len());
-    let moves = Moves(coverage.moves());
+    let moves = coverage.moves();
+    let word = if moves == 1 { "move" } else { "moves" };
     writeln!(
         text,
-        "{name}: {seen} of {all} kinds of transition, in {moves}"
+        "{name}: {seen} of {all} kinds of transition, in {moves} {word}"
     )?;
     for (kind, count) in kinds.iter().zip(coverage.counts()) {
         let (name, command) = (kind.name, Command(lock, *kind));

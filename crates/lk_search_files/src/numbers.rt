@@ -51,14 +51,3 @@ impl fmt::Display for Many {
         write!(f, "{number} {word}{end}")
     }
 }
-
-/// How many moves.
-#[derive(Clone, Copy)]
-pub struct Moves(pub u64);
-
-impl fmt::Display for Moves {
-    fn fmt<W: fmt::Write>(&self, f: &mut fmt::Formatter<W>) -> fmt::Result {
-        let moves = self.0;
-        write!(f, "{moves} {}", if moves == 1 { "move" } else { "moves" })
-    }
-}

@@ -1,11 +1,11 @@
 //! A sketch, read from a file or from the words of a command.
 
-use crate::asked::{Shape, Source};
-use crate::endings::Ending;
+use crate::asked::Source;
 use crate::faults::put_fault;
 use crate::sketches::{Sketch, SketchFault};
+use lk_replay::parts::Header;
 use lk_trace::TextFault;
-use lk_trace_files::{Line, Lines};
+use lk_trace_files::{Line, Lines, Status};
 use std::alloc::{AllocError, Global};
 use std::fmt::Write;
 use std::fs;
@@ -13,7 +13,7 @@ use std::io::Read;
 use std::rt::Runtime;
 
 /// A sketch with its lock, or how the job ends without one.
-pub type Taken = Result<(Sketch, Shape), Ending>;
+pub type Taken = Result<(Sketch, Header), Status>;
 
 // A sketch that was read to its end.
 fn whole(
@@ -22,12 +22,12 @@ fn whole(
     number: u64,
     errors: &mut String,
 ) -> Result<Taken, AllocError> {
-    match sketch.shape() {
-        Some(shape) => Ok(Ok((sketch, shape))),
+    match sketch.header {
+        Some(header) => Ok(Ok((sketch, header))),
         None => {
             let fault = SketchFault::Header(TextFault::NoHeader);
             writeln!(errors, "{name}:{number}: {fault}")?;
-            Ok(Err(Ending::Faulty))
+            Ok(Err(Status::Faulty))
         }
     }
 }
@@ -48,16 +48,16 @@ fn read_input<R: Read + Drop>(
             Ok(false) => return whole(sketch, name, number, errors),
             Err(error) => {
                 writeln!(errors, "{name}: {error}")?;
-                return Ok(Err(Ending::Undecided));
+                return Ok(Err(Status::Failed));
             }
         }
         if let Some(fault) = sketch.line(alloc, line.bytes())? {
             write!(errors, "{name}:{number}: ")?;
             put_fault(errors, alloc, line.bytes(), fault)?;
-            return Ok(Err(Ending::Faulty));
+            return Ok(Err(Status::Faulty));
         }
     }
-    Ok(Err(Ending::Undecided))
+    Ok(Err(Status::Failed))
 }
 
 /// Reads the sketch whose lines are words of a command.
@@ -71,7 +71,7 @@ pub fn read_words(
         if let Some(fault) = sketch.line(alloc, word.as_bytes())? {
             write!(errors, "locktrace: '{word}': ")?;
             put_fault(errors, alloc, word.as_bytes(), fault)?;
-            return Ok(Err(Ending::Misused));
+            return Ok(Err(Status::Misused));
         }
     }
     whole(sketch, "locktrace", 1, errors)
@@ -97,7 +97,7 @@ pub fn read_sketch<R: Runtime>(
             Ok(input) => read_input(alloc, input, name, errors),
             Err(error) => {
                 writeln!(errors, "{name}: {error}")?;
-                Ok(Err(Ending::Undecided))
+                Ok(Err(Status::Failed))
             }
         },
     }

@@ -1,8 +1,7 @@
 //! A sketch of a run, read line by line: a header, and lines of a trace in which parts are open.
 
-use crate::asked::Shape;
-use lk_replay::parts::{is_skipped, number_of};
-use lk_search::{Admitted, Bounds, admit};
+use lk_replay::parts::{Header, is_skipped, number_of};
+use lk_search::{Admitted, admit};
 use lk_trace::{TextFault, read_header};
 use std::alloc::{AllocError, Global};
 use thiserror::Error;
@@ -33,41 +32,25 @@ pub enum SketchFault {
 /// A sketch of which some lines were read.
 #[derive(Drop)]
 pub struct Sketch {
-    shape: Option<Shape>,
-    rounds: Option<u8>,
-    lines: Vec<String>,
-    admitted: Vec<Admitted>,
+    /// The lock, if the header was read.
+    pub header: Option<Header>,
+    /// How many rounds each thread has, if the sketch says it.
+    pub rounds: Option<u8>,
+    /// The lines that are to occur, in their order.
+    pub lines: Vec<String>,
+    /// What each line admits.
+    pub admitted: Vec<Admitted>,
 }
 
 impl Sketch {
     /// No line was read yet.
     pub fn new(alloc: Global) -> Sketch {
         Sketch {
-            shape: None,
+            header: None,
             rounds: None,
             lines: Vec::new(alloc),
             admitted: Vec::new(alloc),
         }
-    }
-
-    /// The lock, if the header was read.
-    pub fn shape(&self) -> Option<Shape> {
-        self.shape
-    }
-
-    /// How many rounds each thread has, if the sketch says it.
-    pub fn rounds(&self) -> Option<u8> {
-        self.rounds
-    }
-
-    /// The lines that are to occur, in their order.
-    pub fn lines(&self) -> &[String] {
-        self.lines.as_slice()
-    }
-
-    /// What a search looks for, if each thread has so many rounds.
-    pub fn bounds(&self, rounds: u8) -> Bounds<'_> {
-        Bounds::new(rounds, self.admitted.as_slice())
     }
 
     // Reads a comment.
@@ -92,10 +75,10 @@ impl Sketch {
         if is_skipped(line) {
             return Ok(self.comment(line));
         }
-        let Some(shape) = self.shape else {
+        let Some(header) = self.header else {
             return match read_header(line) {
                 Ok(header) => {
-                    self.shape = Some(Shape::of_header(header));
+                    self.header = Some(header);
                     Ok(None)
                 }
                 Err(fault) => Ok(Some(SketchFault::Header(fault))),
@@ -108,7 +91,7 @@ impl Sketch {
         let Ok(text) = str::from_utf8(line) else {
             return Ok(Some(SketchFault::BadLine));
         };
-        let (kind, threads) = (shape.kind, shape.threads);
+        let (kind, threads) = (header.kind(), header.threads());
         if !admit(&mut self.admitted, kind, threads, number, line)? {
             return Ok(Some(SketchFault::BadLine));
         }

@@ -2,7 +2,8 @@
 //! removes these, and no other file.
 
 ghost use Rattle.std.specs.Prelude.{◌≡◌, true};
-ghost use Rattle.std.specs.Str.{all_ascii_digits};
+ghost use Rattle.std.specs.Char.{is_ascii_digit};
+ghost use Rattle.std.specs.List.{list_all};
 ghost use Rattle.lk_search_files.specs.TourFiles.{IsScheduleName};
 
 use lk_trace_files::Failure;
@@ -20,14 +21,9 @@ const ENDING: &str = ".schedule";
 
 // Whether the text has digits alone.
 fn are_digits(text: &[u8]) -> bool
-    ensures { result ≡ all_ascii_digits text.now }
+    ensures { result ≡ list_all is_ascii_digit text.now }
 {
-    for byte in text {
-        if !byte.is_ascii_digit() {
-            return false;
-        }
-    }
-    true
+    text.iter().all(|byte| byte.is_ascii_digit())
 }
 
 // Whether a tour gives a schedule such a name. It has no slash, so the file is one of the folder.
@@ -38,8 +34,8 @@ fn is_schedule_name(name: &[u8]) -> bool
     ending == ENDING.as_bytes() && !number.is_empty() && are_digits(number)
 }
 
-// The path of a schedule in a folder, by its number from 1.
-fn path_of(alloc: Global, folder: &str, number: usize) -> Result<String, Failure> {
+/// The path of a schedule in a folder, by its number from 1.
+pub fn path_of(alloc: Global, folder: &str, number: usize) -> Result<String, Failure> {
     Ok(format!(in alloc; "{folder}/{number:04}{ENDING}")?)
 }
 
@@ -85,8 +81,8 @@ pub fn first_in_place<R: Files>(
     folder: &str,
     count: usize,
 ) -> Result<Option<String>, Failure> {
-    for place in 0..count {
-        let path = path_of(alloc, folder, place.saturating_add(1))?;
+    for number in 1..=count {
+        let path = path_of(alloc, folder, number)?;
         if fs::exists(rt, path.as_str())? {
             return Ok(Some(path));
         }
@@ -106,28 +102,10 @@ pub fn write_list<R: Files>(
     count: usize,
 ) -> Result<(), Failure> {
     let mut list = String::new(alloc);
-    for place in 0..count {
-        let number = place.saturating_add(1);
+    for number in 1..=count {
         writeln!(list, "{number:04}{ENDING}")?;
     }
     let path = format!(in alloc; "{folder}/{LIST}")?;
     fs::write(rt, path.as_str(), &list)?;
-    Ok(())
-}
-
-/// Writes the schedule of this number, from 1.
-///
-/// # Errors
-///
-/// It could not be written, or a request for memory was refused.
-pub fn write_schedule<R: Files>(
-    rt: &R,
-    alloc: Global,
-    folder: &str,
-    number: usize,
-    text: &str,
-) -> Result<(), Failure> {
-    let path = path_of(alloc, folder, number)?;
-    fs::write(rt, path.as_str(), text)?;
     Ok(())
 }

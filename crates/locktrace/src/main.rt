@@ -92,7 +92,7 @@ fn search<R: Runtime, O: Write>(
     output: &mut O,
 ) -> Result<u8, Failure> {
     let (mut text, mut errors) = (String::new(alloc), String::new(alloc));
-    let ending = match job {
+    let status = match job {
         SearchJob::Find { source, asked } => {
             find_run(rt, alloc, source, *asked, &mut text, &mut errors)?
         }
@@ -126,7 +126,7 @@ fn search<R: Runtime, O: Write>(
     let _ = eprint!(rt; "{errors}");
     output.write_all(text.as_bytes())?;
     output.flush()?;
-    Ok(ending.status())
+    Ok(status as u8)
 }
 
 // Which outputs are terminals.
