@@ -114,7 +114,7 @@ impl Chains {
         first: (u8, usize),
     ) -> End {
         let (mut thread, mut instance) = first;
-        // no instance is met twice
+        // this ends, since no instance is met twice
         for _ in 0..u64::MAX {
             self.note(thread, instance);
             let Some(found) = at(instances, thread, instance) else {
