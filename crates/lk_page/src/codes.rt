@@ -75,10 +75,7 @@ pub fn is_unlinked(phase: Phase) -> bool
 pub fn due_code(due: Option<StepKind>) -> u8
     ensures { result ≡ due_code due }
 {
-    match due {
-        Some(step) => move_number(Move::Step(step)),
-        None => 0,
-    }
+    due.map_or(0, |step| move_number(Move::Step(step)))
 }
 
 /// The due step that a refusal names, and 0 if it names none.

@@ -27,21 +27,20 @@ mod playing;
 mod record;
 mod sought;
 mod state;
-mod stops;
 #[cfg(test)]
 mod tests;
 mod told;
 
 use asking::{asked_of, lock_of};
-use codes::fault_codes;
+use codes::{expected_code, fault_codes};
 use finding::{MOST_TEXT, seek};
 use kind_texts::put_kind;
 use lk_replay::ScheduleReader;
+use lk_replay::parts::{Unreadable, unreadable_header, unreadable_move};
 use lk_search::kinds_of;
 use playing::{new_lock, play_moves};
 use sought::{sought_code, sought_number};
 use state::{STATE_BYTES, fault_bytes, state_bytes};
-use stops::{column_of, expected_at, stop_of};
 
 /// Reads a schedule text, plays at most `most` of its moves up to the first refused one, writes a
 /// record of 56 bytes of each, as many as fit, and the state after the last into the first 2,304
@@ -149,6 +148,18 @@ pub extern "C" fn kind_text(lock: u64, kind: u64, text: &mut [u8]) -> u64
     put_kind(text, kinds_of(lock_of(lock))[kind as usize]).unwrap_or(0) as u64
 }
 
+// The first place at which something else is expected, of a header if `is_move` is 0, and else of a
+// move.
+fn stop_of(line: &[u8], is_move: u64) -> Option<Unreadable>
+    ensures { result ≡ stop_of is_move line.now }
+{
+    if is_move == 0 {
+        unreadable_header(line)
+    } else {
+        unreadable_move(line)
+    }
+}
+
 /// The column, in bytes from 1, at which a line stops being a header if `is_move` is 0, and else a
 /// move: where the first word begins that may not be there, or the place at which one is missing.
 /// It returns 0 if there is no such place.
@@ -156,7 +167,7 @@ pub extern "C" fn kind_text(lock: u64, kind: u64, text: &mut [u8]) -> u64
 pub extern "C" fn stops_at(line: &[u8], is_move: u64) -> u64
     ensures { result ≡ column_of (stop_of is_move line.now) }
 {
-    column_of(stop_of(line, is_move))
+    stop_of(line, is_move).map_or(0, |stop| stop.column as u64)
 }
 
 /// The number of what is expected at that column, and 0 if there is no such place.
@@ -164,5 +175,5 @@ pub extern "C" fn stops_at(line: &[u8], is_move: u64) -> u64
 pub extern "C" fn expected(line: &[u8], is_move: u64) -> u64
     ensures { result ≡ expected_at (stop_of is_move line.now) }
 {
-    expected_at(stop_of(line, is_move))
+    stop_of(line, is_move).map_or(0, |stop| expected_code(stop.expected))
 }

@@ -50,8 +50,5 @@ pub fn waits_after(
     requires { thread < length machine.now.phases }
     ensures { result ≡ waits_after machine.now thread outcome is_queued }
 {
-    match outcome {
-        Outcome::Waits => true,
-        _ => is_queued && next_waits(machine, thread),
-    }
+    matches!(outcome, Outcome::Waits) || (is_queued && next_waits(machine, thread))
 }

@@ -10,10 +10,7 @@ use lk_words::Operation;
 fn word_of(operation: Option<Operation>) -> usize
     ensures { result ≡ word_or_0 operation }
 {
-    match operation {
-        Some(operation) => operation.word(),
-        None => 0,
-    }
+    operation.map_or(0, |operation| operation.word())
 }
 
 // What the operation leaves in a word that holds 0.
@@ -22,10 +19,7 @@ fn left_by(operation: Option<Operation>, bits: u8) -> u64
     requires most { bits ≤ 64 }
     ensures { result ≡ left_or_0 bits operation }
 {
-    match operation {
-        Some(operation) => operation.effect(0, bits).left,
-        None => 0,
-    }
+    operation.map_or(0, |operation| operation.effect(0, bits).left)
 }
 
 /// The places of a thread's `next` and `locked`, and the value that names its record. Of another

@@ -44,10 +44,7 @@ pub fn play_moves(
     let mut count: u32 = 0;
     while (count as u64) < most {
         let Some(line) = reader.next_move() else {
-            return Stopped {
-                count,
-                refused: None,
-            };
+            break;
         };
         match play_line(lock, &line) {
             Ok(record) => {

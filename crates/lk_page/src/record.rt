@@ -1,7 +1,6 @@
 //! A move that was made, as a page sees it: what it did to the words and to the thread.
 
 ghost use Rattle.std.specs.Prelude.{◌≡◌, ◌<◌, ◌≤◌, List, length, IfOk, None, Some};
-ghost use Rattle.lk_locks.specs.Sequential.{has};
 ghost use Rattle.lk_locks.specs.Steps.{refusal_of, refused_with};
 ghost use Rattle.lk_locks.specs.Tracked.{tracked, after_tracked, holding_in, waiting_in};
 ghost use Rattle.lk_locks.specs.declared.kinds.Entry.{Entry};
@@ -23,24 +22,18 @@ use lk_words::WordArray;
 /// How many bytes a record has.
 pub const RECORD_BYTES: usize = 56;
 
-fn has(threads: &[u8], thread: u8) -> bool
-    ensures { result ≡ has threads.now thread }
-{
-    threads.contains(&thread)
-}
-
 fn standing_of(lock: &Tracker<WordArray>, thread: u8) -> Standing
     ensures { result ≡ standing (holding_in lock.now) (waiting_in lock.now) thread }
 {
     let (holds, writes) = match lock.holders() {
         Holders::Nobody => (false, false),
         Holders::Holder(t) => (thread == t, false),
-        Holders::Readers(readers) => (has(readers.as_slice(), thread), false),
+        Holders::Readers(readers) => (readers.as_slice().contains(&thread), false),
         Holders::Writer(t) => (thread == t, thread == t),
     };
     Standing {
         holds,
-        is_queued: has(lock.queue().as_slice(), thread),
+        is_queued: lock.queue().as_slice().contains(&thread),
         writes,
     }
 }
@@ -78,20 +71,14 @@ pub fn play_line(lock: &mut Tracker<WordArray>, line: &Line) -> Result<Record, R
 fn touched_word(touch: Option<Touch>) -> u16
     ensures { result ≡ touched_word touch }
 {
-    match touch {
-        Some(touch) => u16::from(touch.word),
-        None => u16::MAX,
-    }
+    touch.map_or(u16::MAX, |touch| u16::from(touch.word))
 }
 
 fn values_of(touch: Option<Touch>) -> (u64, u64)
     ensures found { result.0 ≡ found_of touch }
     ensures left { result.1 ≡ left_of touch }
 {
-    match touch {
-        Some(touch) => (touch.found, touch.left),
-        None => (0, 0),
-    }
+    touch.map_or((0, 0), |touch| (touch.found, touch.left))
 }
 
 // What the thread is after its move, as a sum of bits.
