@@ -3,20 +3,6 @@
 use crate::{find_moment, kind_text, kinds, play};
 use std::process::Abort;
 
-#[test]
-fn a_fault_is_numbered(rt: HostRuntime) {
-    let mut state = [0u8; 2304];
-    assert_eq!(rt; play(b"lock mcs threads 0\n", 9, &mut [], &mut state), 2);
-    assert_eq!(rt; (state[0], state[4], state[8]), (2, 4, 1));
-}
-
-#[test]
-fn a_short_state_is_left_alone(rt: HostRuntime) {
-    let mut state = [7u8; 2303];
-    assert_eq!(rt; play(b"lock mcs threads 1\n", 9, &mut [], &mut state), 3);
-    assert_eq!(rt; (state[0], state[2302]), (7, 7));
-}
-
 // Thread 1 of an MCS lock is in the queue, and its record is not linked yet.
 const LATE_LINK: &[u8] =
     b"lock mcs threads 2\n\n0 acquire\n0 write\n0 swap\n1 acquire\n1 write\n1 swap\n\
@@ -84,75 +70,6 @@ fn a_swap_and_a_failed_compare_and_swap_are_recorded(rt: HostRuntime) {
 }
 
 #[test]
-fn who_may_call_and_who_waits_is_recorded(rt: HostRuntime) {
-    let mut records = [9u8; 616];
-    assert_eq!(rt; play(LATE_LINK, 99, &mut records, &mut [0u8; 2304]), 1);
-    // thread 0 calls, and may call nothing; it enters, and may release
-    assert_eq!(rt; (records[9], records[15]), (0, 0));
-    assert_eq!(rt; (records[121], records[127]), (3, 2));
-    // thread 1 is in the queue and not linked, and its next step is no poll
-    assert_eq!(rt; (records[289], records[295]), (10, 0));
-    // after its compare-and-swap failed, thread 0 holds, is in the queue, and waits for the link;
-    // so it does after a failed poll
-    assert_eq!(rt; (records[457], records[463]), (19, 0));
-    assert_eq!(rt; (records[513], records[519]), (19, 0));
-}
-
-#[test]
-fn a_reader_waits_from_its_first_failed_poll_on(rt: HostRuntime) {
-    let text = b"lock rw-simple threads 2\n0 wlock\n0 section\n1 rlock\n1 section\n0 wunlock\n";
-    let mut records = [9u8; 280];
-    let mut state = [0u8; 2304];
-    assert_eq!(rt; play(text, 9, &mut records, &mut state), 0);
-    // the writer may stop writing or become a reader
-    assert_eq!(rt; (records[65], records[71]), (5, 96));
-    // the reader's call, and its failed poll
-    assert_eq!(rt; (records[121], records[177], records[183]), (0, 16, 0));
-    // no thread has a record
-    assert_eq!(rt; (state[195], state[196], state[197]), (0, 0, 0));
-}
-
-#[test]
-fn a_downgrade_changes_two_words(rt: HostRuntime) {
-    let text = b"lock rw-fifo threads 3 bits 2\n2 wlock\n2 section\n2 downgrade\n2 section\n";
-    let mut records = [9u8; 300];
-    let mut state = [0u8; 2304];
-    assert_eq!(rt; play(text, 4, &mut records, &mut state), 0);
-    // the last record: `readAcquires` goes from 0 to 1, and the flag from 1 to 0
-    assert_eq!(rt;
-        (
-            records[178],
-            records[180],
-            records[184],
-            records[192],
-            records[200],
-            records[208]
-        ),
-        (0, 2, 0, 1, 1, 0)
-    );
-    // it reads, and may leave; the others may come
-    assert_eq!(rt;
-        (records[176], records[177], state[40], state[44], state[64]),
-        (17, 1, 2, 1, 2)
-    );
-    assert_eq!(rt; (state[194], state[210], state[226]), (20, 20, 8));
-    // after the records nothing is written
-    assert_eq!(rt; (records[223], records[224], records[299]), (0, 9, 9));
-}
-
-#[test]
-fn so_many_moves_as_are_asked_for(rt: HostRuntime) {
-    let mut state = [0u8; 2304];
-    assert_eq!(rt; play(LATE_LINK, 0, &mut [], &mut state), 0);
-    assert_eq!(rt;
-        (state[28], state[32], state[40], state[194]),
-        (0, 11, 0, 1)
-    );
-    assert_eq!(rt; play(LATE_LINK, 10, &mut [], &mut state), 0);
-    assert_eq!(rt; (state[28], state[48]), (10, 2));
-}
-
-#[test]
 fn a_failed_compare_and_swap_is_found(rt: HostRuntime) {
     let (mut cells, mut slots) = ([0u64; 2600], [0u32; 512]);
     let (mut codes, mut number) = ([0u64; 16], [0u64; 1]);
@@ -172,26 +89,6 @@ fn a_failed_compare_and_swap_is_found(rt: HostRuntime) {
     assert_eq!(rt; (answer, number[0], codes[15] / 256), (0, 9, 21));
     // the first is a call, and meets none
     assert_eq!(rt; (codes[6], codes[7] / 256), (0, 0));
-}
-
-#[test]
-fn who_has_left_does_not_come_back(rt: HostRuntime) {
-    let (mut cells, mut slots) = ([0u64; 2600], [0u32; 512]);
-    let (mut codes, mut number) = ([7u64; 16], [0u64; 1]);
-    let text = b"0 cas done\n0 swap\n";
-    let answer = find_moment(
-        text,
-        1,
-        2,
-        64,
-        1,
-        999,
-        &mut cells,
-        &mut slots,
-        &mut codes,
-        &mut number,
-    );
-    assert_eq!(rt; (answer, number[0]), (1, 76));
 }
 
 #[test]
