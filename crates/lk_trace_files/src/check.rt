@@ -18,7 +18,7 @@ use crate::texts::{Standing, Wrong};
 use crate::trail::Trail;
 use crate::waiting::{HANGS, put_waits};
 use lk_replay::parts::Status;
-use lk_trace::{Checker, Difference, Event, Made, TextFault, TraceLine, TraceReader};
+use lk_trace::{Checker, Difference, Event, TextFault, TraceLine, TraceReader};
 use std::alloc::{AllocError, Global};
 use std::fmt::Write;
 use std::io::{Error, ErrorKind, Read};
@@ -68,11 +68,8 @@ impl Ending {
 pub fn worst(endings: &[Ending]) -> u8
     ensures { result ≡ greatest_status endings.now }
 {
-    let mut status = 0;
-    for ending in endings {
-        status = ending.status().max(status);
-    }
-    status
+    let statuses = endings.iter().map(|ending| ending.status());
+    statuses.max().unwrap_or(0)
 }
 
 /// What came of one input.
@@ -123,7 +120,7 @@ impl Report {
         ensures { IfOk result (λ _. verdict_in self.new ≡ verdict_in self.old) }
     {
         let lock = checker.lock();
-        let (wrong, standing) = (Wrong::new(lock, line, difference, &[]), Standing(lock));
+        let (wrong, standing) = (Wrong(lock, line, difference, &[]), Standing(lock));
         write!(self.message, "refused: {wrong}")?;
         self.facts = Facts::of(lock, trail, line, difference);
         put_blame(&mut self.notes, lock, trail, line, difference)?;
@@ -140,13 +137,6 @@ impl Report {
         self.facts = Facts::Hangs;
         put_waits(&mut self.notes, lock, course, &[])?;
         write!(self.standing, "{standing}")
-    }
-
-    // Counts a move that was made.
-    fn count(&mut self, trace: &TraceReader, line: TraceLine, made: Made) {
-        if let Some(checker) = trace.checker() {
-            self.summary.note(checker.lock(), line, made);
-        }
     }
 
     // Says why the text is no trace.
@@ -209,7 +199,9 @@ fn take_line(
     match &event {
         Event::Skipped | Event::Began(_) => Ok(true),
         Event::Made(line, made) => {
-            report.count(trace, *line, *made);
+            if let Some(checker) = trace.checker() {
+                report.summary.note(checker.lock(), *line, *made);
+            }
             Ok(true)
         }
         Event::Differs(line, difference) => {

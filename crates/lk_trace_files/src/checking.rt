@@ -27,11 +27,12 @@ pub struct CheckJob {
     pub files: Vec<String>,
 }
 
-// Shows on a terminal how far a file is read.
+// Shows on a terminal, if one is told, how far a file is read.
 #[derive(Drop)]
 struct Progress<'a, R: Runtime> {
     rt: &'a R,
     name: &'a str,
+    told: bool,
     shown: bool,
 }
 
@@ -40,7 +41,7 @@ const EVERY: u64 = 1_000_000;
 
 impl<R: Runtime> Watcher for Progress<'_, R> {
     fn line(&mut self, number: u64) {
-        if number % EVERY == 0 {
+        if self.told && number % EVERY == 0 {
             let name = self.name;
             let _ = eprint!(self.rt; "\r{name}: {number} lines");
             self.shown = true;
@@ -91,37 +92,26 @@ impl<'a> Reports<'a> {
 }
 
 // Opens and checks the file of this name.
-fn check_file<R: Runtime, W: Watcher>(
-    rt: &R,
-    alloc: Global,
-    name: &str,
-    watcher: &mut W,
-) -> Result<Report, AllocError> {
-    if name == "-" {
-        return check_input(alloc, rt.reader(), watcher);
-    }
-    match fs::open(rt, name) {
-        Ok(file) => check_input(alloc, file, watcher),
-        Err(error) => unread(alloc, &error),
-    }
-}
-
-// Checks a file, and shows on a terminal how far it is.
-fn check_shown<R: Runtime>(
+fn check_file<R: Runtime>(
     rt: &R,
     alloc: Global,
     name: &str,
     told: bool,
 ) -> Result<Report, AllocError> {
-    if !told {
-        return check_file(rt, alloc, name, &mut NoWatcher);
-    }
     let mut progress = Progress {
         rt,
         name,
+        told,
         shown: false,
     };
-    let report = check_file(rt, alloc, name, &mut progress);
+    let report = if name == "-" {
+        check_input(alloc, rt.reader(), &mut progress)
+    } else {
+        match fs::open(rt, name) {
+            Ok(file) => check_input(alloc, file, &mut progress),
+            Err(error) => unread(alloc, &error),
+        }
+    };
     progress.end();
     report
 }
@@ -233,7 +223,7 @@ fn check_each<R: Runtime, O: Write>(
         (length reports.new.endings.items ≡ length reports.old.endings.items + length files.now) }
 {
     for name in files {
-        let report = check_shown(rt, alloc, name, told)?;
+        let report = check_file(rt, alloc, name, told)?;
         reports.put(output, name, &report)?;
     }
     Ok(())

@@ -111,10 +111,8 @@ impl Rewriter for Explainer<'_> {
         line: &[u8],
         text: &mut String,
     ) -> Result<Option<Ending>, AllocError> {
-        let before = match self.trace.checker() {
-            Some(checker) => Some(checker.lock().machine().words().copy()),
-            None => None,
-        };
+        let checker = self.trace.checker();
+        let before = checker.map(|checker| checker.lock().machine().words().copy());
         let event = self.trace.line(line);
         if let Event::Fault(fault) = event {
             put_fault(text, self.alloc, number, line, fault)?;
@@ -134,7 +132,7 @@ impl Rewriter for Explainer<'_> {
                 Ok(None)
             }
             Event::Differs(line, difference) => {
-                let wrong = Wrong::new(lock, line, difference, self.asked.names);
+                let wrong = Wrong(lock, line, difference, self.asked.names);
                 let standing = Standing(lock);
                 writeln!(text, "{number}: refused: {wrong}\n  {standing}")?;
                 put_due(text, lock.machine(), line.thread)?;

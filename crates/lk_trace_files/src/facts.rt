@@ -86,21 +86,18 @@ impl Facts {
             Facts::Unread => text.push_str(",\"code\":\"Unread\""),
             Facts::Hangs => text.push_str(",\"code\":\"Hangs\""),
             Facts::Fault(fault) => write!(text, ",\"code\":\"{fault:?}\""),
-            Facts::BadLog(bad) => put_bad_log(text, *bad),
+            Facts::BadLog(bad) => {
+                let code = bad.code();
+                write!(text, ",\"code\":\"{code}\"")?;
+                match bad.thread() {
+                    Some(thread) => write!(text, ",\"thread\":{thread}"),
+                    None => Ok(()),
+                }
+            }
             Facts::Refused(line, difference, poll) => {
                 put_refused(text, *line, *difference, *poll)
             }
         }
-    }
-}
-
-// Writes the fields of a bad log.
-fn put_bad_log(text: &mut String, bad: BadLog) -> Result<(), AllocError> {
-    let code = bad.code();
-    write!(text, ",\"code\":\"{code}\"")?;
-    match bad.thread() {
-        Some(thread) => write!(text, ",\"thread\":{thread}"),
-        None => Ok(()),
     }
 }
 

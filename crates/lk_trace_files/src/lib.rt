@@ -35,4 +35,4 @@ pub use lines::{Line, Lines};
 pub use lk_replay::parts::Status;
 pub use ordering::{BadLog, OrderJob, Search, Sought, order_logs, search_logs};
 pub use scheduling::{Unscheduled, write_schedule};
-pub use summary::Summary;
+pub use summary::{Count, Summary};

@@ -5,8 +5,8 @@ use crate::lines::{Line, Lines};
 use std::alloc::{AllocError, Global};
 use std::io::{Error, ErrorKind, Read, Write};
 
-// Bytes that wait before they are written.
-const MOST_WAITING: usize = 65_536;
+/// Bytes that wait before they are written.
+pub const MOST_WAITING: usize = 65_536;
 
 /// What makes the text.
 pub trait Rewriter {

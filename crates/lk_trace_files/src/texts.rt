@@ -120,38 +120,24 @@ impl fmt::Display for Called<'_> {
 
 /// In what a line differs from the machine, for threads of these names.
 #[derive(Clone, Copy)]
-pub struct Wrong<'a> {
-    lock: &'a Lock,
-    line: TraceLine,
-    difference: Difference,
-    names: &'a [String],
-}
+pub struct Wrong<'a>(
+    pub &'a Lock,
+    pub TraceLine,
+    pub Difference,
+    pub &'a [String],
+);
 
-impl<'a> Wrong<'a> {
-    /// A thread without a name is called by its number.
-    pub fn new(
-        lock: &'a Lock,
-        line: TraceLine,
-        difference: Difference,
-        names: &'a [String],
-    ) -> Wrong<'a> {
-        Wrong {
-            lock,
-            line,
-            difference,
-            names,
-        }
-    }
-
+impl Wrong<'_> {
     // Writes why the lock refuses the move.
     fn put_refusal<W: fmt::Write>(
         &self,
         f: &mut fmt::Formatter<W>,
         refusal: Refusal,
     ) -> fmt::Result {
-        let (thread, word) = (self.line.thread, move_text(self.line.action));
-        let called = Called(thread, self.names);
-        let lock = lock_text(self.lock.kind());
+        let Wrong(lock, line, _, names) = *self;
+        let (thread, word) = (line.thread, move_text(line.action));
+        let called = Called(thread, names);
+        let lock = lock_text(lock.kind());
         write!(f, "'{thread} {word}', but ")?;
         match refusal {
             Refusal::NoSuchThread => f.write_str("the lock has no such thread (NoSuchThread)"),
@@ -173,8 +159,8 @@ impl<'a> Wrong<'a> {
 
 impl fmt::Display for Wrong<'_> {
     fn fmt<W: fmt::Write>(&self, f: &mut fmt::Formatter<W>) -> fmt::Result {
-        let called = Called(self.line.thread, self.names);
-        let (step, difference) = (move_text(self.line.action), self.difference);
+        let Wrong(_, line, difference, names) = *self;
+        let (called, step) = (Called(line.thread, names), move_text(line.action));
         match difference {
             Difference::Refused(refusal) => self.put_refusal(f, refusal),
             Difference::OtherWord { .. } => write!(f, "{called}'s {step} is {difference}"),

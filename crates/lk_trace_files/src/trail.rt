@@ -2,11 +2,10 @@
 //! when it waits, and the last write to each word. It does not grow with the run.
 
 use lk_locks::{Move, Outcome, StepKind};
+use lk_order::MOST_THREADS;
 use lk_trace::{Made, TraceLine};
 
-// The most threads of a lock, and the most words: those of an MCS lock.
-const MOST_THREADS: usize = 64;
-
+// The most words of a lock: those of an MCS lock.
 const MOST_WORDS: usize = 129;
 
 /// A move, and the line that it is in, from 1.

@@ -34,11 +34,15 @@ impl BadLog {
         }
     }
 
-    /// Its name for programs.
+    /// Its name for programs: of a fault the one that its sentence has in brackets.
     pub fn code(self) -> &'static str {
         match self {
             BadLog::Unread => "Unread",
-            BadLog::Fault(fault) => fault_code(fault),
+            BadLog::Fault(LogFault::NoHeader) => "NoHeader",
+            BadLog::Fault(LogFault::BadHeader) => "BadHeader",
+            BadLog::Fault(LogFault::BadMove | LogFault::AfterTheEnd) => "BadLine",
+            BadLog::Fault(LogFault::TooLong) => "TooLong",
+            BadLog::Fault(LogFault::OutOfMemory) => "OutOfMemory",
             BadLog::OtherLock => "OtherLock",
             BadLog::OtherRun(_) => "OtherRun",
             BadLog::SecondLog(_) => "SecondLog",
@@ -54,16 +58,5 @@ impl BadLog {
             }
             _ => None,
         }
-    }
-}
-
-// The name that the sentence of a fault has in brackets.
-fn fault_code(fault: LogFault) -> &'static str {
-    match fault {
-        LogFault::NoHeader => "NoHeader",
-        LogFault::BadHeader => "BadHeader",
-        LogFault::BadMove | LogFault::AfterTheEnd => "BadLine",
-        LogFault::TooLong => "TooLong",
-        LogFault::OutOfMemory => "OutOfMemory",
     }
 }

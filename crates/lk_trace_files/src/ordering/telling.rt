@@ -3,6 +3,7 @@
 use super::report::OrderReport;
 use crate::course::Course;
 use crate::facts::Facts;
+use crate::summary::Count;
 use crate::texts::{Called, Shown, Standing, Wrong};
 use crate::trail::Trail;
 use crate::waiting::{HANGS, put_waits};
@@ -33,7 +34,7 @@ impl fmt::Display for Why<'_> {
         let checker = order.checker();
         match checker.difference(line) {
             Some(difference) => {
-                let wrong = Wrong::new(checker.lock(), line, difference, &[]);
+                let wrong = Wrong(checker.lock(), line, difference, &[]);
                 write!(f, "{wrong}")
             }
             None => f.write_str("a step of another thread has to come before"),
@@ -122,24 +123,6 @@ pub fn put_stuck(
     report.notes.put_in(name, number, Placed(order))
 }
 
-// What is said of a log that is not whole.
-#[derive(Clone, Copy)]
-struct Cut<'a> {
-    log: &'a Log,
-    is_open: bool,
-}
-
-impl fmt::Display for Cut<'_> {
-    fn fmt<W: fmt::Write>(&self, f: &mut fmt::Formatter<W>) -> fmt::Result {
-        match self.log.dropped() {
-            Some(1) => f.write_str("1 move was dropped"),
-            Some(count) => write!(f, "{count} moves were dropped"),
-            None if self.is_open => f.write_str("its thread has not ended"),
-            None => f.write_str("cut off, without its last line"),
-        }
-    }
-}
-
 /// Says that an order ends where a log was cut short. `open` has the threads that have not ended.
 pub fn put_cut(
     report: &mut OrderReport,
@@ -147,11 +130,19 @@ pub fn put_cut(
     names: &[&str],
     open: &[bool],
 ) -> Result<(), AllocError> {
+    let warnings = &mut report.warnings;
     for (t, log) in order.logs().iter().enumerate() {
         let name = names.get(t).copied().unwrap_or("");
-        let is_open = open.get(t).copied().unwrap_or(false);
-        if log.is_cut() {
-            report.warnings.put_in(name, 0, Cut { log, is_open })?;
+        match log.dropped() {
+            Some(0) => {}
+            Some(count) => {
+                let moves = Count(count, "move was", "moves were");
+                warnings.put_in(name, 0, format_args!("{moves} dropped"))?;
+            }
+            None if open.get(t) == Some(&true) => {
+                warnings.put_in(name, 0, "its thread has not ended")?;
+            }
+            None => warnings.put_in(name, 0, "cut off, without its last line")?,
         }
     }
     let placed = order.len();

@@ -3,6 +3,7 @@
 
 use crate::course::{Course, Fate};
 use crate::failures::Failure;
+use crate::rewriting::MOST_WAITING;
 use crate::texts::Shown;
 use lk_order::{Order, Piece, Pieces};
 use lk_replay::parts::{lock_text, move_text};
@@ -11,9 +12,6 @@ use std::fmt::Write as _;
 use std::fs;
 use std::io::{ErrorKind, Write};
 use std::rt::Files;
-
-// Bytes that wait before they are written.
-const MOST_WAITING: usize = 65_536;
 
 // Writes the header of a trace or a schedule.
 fn put_header(text: &mut String, order: &Order) -> Result<(), AllocError> {
@@ -28,12 +26,12 @@ fn put_header(text: &mut String, order: &Order) -> Result<(), AllocError> {
 // Writes which threads of a run that hangs have ended, as a recorder writes it.
 fn put_ends(text: &mut String, threads: u8, course: &Course) -> Result<(), AllocError> {
     for thread in 0..threads {
-        let not = if course.fate(thread) == Fate::Ended {
-            ""
+        let end = if course.fate(thread) == Fate::Ended {
+            "has ended"
         } else {
-            " not"
+            "has not ended"
         };
-        writeln!(text, "# thread {thread} has{not} ended")?;
+        writeln!(text, "# thread {thread} {end}")?;
     }
     Ok(())
 }
