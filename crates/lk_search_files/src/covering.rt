@@ -28,18 +28,18 @@ pub struct CoverJob {
 
 // What was counted of each lock.
 fn nothing_counted(alloc: Global) -> Result<Vec<Coverage>, AllocError> {
-    let mut coverages = Vec::new(alloc);
-    for kind in LOCKS {
-        coverages.push(Coverage::new(alloc, kind)?)?;
-    }
-    Ok(coverages)
+    LOCKS
+        .into_iter()
+        .map(|kind| Coverage::new(alloc, kind))
+        .try_collect(alloc)
 }
 
-// The place of this lock's counts.
-fn place_of(coverages: &[Coverage], kind: LockKind) -> Option<usize> {
-    coverages
+// The counts of this lock.
+fn coverage_of(coverages: &mut [Coverage], kind: LockKind) -> Option<&mut Coverage> {
+    let place = coverages
         .iter()
-        .position(|coverage| coverage.kind() == kind)
+        .position(|coverage| coverage.kind() == kind)?;
+    coverages.get_mut(place)
 }
 
 // Counts a move that was made.
@@ -54,13 +54,8 @@ fn note_move(
         return;
     };
     summary.note(checker.lock(), line, made);
-    let Some(after) = checker.phase(line.thread) else {
-        return;
-    };
-    let Some(place) = place_of(coverages, checker.lock().kind()) else {
-        return;
-    };
-    if let Some(coverage) = coverages.get_mut(place) {
+    let coverage = coverage_of(coverages, checker.lock().kind());
+    if let (Some(coverage), Some(after)) = (coverage, checker.phase(line.thread)) {
         coverage.note(Observed {
             from: made.from,
             action: line.action,
@@ -75,10 +70,7 @@ fn note_end(coverages: &mut [Coverage], summary: &Summary, trace: &TraceReader) 
     let Some(checker) = trace.checker() else {
         return;
     };
-    let Some(place) = place_of(coverages, checker.lock().kind()) else {
-        return;
-    };
-    if let Some(coverage) = coverages.get_mut(place) {
+    if let Some(coverage) = coverage_of(coverages, checker.lock().kind()) {
         coverage.end_trace(summary.rounds());
     }
 }

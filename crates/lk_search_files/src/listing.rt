@@ -4,6 +4,7 @@
 use lk_locks::LockKind;
 use lk_replay::parts::lock_text;
 use lk_search::{Coverage, Kind, kinds_of};
+use lk_trace_files::Count;
 use std::alloc::AllocError;
 use std::fmt;
 use std::fmt::Write;
@@ -39,11 +40,10 @@ fn has_counter(kind: LockKind) -> bool {
 fn put_text(text: &mut String, coverage: &Coverage) -> Result<(), AllocError> {
     let (lock, kinds) = (coverage.kind(), kinds_of(coverage.kind()));
     let (name, seen, all) = (lock_text(lock), coverage.seen(), kinds.len());
-    let moves = coverage.moves();
-    let word = if moves == 1 { "move" } else { "moves" };
+    let moves = Count(coverage.moves(), "move", "moves");
     writeln!(
         text,
-        "{name}: {seen} of {all} kinds of transition, in {moves} {word}"
+        "{name}: {seen} of {all} kinds of transition, in {moves}"
     )?;
     for (kind, count) in kinds.iter().zip(coverage.counts()) {
         let (name, command) = (kind.name, Command(lock, *kind));
@@ -98,10 +98,9 @@ pub fn put_coverage(
 // How often there was the kind of this name.
 fn count_of(coverage: &Coverage, name: &str) -> u64 {
     let mut kinds = kinds_of(coverage.kind()).iter().zip(coverage.counts());
-    match kinds.find(|(kind, _)| kind.name == name) {
-        Some((_, count)) => *count,
-        None => 0,
-    }
+    kinds
+        .find(|(kind, _)| kind.name == name)
+        .map_or(0, |(_, count)| *count)
 }
 
 // Names each kind of a lock that there was not.

@@ -1,5 +1,6 @@
 //! Numbers as a reader writes them.
 
+use lk_trace_files::Count;
 use std::fmt;
 
 /// A number with a comma before each three digits, as in 1,018.
@@ -33,10 +34,10 @@ pub struct Rounds(pub u8, pub u8);
 impl fmt::Display for Rounds {
     fn fmt<W: fmt::Write>(&self, f: &mut fmt::Formatter<W>) -> fmt::Result {
         let Rounds(threads, rounds) = *self;
-        let thread = if threads == 1 { "thread" } else { "threads" };
-        let round = if rounds == 1 { "round" } else { "rounds" };
         let each = if threads == 1 { "" } else { " each" };
-        write!(f, "{threads} {thread} with {rounds} {round}{each}")
+        let threads = Count(threads.into(), "thread", "threads");
+        let rounds = Count(rounds.into(), "round", "rounds");
+        write!(f, "{threads} with {rounds}{each}")
     }
 }
 
