@@ -1,7 +1,3 @@
-pub mod ticket
-pub mod mcs
-pub mod rw_simple
-pub mod rw_fifo
 pub mod Codes
 pub mod Names
 pub mod Lines

@@ -6,8 +6,7 @@ ghost use Rattle.lk_trace.specs.Agreement.{Agrees, AgreesOn};
 ghost use Rattle.lk_trace.specs.Checks.{difference_of, effect_of, effect_other, on};
 ghost use Rattle.lk_trace.specs.Checks.{section_other, seen_other};
 
-use crate::names::{name_at, same_word};
-use crate::{Difference, Seen, TraceLine, WordName};
+use crate::{Difference, Seen, TraceLine, WordName, name_at};
 use lk_locks::{LockKind, Machine, Move, Outcome};
 use lk_words::{Effect, WordArray};
 
@@ -27,7 +26,7 @@ fn effect_other(
     };
     let own = name_at(kind, effect.word);
     let word = match own {
-        Some(word) if same_word(word, given) => word,
+        Some(word) if word == given => word,
         _ => return Some(Difference::OtherWord { word: own, given }),
     };
     let (found, left, wrote) = (effect.found, effect.left, effect.found != effect.left);

@@ -12,13 +12,9 @@ mod difference;
 mod due;
 mod due_texts;
 mod line;
-mod mcs;
 mod names;
 mod numbers;
 mod open;
-mod rw_fifo;
-mod rw_simple;
-mod ticket;
 mod trace;
 mod unreadable;
 

@@ -1,9 +1,9 @@
-//! The words of the locks by name. Each lock has a module of its own.
+//! The words of the locks by name. A section of a read-write lock is on all of its words, so no
+//! trace names them.
 
 ghost use Rattle.std.specs.Prelude.{◌≡◌};
-ghost use Rattle.lk_trace.specs.Names.{name_at, same_word};
+ghost use Rattle.lk_trace.specs.Names.{name_at};
 
-use crate::{mcs, rw_fifo, rw_simple, ticket};
 use lk_locks::LockKind;
 use std::fmt;
 
@@ -37,33 +37,22 @@ impl fmt::Display for WordName {
     }
 }
 
-/// The name of the lock's word at this place.
+/// The name of the lock's word at this place. Of an MCS lock these are the tail, and two words in
+/// the record of each of at most 64 threads.
 pub fn name_at(kind: LockKind, place: usize) -> Option<WordName>
     ensures { result ≡ name_at kind place }
 {
-    match kind {
-        LockKind::Ticket => ticket::name_at(place),
-        LockKind::Mcs => mcs::name_at(place),
-        LockKind::RwSimple => rw_simple::name_at(place),
-        LockKind::RwFifo => rw_fifo::name_at(place),
-    }
-}
-
-/// Whether two names are the same.
-pub(crate) fn same_word(a: WordName, b: WordName) -> bool
-    ensures { result ≡ same_word a b }
-{
-    match (a, b) {
-        (WordName::NextTicket, WordName::NextTicket)
-        | (WordName::NowServing, WordName::NowServing)
-        | (WordName::Tail, WordName::Tail)
-        | (WordName::Readers, WordName::Readers)
-        | (WordName::Flag, WordName::Flag)
-        | (WordName::ReadAcquires, WordName::ReadAcquires)
-        | (WordName::ReadReleases, WordName::ReadReleases) => true,
-        (WordName::Next(i), WordName::Next(j)) | (WordName::Locked(i), WordName::Locked(j)) => {
-            i == j
-        }
-        _ => false,
+    match (kind, place) {
+        (LockKind::Ticket, 0) => Some(WordName::NextTicket),
+        (LockKind::Ticket, 1) => Some(WordName::NowServing),
+        (LockKind::Mcs, 0) => Some(WordName::Tail),
+        (LockKind::Mcs, 1..=128) if place % 2 == 1 => Some(WordName::Next((place / 2) as u8)),
+        (LockKind::Mcs, 1..=128) => Some(WordName::Locked((place / 2 - 1) as u8)),
+        (LockKind::RwSimple, 0) => Some(WordName::Readers),
+        (LockKind::RwSimple, 1) => Some(WordName::Flag),
+        (LockKind::RwFifo, 0) => Some(WordName::ReadAcquires),
+        (LockKind::RwFifo, 1) => Some(WordName::ReadReleases),
+        (LockKind::RwFifo, 2) => Some(WordName::Flag),
+        _ => None,
     }
 }
