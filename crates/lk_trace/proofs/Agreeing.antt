@@ -2,6 +2,8 @@
 use Rattle.std.proofs.Common.{List, option_map, replicate, arith, ltb-true, lt-ltb, nat_lt, ◌<◌}
 use Rattle.std.proofs.Common.{◌≡◌, ℕ, ◌==◌, Option, Some, None, Bool, true, false, IfSome}
 use Rattle.std.proofs.Common.{if◌then◌else◌, refl, sym, ap, subst, length, not, ◌∙◌, ◌↔◌}
+use Rattle.std.specs.Bool.{beq}
+use Rattle.std.specs.Option.{option_or}
 use Rattle.std.proofs.lemmas.List.{get_or-replicate, length-replicate}
 use Rattle.lk_words.specs.Operations.{effect_on}
 use Rattle.lk_words.specs.declared.operation.Operation.{Operation}
@@ -18,11 +20,9 @@ use Rattle.lk_locks.specs.declared.kinds.Outcome.{Outcome}
 use Rattle.lk_locks.specs.declared.kinds.Outcome.TheVariants.{Called, Moved, Waits, Entered, Left}
 use Rattle.lk_locks.specs.declared.kinds.Refusal.{Refusal}
 use Rattle.lk_trace.specs.Agreement.{Agrees, AgreesOn, AgreesOnWord, IsCounted, count_in}
-use Rattle.lk_trace.specs.Checks.{checked, count_other, difference_of, new_lock, outcome_other}
-use Rattle.lk_trace.specs.Checks.{count_given}
-use Rattle.lk_trace.specs.Checks.{refused, same_outcome, Checked, or_then, is_word, other_word}
-use Rattle.lk_trace.specs.Checks.{found_other, left_other, same_answer, wrote_other, values_other}
-use Rattle.lk_trace.specs.Checks.{seen_other, effect_of, effect_other, name_of, value_after}
+use Rattle.lk_trace.specs.Checks.{Checked, checked, count_given, difference_of, effect_of}
+use Rattle.lk_trace.specs.Checks.{effect_other, is_word, name_of, new_lock, other_word, part_other}
+use Rattle.lk_trace.specs.Checks.{same_outcome, seen_other, value_after, values_other}
 use Rattle.lk_trace.specs.declared.line.Seen.{Seen}
 use Rattle.lk_trace.specs.declared.line.Seen.TheVariants.{InSection, Nothing, OnWord}
 use Rattle.lk_trace.specs.declared.line.TraceLine.{TraceLine}
@@ -36,22 +36,37 @@ use Rattle.lk_trace.specs.declared.names.WordName.TheVariants.{NextTicket, NowSe
 use Rattle.lk_trace.specs.declared.names.WordName.TheVariants.{Locked, Readers, Flag, ReadAcquires}
 use Rattle.lk_trace.specs.declared.names.WordName.TheVariants.{ReadReleases}
 use Rattle.lk_trace.specs.declared.difference.Difference.{Difference}
+use Rattle.lk_trace.specs.declared.difference.Difference.TheVariants.{CountNotAbove, FoundOther}
+use Rattle.lk_trace.specs.declared.difference.Difference.TheVariants.{LeftOther, Refused}
 
 -- of two checks, one after the other, neither finds a difference
-both_none : (a b : Option Difference) → or_then a b ≡ None → (a ≡ None) × (b ≡ None)
+both_none : (a b : Option Difference) → option_or a b ≡ None → (a ≡ None) × (b ≡ None)
 both_none None b none = (refl, none)
 both_none (Some d) b none = absurd (cc)
 
-none_of_both : (a b : Option Difference) → a ≡ None → b ≡ None → or_then a b ≡ None
-none_of_both a b first second = ap (λ x. or_then x b) first ∙ second
+none_of_both : (a b : Option Difference) → a ≡ None → b ≡ None → option_or a b ≡ None
+none_of_both a b first second = ap (λ x. option_or x b) first ∙ second
 
-not_refused : (refusal : Option Refusal) → refused refusal ≡ None → refusal ≡ None
+not_refused : (refusal : Option Refusal) → option_map Refused refusal ≡ None → refusal ≡ None
 not_refused None none = refl
 not_refused (Some refusal) none = cc
 
 holds : (test : Bool) (d : Difference) → (if test then None else Some d) ≡ None → test ≡ true
 holds true d none = refl
 holds false d none = cc
+
+-- a part that is given agrees exactly if no difference is found
+part_agrees : {A : Type 0} (agrees : A → Bool) (other : A → Difference) (P : A → Type 0)
+    (given : Option A) → ((v : A) → agrees v ≡ true → P v) → part_other agrees other given ≡ None
+    → IfSome given P
+part_agrees agrees other P None h none = tt
+part_agrees agrees other P (Some v) h none = h v (holds (agrees v) _ none)
+
+agreed_part : {A : Type 0} (agrees : A → Bool) (other : A → Difference) (P : A → Type 0)
+    (given : Option A) → ((v : A) → P v → agrees v ≡ true) → IfSome given P
+    → part_other agrees other given ≡ None
+agreed_part agrees other P None h is = refl
+agreed_part agrees other P (Some v) h is = cond-true (agrees v) _ _ (h v is)
 
 -- names
 same_name : (a b : WordName) → same_word a b ≡ true → a ≡ b
@@ -90,60 +105,18 @@ agreed_word : (word : Option WordName) (given : WordName) → word ≡ Some give
 agreed_word word given is =
     ap (λ w. other_word w given) is ∙ cond-true (same_word given given) _ _ (its_name given)
 
--- values
-found_agrees : (word : WordName) (found : ℕ) (given : Option ℕ)
-    → found_other word found given ≡ None → IfSome given (λ v. found ≡ v)
-found_agrees word found None none = tt
-found_agrees word found (Some given) none = eqb-true found given (holds (found == given) _ none)
-
-agreed_found : (word : WordName) (found : ℕ) (given : Option ℕ) → IfSome given (λ v. found ≡ v)
-    → found_other word found given ≡ None
-agreed_found word found None is = refl
-agreed_found word found (Some given) is = cond-true (found == given) _ _ (eq-eqb found given is)
-
-left_agrees : (word : WordName) (left : ℕ) (given : Option ℕ) → left_other word left given ≡ None
-    → IfSome given (λ v. left ≡ v)
-left_agrees word left None none = tt
-left_agrees word left (Some given) none = eqb-true left given (holds (left == given) _ none)
-
-agreed_left : (word : WordName) (left : ℕ) (given : Option ℕ) → IfSome given (λ v. left ≡ v)
-    → left_other word left given ≡ None
-agreed_left word left None is = refl
-agreed_left word left (Some given) is = cond-true (left == given) _ _ (eq-eqb left given is)
-
-same_test : (a b : Bool) → same_answer a b ≡ true → a ≡ b
+-- answers
+same_test : (a b : Bool) → beq a b ≡ true → a ≡ b
 same_test true true same = refl
 same_test false false same = refl
 same_test true false same = cc
 same_test false true same = cc
 
-its_answer : (a : Bool) → same_answer a a ≡ true
-its_answer true = refl
-its_answer false = refl
+its_answer : (a b : Bool) → a ≡ b → beq a b ≡ true
+its_answer true b is = ap (beq true) (sym is)
+its_answer false b is = ap (beq false) (sym is)
 
-wrote_agrees : (wrote : Bool) (given : Option Bool) → wrote_other wrote given ≡ None
-    → IfSome given (λ w. wrote ≡ w)
-wrote_agrees wrote None none = tt
-wrote_agrees wrote (Some given) none =
-    same_test wrote given (holds (same_answer wrote given) _ none)
-
-agreed_wrote : (wrote : Bool) (given : Option Bool) → IfSome given (λ w. wrote ≡ w)
-    → wrote_other wrote given ≡ None
-agreed_wrote wrote None is = refl
-agreed_wrote wrote (Some given) is =
-    cond-true (same_answer wrote given) _ _ (ap (same_answer wrote) (sym is) ∙ its_answer wrote)
-
--- sections
-count_agrees : (last : ℕ) (given : Option ℕ) → count_other last given ≡ None
-    → IfSome given (λ n. last < n)
-count_agrees last None none = tt
-count_agrees last (Some given) none = ltb-true last given (holds (nat_lt last given) _ none)
-
-agreed_count : (last : ℕ) (given : Option ℕ) → IfSome given (λ n. last < n)
-    → count_other last given ≡ None
-agreed_count last None is = refl
-agreed_count last (Some given) is = cond-true (nat_lt last given) _ _ (lt-ltb last given is)
-
+-- outcomes
 same_end : (a b : Outcome) → same_outcome a b ≡ true → a ≡ b
 same_end Called Called same = refl
 same_end Moved Moved same = refl
@@ -159,18 +132,8 @@ its_end Waits = refl
 its_end Entered = refl
 its_end Left = refl
 
-outcome_agrees : (outcome : Outcome) (given : Option Outcome) → outcome_other outcome given ≡ None
-    → IfSome given (λ o. outcome ≡ o)
-outcome_agrees outcome None none = tt
-outcome_agrees outcome (Some given) none =
-    same_end outcome given (holds (same_outcome outcome given) _ none)
-
-agreed_outcome : (outcome : Outcome) (given : Option Outcome) → IfSome given (λ o. outcome ≡ o)
-    → outcome_other outcome given ≡ None
-agreed_outcome outcome None is = refl
-agreed_outcome outcome (Some given) is =
-    cond-true (same_outcome outcome given) _ _
-    (ap (same_outcome outcome) (sym is) ∙ its_end outcome)
+end_is : (a b : Outcome) → a ≡ b → same_outcome a b ≡ true
+end_is a b is = ap (same_outcome a) (sym is) ∙ its_end a
 
 -- what the line saw of a word
 abbrev AgreesHere : Checked → ℕ → Move → WordName → Option ℕ → Option ℕ → Option Bool → Type 0
@@ -186,20 +149,22 @@ word_seen c t m word found left wrote (Some e) is within none =
     let kind = c.lock.state.kind in
     let first = both_none (other_word (name_at kind e.word) word)
     (values_other word e.found e.left found left wrote) none in
-    let second = both_none (found_other word e.found found) _ first.1 in
-    let third = both_none (left_other word e.left left) _ second.1 in
+    let second = both_none (part_other (λ v. e.found == v) (FoundOther word e.found) found) _
+    first.1 in
+    let third = both_none (part_other (λ v. e.left == v) (LeftOther word e.left) left) _
+    second.1 in
     let named : name_at kind e.word ≡ Some word = word_agrees _ word first.0 in
     let stood = has_values c.lock.state t m word e is within named in
     record {
       on_word = ap (name_of kind) is ∙ named;
       found_is = subst (λ x. IfSome found (λ v. x ≡ v)) (sym stood.found)
-          (found_agrees word e.found found second.0);
+          (part_agrees _ _ (λ v. e.found ≡ v) found (eqb-true e.found) second.0);
       left_is = subst (λ x. IfSome left (λ v. x ≡ v)) (sym stood.left)
-          (left_agrees word e.left left third.0);
+          (part_agrees _ _ (λ v. e.left ≡ v) left (eqb-true e.left) third.0);
       wrote_is = subst (λ x. IfSome wrote (λ w. not (x == value_after c.lock.state t m word) ≡ w))
           (sym stood.found)
           (subst (λ x. IfSome wrote (λ w. not (e.found == x) ≡ w)) (sym stood.left)
-          (wrote_agrees _ wrote third.1));
+          (part_agrees _ _ (λ w. not (e.found == e.left) ≡ w) wrote (same_test _) third.1));
     }
 
 word_agreed : (c : Checked) (t : ℕ) (m : Move) (word : WordName) (found left : Option ℕ)
@@ -215,10 +180,12 @@ word_agreed c t m word found left wrote (Some e) is within agrees =
     let named : name_at kind e.word ≡ Some word = ap (name_of kind) (sym is) ∙ agrees.on_word in
     let stood = has_values c.lock.state t m word e is within named in
     none_of_both _ _ (agreed_word _ word named) (none_of_both _ _
-    (agreed_found word _ found (subst (λ x. IfSome found (λ v. x ≡ v)) stood.found agrees.found_is))
+    (agreed_part _ _ (λ v. e.found ≡ v) found (eq-eqb e.found)
+    (subst (λ x. IfSome found (λ v. x ≡ v)) stood.found agrees.found_is))
     (none_of_both _ _
-    (agreed_left word _ left (subst (λ x. IfSome left (λ v. x ≡ v)) stood.left agrees.left_is))
-    (agreed_wrote _ wrote
+    (agreed_part _ _ (λ v. e.left ≡ v) left (eq-eqb e.left)
+    (subst (λ x. IfSome left (λ v. x ≡ v)) stood.left agrees.left_is))
+    (agreed_part _ _ (λ w. not (e.found == e.left) ≡ w) wrote (its_answer _)
     (subst (λ x. IfSome wrote (λ w. not (e.found == x) ≡ w)) stood.left
     (subst (λ x. IfSome wrote (λ w. not (x == value_after c.lock.state t m word) ≡ w)) stood.found
     agrees.wrote_is)))))
@@ -250,12 +217,15 @@ seen_both c t m Nothing w h = (λ none. tt, λ agrees. refl)
 seen_both c t m (OnWord word found left wrote) w h =
     word_both c t m word found left wrote (effect_within c.lock.state t m w h)
 seen_both c t m (InSection count outcome) w h = (
-  λ none. let both = both_none (count_other c.sections count) _ none in record {
-    count_is = count_agrees _ count both.0;
-    outcome_is = outcome_agrees _ outcome both.1;
-  },
-  λ agrees. none_of_both _ _ (agreed_count _ count agrees.count_is)
-      (agreed_outcome _ outcome agrees.outcome_is),
+  λ none.
+      let both = both_none (part_other (nat_lt c.sections) (CountNotAbove c.sections) count) _ none
+      in record {
+        count_is = part_agrees _ _ (λ n. c.sections < n) count (ltb-true c.sections) both.0;
+        outcome_is = part_agrees _ _ _ outcome (same_end _) both.1;
+      },
+  λ agrees. none_of_both _ _
+      (agreed_part _ _ (λ n. c.sections < n) count (lt-ltb c.sections) agrees.count_is)
+      (agreed_part _ _ _ outcome (end_is _) agrees.outcome_is),
 )
 
 -- a line, on a lock that is well formed
@@ -265,7 +235,7 @@ thread_in s t m accepted = (accepted_of s t m accepted).thread
 pub agrees : (c : Checked) (l : TraceLine) → WellFormed c.lock.state → difference_of c l ≡ None
     → Agrees c l
 agrees c l w none =
-    let both = both_none (refused (refusal_of c.lock.state l.thread l.action))
+    let both = both_none (option_map Refused (refusal_of c.lock.state l.thread l.action))
     (seen_other c l.thread l.action l.seen) none in
     let accepted = not_refused _ both.0 in
     record {
@@ -277,7 +247,7 @@ agrees c l w none =
 pub agreed : (c : Checked) (l : TraceLine) → WellFormed c.lock.state → Agrees c l
     → difference_of c l ≡ None
 agreed c l w agrees =
-    none_of_both _ _ (ap refused agrees.accepted)
+    none_of_both _ _ (ap (option_map Refused) agrees.accepted)
     ((seen_both c l.thread l.action l.seen w
     (thread_in c.lock.state l.thread l.action agrees.accepted)).1 agrees.seen)
 

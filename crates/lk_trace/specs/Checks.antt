@@ -2,6 +2,8 @@
 -- project's own; what a move does is said by the definitions of the locks alone.
 use Rattle.std.specs.Prelude.{ℕ, ◌==◌, [], replicate, slice_index, Option, Some, None, option_map}
 use Rattle.std.specs.Prelude.{Result, Ok, Err, Bool, true, false, not, nat_lt, if◌then◌else◌}
+use Rattle.std.specs.Bool.{beq}
+use Rattle.std.specs.Option.{option_and_then, option_or}
 use Rattle.lk_locks.specs.State.{State, start, phase_at}
 use Rattle.lk_words.specs.Operations.{effect_on}
 use Rattle.lk_words.specs.declared.operation.Effect.{Effect}
@@ -14,7 +16,6 @@ use Rattle.lk_locks.specs.declared.kinds.Move.{Move}
 use Rattle.lk_locks.specs.declared.kinds.Move.TheVariants.{Call, Step}
 use Rattle.lk_locks.specs.declared.kinds.Outcome.{Outcome}
 use Rattle.lk_locks.specs.declared.kinds.Outcome.TheVariants as outcome
-use Rattle.lk_locks.specs.declared.kinds.Refusal.{Refusal}
 use Rattle.lk_trace.specs.Names.{name_at, place_of, same_word}
 use Rattle.lk_trace.specs.declared.checker.Made.{Made}
 use Rattle.lk_trace.specs.declared.names.WordName.{WordName}
@@ -43,15 +44,6 @@ new_lock kind threads bits = record {
 abbrev pub on : State → ℕ → Checked
 on s sections = record { lock = tracked s []; sections = sections }
 
--- the first difference of two checks, one after the other
-abbrev pub or_then : Option Difference → Option Difference → Option Difference
-or_then (Some difference) rest = Some difference
-or_then None rest = rest
-
-abbrev pub refused : Option Refusal → Option Difference
-refused (Some refusal) = Some (Refused refusal)
-refused None = None
-
 abbrev pub is_word : Option WordName → WordName → Bool
 is_word (Some word) given = same_word word given
 is_word None given = false
@@ -59,26 +51,10 @@ is_word None given = false
 abbrev pub other_word : Option WordName → WordName → Option Difference
 other_word word given = if is_word word given then None else Some (OtherWord word given)
 
-abbrev pub found_other : WordName → ℕ → Option ℕ → Option Difference
-found_other word found None = None
-found_other word found (Some given) =
-    if found == given then None else Some (FoundOther word found given)
-
-abbrev pub left_other : WordName → ℕ → Option ℕ → Option Difference
-left_other word left None = None
-left_other word left (Some given) = if left == given then None else Some (LeftOther word left given)
-
-abbrev pub same_answer : Bool → Bool → Bool
-same_answer true given = given
-same_answer false given = not given
-
-abbrev pub wrote_other : Bool → Option Bool → Option Difference
-wrote_other wrote None = None
-wrote_other wrote (Some given) = if same_answer wrote given then None else Some (WroteOther wrote)
-
-abbrev pub count_other : ℕ → Option ℕ → Option Difference
-count_other last None = None
-count_other last (Some given) = if nat_lt last given then None else Some (CountNotAbove last given)
+-- how a part differs, if it is given and does not agree
+abbrev pub part_other : {A : Type 0} → (A → Bool) → (A → Difference) → Option A → Option Difference
+part_other agrees other None = None
+part_other agrees other (Some given) = if agrees given then None else Some (other given)
 
 abbrev pub same_outcome : Outcome → Outcome → Bool
 same_outcome outcome.Called outcome.Called = true
@@ -87,11 +63,6 @@ same_outcome outcome.Waits outcome.Waits = true
 same_outcome outcome.Entered outcome.Entered = true
 same_outcome outcome.Left outcome.Left = true
 same_outcome a b = false
-
-abbrev pub outcome_other : Outcome → Option Outcome → Option Difference
-outcome_other outcome None = None
-outcome_other outcome (Some given) =
-    if same_outcome outcome given then None else Some (OtherOutcome outcome given)
 
 -- the value of a word, and its value after a move
 abbrev pub value_of : State → WordName → ℕ
@@ -108,8 +79,7 @@ effect_of s t (Step kind) =
 
 -- the name of the word that an effect is on
 abbrev pub name_of : LockKind → Option Effect → Option WordName
-name_of kind None = None
-name_of kind (Some effect) = name_at kind effect.word
+name_of kind effect = option_and_then (λ e. name_at kind e.word) effect
 
 abbrev pub word_of : State → ℕ → Move → Option WordName
 word_of s t m = name_of s.kind (effect_of s t m)
@@ -117,19 +87,21 @@ word_of s t m = name_of s.kind (effect_of s t m)
 -- the values of a word before and after
 abbrev pub values_other : WordName → ℕ → ℕ → Option ℕ → Option ℕ → Option Bool → Option Difference
 values_other word found left given_found given_left given_wrote =
-    or_then (found_other word found given_found)
-    (or_then (left_other word left given_left) (wrote_other (not (found == left)) given_wrote))
+    option_or (part_other (λ v. found == v) (FoundOther word found) given_found)
+    (option_or (part_other (λ v. left == v) (LeftOther word left) given_left)
+    (part_other (beq (not (found == left))) (λ w. WroteOther (not (found == left))) given_wrote))
 
 abbrev pub effect_other : LockKind → Option Effect → WordName → Option ℕ → Option ℕ → Option Bool
     → Option Difference
 effect_other kind None word found left wrote = Some (OtherWord None word)
 effect_other kind (Some effect) word found left wrote =
-    or_then (other_word (name_at kind effect.word) word)
+    option_or (other_word (name_at kind effect.word) word)
     (values_other word effect.found effect.left found left wrote)
 
 abbrev pub section_other : ℕ → Outcome → Option ℕ → Option Outcome → Option Difference
 section_other last outcome count given =
-    or_then (count_other last count) (outcome_other outcome given)
+    option_or (part_other (nat_lt last) (CountNotAbove last) count)
+    (part_other (same_outcome outcome) (OtherOutcome outcome) given)
 
 -- what an accepted move differs in
 abbrev pub seen_other : Checked → ℕ → Move → Seen → Option Difference
@@ -142,7 +114,7 @@ seen_other c t m (InSection count outcome) =
 -- where a line of a trace differs from the machine first
 abbrev pub difference_of : Checked → TraceLine → Option Difference
 difference_of c l =
-    or_then (refused (refusal_of c.lock.state l.thread l.action))
+    option_or (option_map Refused (refusal_of c.lock.state l.thread l.action))
     (seen_other c l.thread l.action l.seen)
 
 abbrev pub count_given : ℕ → Seen → ℕ
