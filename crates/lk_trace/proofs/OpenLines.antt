@@ -15,8 +15,8 @@ use Rattle.lk_trace.specs.Lines.{Words, move_with, seen_of, section_of, tagged, 
 use Rattle.lk_trace.specs.Lines.{with_action, with_found, wrote}
 use Rattle.lk_trace.specs.Open.{action_on, doer_named, doer_of, filled_line, filled_line_on}
 use Rattle.lk_trace.specs.Open.{move_after, move_on, move_on_after, seen_on}
-use Rattle.lk_trace.specs.Unreadable.{after_found, after_open_move, after_place, after_result}
-use Rattle.lk_trace.specs.Unreadable.{after_word, is_open_line, unreadable_from}
+use Rattle.lk_trace.specs.Unreadable.{after_found, after_move, after_place, after_result}
+use Rattle.lk_trace.specs.Unreadable.{after_word, is_open_line, opened, unreadable_from}
 use Rattle.lk_trace.specs.declared.due.Due.{Due}
 use Rattle.lk_trace.specs.declared.due.Due.TheVariants.{AnyThread, Found, Of, OpenMove, Open}
 use Rattle.lk_trace.specs.declared.names.WordName.{WordName}
@@ -88,7 +88,7 @@ open_reads thread kind place word words =
     (place_reads thread kind word words) (found_reads kind place (word ∷ words)) (apart kind word)
 
 seen_reads : (thread : ℕ) (place : WordName) (action : Move) (words : Words)
-    → reads (after_open_move action) words
+    → reads (opened (after_move action)) words
     ≡ is_some (seen_of thread action words) || is_some (seen_on place action words)
 unfolding after_word
 seen_reads thread place (Call op) [] = refl
@@ -113,7 +113,7 @@ or_both : (a b x y : Bool) → a ≡ x → b ≡ y → a || b ≡ x || y
 or_both a b x y p q = cc
 
 action_reads : (thread : ℕ) (place : WordName) (action : Option Move) (words : Words)
-    → option_map_or (λ next. reads next words) (option_map after_open_move action) false
+    → option_map_or (λ next. reads next words) (option_map (λ a. opened (after_move a)) action) false
     ≡ is_some (with_action thread action words) || is_some (action_on thread place action words)
 action_reads thread place (Some action) words =
     seen_reads thread place action words

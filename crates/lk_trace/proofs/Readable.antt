@@ -2,7 +2,7 @@
 use Rattle.std.proofs.Common.{◌≡◌, ◌↔◌, ℕ, ◌+◌, List, [], ◌∷◌, Option, Some, None, cond, length}
 use Rattle.std.proofs.Common.{is_some, IsNone, IsSome, Bool, true, false, not, ◌||◌, ap, refl}
 use Rattle.std.proofs.Common.{◌∙◌, codes, option_map}
-use Rattle.std.specs.Option.{option_map_or}
+use Rattle.std.specs.Option.{option_and_then, option_map_or}
 use Rattle.std.specs.Str.{bytes_eq}
 use Rattle.lk_locks.specs.declared.kinds.Move.{Move}
 use Rattle.lk_locks.specs.declared.kinds.Move.TheVariants.{Call, Step}
@@ -12,10 +12,10 @@ use Rattle.lk_locks.specs.declared.kinds.StepKind.TheVariants.{Read, Write, Swap
 use Rattle.lk_replay.specs.Lines.{words_of}
 use Rattle.lk_replay.specs.Vocabulary.{move_named, number_of, outcome_named}
 use Rattle.lk_replay.specs.declared.unreadable.Expected.TheVariants.{Thread, Action, End}
-use Rattle.lk_trace.specs.Lines.{Words, counted, counted_and, in_record, line_of_words, move_with}
-use Rattle.lk_trace.specs.Lines.{owner_of, place_in, result_alone, result_of, section_of, seen_of}
+use Rattle.lk_trace.specs.Lines.{Words, in_record, line_of_words, move_with, owner_of}
+use Rattle.lk_trace.specs.Lines.{place_in, result_alone, result_of, section_of, seen_of}
 use Rattle.lk_trace.specs.Lines.{tagged, trace_line_of, whole_number, with_action, with_found}
-use Rattle.lk_trace.specs.Lines.{with_left, with_outcome, with_result, with_seen, with_thread}
+use Rattle.lk_trace.specs.Lines.{with_left, with_outcome, with_seen}
 use Rattle.lk_trace.specs.Lines.{with_word}
 use Rattle.lk_trace.specs.Unreadable.{after_found, after_left, after_move, after_outcome}
 use Rattle.lk_trace.specs.Unreadable.{after_result, after_word, may_end, unreadable_from}
@@ -24,6 +24,7 @@ use Rattle.lk_trace.specs.declared.due.Due.TheVariants.{OfSchedule, Count, Place
 use Rattle.lk_trace.specs.declared.due.Due.TheVariants.{FoundValue, Left, LeftValue, Result}
 use Rattle.lk_trace.specs.declared.due.Due.TheVariants.{Outcome as OutcomeDue}
 use Rattle.lk_trace.specs.declared.line.Seen.{Seen}
+use Rattle.lk_trace.specs.declared.line.Seen.TheVariants.{InSection, OnWord}
 use Rattle.lk_trace.specs.declared.names.WordName.{WordName}
 use Rattle.lk_trace.specs.declared.names.WordName.TheVariants.{NextTicket, NowServing, Tail, Next}
 use Rattle.lk_trace.specs.declared.names.WordName.TheVariants.{Locked}
@@ -64,7 +65,7 @@ none_if_read due words read e = opposite _ read (place_if_unread 1 due words ∙
 
 last_reads : (word : WordName) (found left : Option ℕ) (wrote : Option (Option Bool))
     → option_map_or (λ next. reads next []) (option_map (λ w. OfSchedule End) wrote) false
-    ≡ is_some (with_result word found left wrote)
+    ≡ is_some (option_map (OnWord word found left) wrote)
 last_reads word found left (Some wrote) = refl
 last_reads word found left None = refl
 
@@ -76,7 +77,7 @@ more_reads (Some a) next words = refl
 more_reads None next words = refl
 
 result_reads : (kind : StepKind) (word : WordName) (found left : Option ℕ) (words : Words)
-    → reads (Result kind) words ≡ is_some (with_result word found left (result_of kind words))
+    → reads (Result kind) words ≡ is_some (option_map (OnWord word found left) (result_of kind words))
 unfolding after_word
 result_reads kind word found left [] = refl
 result_reads kind word found left (w ∷ []) = last_reads word found left (result_alone kind w)
@@ -205,40 +206,31 @@ place_reads thread kind name rest =
 
 -- ---- a section
 
-outcome_reads : (count : Option ℕ) (outcome : Option Outcome)
+outcome_alone : (count : Option ℕ) (outcome : Option Outcome)
     → option_map_or (λ next. reads next []) (option_map (λ o. OfSchedule End) outcome) false
-    ≡ is_some (with_outcome count outcome)
-outcome_reads count (Some outcome) = refl
-outcome_reads count None = refl
+    ≡ is_some (option_map (λ o. InSection count (Some o)) outcome)
+outcome_alone count (Some outcome) = refl
+outcome_alone count None = refl
 
-count_alone : (count : Option ℕ) (word : List ℕ)
-    → option_map_or (λ next. reads next [])
-    (cond (is_some count) (Some OutcomeDue) (after_outcome word)) false
-    ≡ is_some (counted count word)
-count_alone (Some count) word = refl
-count_alone None word = outcome_reads None (outcome_named word)
+outcome_reads : (count : Option ℕ) (words : Words)
+    → reads OutcomeDue words ≡ is_some (with_outcome count words)
+unfolding after_word
+outcome_reads count [] = refl
+outcome_reads count (word ∷ []) = outcome_alone count (outcome_named word)
+outcome_reads count (word ∷ next ∷ words) = more_reads (outcome_named word) next words
 
-count_and : (count : Option ℕ) (first word : List ℕ)
-    → option_map_or (λ next. reads next (word ∷ []))
+count_reads : (count : Option ℕ) (first : List ℕ) (words : Words)
+    → option_map_or (λ next. reads next words)
     (cond (is_some count) (Some OutcomeDue) (after_outcome first)) false
-    ≡ is_some (counted_and count word)
+    ≡ is_some (with_outcome count (cond (is_some count) words (first ∷ words)))
 unfolding after_word
-count_and (Some count) first word = outcome_reads (Some count) (outcome_named word)
-count_and None first word = more_reads (outcome_named first) word []
-
-count_more : (count : Option ℕ) (first word next : List ℕ) (words : Words)
-    → option_map_or (λ d. reads d (word ∷ next ∷ words))
-    (cond (is_some count) (Some OutcomeDue) (after_outcome first)) false ≡ false
-unfolding after_word
-count_more (Some count) first word next words = more_reads (outcome_named word) next words
-count_more None first word next words = more_reads (outcome_named first) word (next ∷ words)
+count_reads (Some count) first words = outcome_reads (Some count) words
+count_reads None first words = outcome_reads None (first ∷ words)
 
 pub section_reads : (first : List ℕ) (words : Words)
     → reads Count (first ∷ words) ≡ is_some (section_of (first ∷ words))
 unfolding after_word
-section_reads first [] = count_alone (whole_number first) first
-section_reads first (word ∷ []) = count_and (whole_number first) first word
-section_reads first (word ∷ next ∷ words) = count_more (whole_number first) first word next words
+section_reads first words = count_reads (whole_number first) first words
 
 -- ---- a line
 
@@ -280,7 +272,7 @@ move_reads thread (word ∷ words) = action_reads thread (move_named word) words
 
 thread_reads : (thread : Option ℕ) (words : Words)
     → option_map_or (λ next. reads next words) (option_map (λ t. OfSchedule Action) thread) false
-    ≡ is_some (with_thread thread words)
+    ≡ is_some (option_and_then (λ t. move_with t words) thread)
 thread_reads (Some thread) words = move_reads thread words
 thread_reads None words = refl
 

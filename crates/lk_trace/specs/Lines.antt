@@ -1,14 +1,15 @@
 -- Definitions. A line of a trace, and a line of a log: a move, and what its thread saw. This
 -- project's own.
 use Rattle.std.specs.Prelude.{ℕ, List, [], ◌∷◌, Option, Some, None, Bool, true, false}
-use Rattle.std.specs.Prelude.{if◌then◌else◌, ◌&&◌, nat_le, nat_lt, codes, length, option_map}
+use Rattle.std.specs.Prelude.{if◌then◌else◌, ◌&&◌, nat_le, nat_lt, codes, length, is_some}
+use Rattle.std.specs.Prelude.{option_map}
+use Rattle.std.specs.Option.{option_and_then}
 use Rattle.std.specs.Str.{bytes_eq}
 use Rattle.std.specs.Borrow.{Bor}
 use Rattle.lk_locks.specs.declared.kinds.Move.{Move}
 use Rattle.lk_locks.specs.declared.kinds.Move.TheVariants.{Call, Step}
 use Rattle.lk_locks.specs.declared.kinds.StepKind.{StepKind}
 use Rattle.lk_locks.specs.declared.kinds.StepKind.TheVariants.{Cas, Section}
-use Rattle.lk_locks.specs.declared.kinds.Outcome.{Outcome}
 use Rattle.lk_replay.specs.Lines.{words_of}
 use Rattle.lk_replay.specs.Vocabulary.{is_plain_number, value_from, number_of, move_named}
 use Rattle.lk_replay.specs.Vocabulary.{outcome_named}
@@ -41,8 +42,7 @@ owner_of thread (of ∷ []) = if bytes_eq of (codes "of") then None else Some (t
 owner_of thread [] = Some (thread, [])
 
 abbrev pub in_record : (ℕ → WordName) → Read ℕ → Read WordName
-in_record word (Some read) = Some (word read.0, read.1)
-in_record word None = None
+in_record word read = option_map (λ r. (word r.0, r.1)) read
 
 -- the word that a step was on
 abbrev pub place_in : ℕ → Words → Read WordName
@@ -78,44 +78,33 @@ result_of kind [] = Some None
 result_of kind (word ∷ []) = result_alone kind word
 result_of kind (word ∷ next ∷ rest) = None
 
-abbrev pub with_result : WordName → Option ℕ → Option ℕ → Option (Option Bool) → Option Seen
-with_result word found left (Some wrote) = Some (OnWord word found left wrote)
-with_result word found left None = None
-
 abbrev pub with_left : StepKind → WordName → Option ℕ → Read (Option ℕ) → Option Seen
-with_left kind word found (Some left) = with_result word found left.0 (result_of kind left.1)
-with_left kind word found None = None
+with_left kind word found read =
+    option_and_then (λ left. option_map (OnWord word found left.0) (result_of kind left.1)) read
 
 abbrev pub with_found : StepKind → WordName → Read (Option ℕ) → Option Seen
-with_found kind word (Some found) = with_left kind word found.0 (tagged (codes "left") found.1)
-with_found kind word None = None
+with_found kind word read =
+    option_and_then (λ found. with_left kind word found.0 (tagged (codes "left") found.1)) read
 
 abbrev pub with_word : StepKind → Read WordName → Option Seen
-with_word kind (Some word) = with_found kind word.0 (tagged (codes "found") word.1)
-with_word kind None = None
+with_word kind read =
+    option_and_then (λ word. with_found kind word.0 (tagged (codes "found") word.1)) read
 
 -- what a step saw of its word
 abbrev pub values_of : ℕ → StepKind → Words → Option Seen
 values_of thread kind words = with_word kind (place_in thread words)
 
-abbrev pub with_outcome : Option ℕ → Option Outcome → Option Seen
-with_outcome count (Some outcome) = Some (InSection count (Some outcome))
-with_outcome count None = None
+-- the outcome of a section, if that is said, and nothing else
+abbrev pub with_outcome : Option ℕ → Words → Option Seen
+with_outcome count [] = Some (InSection count None)
+with_outcome count (word ∷ []) = option_map (λ o. InSection count (Some o)) (outcome_named word)
+with_outcome count (word ∷ next ∷ rest) = None
 
-abbrev pub counted : Option ℕ → List ℕ → Option Seen
-counted (Some count) word = Some (InSection (Some count) None)
-counted None word = with_outcome None (outcome_named word)
-
-abbrev pub counted_and : Option ℕ → List ℕ → Option Seen
-counted_and (Some count) word = with_outcome (Some count) (outcome_named word)
-counted_and None word = None
-
--- the count of a section, or its outcome, or both
+-- the count of a section, its outcome, or both
 abbrev pub section_of : Words → Option Seen
+section_of (first ∷ rest) =
+    with_outcome (whole_number first) (if is_some (whole_number first) then rest else first ∷ rest)
 section_of [] = None
-section_of (word ∷ []) = counted (whole_number word) word
-section_of (count ∷ word ∷ []) = counted_and (whole_number count) word
-section_of (count ∷ word ∷ next ∷ rest) = None
 
 abbrev pub seen_after_move : ℕ → Move → Words → Option Seen
 seen_after_move thread (Call op) words = None
@@ -128,25 +117,21 @@ seen_of thread action [] = Some Nothing
 seen_of thread action (word ∷ rest) = seen_after_move thread action (word ∷ rest)
 
 abbrev pub with_seen : ℕ → Move → Option Seen → Option TraceLine
-with_seen thread action (Some seen) =
-    Some (record { thread = thread; action = action; seen = seen })
-with_seen thread action None = None
+with_seen thread action seen =
+    option_map (λ s. record { thread = thread; action = action; seen = s }) seen
 
 abbrev pub with_action : ℕ → Option Move → Words → Option TraceLine
-with_action thread (Some action) rest = with_seen thread action (seen_of thread action rest)
-with_action thread None rest = None
+with_action thread action rest =
+    option_and_then (λ a. with_seen thread a (seen_of thread a rest)) action
 
 -- a move of this thread
 abbrev pub move_with : ℕ → Words → Option TraceLine
 move_with thread (word ∷ rest) = with_action thread (move_named word) rest
 move_with thread [] = None
 
-abbrev pub with_thread : Option ℕ → Words → Option TraceLine
-with_thread (Some thread) words = move_with thread words
-with_thread None words = None
-
 abbrev pub line_of_words : Words → Option TraceLine
-line_of_words (thread ∷ words) = with_thread (number_of 0 255 thread) words
+line_of_words (thread ∷ words) =
+    option_and_then (λ t. move_with t words) (number_of 0 255 thread)
 line_of_words [] = None
 
 -- the move that a line of a trace is

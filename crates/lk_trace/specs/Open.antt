@@ -2,6 +2,7 @@
 -- the move may be left out, the name of the word too. This project's own.
 use Rattle.std.specs.Prelude.{ℕ, List, [], ◌∷◌, Option, Some, None, if◌then◌else◌, codes}
 use Rattle.std.specs.Prelude.{length, nat_lt, option_map}
+use Rattle.std.specs.Option.{option_and_then}
 use Rattle.std.specs.Str.{bytes_eq}
 use Rattle.lk_locks.specs.declared.kinds.Move.{Move}
 use Rattle.lk_locks.specs.declared.kinds.Move.TheVariants.{Call, Step}
@@ -33,8 +34,8 @@ seen_on word (Step Section) words = None
 seen_on word (Step kind) words = with_found kind word (tagged (codes "found") words)
 
 abbrev pub action_on : ℕ → WordName → Option Move → Words → Option TraceLine
-action_on thread word (Some action) words = with_seen thread action (seen_on word action words)
-action_on thread word None words = None
+action_on thread word action words =
+    option_and_then (λ a. with_seen thread a (seen_on word a words)) action
 
 abbrev pub move_on : ℕ → WordName → Words → Option TraceLine
 move_on thread word (name ∷ words) = action_on thread word (move_named name) words

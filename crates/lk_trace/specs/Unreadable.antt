@@ -27,10 +27,9 @@ after_move (Step Section) = Count
 after_move (Step kind) = Place kind
 
 -- the same in a sketch, which may leave out the name of the word
-abbrev pub after_open_move : Move → Due
-after_open_move (Call op) = OfSchedule End
-after_open_move (Step Section) = Count
-after_open_move (Step kind) = Open kind
+abbrev pub opened : Due → Due
+opened (Place kind) = Open kind
+opened due = due
 
 -- what is due after a word of a move of a schedule
 abbrev pub after_expected : Expected → List ℕ → Option Due
@@ -86,7 +85,7 @@ after_word (Left kind) word = after_left kind word
 after_word (LeftValue kind) word = option_map (λ value. Result kind) (whole_number word)
 after_word (Result kind) word = after_result kind word
 after_word AnyThread word = after_any_thread word
-after_word OpenMove word = option_map after_open_move (move_named word)
+after_word OpenMove word = option_map (λ action. opened (after_move action)) (move_named word)
 after_word (Open kind) word = option_or (after_place kind word) (after_found kind word)
 
 -- whether the line may end instead

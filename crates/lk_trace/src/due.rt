@@ -4,8 +4,8 @@
 ghost use Rattle.std.specs.Prelude.{◌≡◌};
 ghost use Rattle.lk_trace.specs.Unreadable.{after_any_thread, after_count, after_expected};
 ghost use Rattle.lk_trace.specs.Unreadable.{after_found, after_left, after_move, after_of};
-ghost use Rattle.lk_trace.specs.Unreadable.{after_open_move, after_outcome, after_place};
-ghost use Rattle.lk_trace.specs.Unreadable.{after_result, after_word, may_end};
+ghost use Rattle.lk_trace.specs.Unreadable.{after_outcome, after_place, after_result, after_word};
+ghost use Rattle.lk_trace.specs.Unreadable.{may_end, opened};
 
 use crate::line::result_alone;
 use crate::numbers::whole_number;
@@ -58,14 +58,13 @@ fn after_move(action: Move) -> Due
     }
 }
 
-// After a move of a sketch.
+// After a move of a sketch, which may leave out the name of the word.
 fn after_open_move(action: Move) -> Due
-    ensures { result ≡ after_open_move action }
+    ensures { result ≡ opened (after_move action) }
 {
-    match action {
-        Move::Call(_) => END,
-        Move::Step(StepKind::Section) => Due::Count,
-        Move::Step(kind) => Due::Open(kind),
+    match after_move(action) {
+        Due::Place(kind) => Due::Open(kind),
+        due => due,
     }
 }
 

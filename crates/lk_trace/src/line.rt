@@ -2,7 +2,7 @@
 
 ghost use Rattle.std.specs.Prelude.{◌≡◌, [], ◌∷◌, IfSome, MatchOption, None, Some, codes};
 ghost use Rattle.lk_replay.specs.Lines.{words_of};
-ghost use Rattle.lk_trace.specs.Lines.{counted, counted_and, move_with, owner_of};
+ghost use Rattle.lk_trace.specs.Lines.{move_with, owner_of};
 ghost use Rattle.lk_trace.specs.Lines.{place_in, result_alone, result_of, section_of, seen_of};
 ghost use Rattle.lk_trace.specs.Lines.{short_line_of, short_log_line_of, tagged, values_of};
 ghost use Rattle.lk_trace.specs.Lines.{whole_number, with_found, words_left};
@@ -167,47 +167,27 @@ pub(crate) fn values_on(rest: Rest<'_>, word: WordName, kind: StepKind) -> Optio
     })
 }
 
-// The count of a section, or else its outcome.
-fn counted(word: &[u8]) -> Option<Seen>
-    ensures { result ≡ counted (whole_number word.now) word.now }
-{
-    if let Some(count) = whole_number(word) {
-        return Some(Seen::InSection {
-            count: Some(count),
-            outcome: None,
-        });
-    }
-    let outcome = outcome_named(word)?;
-    Some(Seen::InSection {
-        count: None,
-        outcome: Some(outcome),
-    })
-}
-
-// The count of a section, and its outcome.
-fn counted_and(count: &[u8], word: &[u8]) -> Option<Seen>
-    ensures { result ≡ counted_and (whole_number count.now) word.now }
-{
-    let count = whole_number(count)?;
-    let outcome = outcome_named(word)?;
-    Some(Seen::InSection {
-        count: Some(count),
-        outcome: Some(outcome),
-    })
-}
-
-// The count and the outcome of a section, if something is said.
+// The count of a section, its outcome, or both.
 fn section_of(rest: Rest<'_>) -> Option<Seen>
     ensures { result ≡ section_of (words_left rest.entry) }
 {
-    let (first, rest) = first_word(rest)?;
-    let Some((second, rest)) = first_word(rest) else {
-        return counted(first);
+    let (first, after) = first_word(rest)?;
+    let count = whole_number(first);
+    let rest = if count.is_some() { after } else { rest };
+    let Some((word, rest)) = first_word(rest) else {
+        return Some(Seen::InSection {
+            count,
+            outcome: None,
+        });
     };
     if let Some(_) = first_word(rest) {
         return None;
     }
-    counted_and(first, second)
+    let outcome = outcome_named(word)?;
+    Some(Seen::InSection {
+        count,
+        outcome: Some(outcome),
+    })
 }
 
 // What follows a move.
