@@ -23,7 +23,8 @@ use Rattle.lk_replay.specs.Lines.{is_skipped, lines_of, words_of}
 use Rattle.lk_replay.specs.Replay.{Made, Replay, Replayed, made_by, refused_or, replay_from}
 use Rattle.lk_replay.specs.Replay.{replay_of, replayed_of, with_move}
 use Rattle.lk_replay.specs.Report.{plan_text, report_text}
-use Rattle.lk_replay.specs.Vocabulary.{is_plain_number, number_of, value_from}
+use Rattle.lk_replay.specs.Digits.{is_plain_number, value_from}
+use Rattle.lk_replay.specs.Vocabulary.{number_of}
 use Rattle.lk_replay.specs.Whole.{AppendsReport, EveryReportIsAsPromised, IsReportOfText}
 use Rattle.lk_replay.specs.Whole.{IsHistoryOf, IsReportOf, lock_of}
 use Rattle.lk_replay.specs.Schedule.{Plan, moves_from, plan_from, plan_of, with_header}

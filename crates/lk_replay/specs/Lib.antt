@@ -1,4 +1,5 @@
 pub mod Lines
+pub mod Digits
 pub mod Vocabulary
 pub mod Faults
 pub mod Header

@@ -1,9 +1,9 @@
 -- Definitions: the numbers and the names of a schedule text, and what they mean. This
 -- project's own.
-use Rattle.std.specs.Prelude.{ℕ, ◌+◌, ◌-◌, ◌*◌, List, [], ◌∷◌, Option, Some, None, Bool}
-use Rattle.std.specs.Prelude.{if◌then◌else◌, ◌==◌, ◌&&◌, ◌||◌, not, length, nat_lt, nat_le}
-use Rattle.std.specs.Prelude.{slice_index, codes, find}
-use Rattle.std.specs.Str.{all_ascii_digits, bytes_eq}
+use Rattle.std.specs.Prelude.{ℕ, List, [], ◌∷◌, Option, Some, None, if◌then◌else◌, ◌&&◌, nat_le}
+use Rattle.std.specs.Prelude.{codes, find}
+use Rattle.std.specs.Str.{bytes_eq}
+use Rattle.lk_replay.specs.Digits.{is_plain_number, value_from}
 use Rattle.lk_locks.specs.declared.kinds.LockKind.{LockKind}
 use Rattle.lk_locks.specs.declared.kinds.LockKind.TheVariants.{Ticket, Mcs, RwSimple, RwFifo}
 use Rattle.lk_locks.specs.declared.kinds.Op.{Op}
@@ -15,17 +15,6 @@ use Rattle.lk_locks.specs.declared.kinds.Outcome.{Outcome}
 use Rattle.lk_locks.specs.declared.kinds.Outcome.TheVariants.{Called, Moved, Waits, Entered, Left}
 use Rattle.lk_locks.specs.declared.kinds.Move.{Move}
 use Rattle.lk_locks.specs.declared.kinds.Move.TheVariants.{Call, Step}
-
--- decimal digits, with no leading zero but in `0` itself
-abbrev pub is_plain_number : List ℕ → Bool
-is_plain_number text =
-    all_ascii_digits text
-    && (length text == 1 || (nat_lt 1 (length text) && not (slice_index text 0 == 48)))
-
--- what the digits write, after a number
-abbrev pub value_from : ℕ → List ℕ → ℕ
-value_from n [] = n
-value_from n (c ∷ cs) = value_from (n * 10 + (c - 48)) cs
 
 -- the number that the text writes, if that is at least `least` and at most `most`
 unfoldable pub number_of : ℕ → ℕ → List ℕ → Option ℕ

@@ -8,5 +8,5 @@ pub use crate::status::Status;
 pub use crate::unreadable::{Expected, Unreadable, unreadable_header, unreadable_move};
 pub use crate::vocabulary::{
     LOCK_NAMES, MOVE_WORDS, OUTCOME_WORDS, lock_named, lock_text, move_named, move_text, number_of,
-    outcome_named, outcome_text,
+    outcome_named, outcome_text, whole_number,
 };

@@ -2,6 +2,7 @@
 //! written once, in a table that is read both ways and listed.
 
 ghost use Rattle.std.specs.Prelude.{◌≡◌, ◌≤◌, IfSome};
+ghost use Rattle.lk_replay.specs.Digits.{whole_number};
 ghost use Rattle.lk_replay.specs.Vocabulary.{lock_name, lock_named, move_named, move_word};
 ghost use Rattle.lk_replay.specs.Vocabulary.{number_of, outcome_named, outcome_word};
 
@@ -81,27 +82,33 @@ pub const MOVE_WORDS: [&str; 13] = move_words!(words, ());
 /// The words of all outcomes of a step.
 pub const OUTCOME_WORDS: [&str; 4] = outcome_words!(words, ());
 
+/// The number of at most 64 bits that the text is, without leading zeros.
+#[tactic(auto, unfolding(crate::specs::Digits::whole_number))]
+pub fn whole_number(text: &[u8]) -> Option<u64>
+    ensures { result ≡ whole_number text.now }
+{
+    if text.is_empty() || (text.len() > 1 && text[0] == b'0') {
+        return None;
+    }
+    let mut value: u64 = 0;
+    for b in text {
+        if !b.is_ascii_digit() {
+            return None;
+        }
+        value = value.checked_mul(10)?.checked_add(u64::from(*b - b'0'))?;
+    }
+    Some(value)
+}
+
 /// The number from `least` to `most` that the text is, without leading zeros.
-#[tactic(auto, unfolding(crate::specs::Vocabulary::number_of))]
+#[tactic(auto, unfolding(crate::specs::Vocabulary::number_of, crate::specs::Digits::whole_number))]
 pub fn number_of(text: &[u8], least: u8, most: u8) -> Option<u8>
     ensures number { result ≡ number_of least most text.now }
     ensures least { IfSome result (λ n. least ≤ n) }
     ensures most { IfSome result (λ n. n ≤ most) }
 {
-    if text.is_empty() || (text.len() > 1 && text[0] == b'0') {
-        return None;
-    }
-    let mut value: u16 = 0;
-    for b in text {
-        if !b.is_ascii_digit() {
-            return None;
-        }
-        value = value * 10 + u16::from(*b - b'0');
-        if value > u16::from(most) {
-            return None;
-        }
-    }
-    if value < u16::from(least) {
+    let value = whole_number(text)?;
+    if value < u64::from(least) || value > u64::from(most) {
         return None;
     }
     Some(value as u8)
