@@ -3,7 +3,8 @@ use Rattle.std.proofs.Common.{◌≡◌, ◌↔◌, ℕ, ◌+◌, List, [], ◌�
 use Rattle.std.proofs.Common.{is_some, IsNone, IsSome, Bool, true, false, ap, refl, ◌∙◌}
 use Rattle.lk_locks.specs.declared.kinds.Move.{Move}
 use Rattle.lk_replay.specs.Lines.{words_of}
-use Rattle.lk_replay.specs.Schedule.{both, move_of, move_of_words}
+use Rattle.std.specs.Option.{option_zip}
+use Rattle.lk_replay.specs.Schedule.{move_of, move_of_words}
 use Rattle.lk_replay.specs.Unreadable.{after_word, may_be, next_of, unreadable_from}
 use Rattle.lk_replay.specs.Vocabulary.{move_named, number_of}
 use Rattle.lk_replay.specs.declared.unreadable.Expected.{Expected}
@@ -52,7 +53,7 @@ one_word (Some n) a b = (λ h. absurd (cc), λ h. absurd (cc))
 one_word None a b = (λ h. absurd (cc), λ h. absurd (cc))
 
 two_words : (n : Option ℕ) (m : Option Move) (a b : Unreadable)
-    → IsNone (cond (is_some n) (cond (is_some m) None (Some b)) (Some a)) ↔ IsSome (both n m)
+    → IsNone (cond (is_some n) (cond (is_some m) None (Some b)) (Some a)) ↔ IsSome (option_zip n m)
 two_words (Some n) (Some m) a b = (λ h. refl, λ h. refl)
 two_words (Some n) None a b = (λ h. absurd (cc), λ h. absurd (cc))
 two_words None m a b = (λ h. absurd (cc), λ h. absurd (cc))

@@ -1,16 +1,16 @@
 -- What the first line says.
-use Rattle.std.proofs.Common.{◌≡◌, ℕ, ◌+◌, ◌<◌, ◌≤◌, List, [], ◌∷◌, length, None, Result, Ok, Err}
+use Rattle.std.proofs.Common.{◌≡◌, ℕ, ◌+◌, ◌<◌, ◌≤◌, List, [], ◌∷◌, length, None, Result, Err}
 use Rattle.std.proofs.Common.{false, ap, ◌∙◌, arith, refl}
 use Rattle.std.proofs.lemmas.Bool.{cond-false, le-ltb}
 use Rattle.lk_replay.specs.Lines.{SkipsTo, lines_of, is_skipped}
 use Rattle.lk_replay.proofs.Skipped.{plan_skip}
 use Rattle.lk_replay.specs.Faults.{Fault, NoHeader}
-use Rattle.lk_replay.specs.Header.{Header, size_of_words, header_of}
-use Rattle.lk_replay.specs.Reads.{WantsMemory, Fails}
+use Rattle.lk_replay.specs.Header.{size_of_words, header_of}
+use Rattle.lk_replay.specs.Reading.{IsOfText}
+use Rattle.lk_replay.specs.Reads.{Fails}
 use Rattle.lk_replay.specs.Schedule.{plan_of, plan_from, with_header, moves_from}
-use Rattle.lk_replay.specs.declared.schedule.Line.{Line}
 use Rattle.lk_replay.specs.declared.schedule.ReadFault.{ReadFault}
-use Rattle.lk_replay.specs.declared.schedule.ReadFault.TheVariants as read
+use Rattle.lk_replay.specs.declared.schedule.ReadFault.TheVariants.{OutOfMemory}
 
 -- a word after the number of bits
 pub more_words : (count bits number : List ℕ) (words : List (List ℕ)) → 0 < length words
@@ -27,28 +27,12 @@ no_header text number others small skips none =
     cond-false _ _ _ (le-ltb _ _ small) ∙ plan_skip 1 number (lines_of text) others skips
     ∙ ap (plan_from number) none
 
-header_first : (header : Result Header Fault) (moves : Result (List Line) Fault) (fault : Fault)
-    → header ≡ Err fault → with_header header moves ≡ Err fault
-header_first header moves fault e = ap (λ h. with_header h moves) e
-
-wants_both : (header : Result Header Fault) (moves : Result (List Line) Fault) → WantsMemory header
-    → WantsMemory moves → WantsMemory (with_header header moves)
-wants_both (Ok header) (Ok moves) h m = tt
-wants_both (Ok header) (Err fault) h m = m
-wants_both (Err fault) moves h m = h
-
--- the header's fault is the text's
-pub fails_first : (fault : ReadFault) (header : Result Header Fault)
-    (moves : Result (List Line) Fault)
-    → WantsMemory moves → Fails fault header → Fails fault (with_header header moves)
-fails_first read.TooLong header moves m e = header_first header moves _ e
-fails_first (read.NoHeader n) header moves m e = header_first header moves _ e
-fails_first (read.BadHeader n) header moves m e = header_first header moves _ e
-fails_first (read.BadThreads n) header moves m e = header_first header moves _ e
-fails_first (read.BadLine n) header moves m e = header_first header moves _ e
-fails_first (read.TooManyMoves n) header moves m e = header_first header moves _ e
-fails_first (read.WordsTooNarrow n) header moves m e = header_first header moves _ e
-fails_first read.OutOfMemory header moves m e = wants_both header moves e m
+-- what keeps each fault fails as before
+pub fails_as : {X Y : Type 0} (fault : ReadFault) (f : Result X Fault → Result Y Fault)
+    (read : Result X Fault) → ((e : Fault) → f (Err e) ≡ Err e) → IsOfText fault
+    → Fails fault read → Fails fault (f read)
+fails_as OutOfMemory f read keeps text e = absurd text
+fails_as fault f read keeps text e = ap f e ∙ keeps _
 
 -- the first line that is not skipped is the header
 pub header_here : (text line : List ℕ) (others : List (List ℕ)) (number : ℕ)

@@ -14,6 +14,5 @@ pub mod Listing
 pub mod Passed
 pub mod Printed
 pub mod Promised
-pub mod Reading
 pub mod Skipped
 pub mod Expectations

@@ -1,7 +1,7 @@
 -- What one line does to what is read.
-use Rattle.std.proofs.Common.{◌≡◌, ℕ, ◌+◌, List, [], ◌∷◌, ◌++◌, length, Option, Some, None, Result}
-use Rattle.std.proofs.Common.{Ok, Err, Bool, true, false, ◌==◌, cond, refl, ap, ◌∙◌}
-use Rattle.std.proofs.Common.{append-nil, append_assoc, length-append, sym}
+use Rattle.std.proofs.Common.{◌≡◌, ℕ, ◌+◌, List, [], ◌∷◌, ◌++◌, Option, Some, None, Result}
+use Rattle.std.proofs.Common.{Ok, Err, Bool, true, false, ◌==◌, cond, ap, ◌∙◌}
+use Rattle.std.proofs.Common.{sym}
 use Rattle.std.proofs.lemmas.Bool.{cond-false, cond-true}
 use Rattle.lk_replay.specs.declared.schedule.Line.{Line}
 use Rattle.lk_locks.specs.declared.kinds.Move.{Move}
@@ -16,9 +16,10 @@ abbrev pub with_lines : List Line → Result (List Line) Fault → Result (List 
 with_lines prefix (Ok lines) = Ok (prefix ++ lines)
 with_lines prefix (Err fault) = Err fault
 
-pub with_lines-nil : (read : Result (List Line) Fault) → with_lines [] read ≡ read
-with_lines-nil (Ok lines) = refl
-with_lines-nil (Err fault) = refl
+-- what is counted, and so many before it
+abbrev pub more : ℕ → Result ℕ Fault → Result ℕ Fault
+more n (Ok m) = Ok (n + m)
+more n (Err fault) = Err fault
 
 -- the next line that is not skipped is read
 pub line_read : (from taken number : ℕ) (lines : List (List ℕ)) (line : List ℕ)
@@ -42,18 +43,6 @@ pub lines_done : (from taken next : ℕ) (lines others : List (List ℕ))
     → SkipsTo from lines next others → others ≡ [] → moves_from from taken lines ≡ Ok []
 lines_done from taken next lines others skips none =
     moves_skip from taken next lines others skips ∙ ap (moves_from next taken) none
-
-pub all_read : (prefix : List Line) (from taken next : ℕ) (lines others : List (List ℕ))
-    → SkipsTo from lines next others → others ≡ []
-    → with_lines prefix (moves_from from taken lines) ≡ Ok prefix
-all_read prefix from taken next lines others skips none =
-    ap (with_lines prefix) (lines_done from taken next lines others skips none)
-    ∙ ap Ok (append-nil prefix)
-
-with_one : (prefix : List Line) (line : Line) (read : Result (List Line) Fault)
-    → with_lines prefix (with_line line read) ≡ with_lines (prefix ++ line ∷ []) read
-with_one prefix line (Ok lines) = ap Ok (sym (append_assoc prefix (line ∷ []) lines))
-with_one prefix line (Err fault) = refl
 
 -- a line that is a move, if there is room for one more
 pub line_good : (from taken number next : ℕ) (lines : List (List ℕ)) (line : List ℕ)
@@ -81,22 +70,6 @@ line_full from taken number lines line others move skips read some full =
     ∙ ap (λ m. moves_after m number (taken == 65536) (moves_from (number + 1) (taken + 1) others))
     some
     ∙ cond-true _ _ _ full
-
-pub one_more : (prefix more : List Line) (from number next : ℕ) (lines : List (List ℕ))
-    (line : List ℕ) (others : List (List ℕ)) (move : ℕ × Move)
-    → more ≡ prefix ++ record { number = number; thread = move.0; action = move.1 } ∷ []
-    → next ≡ number + 1 → SkipsTo from lines number (line ∷ others) → is_skipped line ≡ false
-    → move_of line ≡ Some move → (length prefix == 65536) ≡ false
-    → with_lines more (moves_from next (length more) others)
-    ≡ with_lines prefix (moves_from from (length prefix) lines)
-one_more prefix more from number next lines line others move items after skips read some few =
-    let one : Line = record { number = number; thread = move.0; action = move.1 } in
-    ap (λ k. with_lines more (moves_from next k others))
-    (ap length items ∙ length-append prefix (one ∷ []))
-    ∙ ap (λ ls. with_lines ls (moves_from next (length prefix + 1) others)) items
-    ∙ sym (ap (with_lines prefix)
-    (line_good from (length prefix) number next lines line others move after skips read some few)
-    ∙ with_one prefix one (moves_from next (length prefix + 1) others))
 
 pick : (b : Bool) (x y : Result (List Line) Fault) → WantsMemory x → WantsMemory y
     → WantsMemory (cond b x y)

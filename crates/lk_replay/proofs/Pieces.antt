@@ -7,7 +7,8 @@ use Rattle.std.proofs.lemmas.List.Splits.{join_with_byte-slice_split}
 use Rattle.std.proofs.lemmas.Bool.{cases_Bool, cond-false}
 use Rattle.std.proofs.lemmas.Slice.Eq.{bytes_eq-Decides}
 use Rattle.lk_locks.specs.declared.kinds.Move.{Move}
-use Rattle.lk_replay.specs.Schedule.{move_of, move_of_words, both}
+use Rattle.std.specs.Option.{option_zip}
+use Rattle.lk_replay.specs.Schedule.{move_of, move_of_words}
 use Rattle.lk_replay.specs.Vocabulary.{move_named, number_of}
 use Rattle.lk_replay.specs.Lines.{is_space}
 
@@ -19,7 +20,7 @@ whole_line line cut = ap move_of_words cut
 no_number : (number : List ℕ) (pieces : List (List ℕ)) → number_of 0 255 number ≡ None
     → move_of_words (number ∷ pieces) ≡ None
 no_number number [] none = refl
-no_number number (word ∷ []) none = ap (λ n. both n (move_named word)) none
+no_number number (word ∷ []) none = ap (λ n. option_zip n (move_named word)) none
 no_number number (word ∷ next ∷ pieces) none = refl
 
 pub without_number : (line number word : List ℕ)
@@ -28,7 +29,7 @@ pub without_number : (line number word : List ℕ)
 unfolding move_of
 without_number line number word cut none = ap move_of_words cut ∙ no_number number _ none
 
-both_none : {A B : Type 0} (a : Option A) → both {A = A} {B = B} a None ≡ None
+both_none : {A B : Type 0} (a : Option A) → option_zip {T = A} {U = B} a None ≡ None
 both_none (Some a) = refl
 both_none None = refl
 
@@ -36,7 +37,7 @@ no_word : (number word : List ℕ) (pieces : List (List ℕ)) → join_with_byte
     → move_named word ≡ None → move_of_words (number ∷ pieces) ≡ None
 no_word number word [] joined none = refl
 no_word number word (piece ∷ []) joined none =
-    ap (λ m. both (number_of 0 255 number) m) (ap move_named joined ∙ none)
+    ap (λ m. option_zip (number_of 0 255 number) m) (ap move_named joined ∙ none)
     ∙ both_none (number_of 0 255 number)
 no_word number word (piece ∷ next ∷ pieces) joined none = refl
 
@@ -75,4 +76,4 @@ pub with_both : (line number word : List ℕ) (n : ℕ) (m : Move)
 unfolding move_of
 with_both line number word n m cut here named =
     ap move_of_words (cut ∙ ap (λ ps. number ∷ ps) (named_whole word m named))
-    ∙ ap (λ a. both a (move_named word)) here ∙ ap (λ b. both (Some n) b) named
+    ∙ ap (λ a. option_zip a (move_named word)) here ∙ ap (λ b. option_zip (Some n) b) named

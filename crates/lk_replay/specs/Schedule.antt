@@ -1,6 +1,7 @@
 -- Definitions: the schedule that a text has, or else its one fault. This project's own.
 use Rattle.std.specs.Prelude.{ℕ, ◌+◌, List, [], ◌∷◌, Option, Some, None, Bool, if◌then◌else◌, ◌==◌}
 use Rattle.std.specs.Prelude.{length, nat_lt, Result, Ok, Err}
+use Rattle.std.specs.Option.{option_zip}
 use Rattle.lk_locks.specs.declared.kinds.LockKind.{LockKind}
 use Rattle.lk_locks.specs.declared.kinds.Move.{Move}
 use Rattle.lk_replay.specs.declared.schedule.Line.{Line}
@@ -9,14 +10,9 @@ use Rattle.lk_replay.specs.Vocabulary.{number_of, move_named}
 use Rattle.lk_replay.specs.Header.{Header, header_of}
 use Rattle.lk_replay.specs.Faults.{Fault, TooLong, NoHeader, BadLine, TooManyMoves}
 
-abbrev pub both : {A B : Type 0} → Option A → Option B → Option (A × B)
-both (Some a) (Some b) = Some (a, b)
-both (Some a) None = None
-both None b = None
-
 -- a thread's number and what it does
 abbrev pub move_of_words : List (List ℕ) → Option (ℕ × Move)
-move_of_words (thread ∷ word ∷ []) = both (number_of 0 255 thread) (move_named word)
+move_of_words (thread ∷ word ∷ []) = option_zip (number_of 0 255 thread) (move_named word)
 move_of_words _ = None
 
 -- the move that a line is

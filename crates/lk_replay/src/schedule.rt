@@ -1,10 +1,11 @@
 //! The schedule that a text has: its lock and its moves, each with its line.
 
-ghost use Rattle.std.specs.Prelude.{◌≡◌, ◌<◌, ◌≤◌, ◌^◌, length, IfErr, IfOk, Ok};
+ghost use Rattle.std.specs.Prelude.{◌≡◌, ◌≢◌, ◌+◌, ◌<◌, ◌≤◌, ◌^◌, [], length, IfErr, IfNone, IfOk};
+ghost use Rattle.std.specs.Prelude.{IfSome, MatchOption, Ok};
 ghost use Rattle.lk_replay.specs.Reads.{Fails, Gives};
 ghost use Rattle.lk_replay.specs.Reading.{IsOfText};
 ghost use Rattle.lk_replay.specs.Schedule.{move_of, moves_from, plan_of, plan_with, with_header};
-ghost use Rattle.lk_replay.specs.Schedule.{Plan};
+ghost use Rattle.lk_replay.specs.Schedule.{Plan, with_line};
 
 mod reader;
 
@@ -145,6 +146,36 @@ fn read_header(text: &[u8]) -> Result<(Header, Lines<'_>), ReadFault>
     Ok((header, lines))
 }
 
+// The next move of these lines, if `taken` came before it.
+fn next_move(lines: &mut Lines<'_>, taken: usize) -> Result<Option<Line>, ReadFault>
+    ensures read { IfOk result (λ next. MatchOption next
+        (moves_from lines.old.number taken lines.old.lines ≡ Ok [])
+        (λ line. moves_from lines.old.number taken lines.old.lines
+        ≡ with_line line (moves_from lines.new.number (taken + 1) lines.new.lines))) }
+    ensures none { IfOk result (λ next. IfNone next (lines.new.lines ≡ [])) }
+    ensures room { IfOk result (λ next. IfSome next (λ line. taken ≢ 65536)) }
+    ensures fewer { IfOk result (λ next.
+        IfSome next (λ line. length lines.new.lines < length lines.old.lines)) }
+    ensures fault { IfErr result
+        (λ fault. Fails fault (moves_from lines.old.number taken lines.old.lines)) }
+    ensures no_memory { IfErr result IsOfText }
+{
+    let Some((number, line)) = lines.next_line() else {
+        return Ok(None);
+    };
+    let Some((thread, action)) = move_of(line) else {
+        return Err(ReadFault::BadLine(number));
+    };
+    if taken == MOST_MOVES {
+        return Err(ReadFault::TooManyMoves(number));
+    }
+    Ok(Some(Line {
+        number,
+        thread,
+        action,
+    }))
+}
+
 // The moves of these lines, for which there is room for `most` at first.
 fn read_moves(alloc: Global, lines: Lines<'_>, most: usize) -> Result<Vec<Line>, ReadFault>
     requires { most ≤ 65536 }
@@ -156,18 +187,7 @@ fn read_moves(alloc: Global, lines: Lines<'_>, most: usize) -> Result<Vec<Line>,
         return Err(ReadFault::OutOfMemory);
     };
     let mut lines = lines;
-    while let Some((number, line)) = lines.next_line() {
-        let Some((thread, action)) = move_of(line) else {
-            return Err(ReadFault::BadLine(number));
-        };
-        if moves.len() == MOST_MOVES {
-            return Err(ReadFault::TooManyMoves(number));
-        }
-        let line = Line {
-            number,
-            thread,
-            action,
-        };
+    while let Some(line) = next_move(&mut lines, moves.len())? {
         if moves.push(line).is_err() {
             return Err(ReadFault::OutOfMemory);
         }

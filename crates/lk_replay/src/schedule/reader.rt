@@ -7,7 +7,7 @@ ghost use Rattle.lk_replay.specs.Reads.{Gives};
 ghost use Rattle.lk_replay.specs.Reading.{IsOfText, counted, moves_in, first_of};
 ghost use Rattle.lk_replay.specs.Schedule.{moves_from, Plan, plan_of, plan_with};
 
-use super::{Line, MOST_MOVES, ReadFault, move_of, read_header};
+use super::{Line, ReadFault, next_move, read_header};
 use crate::header::Header;
 use crate::lines::Lines;
 use std::marker::Model;
@@ -77,15 +77,10 @@ impl<'a> ScheduleReader<'a> {
         ensures first { result ≡ first_of self.old.moves }
         ensures rest { self.new ≡ record self.old { moves = drop 1 self.old.moves } }
     {
-        let (number, line) = self.lines.next_line()?;
-        let (thread, action) = move_of(line)?;
+        let line = next_move(&mut self.lines, self.taken).ok()??;
         self.taken += 1;
         self.left -= 1;
-        Some(Line {
-            number,
-            thread,
-            action,
-        })
+        Some(line)
     }
 }
 
@@ -98,13 +93,7 @@ fn count_moves(lines: Lines<'_>) -> Result<usize, ReadFault>
 {
     let mut lines = lines;
     let mut taken: usize = 0;
-    while let Some((number, line)) = lines.next_line() {
-        let Some(_) = move_of(line) else {
-            return Err(ReadFault::BadLine(number));
-        };
-        if taken == MOST_MOVES {
-            return Err(ReadFault::TooManyMoves(number));
-        }
+    while let Some(_) = next_move(&mut lines, taken)? {
         taken += 1;
     }
     Ok(taken)

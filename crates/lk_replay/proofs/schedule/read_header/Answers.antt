@@ -4,8 +4,7 @@ use Rattle.std.proofs.lemmas.Result.{err_from_is_err_and}
 use Rattle.lk_replay.specs.Faults.{NoHeader}
 use Rattle.lk_replay.specs.Header.{header_of}
 use Rattle.lk_replay.specs.Schedule.{moves_from, with_header}
-use Rattle.lk_replay.proofs.Headers.{fails_first, header_here, no_header}
-use Rattle.lk_replay.proofs.Moves.{moves_want}
+use Rattle.lk_replay.proofs.Headers.{fails_as, header_here, no_header}
 use Rattle.lk_replay.proofs.Skipped.{skips_same}
 use Rattle.lk_replay.proofs.schedule.read_header.Goals as goal
 
@@ -26,8 +25,10 @@ returns-in_err-header-clause-fault c =
     (skips_same _ _ c.new-lines.ensures _ _ _ c.in-Some.ensures.found refl) c.in-Some.ensures.read
     in
     rw (error.1, error.2, text)
-    (fails_first c.in_err-header.field-0.0 (header_of c.in-Some.number c.in-Some.line.now) _
-    (moves_want (c.in-Some.number + 1) 0 others) c.in_err-header.ensures.read)
+    (fails_as c.in_err-header.field-0.0
+    (λ h. with_header h (moves_from (c.in-Some.number + 1) 0 others))
+    (header_of c.in-Some.number c.in-Some.line.now) (λ e. refl) c.in_err-header.ensures.no_memory
+    c.in_err-header.ensures.read)
 
 pub returns-clause-read : goal.returns-clause-read
 returns-clause-read c =

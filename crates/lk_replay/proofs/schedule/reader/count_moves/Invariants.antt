@@ -2,15 +2,15 @@
 use Rattle.std.proofs.Common.{◌≡◌, ◌≤◌, length}
 use Rattle.lk_replay.specs.Schedule.{moves_from}
 use Rattle.lk_replay.specs.Reading.{counted}
-use Rattle.lk_replay.proofs.Reading.{more}
+use Rattle.lk_replay.proofs.Moves.{more}
 use Rattle.lk_replay.proofs.schedule.reader.count_moves.Given as goal
 
-abbrev pub invariant-loop-number : goal.invariant-loop-number
-invariant-loop-number l = record {
+abbrev pub invariant-loop-taken : goal.invariant-loop-taken
+invariant-loop-taken l = record {
   read : more l.taken (counted (moves_from l.lines.number l.taken l.lines.lines))
       ≡ more 0 (counted (moves_from l.initial.lines.number 0 l.initial.lines.lines));
   small : l.taken ≤ 65536;
 }
 
-abbrev pub decreases-loop-number : goal.decreases-loop-number
-decreases-loop-number l = length l.lines.lines
+abbrev pub decreases-loop-taken : goal.decreases-loop-taken
+decreases-loop-taken l = length l.lines.lines
