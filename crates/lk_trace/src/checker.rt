@@ -112,15 +112,10 @@ impl Checker {
         if let Some(difference) = self.difference(line) {
             return Err(difference);
         }
-        let TraceLine {
-            thread,
-            action,
-            seen,
-        } = line;
-        let from = self.lock.machine().phase(thread);
-        let effect = effect(self.lock.machine(), thread, action);
-        self.sections = count_given(self.sections, seen);
-        let outcome = self.lock.make(thread, action, &mut Added::none());
+        let from = self.lock.machine().phase(line.thread);
+        let effect = effect(self.lock.machine(), line.thread, line.action);
+        self.sections = count_given(self.sections, line.seen);
+        let outcome = self.lock.make(line.thread, line.action, &mut Added::none());
         Ok(Made {
             from,
             outcome,

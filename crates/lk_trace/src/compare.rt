@@ -115,13 +115,8 @@ pub fn first_difference(
     ensures value { result ≡ difference_of (on machine.now sections) line }
     ensures agrees { result ≡ None ↔ Agrees (on machine.now sections) line }
 {
-    let TraceLine {
-        thread,
-        action,
-        seen,
-    } = line;
-    match machine.check(thread, action) {
+    match machine.check(line.thread, line.action) {
         Err(refusal) => Some(Difference::Refused(refusal)),
-        Ok(()) => seen_other(machine, sections, thread, action, seen),
+        Ok(()) => seen_other(machine, sections, line.thread, line.action, line.seen),
     }
 }
