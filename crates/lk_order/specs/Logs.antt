@@ -6,9 +6,10 @@ use Rattle.std.specs.List.{All, starts_with}
 use Rattle.std.specs.Str.{bytes_eq}
 use Rattle.lk_locks.specs.declared.kinds.LockKind.{LockKind}
 use Rattle.lk_replay.specs.Lines.{is_skipped}
+use Rattle.lk_replay.specs.Digits.{whole_number}
 use Rattle.lk_replay.specs.Vocabulary.{number_of}
 use Rattle.lk_replay.specs.Header.{Header}
-use Rattle.lk_trace.specs.Lines.{short_log_line_of, whole_number}
+use Rattle.lk_trace.specs.Lines.{short_log_line_of}
 use Rattle.lk_trace.specs.Traces.{read_header_of}
 use Rattle.lk_trace.specs.declared.line.TraceLine.{TraceLine}
 use Rattle.lk_trace.specs.declared.trace.TextFault.{TextFault}

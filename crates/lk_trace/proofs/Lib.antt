@@ -1,4 +1,3 @@
-mod Large
 mod Own
 mod HeaderFaults
 mod Naming

@@ -113,7 +113,8 @@ or_both : (a b x y : Bool) → a ≡ x → b ≡ y → a || b ≡ x || y
 or_both a b x y p q = cc
 
 action_reads : (thread : ℕ) (place : WordName) (action : Option Move) (words : Words)
-    → option_map_or (λ next. reads next words) (option_map (λ a. opened (after_move a)) action) false
+    → option_map_or (λ next. reads next words)
+    (option_map (λ a. opened (after_move a)) action) false
     ≡ is_some (with_action thread action words) || is_some (action_on thread place action words)
 action_reads thread place (Some action) words =
     seen_reads thread place action words

@@ -10,11 +10,12 @@ use Rattle.lk_locks.specs.declared.kinds.Outcome.{Outcome}
 use Rattle.lk_locks.specs.declared.kinds.StepKind.{StepKind}
 use Rattle.lk_locks.specs.declared.kinds.StepKind.TheVariants.{Read, Write, Swap, Cas, Add, Section}
 use Rattle.lk_replay.specs.Lines.{words_of}
+use Rattle.lk_replay.specs.Digits.{whole_number}
 use Rattle.lk_replay.specs.Vocabulary.{move_named, number_of, outcome_named}
 use Rattle.lk_replay.specs.declared.unreadable.Expected.TheVariants.{Thread, Action, End}
 use Rattle.lk_trace.specs.Lines.{Words, in_record, line_of_words, move_with, owner_of}
 use Rattle.lk_trace.specs.Lines.{place_in, result_alone, result_of, section_of, seen_of}
-use Rattle.lk_trace.specs.Lines.{tagged, trace_line_of, whole_number, with_action, with_found}
+use Rattle.lk_trace.specs.Lines.{tagged, trace_line_of, with_action, with_found}
 use Rattle.lk_trace.specs.Lines.{with_left, with_outcome, with_seen}
 use Rattle.lk_trace.specs.Lines.{with_word}
 use Rattle.lk_trace.specs.Unreadable.{after_found, after_left, after_move, after_outcome}
@@ -77,7 +78,8 @@ more_reads (Some a) next words = refl
 more_reads None next words = refl
 
 result_reads : (kind : StepKind) (word : WordName) (found left : Option ℕ) (words : Words)
-    → reads (Result kind) words ≡ is_some (option_map (OnWord word found left) (result_of kind words))
+    → reads (Result kind) words
+    ≡ is_some (option_map (OnWord word found left) (result_of kind words))
 unfolding after_word
 result_reads kind word found left [] = refl
 result_reads kind word found left (w ∷ []) = last_reads word found left (result_alone kind w)

@@ -1,8 +1,7 @@
 -- Definitions. A line of a trace, and a line of a log: a move, and what its thread saw. This
 -- project's own.
 use Rattle.std.specs.Prelude.{ℕ, List, [], ◌∷◌, Option, Some, None, Bool, true, false}
-use Rattle.std.specs.Prelude.{if◌then◌else◌, ◌&&◌, nat_le, nat_lt, codes, length, is_some}
-use Rattle.std.specs.Prelude.{option_map}
+use Rattle.std.specs.Prelude.{if◌then◌else◌, nat_lt, codes, length, is_some, option_map}
 use Rattle.std.specs.Option.{option_and_then}
 use Rattle.std.specs.Str.{bytes_eq}
 use Rattle.std.specs.Borrow.{Bor}
@@ -11,8 +10,8 @@ use Rattle.lk_locks.specs.declared.kinds.Move.TheVariants.{Call, Step}
 use Rattle.lk_locks.specs.declared.kinds.StepKind.{StepKind}
 use Rattle.lk_locks.specs.declared.kinds.StepKind.TheVariants.{Cas, Section}
 use Rattle.lk_replay.specs.Lines.{words_of}
-use Rattle.lk_replay.specs.Vocabulary.{is_plain_number, value_from, number_of, move_named}
-use Rattle.lk_replay.specs.Vocabulary.{outcome_named}
+use Rattle.lk_replay.specs.Digits.{whole_number}
+use Rattle.lk_replay.specs.Vocabulary.{move_named, number_of, outcome_named}
 use Rattle.lk_trace.specs.declared.names.WordName.{WordName}
 use Rattle.lk_trace.specs.declared.names.WordName.TheVariants.{NextTicket, NowServing, Tail, Next}
 use Rattle.lk_trace.specs.declared.names.WordName.TheVariants.{Locked}
@@ -22,12 +21,6 @@ use Rattle.lk_trace.specs.declared.line.TraceLine.{TraceLine}
 
 abbrev pub Words : Type 0
 Words = List (List ℕ)
-
--- the number that the text writes, if that is of at most 64 bits
-unfoldable pub whole_number : List ℕ → Option ℕ
-whole_number text =
-    if is_plain_number text && nat_le
-    (value_from 0 text) 18446744073709551615 then Some (value_from 0 text) else None
 
 -- a part that was read, and the words after it
 abbrev pub Read : Type 0 → Type 0

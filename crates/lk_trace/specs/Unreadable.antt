@@ -8,10 +8,11 @@ use Rattle.lk_locks.specs.declared.kinds.Move.{Move}
 use Rattle.lk_locks.specs.declared.kinds.Move.TheVariants.{Call, Step}
 use Rattle.lk_locks.specs.declared.kinds.StepKind.{StepKind}
 use Rattle.lk_locks.specs.declared.kinds.StepKind.TheVariants.{Section}
+use Rattle.lk_replay.specs.Digits.{whole_number}
 use Rattle.lk_replay.specs.Vocabulary.{number_of, move_named, outcome_named}
 use Rattle.lk_replay.specs.declared.unreadable.Expected.{Expected}
 use Rattle.lk_replay.specs.declared.unreadable.Expected.TheVariants.{Thread, Action, End}
-use Rattle.lk_trace.specs.Lines.{Words, result_alone, whole_number}
+use Rattle.lk_trace.specs.Lines.{Words, result_alone}
 use Rattle.lk_trace.specs.Open.{doer_of, filled_line, filled_line_on}
 use Rattle.lk_trace.specs.declared.due.Due.{Due}
 use Rattle.lk_trace.specs.declared.due.Due.TheVariants.{OfSchedule, Count, Outcome, Place, Of}

@@ -8,9 +8,8 @@ ghost use Rattle.lk_trace.specs.Unreadable.{after_outcome, after_place, after_re
 ghost use Rattle.lk_trace.specs.Unreadable.{may_end, opened};
 
 use crate::line::result_alone;
-use crate::numbers::whole_number;
 use lk_locks::{Move, StepKind};
-use lk_replay::parts::{Expected, move_named, number_of, outcome_named};
+use lk_replay::parts::{Expected, move_named, number_of, outcome_named, whole_number};
 
 /// What may come next. If a part can be left out, the part after it or the end may come here too.
 /// After a step it says which: `done` and `failed` may follow a compare-and-swap alone.

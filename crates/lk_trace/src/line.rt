@@ -2,15 +2,15 @@
 
 ghost use Rattle.std.specs.Prelude.{◌≡◌, [], ◌∷◌, IfSome, MatchOption, None, Some, codes};
 ghost use Rattle.lk_replay.specs.Lines.{words_of};
+ghost use Rattle.lk_replay.specs.Digits.{whole_number};
 ghost use Rattle.lk_trace.specs.Lines.{move_with, owner_of};
 ghost use Rattle.lk_trace.specs.Lines.{place_in, result_alone, result_of, section_of, seen_of};
 ghost use Rattle.lk_trace.specs.Lines.{short_line_of, short_log_line_of, tagged, values_of};
-ghost use Rattle.lk_trace.specs.Lines.{whole_number, with_found, words_left};
+ghost use Rattle.lk_trace.specs.Lines.{with_found, words_left};
 
 use crate::WordName;
-use crate::numbers::whole_number;
 use lk_locks::{Move, Outcome, StepKind};
-use lk_replay::parts::{cut_word, move_named, number_of, outcome_named};
+use lk_replay::parts::{cut_word, move_named, number_of, outcome_named, whole_number};
 
 /// The most bytes of a header and of a move.
 pub const MOST_OF_A_LINE: usize = 96;

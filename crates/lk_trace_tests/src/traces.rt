@@ -1,9 +1,10 @@
 //! Worked lines and moves. What they expect was made by hand.
 
 use lk_locks::{LockKind, Machine, Move, Op, Outcome, Phase, Refusal, StepKind, operation_of};
+use lk_replay::parts::whole_number;
 use lk_trace::{
     Checker, Difference, Event, Made, Seen, TextFault, TraceLine, TraceReader, WordName, name_at,
-    read_line, read_log_line, whole_number,
+    read_line, read_log_line,
 };
 use lk_words::{Operation, WordArray};
 use std::process::Abort;

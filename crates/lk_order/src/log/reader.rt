@@ -6,8 +6,8 @@ ghost use Rattle.lk_order.specs.Logs.{after_header, cut_last, dropped_of, IsFaul
 ghost use Rattle.lk_order.specs.Logs.{line_read, log_header_of, log_read, Reading};
 
 use super::Log;
-use lk_replay::parts::{Header, is_skipped, number_of};
-use lk_trace::{MOST_OF_A_LINE, TraceLine, read_header, read_log_line, whole_number};
+use lk_replay::parts::{Header, is_skipped, number_of, whole_number};
+use lk_trace::{MOST_OF_A_LINE, TraceLine, read_header, read_log_line};
 use std::alloc::Global;
 use std::marker::Model;
 use thiserror::Error;
