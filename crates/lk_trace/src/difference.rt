@@ -44,8 +44,8 @@ pub enum Difference {
         last: u64,
         given: u64,
     },
-    /// Something else came of the section.
-    #[error("'{}' came of the section, and the lock gives '{}'", word(.given), word(.outcome))]
+    /// The section has another outcome.
+    #[error("the section came to '{}', and the lock's to '{}'", word(.given), word(.outcome))]
     OtherOutcome {
         outcome: Outcome,
         given: Outcome,
