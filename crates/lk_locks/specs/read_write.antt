@@ -3,7 +3,7 @@
 --
 -- After Herlihy and Shavit, The Art of Multiprocessor Programming, chapter 8. `Downgrade`, by which
 -- a writer becomes a reader in one section, is this project's own.
-use Rattle.std.specs.Prelude.{ℕ, ◌<◌, ◌^◌, slice_index, List, [], ◌∷◌, ◌++◌, Option, None, Some}
+use Rattle.std.specs.Prelude.{ℕ, List, [], ◌∷◌, ◌++◌, Option, None, Some}
 use Rattle.lk_locks.specs.Acts.{acts, announcement}
 use Rattle.lk_locks.specs.declared.kinds.Family.{Family}
 use Rattle.lk_locks.specs.declared.kinds.Phase.{Phase}
@@ -35,11 +35,6 @@ step_due Idle = None
 step_due Reading = None
 step_due Writing = None
 step_due p = Some Section
-
--- the monitor's words, of so many bits
-abbrev pub AreWords : ℕ → List ℕ → Type 0
-AreWords bits ws =
-    (slice_index ws 0 < 2 ^ bits) × (slice_index ws 1 < 2 ^ bits) × (slice_index ws 2 < 2 ^ bits)
 
 -- The entries of a section. A FIFO writer announces itself when it sets the flag; a call acts
 -- when it succeeds.

@@ -10,20 +10,10 @@ ghost use Rattle.lk_locks.specs.Steps.{same_step};
 ghost use Rattle.lk_locks.specs.invariants.WellFormed.{IsReady};
 
 use crate::entries::Added;
-use crate::{Family, LockKind, Op, Outcome, Phase, StepKind, mcs, rw_fifo, rw_simple, ticket};
-use lk_words::{Operation, WordArray, Words};
-
-// Calls a function of the lock's module.
-macro_rules! by_lock {
-    ($kind:expr, $function:ident($($argument:expr),*)) => {
-        match $kind {
-            LockKind::Ticket => ticket::$function($($argument),*),
-            LockKind::Mcs => mcs::$function($($argument),*),
-            LockKind::RwSimple => rw_simple::$function($($argument),*),
-            LockKind::RwFifo => rw_fifo::$function($($argument),*),
-        }
-    };
-}
+use crate::{
+    Family, LockKind, Op, Outcome, Phase, StepKind, mcs, read_write, rw_fifo, rw_simple, ticket,
+};
+use lk_words::{Operation, Words, perform};
 
 /// The family of a lock.
 #[inline]
@@ -41,7 +31,11 @@ pub fn family_of(kind: LockKind) -> Family
 pub fn words_needed(kind: LockKind, threads: u8) -> usize
     ensures { result ≡ word_count kind threads }
 {
-    by_lock!(kind, words_needed(threads))
+    match kind {
+        LockKind::Ticket | LockKind::RwSimple => 2,
+        LockKind::Mcs => 1 + 2 * threads as usize,
+        LockKind::RwFifo => 3,
+    }
 }
 
 /// Whether the lock has steps of this kind.
@@ -49,7 +43,12 @@ pub fn words_needed(kind: LockKind, threads: u8) -> usize
 pub(crate) fn has_step(kind: LockKind, step: StepKind) -> bool
     ensures { result ≡ list_any (same_step step) (steps_of kind) }
 {
-    by_lock!(kind, has_step(step))
+    use StepKind::{Add, Cas, Read, Section, Swap, Write};
+    match kind {
+        LockKind::Ticket => matches!(step, Add | Read | Write),
+        LockKind::Mcs => matches!(step, Read | Write | Swap | Cas),
+        LockKind::RwSimple | LockKind::RwFifo => matches!(step, Section),
+    }
 }
 
 /// The phase that a call leads to, if a thread in this phase may make it.
@@ -57,12 +56,16 @@ pub(crate) fn has_step(kind: LockKind, step: StepKind) -> bool
 pub(crate) fn after_call(kind: LockKind, phase: Phase, op: Op) -> Option<Phase>
     ensures { result ≡ after_call kind phase op }
 {
-    by_lock!(kind, after_call(phase, op))
+    match kind {
+        LockKind::Ticket => ticket::after_call(phase, op),
+        LockKind::Mcs => mcs::after_call(phase, op),
+        LockKind::RwSimple | LockKind::RwFifo => read_write::after_call(phase, op),
+    }
 }
 
 /// The kind of step that an operation is.
 #[inline(always)]
-pub(crate) fn kind_of(operation: Operation) -> StepKind
+fn kind_of(operation: Operation) -> StepKind
     ensures { result ≡ kind_of operation }
 {
     match operation {
@@ -80,15 +83,24 @@ pub fn operation_of(kind: LockKind, bits: u8, thread: u8, phase: Phase) -> Optio
     requires most { bits ≤ 64 }
     ensures { result ≡ operation_of kind bits thread phase }
 {
-    by_lock!(kind, operation(bits, thread, phase))
+    match kind {
+        LockKind::Ticket => ticket::operation(bits, phase),
+        LockKind::Mcs => mcs::operation(thread, phase),
+        // a section is on all words of the monitor
+        LockKind::RwSimple | LockKind::RwFifo => None,
+    }
 }
 
-/// The step that a thread in this phase takes next, if it has a pending call.
+/// The step that a thread in this phase takes next, if it has a pending call. Which kind it is
+/// depends on neither thread nor bits.
 #[inline(always)]
 pub(crate) fn step_due(kind: LockKind, phase: Phase) -> Option<StepKind>
     ensures { result ≡ step_due kind phase }
 {
-    by_lock!(kind, step_due(phase))
+    match kind {
+        LockKind::Ticket | LockKind::Mcs => Some(kind_of(operation_of(kind, 64, 0, phase)?)),
+        LockKind::RwSimple | LockKind::RwFifo => read_write::step_due(phase),
+    }
 }
 
 /// A step of a thread in this phase, with its new phase.
@@ -108,15 +120,18 @@ pub(crate) fn take_step<W: Words>(
         ≡ (step_of kind (W.width words.old) (W.list words.old) thread phase).outcome }
     ensures width { W.width words.new ≡ W.width words.old }
 {
-    by_lock!(kind, step(words, thread, phase))
-}
-
-/// What would come of a step of a thread in this phase, with nothing changed.
-pub(crate) fn outcome_of(words: &WordArray, kind: LockKind, thread: u8, phase: Phase) -> Outcome
-    requires { IsReady kind words.now.1 words.now.0 thread phase }
-    ensures { result ≡ (step_of kind words.now.1 words.now.0 thread phase).outcome }
-{
-    by_lock!(kind, outcome(words, thread, phase))
+    match kind {
+        LockKind::Ticket => match ticket::operation(words.bits(), phase) {
+            Some(operation) => ticket::after(phase, perform(words, operation)),
+            None => (phase, Outcome::Waits),
+        },
+        LockKind::Mcs => match mcs::operation(thread, phase) {
+            Some(operation) => mcs::after(phase, perform(words, operation)),
+            None => (phase, Outcome::Waits),
+        },
+        LockKind::RwSimple => rw_simple::section(words, phase),
+        LockKind::RwFifo => rw_fifo::section(words, phase),
+    }
 }
 
 /// Adds the entries of a step, if nothing was added before.
@@ -131,5 +146,11 @@ pub(crate) fn add_entries(
     requires { added.old ≡ [] }
     ensures { added.new ≡ step_entries kind thread phase outcome }
 {
-    by_lock!(kind, add_entries(added, thread, phase, outcome))
+    match kind {
+        LockKind::Ticket => ticket::add_entries(added, thread, phase, outcome),
+        LockKind::Mcs => mcs::add_entries(added, thread, phase, outcome),
+        LockKind::RwSimple | LockKind::RwFifo => {
+            read_write::add_entries(added, family_of(kind), thread, phase, outcome)
+        }
+    }
 }

@@ -6,23 +6,16 @@
 //! Different here: each thread has one record, and thread `i`'s is record `i + 1`, so that 0 is
 //! nil; the last write of a release uses the successor that was read last.
 //!
-//! In contracts `after_call`, `operation`, `after`, `step` and `entries` are the definitions of
+//! In contracts `after_call`, `operation`, `after` and `entries` are the definitions of
 //! `specs/mcs.antt`, and `(ws : List ℕ) →` means: for all lists of words.
 
 ghost use Rattle.std.specs.Prelude.{◌≡◌, ◌+◌, ◌-◌, ◌<◌, ◌≤◌, ℕ, List, []};
-ghost use Rattle.lk_locks.specs.mcs.{next, locked, after_call, operation, after, step, entries};
-ghost use Rattle.lk_locks.specs.Locks.{word_count};
+ghost use Rattle.lk_locks.specs.mcs.{next, locked, after_call, operation, after, entries};
 ghost use Rattle.lk_locks.specs.invariants.mcs.{IsInRange};
-ghost use Rattle.lk_locks.specs.invariants.WellFormed.{IsReady};
-ghost use Rattle.lk_locks.specs.declared.kinds.LockKind.TheVariants.{Mcs};
-ghost use Rattle.std.specs.List.{list_any};
-ghost use Rattle.lk_locks.specs.Locks.{step_due, steps_of};
-ghost use Rattle.lk_locks.specs.Steps.{same_step};
 
 use crate::entries::Added;
-use crate::locks::kind_of;
-use crate::{Entry, Op, Outcome, Phase, StepKind};
-use lk_words::{Answer, Operation, WordArray, Words, perform};
+use crate::{Entry, Op, Outcome, Phase};
+use lk_words::{Answer, Operation};
 
 const TAIL: usize = 0;
 
@@ -58,24 +51,6 @@ fn locked(thread: u8) -> usize
     2 + 2 * thread as usize
 }
 
-/// The number of words of a lock for this many threads.
-pub fn words_needed(threads: u8) -> usize
-    ensures { result ≡ word_count Mcs threads }
-{
-    1 + 2 * threads as usize
-}
-
-/// Whether the lock has steps of this kind.
-#[inline(always)]
-pub fn has_step(step: StepKind) -> bool
-    ensures { result ≡ list_any (same_step step) (steps_of Mcs) }
-{
-    matches!(
-        step,
-        StepKind::Read | StepKind::Write | StepKind::Swap | StepKind::Cas
-    )
-}
-
 /// The phase that a call leads to, if a thread in this phase may make it.
 #[inline(always)]
 pub fn after_call(phase: Phase, op: Op) -> Option<Phase>
@@ -90,7 +65,7 @@ pub fn after_call(phase: Phase, op: Op) -> Option<Phase>
 
 /// What a thread in this phase does next: one operation on one word.
 #[inline(always)]
-pub fn operation(_bits: u8, thread: u8, phase: Phase) -> Option<Operation>
+pub fn operation(thread: u8, phase: Phase) -> Option<Operation>
     ensures { result ≡ operation thread phase }
 {
     match phase {
@@ -129,14 +104,6 @@ pub fn operation(_bits: u8, thread: u8, phase: Phase) -> Option<Operation>
     }
 }
 
-/// The kind of the step that a thread in this phase takes next, whatever the bits and the thread.
-#[inline(always)]
-pub fn step_due(phase: Phase) -> Option<StepKind>
-    ensures { result ≡ step_due Mcs phase }
-{
-    Some(kind_of(operation(64, 0, phase)?))
-}
-
 /// The next phase and the outcome, by what the phase's operation answered.
 #[inline(always)]
 pub fn after(phase: Phase, answer: Answer) -> (Phase, Outcome)
@@ -167,34 +134,6 @@ pub fn after(phase: Phase, answer: Answer) -> (Phase, Outcome)
         (Phase::Grant(_), _) => (Phase::Idle, Outcome::Left),
         // a failed poll; in a phase without a step the machine refuses the move
         _ => (phase, Outcome::Waits),
-    }
-}
-
-/// One step of a thread in this phase: its new phase, and the outcome.
-#[inline(always)]
-pub fn step<W: Words>(words: &mut W, thread: u8, phase: Phase) -> (Phase, Outcome)
-    requires { IsReady Mcs (W.width words.old) (W.list words.old) thread phase }
-    ensures words { W.list words.new
-        ≡ (step (W.width words.old) thread (W.list words.old) phase).words }
-    ensures phase { result.0 ≡ (step (W.width words.old) thread (W.list words.old) phase).phase }
-    ensures outcome { result.1
-        ≡ (step (W.width words.old) thread (W.list words.old) phase).outcome }
-    ensures width { W.width words.new ≡ W.width words.old }
-{
-    match operation(words.bits(), thread, phase) {
-        Some(operation) => after(phase, perform(words, operation)),
-        None => (phase, Outcome::Waits),
-    }
-}
-
-/// The outcome that a step of a thread in this phase would have. Nothing changes.
-pub fn outcome(words: &WordArray, thread: u8, phase: Phase) -> Outcome
-    requires { IsReady Mcs words.now.1 words.now.0 thread phase }
-    ensures { result ≡ (step words.now.1 thread words.now.0 phase).outcome }
-{
-    match operation(words.bits(), thread, phase) {
-        Some(operation) => after(phase, words.effect(operation).answer).1,
-        None => Outcome::Waits,
     }
 }
 

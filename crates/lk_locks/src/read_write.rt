@@ -4,16 +4,13 @@
 //! After Herlihy and Shavit, The Art of Multiprocessor Programming, chapter 8. `Downgrade` is this
 //! project's own.
 
-ghost use Rattle.std.specs.Prelude.{◌≡◌, [], ◌∷◌, None};
-ghost use Rattle.std.specs.List.{list_any};
-ghost use Rattle.lk_locks.specs.Steps.{same_step};
+ghost use Rattle.std.specs.Prelude.{◌≡◌, []};
 ghost use Rattle.lk_locks.specs.read_write.{after_call, step_due, entries};
 ghost use Rattle.lk_locks.specs.declared.kinds.Phase.TheVariants.{TryWrite};
 ghost use Rattle.lk_locks.specs.declared.kinds.Outcome.TheVariants.{Entered};
 
 use crate::entries::Added;
 use crate::{Entry, Family, Op, Outcome, Phase, StepKind};
-use lk_words::Operation;
 
 /// The phase that a call leads to, if a thread in this phase may make it.
 #[inline(always)]
@@ -28,21 +25,6 @@ pub fn after_call(phase: Phase, op: Op) -> Option<Phase>
         (Phase::Writing, Op::Downgrade) => Some(Phase::TryDowngrade),
         _ => None,
     }
-}
-
-/// Whether the lock has steps of this kind: its sections are all of one.
-#[inline(always)]
-pub fn has_step(step: StepKind) -> bool
-    ensures { result ≡ list_any (same_step step) (StepKind.Section ∷ []) }
-{
-    matches!(step, StepKind::Section)
-}
-
-/// No step is one operation on one word: a section is on all words of the monitor.
-pub fn operation(_bits: u8, _thread: u8, _phase: Phase) -> Option<Operation>
-    ensures { result ≡ None }
-{
-    None
 }
 
 /// The step that a thread takes next: a section, unless it is idle or inside.
