@@ -6,14 +6,15 @@ use Rattle.lk_words.specs.declared.operation.Answer.{Answer}
 use Rattle.lk_words.specs.declared.operation.Answer.TheVariants.{Found, Swapped}
 use Rattle.lk_words.specs.declared.operation.Operation.{Operation}
 use Rattle.lk_locks.specs.Change.{Change, kind_of, step_by}
-use Rattle.lk_locks.specs.OneOperation.{IsMade, IsOneOperation, IsStepOf}
-use Rattle.lk_locks.specs.Locks.{operation_of, step_of, word_count}
+use Rattle.lk_locks.specs.OneOperation.{IsMade, IsOneOperation}
+use Rattle.lk_locks.specs.Locks.{family_of, operation_of, step_of, word_count}
 use Rattle.lk_locks.specs.invariants.Locks.{IsPhaseOf}
 use Rattle.lk_locks.specs.invariants.WellFormed.{WellFormed}
 use Rattle.lk_locks.specs.State.{State, phase_at}
 use Rattle.lk_locks.specs.Steps.{next_state, refusal_at, refusal_in, refusal_of, same_step}
 use Rattle.lk_locks.specs.mcs
 use Rattle.lk_locks.specs.ticket
+use Rattle.lk_locks.specs.declared.kinds.Family.TheVariants.{Queue}
 use Rattle.lk_locks.specs.declared.kinds.LockKind.{LockKind}
 use Rattle.lk_locks.specs.declared.kinds.LockKind.TheVariants.{Mcs, RwFifo, RwSimple, Ticket}
 use Rattle.lk_locks.specs.declared.kinds.Move.{Move}
@@ -64,7 +65,7 @@ by_one : (after : Phase → List ℕ → Answer → Change)
     → ((p : Phase) (ws : List ℕ) (a : Answer) → Keeps ws (after p ws a)) → (kind : LockKind)
     (bits : ℕ) (ws : List ℕ) (p : Phase) (k : StepKind) (o : Option Operation)
     → refusal_at kind p (option_map kind_of o) (Step k) ≡ None
-    → IsMade bits ws k o (step_by after bits ws p o).words
+    → IsMade Queue bits ws k o (step_by after bits ws p o).words
 by_one after keeps kind bits ws p k None r = cc
 by_one after keeps kind bits ws p k (Some o) r =
     (same (kind_of o) k r, sym (keeps p (performed bits ws o).words (performed bits ws o).answer))
@@ -84,7 +85,8 @@ mcs_kind t p = refl
 -- each accepted step of a lock makes the operation that its table names
 made : (kind : LockKind) (bits : ℕ) (ws : List ℕ) (t : ℕ) (p : Phase) (k : StepKind)
     → refusal_in kind p (Step k) ≡ None
-    → IsStepOf kind bits ws t p k (step_of kind bits ws t p).words
+    → IsMade (family_of kind) bits ws k (operation_of kind bits t p)
+    (step_of kind bits ws t p).words
 made Ticket bits ws t p k r =
     by_one ticket.after ticket_keeps Ticket bits ws p k (ticket.operation bits p)
     (rw (ticket_kind bits p) at r)

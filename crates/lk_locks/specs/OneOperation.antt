@@ -8,29 +8,21 @@ use Rattle.lk_locks.specs.State.{State, phase_at}
 use Rattle.lk_locks.specs.Locks.{family_of, operation_of}
 use Rattle.lk_locks.specs.declared.kinds.Family.{Family}
 use Rattle.lk_locks.specs.declared.kinds.Family.TheVariants.{Queue}
-use Rattle.lk_locks.specs.declared.kinds.LockKind.{LockKind}
 use Rattle.lk_locks.specs.declared.kinds.Move.{Move}
 use Rattle.lk_locks.specs.declared.kinds.Move.TheVariants.{Call, Step}
-use Rattle.lk_locks.specs.declared.kinds.Phase.{Phase}
 use Rattle.lk_locks.specs.declared.kinds.StepKind.{StepKind}
 
--- this operation is of the kind, and leaves these words
-abbrev pub IsMade : ℕ → List ℕ → StepKind → Option Operation → List ℕ → Type 0
-IsMade bits ws kind None after = ⊥
-IsMade bits ws kind (Some operation) after =
+-- of a queue lock: this operation is of the kind, and leaves these words
+abbrev pub IsMade : Family → ℕ → List ℕ → StepKind → Option Operation → List ℕ → Type 0
+IsMade Queue bits ws kind None after = ⊥
+IsMade Queue bits ws kind (Some operation) after =
     (kind_of operation ≡ kind) × ((performed bits ws operation).words ≡ after)
-
-abbrev pub IfQueue : Family → Type 0 → Type 0
-IfQueue Queue P = P
-IfQueue family P = Unit {0}
-
-abbrev pub IsStepOf : LockKind → ℕ → List ℕ → ℕ → Phase → StepKind → List ℕ → Type 0
-IsStepOf kind bits ws t p step after =
-    IfQueue (family_of kind) (IsMade bits ws step (operation_of kind bits t p) after)
+IsMade family bits ws kind operation after = Unit {0}
 
 -- A call leaves the words as they are. A step of a queue lock leaves what its operation leaves. A
 -- section of a read-write lock is on all words of its monitor, and is no such operation.
 abbrev pub IsOneOperation : State → ℕ → Move → List ℕ → Type 0
 IsOneOperation s t (Call op) after = after ≡ s.words
 IsOneOperation s t (Step step) after =
-    IsStepOf s.kind s.bits s.words t (phase_at s.phases t) step after
+    IsMade (family_of s.kind) s.bits s.words step
+    (operation_of s.kind s.bits t (phase_at s.phases t)) after

@@ -100,8 +100,5 @@ abbrev pub refused_with : {A : Type 0} → Result A Refusal → Option Refusal
 refused_with (Ok o) = None
 refused_with (Err r) = Some r
 
-abbrev pub unless_refused : {A : Type 0} → Option Refusal → A → A → A
-unless_refused r next now = if is_none r then next else now
-
 abbrev pub after_move : State → ℕ → Move → State
-after_move s t m = unless_refused (refusal_of s t m) (next_state s t m) s
+after_move s t m = if is_none (refusal_of s t m) then next_state s t m else s

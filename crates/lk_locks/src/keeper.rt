@@ -1,13 +1,12 @@
 //! A lock with its sequential object and its history: the machine steps, and what it does is
 //! recorded and is legal.
 
-ghost use Rattle.lk_locks.specs.Play.{RecordedLock, after_play, IsPlayAnswer};
+ghost use Rattle.lk_locks.specs.Play.{RecordedLock, new_lock, after_play, IsPlayAnswer};
 ghost use Rattle.lk_locks.specs.invariants.Kept.{IsRecorded};
-ghost use Rattle.std.specs.Prelude.{◌≡◌, ℕ, ◌<◌, ◌≤◌, ◌^◌, length, slice_index, OnOk, OnErr, []};
-ghost use Rattle.lk_locks.specs.State.{start, phase_at};
+ghost use Rattle.std.specs.Prelude.{◌≡◌, ℕ, ◌<◌, ◌≤◌, ◌^◌, length, slice_index, OnOk, OnErr};
+ghost use Rattle.lk_locks.specs.State.{phase_at};
 ghost use Rattle.lk_locks.specs.Steps.{refusal_of, change_of};
 ghost use Rattle.lk_locks.specs.Locks.{step_due, word_count};
-ghost use Rattle.lk_locks.specs.Sequential.{nobody};
 ghost use Rattle.lk_locks.specs.MainTheorem.{IsAsPromised};
 ghost use Rattle.lk_locks.specs.Holding.{holding, holding_of, waiting_of, IsListed};
 
@@ -18,8 +17,8 @@ use lk_words::Words;
 use std::alloc::Global;
 use std::marker::Model;
 
-/// A lock that knows who holds and who is in the queue, and its history. A contract sees the state,
-/// the sequential object and the entries.
+/// A lock that knows who holds and who is in the queue, and its history. A contract sees the state
+/// and the entries.
 #[derive(Drop)]
 pub struct Keeper<W: Words> {
     lock: Tracker<W>,
@@ -31,7 +30,6 @@ impl<W: Words> Model for Keeper<W> {
 
     ghost view = { λ a. record {
       state = a.lock.state;
-      sequential = a.lock.sequential;
       entries = a.history.entries;
     } };
 
@@ -47,11 +45,7 @@ impl<W: Words> Keeper<W> {
         requires narrow { threads < 2 ^ W.width words }
         requires room { word_count kind threads ≤ length (W.list words) }
         requires clear { (i : ℕ) → i < length (W.list words) → slice_index (W.list words) i ≡ 0 }
-        ensures { result ≡ record {
-          state = start kind (W.width words) (W.list words) threads;
-          sequential = nobody kind;
-          entries = [];
-        } }
+        ensures { result ≡ new_lock kind (W.width words) (W.list words) threads }
     {
         Keeper {
             lock: Tracker::new(kind, threads, words),

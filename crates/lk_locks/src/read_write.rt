@@ -6,8 +6,6 @@
 
 ghost use Rattle.std.specs.Prelude.{◌≡◌, []};
 ghost use Rattle.lk_locks.specs.read_write.{after_call, step_due, entries};
-ghost use Rattle.lk_locks.specs.declared.kinds.Phase.TheVariants.{TryWrite};
-ghost use Rattle.lk_locks.specs.declared.kinds.Outcome.TheVariants.{Entered};
 
 use crate::entries::Added;
 use crate::{Entry, Family, Op, Outcome, Phase, StepKind};
@@ -38,21 +36,6 @@ pub fn step_due(phase: Phase) -> Option<StepKind>
     }
 }
 
-// The entries of a writer that comes in at its first section.
-fn add_writer(added: &mut Added, family: Family, thread: u8)
-    requires { added.old ≡ [] }
-    ensures { added.new ≡ entries family thread TryWrite Entered }
-{
-    match family {
-        Family::FifoReadWrite => added.three(
-            Entry::Announced(thread),
-            Entry::Acted(thread, Op::WriteLock),
-            Entry::Returned(thread, Op::WriteLock),
-        ),
-        _ => added.acts(thread, Op::WriteLock),
-    }
-}
-
 /// Adds the entries of a section.
 #[inline(always)]
 pub fn add_entries(added: &mut Added, family: Family, thread: u8, phase: Phase, outcome: Outcome)
@@ -63,8 +46,15 @@ pub fn add_entries(added: &mut Added, family: Family, thread: u8, phase: Phase, 
         (Phase::TryRead, Outcome::Entered) => added.acts(thread, Op::ReadLock),
         (Phase::LeaveRead, Outcome::Left) => added.acts(thread, Op::ReadUnlock),
         (Phase::TryWrite, Outcome::Moved) => added.one(Entry::Announced(thread)),
-        (Phase::TryWrite, Outcome::Entered) => add_writer(added, family, thread),
-        (Phase::AwaitReaders, Outcome::Entered) => added.acts(thread, Op::WriteLock),
+        (Phase::TryWrite, Outcome::Entered) if matches!(family, Family::FifoReadWrite) =>
+            added.three(
+                Entry::Announced(thread),
+                Entry::Acted(thread, Op::WriteLock),
+                Entry::Returned(thread, Op::WriteLock),
+            ),
+        (Phase::TryWrite | Phase::AwaitReaders, Outcome::Entered) => {
+            added.acts(thread, Op::WriteLock)
+        }
         (Phase::LeaveWrite, Outcome::Left) => added.acts(thread, Op::WriteUnlock),
         (Phase::TryDowngrade, Outcome::Entered) => added.acts(thread, Op::Downgrade),
         _ => {}

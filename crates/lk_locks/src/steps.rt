@@ -1,25 +1,13 @@
 //! Which moves are accepted, and what an accepted move does. This file knows no lock's phases or
 //! words.
 
-ghost use Rattle.std.specs.Prelude.{◌≡◌, Option, None, Some};
-ghost use Rattle.lk_locks.specs.Locks.{family_of};
-ghost use Rattle.lk_locks.specs.Steps.{has_op, refusal_at, refusal_in, belongs, move_change};
-ghost use Rattle.lk_locks.specs.declared.kinds.Move.TheVariants.{Call};
+ghost use Rattle.std.specs.Prelude.{◌≡◌};
+ghost use Rattle.lk_locks.specs.Steps.{refusal_in, belongs, move_change};
 ghost use Rattle.lk_locks.specs.invariants.WellFormed.{IsReady};
 
 use crate::locks::{after_call, family_of, has_step, step_due, take_step};
 use crate::{Family, LockKind, Move, Op, Outcome, Phase, Refusal};
 use lk_words::Words;
-
-fn has_op(kind: LockKind, op: Op) -> bool
-    ensures { result ≡ has_op (family_of kind) op }
-{
-    let is_of_queue_locks = matches!(op, Op::Acquire | Op::Release);
-    match family_of(kind) {
-        Family::Queue => is_of_queue_locks,
-        Family::ReadWrite | Family::FifoReadWrite => !is_of_queue_locks,
-    }
-}
 
 /// Whether the operation or the kind of step is one of the lock's.
 #[inline(always)]
@@ -27,23 +15,9 @@ pub fn belongs(kind: LockKind, action: Move) -> bool
     ensures { result ≡ belongs kind action }
 {
     match action {
-        Move::Call(op) => has_op(kind, op),
+        Move::Call(Op::Acquire | Op::Release) => family_of(kind) == Family::Queue,
+        Move::Call(_) => family_of(kind) != Family::Queue,
         Move::Step(step) => has_step(kind, step),
-    }
-}
-
-// Why a call of a thread with no pending call is refused. What an idle thread may call acquires,
-// and a thread that is not idle holds. A second table of who may release could disagree.
-#[inline(always)]
-fn refusal_of_call(kind: LockKind, phase: Phase, op: Op) -> Option<Refusal>
-    ensures { result ≡ refusal_at kind phase None (Call op) }
-{
-    if after_call(kind, phase, op).is_some() {
-        None
-    } else if after_call(kind, Phase::Idle, op).is_some() {
-        Some(Refusal::AlreadyHolds)
-    } else {
-        Some(Refusal::NotHolder)
     }
 }
 
@@ -53,16 +27,17 @@ pub fn refusal_in(kind: LockKind, phase: Phase, action: Move) -> Option<Refusal>
     ensures { result ≡ refusal_in kind phase action }
 {
     match (step_due(kind, phase), action) {
-        (None, Move::Call(op)) => refusal_of_call(kind, phase, op),
+        (None, Move::Call(op)) if after_call(kind, phase, op).is_some() => None,
+        // What an idle thread may call acquires, and a thread that is not idle holds. A second
+        // table of who may release could disagree.
+        (None, Move::Call(op)) if after_call(kind, Phase::Idle, op).is_some() => {
+            Some(Refusal::AlreadyHolds)
+        }
+        (None, Move::Call(_)) => Some(Refusal::NotHolder),
         (Some(_), Move::Call(_)) => Some(Refusal::Busy),
         (None, Move::Step(_)) => Some(Refusal::NoCall),
-        (Some(next), Move::Step(step)) => {
-            if next == step {
-                None
-            } else {
-                Some(Refusal::WrongStep { next })
-            }
-        }
+        (Some(next), Move::Step(step)) if next == step => None,
+        (Some(next), Move::Step(_)) => Some(Refusal::WrongStep { next }),
     }
 }
 

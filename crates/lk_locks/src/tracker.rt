@@ -3,18 +3,18 @@
 
 ghost use Rattle.std.specs.Prelude.{◌≡◌, ℕ, ◌<◌, ◌≤◌, ◌^◌, length, slice_index, [], None};
 ghost use Rattle.lk_locks.specs.Holding.{holder_after, holding, IsListed};
-ghost use Rattle.lk_locks.specs.Tracked.{Tracked, tracked, followed, after_tracked, holding_in};
+ghost use Rattle.lk_locks.specs.Tracked.{Tracked, tracked, followed, holding_in};
 ghost use Rattle.lk_locks.specs.Tracked.{waiting_in};
 ghost use Rattle.lk_locks.specs.invariants.Tracking.{IsTracked};
 ghost use Rattle.lk_locks.specs.State.{start};
 ghost use Rattle.lk_locks.specs.Locks.{word_count};
-ghost use Rattle.lk_locks.specs.Steps.{answer_to, change_of, next_state, refusal_of};
+ghost use Rattle.lk_locks.specs.Steps.{change_of, next_state, refusal_of};
 ghost use Rattle.lk_locks.specs.Entries.{entries_of};
 
 use crate::entries::Added;
 use crate::holders::{alone, copy_of};
 use crate::locks::family_of;
-use crate::{Entry, Family, Holders, LockKind, Machine, Move, Op, Outcome, Refusal, SeqLock};
+use crate::{Entry, Family, Holders, LockKind, Machine, Move, Op, Outcome, SeqLock};
 use arrayvec::ArrayVec;
 use lk_words::Words;
 use std::marker::Model;
@@ -78,20 +78,6 @@ impl<W: Words> Tracker<W> {
             }
         }
         outcome
-    }
-
-    /// Makes the move, as `Machine::apply` does.
-    ///
-    /// # Errors
-    ///
-    /// The first refusal that applies. Then nothing has changed.
-    pub fn apply(&mut self, t: u8, m: Move) -> Result<Outcome, Refusal>
-        ensures answer { result ≡ answer_to self.old.state t m }
-        ensures after { self.new ≡ after_tracked self.old t m }
-    {
-        self.machine.check(t, m)?;
-        let mut added = Added::none();
-        Ok(self.make(t, m, &mut added))
     }
 
     /// The lock alone, to look at: its words, its phases, and what would be refused.

@@ -1,7 +1,7 @@
 //! The replay of a schedule: its moves, played in order up to the first refused one.
 
 ghost use Rattle.std.specs.Prelude.{◌≡◌, IfOk, replicate, ◌≤◌, length};
-ghost use Rattle.lk_locks.specs.Runs.{new_lock};
+ghost use Rattle.lk_locks.specs.Play.{new_lock};
 ghost use Rattle.lk_locks.specs.Locks.{word_count};
 ghost use Rattle.lk_replay.specs.Replay.{replayed_of, Replayed};
 ghost use Rattle.lk_replay.specs.Whole.{IsHistoryOf};

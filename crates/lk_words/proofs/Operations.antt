@@ -2,7 +2,7 @@
 use Rattle.std.proofs.Common.{Bool, List, false, if◌then◌else◌, refl, set, slice_index, sym, true}
 use Rattle.std.proofs.Common.{ℕ, ◌==◌, ◌≡◌}
 use Rattle.std.proofs.lemmas.List.{set-get_or}
-use Rattle.lk_words.specs.Operations.{answer_of, answers, left_by, performed, word_of}
+use Rattle.lk_words.specs.Operations.{answers, left_by, performed, word_of}
 use Rattle.lk_words.specs.declared.operation.Answer.TheVariants.{Swapped}
 use Rattle.lk_words.specs.declared.operation.Operation.{Operation}
 use Rattle.lk_words.specs.declared.operation.Operation.TheVariants.{CompareAndSwap, FetchAndAdd}
@@ -22,18 +22,3 @@ one_word bits ws (Write i v) = refl
 one_word bits ws (Swap i v) = refl
 one_word bits ws (CompareAndSwap i old new) = swapped ws i new (slice_index ws i == old)
 one_word bits ws (FetchAndAdd i d) = refl
-
-answered : (ws : List ℕ) (i new : ℕ) (is : Bool)
-    → (if is then answers (set ws i new) (Swapped true) else answers ws (Swapped false)).answer
-    ≡ Swapped is
-answered ws i new true = refl
-answered ws i new false = refl
-
--- its answer follows from its word
-pub one_answer : (bits : ℕ) (ws : List ℕ) (o : Operation)
-    → (performed bits ws o).answer ≡ answer_of (slice_index ws (word_of o)) o
-one_answer bits ws (Read i) = refl
-one_answer bits ws (Write i v) = refl
-one_answer bits ws (Swap i v) = refl
-one_answer bits ws (CompareAndSwap i old new) = answered ws i new (slice_index ws i == old)
-one_answer bits ws (FetchAndAdd i d) = refl

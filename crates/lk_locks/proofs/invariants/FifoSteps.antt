@@ -6,7 +6,7 @@ use Rattle.std.proofs.lemmas.List.{length-set}
 use Rattle.lk_locks.specs.Locks.{after_call}
 use Rattle.lk_locks.specs.Steps.{has_op, refusal_in}
 use Rattle.lk_locks.specs.invariants.Locks.{AreLinks, IsPhaseOf}
-use Rattle.lk_locks.specs.invariants.rw_fifo.{owed}
+use Rattle.lk_locks.specs.invariants.read_write.{owed}
 use Rattle.lk_locks.specs.rw_fifo.{step}
 use Rattle.lk_locks.proofs.Cases.{AreOf, Begins, Fits, GoesOn, KeepsLength, either_way}
 use Rattle.lk_locks.specs.declared.kinds.Family.TheVariants.{FifoReadWrite}
@@ -44,7 +44,7 @@ begins n t Writing Downgrade fits own not_refused = (refl, refl)
 begins n t p op fits own not_refused = cc
 
 -- what is left of a call is of its thread
-pub owed_is_own : (t : ℕ) (p : Phase) → AreOf t (owed t p)
+pub owed_is_own : (t : ℕ) (p : Phase) → AreOf t (owed FifoReadWrite t p)
 owed_is_own t p = search rules
 
 -- no section changes how many words there are

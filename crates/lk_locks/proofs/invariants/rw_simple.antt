@@ -15,8 +15,8 @@ use Rattle.lk_locks.specs.Locks.{after_call}
 use Rattle.lk_locks.specs.Steps.{has_op, move_change, refusal_in}
 use Rattle.lk_locks.specs.invariants.Threads.{is_this}
 use Rattle.lk_locks.specs.invariants.Locks.{AgreeAs, AreLinks, IsPhaseOf}
-use Rattle.lk_locks.specs.invariants.read_write.{is_announced, is_reading, is_writing}
-use Rattle.lk_locks.specs.invariants.rw_simple.{AgreesWith, owed}
+use Rattle.lk_locks.specs.invariants.read_write.{is_announced, is_reading, is_writing, owed}
+use Rattle.lk_locks.specs.invariants.rw_simple.{AgreesWith}
 use Rattle.lk_locks.specs.rw_simple.{step}
 use Rattle.lk_locks.proofs.Cases.{AreOf, Begins, Fits, GoesOn, IsAgreed, LockProof, IsTaken}
 use Rattle.lk_locks.proofs.Cases.{KeepsLength, either_way, waits}
@@ -60,7 +60,7 @@ begins n t Writing Downgrade fits own not_refused = (refl, refl)
 begins n t p op fits own not_refused = cc
 
 -- what is left of a call is of its thread
-owed_is_own : (t : ℕ) (p : Phase) → AreOf t (owed t p)
+owed_is_own : (t : ℕ) (p : Phase) → AreOf t (owed ReadWrite t p)
 owed_is_own t p = search rules
 
 -- no section changes how many words there are

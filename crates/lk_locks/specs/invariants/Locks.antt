@@ -1,10 +1,12 @@
 -- Invariants. What the module of each lock says of its phases, its words, and the entries that a
 -- pending call has still to add.
 use Rattle.std.specs.Prelude.{ℕ, List, IsTrue}
+use Rattle.lk_locks.specs.Locks.{family_of}
 use Rattle.lk_locks.specs.State.{State}
 use Rattle.lk_locks.specs.Sequential.{Sequential}
 use Rattle.lk_locks.specs.invariants.ticket
 use Rattle.lk_locks.specs.invariants.mcs
+use Rattle.lk_locks.specs.invariants.read_write
 use Rattle.lk_locks.specs.invariants.rw_simple
 use Rattle.lk_locks.specs.invariants.rw_fifo
 use Rattle.lk_locks.specs.declared.kinds.LockKind.{LockKind}
@@ -28,8 +30,7 @@ AreLinks kind n ws = Unit {0}
 abbrev pub owed_of : LockKind → ℕ → Phase → List Entry
 owed_of Ticket t p = ticket.owed t p
 owed_of Mcs t p = mcs.owed t p
-owed_of RwSimple t p = rw_simple.owed t p
-owed_of RwFifo t p = rw_fifo.owed t p
+owed_of kind t p = read_write.owed (family_of kind) t p
 
 -- the words and phases of the lock agree with its sequential object
 abbrev pub AgreeAs : LockKind → State → Sequential → Type 0

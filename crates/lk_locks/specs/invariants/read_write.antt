@@ -1,12 +1,28 @@
--- Invariants. What the two read-write locks share: who reads, who writes and who has announced
--- itself.
-use Rattle.std.specs.Prelude.{◌≡◌, ℕ, List, [], Option, None, Some, Bool, true, false}
+-- Invariants. What the two read-write locks share: what a pending call still owes the history, who
+-- reads, who writes and who has announced itself.
+use Rattle.std.specs.Prelude.{◌≡◌, ℕ, List, [], ◌++◌, Option, None, Some, Bool, true, false}
+use Rattle.lk_locks.specs.Acts.{acts, announcement}
 use Rattle.lk_locks.specs.State.{phase_at}
 use Rattle.lk_locks.specs.Sequential.{Sequential, has}
 use Rattle.lk_locks.specs.invariants.Threads.{EachOnce, is_this}
+use Rattle.lk_locks.specs.declared.kinds.Entry.{Entry}
+use Rattle.lk_locks.specs.declared.kinds.Family.{Family}
+use Rattle.lk_locks.specs.declared.kinds.Op.TheVariants.{ReadLock, ReadUnlock, WriteLock}
+use Rattle.lk_locks.specs.declared.kinds.Op.TheVariants.{WriteUnlock, Downgrade}
 use Rattle.lk_locks.specs.declared.kinds.Phase.{Phase}
-use Rattle.lk_locks.specs.declared.kinds.Phase.TheVariants.{Reading, LeaveRead, AwaitReaders}
-use Rattle.lk_locks.specs.declared.kinds.Phase.TheVariants.{Writing, LeaveWrite, TryDowngrade}
+use Rattle.lk_locks.specs.declared.kinds.Phase.TheVariants.{TryRead, Reading, LeaveRead}
+use Rattle.lk_locks.specs.declared.kinds.Phase.TheVariants.{TryWrite, AwaitReaders, Writing}
+use Rattle.lk_locks.specs.declared.kinds.Phase.TheVariants.{LeaveWrite, TryDowngrade}
+
+-- what the pending call of thread i has still to add to the history
+abbrev pub owed : Family → ℕ → Phase → List Entry
+owed family i TryRead = acts i ReadLock
+owed family i LeaveRead = acts i ReadUnlock
+owed family i TryWrite = announcement family i WriteLock ++ acts i WriteLock
+owed family i AwaitReaders = acts i WriteLock
+owed family i LeaveWrite = acts i WriteUnlock
+owed family i TryDowngrade = acts i Downgrade
+owed family i p = []
 
 abbrev pub is_reading : Phase → Bool
 is_reading Reading = true

@@ -1,8 +1,7 @@
--- Invariants. The FIFO read-write lock's: its phases, what a pending call still owes the history,
--- and how its words agree with the holders of its sequential object.
+-- Invariants. The FIFO read-write lock's: its phases, and how its words agree with the
+-- holders of its sequential object.
 use Rattle.std.specs.Prelude.{◌≡◌, ℕ, ◌+◌, ◌%◌, ◌^◌, ◌<◌, List, [], ◌∷◌, length, slice_index, Bool}
 use Rattle.std.specs.Prelude.{true, false}
-use Rattle.lk_locks.specs.Acts.{acts}
 use Rattle.lk_locks.specs.Sequential.{Sequential}
 use Rattle.lk_locks.specs.rw_fifo.{read_acquires, read_releases, flag}
 use Rattle.lk_locks.specs.invariants.read_write.{AreHolders, flag_of}
@@ -10,10 +9,6 @@ use Rattle.lk_locks.specs.declared.kinds.Phase.{Phase}
 use Rattle.lk_locks.specs.declared.kinds.Phase.TheVariants.{Idle, TryRead, Reading, LeaveRead}
 use Rattle.lk_locks.specs.declared.kinds.Phase.TheVariants.{TryWrite, AwaitReaders, Writing}
 use Rattle.lk_locks.specs.declared.kinds.Phase.TheVariants.{LeaveWrite, TryDowngrade}
-use Rattle.lk_locks.specs.declared.kinds.Op.TheVariants.{ReadLock, ReadUnlock, WriteLock}
-use Rattle.lk_locks.specs.declared.kinds.Op.TheVariants.{WriteUnlock, Downgrade}
-use Rattle.lk_locks.specs.declared.kinds.Entry.{Entry}
-use Rattle.lk_locks.specs.declared.kinds.Entry.TheVariants.{Announced}
 
 abbrev pub is_phase : Phase → Bool
 is_phase Idle = true
@@ -26,16 +21,6 @@ is_phase Writing = true
 is_phase LeaveWrite = true
 is_phase TryDowngrade = true
 is_phase p = false
-
--- what the pending call of thread i has still to add to the history
-abbrev pub owed : ℕ → Phase → List Entry
-owed i TryRead = acts i ReadLock
-owed i LeaveRead = acts i ReadUnlock
-owed i TryWrite = Announced i ∷ acts i WriteLock
-owed i AwaitReaders = acts i WriteLock
-owed i LeaveWrite = acts i WriteUnlock
-owed i TryDowngrade = acts i Downgrade
-owed i p = []
 
 -- The lock counts the readers that entered and that left, and its flag is for the writer or the
 -- announced one. There are fewer threads than a count has values, so the counts are equal if and

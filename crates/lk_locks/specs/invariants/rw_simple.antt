@@ -1,7 +1,6 @@
--- Invariants. The simple read-write lock's: its phases, what a pending call still owes the history,
--- and how its words agree with the holders of its sequential object.
+-- Invariants. The simple read-write lock's: its phases, and how its words agree with the
+-- holders of its sequential object.
 use Rattle.std.specs.Prelude.{◌≡◌, ℕ, ◌^◌, ◌<◌, List, [], length, slice_index, Bool, true, false}
-use Rattle.lk_locks.specs.Acts.{acts}
 use Rattle.lk_locks.specs.Sequential.{Sequential}
 use Rattle.lk_locks.specs.rw_simple.{readers, flag}
 use Rattle.lk_locks.specs.invariants.read_write.{AreHolders, flag_of}
@@ -9,9 +8,6 @@ use Rattle.lk_locks.specs.declared.kinds.Phase.{Phase}
 use Rattle.lk_locks.specs.declared.kinds.Phase.TheVariants.{Idle, TryRead, Reading, LeaveRead}
 use Rattle.lk_locks.specs.declared.kinds.Phase.TheVariants.{TryWrite, Writing, LeaveWrite}
 use Rattle.lk_locks.specs.declared.kinds.Phase.TheVariants.{TryDowngrade}
-use Rattle.lk_locks.specs.declared.kinds.Op.TheVariants.{ReadLock, ReadUnlock, WriteLock}
-use Rattle.lk_locks.specs.declared.kinds.Op.TheVariants.{WriteUnlock, Downgrade}
-use Rattle.lk_locks.specs.declared.kinds.Entry.{Entry}
 
 abbrev pub is_phase : Phase → Bool
 is_phase Idle = true
@@ -23,15 +19,6 @@ is_phase Writing = true
 is_phase LeaveWrite = true
 is_phase TryDowngrade = true
 is_phase p = false
-
--- what the pending call of thread i has still to add to the history
-abbrev pub owed : ℕ → Phase → List Entry
-owed i TryRead = acts i ReadLock
-owed i LeaveRead = acts i ReadUnlock
-owed i TryWrite = acts i WriteLock
-owed i LeaveWrite = acts i WriteUnlock
-owed i TryDowngrade = acts i Downgrade
-owed i p = []
 
 -- the lock counts its readers, and its flag is for the writer
 pub record AgreesWith (bits : ℕ) (ws : List ℕ) (ps : List Phase) (q : Sequential) : Type 0 where
