@@ -17,9 +17,9 @@ CRATES = Path(__file__).resolve().parent.parent / "crates"
 THEOREM = "MainTheorem.EveryRunIsAsPromised"
 
 IMPORT = re.compile(r"use Rattle\.(?:lk_locks|lk_words)\.specs\.([\w.]+?)(?:\.\{(.*)\})?$")
-# a type of the code, or its variants
-DECLARED = re.compile(r"use Rattle\.\w+\.specs\.declared\.([\w.]+)\.(?!TheVariants)(\w+)"
-                      r"(?:\.TheVariants)?(?:\.\{(.*)\}| as (\w+))$")
+# a type of the code, its variants, or what the prover knows of it
+DECLARED = re.compile(r"use Rattle\.\w+\.specs\.(?:declared|contracts)\.([\w.]+)\."
+                      r"(?!TheVariants)(\w+)(?:\.TheVariants)?(?:\.\{(.*)\}| as (\w+))$")
 TYPE = re.compile(r"pub (?:enum|struct) (\w+)")
 DEFINITION = re.compile(r"(?:abbrev pub|pub record|pub data)\s+(\S+)")
 NAME = re.compile(r"(?<![\w.])([A-Za-z_]\w*)(?:\.([A-Za-z_]\w*))?")

@@ -2,7 +2,7 @@
 -- to. Definitions that the locks share use these, and know no lock. This project's own.
 use Rattle.std.specs.Prelude.{ℕ, ◌+◌, ◌*◌, List, [], ◌∷◌, Option, None, option_map}
 use Rattle.lk_words.specs.declared.operation.Operation.{Operation}
-use Rattle.lk_locks.specs.Change.{Change, kind_of}
+use Rattle.lk_locks.specs.Change.{Change, kind_of, step_by}
 use Rattle.lk_locks.specs.ticket
 use Rattle.lk_locks.specs.mcs
 use Rattle.lk_locks.specs.read_write
@@ -59,8 +59,8 @@ step_due kind p = read_write.step_due p
 
 -- a step of thread t in this phase
 abbrev pub step_of : LockKind → ℕ → List ℕ → ℕ → Phase → Change
-step_of Ticket bits ws t p = ticket.step bits ws p
-step_of Mcs bits ws t p = mcs.step bits t ws p
+step_of Ticket bits ws t p = step_by ticket.after bits ws p (ticket.operation bits p)
+step_of Mcs bits ws t p = step_by mcs.after bits ws p (mcs.operation t p)
 step_of RwSimple bits ws t p = rw_simple.step bits ws p
 step_of RwFifo bits ws t p = rw_fifo.step bits ws p
 

@@ -3,6 +3,8 @@
 use Rattle.std.specs.Prelude.{ℕ, List, length, set, Option, None, Some, is_some, is_none, unwrap_or}
 use Rattle.std.specs.Prelude.{Bool, true, false, not, nat_lt, if◌then◌else◌, Result, Ok, Err}
 use Rattle.std.specs.List.{list_any}
+use denote.Enum.Bare.{sameb}
+use Rattle.lk_locks.specs.contracts.kinds.StepKind.{the_type}
 use Rattle.lk_locks.specs.Change.{Change, to}
 use Rattle.lk_locks.specs.State.{State, phase_at}
 use Rattle.lk_locks.specs.Locks.{family_of, steps_of, after_call, step_due, step_of}
@@ -14,7 +16,6 @@ use Rattle.lk_locks.specs.declared.kinds.Phase.TheVariants.{Idle}
 use Rattle.lk_locks.specs.declared.kinds.Op.{Op}
 use Rattle.lk_locks.specs.declared.kinds.Op.TheVariants.{Acquire, Release}
 use Rattle.lk_locks.specs.declared.kinds.StepKind.{StepKind}
-use Rattle.lk_locks.specs.declared.kinds.StepKind.TheVariants.{Read, Write, Swap, Cas, Add, Section}
 use Rattle.lk_locks.specs.declared.kinds.Move.{Move}
 use Rattle.lk_locks.specs.declared.kinds.Move.TheVariants.{Call, Step}
 use Rattle.lk_locks.specs.declared.kinds.Outcome.{Outcome}
@@ -39,13 +40,7 @@ has_op family op = not (is_queue_op op)
 -- refusals
 
 abbrev pub same_step : StepKind → StepKind → Bool
-same_step Read Read = true
-same_step Write Write = true
-same_step Swap Swap = true
-same_step Cas Cas = true
-same_step Add Add = true
-same_step Section Section = true
-same_step a b = false
+same_step = sameb the_type
 
 abbrev pub belongs : LockKind → Move → Bool
 belongs kind (Call op) = has_op (family_of kind) op

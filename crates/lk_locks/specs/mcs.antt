@@ -12,7 +12,7 @@ use Rattle.lk_words.specs.declared.operation.Operation.TheVariants.{Read, Write,
 use Rattle.lk_words.specs.declared.operation.Operation.TheVariants.{CompareAndSwap}
 use Rattle.lk_words.specs.declared.operation.Answer.{Answer}
 use Rattle.lk_words.specs.declared.operation.Answer.TheVariants.{Found, Swapped}
-use Rattle.lk_locks.specs.Change.{Change, to, step_by}
+use Rattle.lk_locks.specs.Change.{Change, to}
 use Rattle.lk_locks.specs.Acts.{acts}
 use Rattle.lk_locks.specs.declared.kinds.Phase.{Phase}
 use Rattle.lk_locks.specs.declared.kinds.Phase.TheVariants.{Idle, ClearNext, SwapTail, SetLocked}
@@ -76,11 +76,7 @@ after AwaitLink ws (Found s) = grant_or s ws (to ws AwaitLink Waits)
 after (Grant j) ws answer = to ws Idle Left
 after p ws answer = to ws p Waits
 
--- a step of thread i in this phase
-abbrev pub step : ℕ → ℕ → List ℕ → Phase → Change
-step bits i ws p = step_by after bits ws p (operation i p)
-
--- The entries of such a step. An acquire acts at its swap, and returns when it enters: at the swap
+-- The entries of a step. An acquire acts at its swap, and returns when it enters: at the swap
 -- if that found nil, otherwise at the read that finds `locked` 0. A release acts and returns at its
 -- last step.
 abbrev pub entries : ℕ → Phase → Outcome → List Entry

@@ -9,7 +9,7 @@ use Rattle.lk_words.specs.declared.operation.Operation.{Operation}
 use Rattle.lk_words.specs.declared.operation.Operation.TheVariants.{Read, Write, FetchAndAdd}
 use Rattle.lk_words.specs.declared.operation.Answer.{Answer}
 use Rattle.lk_words.specs.declared.operation.Answer.TheVariants.{Found}
-use Rattle.lk_locks.specs.Change.{Change, to, step_by, plus_one}
+use Rattle.lk_locks.specs.Change.{Change, to, plus_one}
 use Rattle.lk_locks.specs.Acts.{acts}
 use Rattle.lk_locks.specs.declared.kinds.Phase.{Phase}
 use Rattle.lk_locks.specs.declared.kinds.Phase.TheVariants.{Idle, TakeTicket, AwaitTurn}
@@ -51,11 +51,7 @@ after (ReadServing t) ws (Found v) = to ws (PassOn v) Moved
 after (PassOn v) ws answer = to ws Idle Left
 after p ws answer = to ws p Waits
 
--- a step of a thread in this phase
-abbrev pub step : ℕ → List ℕ → Phase → Change
-step bits ws p = step_by after bits ws p (operation bits p)
-
--- The entries of such a step. An acquire acts at its fetch-and-add, and returns at the read that
+-- The entries of a step. An acquire acts at its fetch-and-add, and returns at the read that
 -- finds its ticket. A release acts and returns at its last step.
 abbrev pub entries : ℕ → Phase → Outcome → List Entry
 entries i TakeTicket Moved = Acted i Acquire ∷ []

@@ -10,7 +10,7 @@ use Rattle.lk_locks.specs.declared.kinds.Outcome.TheVariants.{Waits, Entered, Le
 use Rattle.lk_workers.specs.TicketEvents.{Event, event, take_event, look_event, read_event}
 use Rattle.lk_workers.specs.TicketEvents.{pass_event}
 use Rattle.lk_locks.specs.Change.{to}
-use Rattle.lk_locks.specs.ticket.{step}
+use Rattle.lk_locks.specs.Locks.{step_of}
 use Rattle.lk_workers.specs.declared.live.LivePhase.{LivePhase}
 use Rattle.lk_workers.specs.declared.live.LivePhase.TheVariants.{Idle, Waiting, Inside, Leaving}
 use Rattle.lk_workers.specs.declared.live.rule.SeatState.{SeatState}
@@ -42,7 +42,7 @@ happens : (live : LiveStep) (id : ℕ) (s : Table) (r : SeatState) (p : LivePhas
     → live.word < length s.words → get_elem? s.views id ≡ some (r ∷ []) → r.phase ≡ p
     → live.leaves r (get_or s.words live.word 0) ≡ e.word
     → thread_of (live.next r (get_or s.words live.word 0)) ≡ e.phase
-    → step 64 s.words (due_in p r.ticket)
+    → step_of Ticket 64 s.words id (due_in p r.ticket)
     ≡ to (set s.words live.word (live.leaves r (get_or s.words live.word 0))) e.phase e.outcome
     → Happens s (after live id s r) id live.word (due_in r.phase r.ticket) e
 happens live id s r p e low at is word phase machine =
@@ -53,7 +53,7 @@ happens live id s r p e low at is word phase machine =
       other_word = λ i n. get_or-set_other s.words live.word i (live.leaves r found) 0 n;
       seat = (q, set_here s.views id (q ∷ []) (there s.views id (r ∷ []) at), phase);
       other_seats = λ j n. set_else s.views id j (q ∷ []) n;
-      machine = ap (λ d. step 64 s.words (due_in d r.ticket)) is ∙ machine;
+      machine = ap (λ d. step_of Ticket 64 s.words id (due_in d r.ticket)) is ∙ machine;
     }
 
 pub takes : IsEvent take_step Idle (λ r found. take_event 64 found)

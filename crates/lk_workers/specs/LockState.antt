@@ -13,7 +13,7 @@ use Rattle.lk_locks.specs.declared.kinds.Phase.TheVariants.{TakeTicket, AwaitTur
 use Rattle.lk_locks.specs.declared.kinds.Phase.TheVariants.{PassOn}
 use Rattle.lk_locks.specs.Change.{to}
 use Rattle.lk_workers.specs.TicketEvents.{Event}
-use Rattle.lk_locks.specs.ticket.{step}
+use Rattle.lk_locks.specs.Locks.{step_of}
 use Rattle.lk_workers.specs.declared.live.LivePhase.{LivePhase}
 use Rattle.lk_workers.specs.declared.live.LivePhase.TheVariants.{Idle, Waiting, Inside, Leaving}
 use Rattle.lk_workers.specs.declared.live.rule.SeatState.{SeatState}
@@ -85,7 +85,7 @@ pub record Happens (s s' : Table) (id word : ℕ) (due : Phase) (e : Event) : Ty
   pub seat : (r : SeatState) × (get_elem? s'.views id ≡ some (r ∷ [])) × (thread_of r ≡ e.phase)
   pub other_seats : (j : ℕ) → j ≢ id → get_elem? s'.views j ≡ get_elem? s.views j
   -- it is the step that the ticket machine of 64 bits makes on these words
-  pub machine : step 64 s.words due ≡ to s'.words e.phase e.outcome
+  pub machine : step_of Ticket 64 s.words id due ≡ to s'.words e.phase e.outcome
 
 -- the step of a seat in this phase is this event, of what the seat was and of the word found
 abbrev pub IsEvent : LiveStep → LivePhase → (SeatState → ℕ → Event) → Type 0

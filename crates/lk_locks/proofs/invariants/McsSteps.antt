@@ -6,9 +6,10 @@ use Rattle.std.proofs.lemmas.Bool.{cases_lt}
 use Rattle.std.proofs.lemmas.Bool.Decides.{eqb_tells}
 use Rattle.std.proofs.lemmas.List.{get_or-set_other, get_or-set_same, length-set, set_past}
 use Rattle.lk_locks.specs.Change.{Change, lead}
+use Rattle.lk_locks.specs.Locks.{step_of}
 use Rattle.lk_locks.specs.Steps.{has_op, refusal_in}
 use Rattle.lk_locks.specs.invariants.mcs.{AreLinks, IsPhase, owed}
-use Rattle.lk_locks.specs.mcs.{after, after_call, entries, locked, next, step}
+use Rattle.lk_locks.specs.mcs.{after, after_call, entries, locked, next}
 use Rattle.lk_locks.proofs.Cases.{AreOf, Begins, Fits, GoesOn, KeepsLength, either_way}
 use Rattle.lk_locks.specs.declared.kinds.Family.TheVariants.{Queue}
 use Rattle.lk_locks.specs.declared.kinds.LockKind.TheVariants.{Mcs}
@@ -24,7 +25,7 @@ use Rattle.lk_locks.specs.declared.kinds.Phase.TheVariants.{McsInside, ReadNext,
 use Rattle.lk_locks.specs.declared.kinds.Phase.TheVariants.{SwapTail}
 
 -- each step adds the next entries of the pending call
-pub goes_on : (bits t : ℕ) (ws : List ℕ) (p : Phase) → GoesOn Mcs t p (step bits t ws p)
+pub goes_on : (bits t : ℕ) (ws : List ℕ) (p : Phase) → GoesOn Mcs t p (step_of Mcs bits ws t p)
 goes_on bits t ws SwapTail =
     either_way (GoesOn Mcs t SwapTail) (slice_index ws 0 == 0) _ _ refl refl
 goes_on bits t ws AwaitGrant =
@@ -59,7 +60,7 @@ few_entries t p Left = omega arith
 few_entries t p outcome = omega arith
 
 -- no step changes how many words there are
-pub keeps_length : (bits t : ℕ) (ws : List ℕ) (p : Phase) → KeepsLength ws (step bits t ws p)
+pub keeps_length : (bits t : ℕ) (ws : List ℕ) (p : Phase) → KeepsLength ws (step_of Mcs bits ws t p)
 keeps_length bits t ws ClearNext = length-set _ _ _
 keeps_length bits t ws SwapTail =
     either_way (KeepsLength ws) (slice_index ws 0 == 0) _ _ (length-set _ _ _) (length-set _ _ _)
@@ -79,7 +80,7 @@ keeps_length bits t ws p = refl
 
 -- the new phase is one of the lock's
 pub step_fits : (n bits t : ℕ) (ws : List ℕ) (p : Phase) → t < n → IsPhase n p → AreLinks n ws
-    → Fits Mcs n (step bits t ws p)
+    → Fits Mcs n (step_of Mcs bits ws t p)
 step_fits n bits t ws ClearNext in_lock fits links = tt
 step_fits n bits t ws SwapTail in_lock fits (tail_fits, each_fits) =
     either_way (Fits Mcs n) (slice_index ws 0 == 0) _ _ tt (omega (arith, tail_fits))
@@ -128,7 +129,7 @@ set_links n ws written value value_fits (tail_fits, each_fits) = (
 
 -- the tail and each link still name one of the threads, or none
 pub links_fit : (n bits t : ℕ) (ws : List ℕ) (p : Phase) → t < n → AreLinks n ws
-    → AreLinks n (step bits t ws p).words
+    → AreLinks n (step_of Mcs bits ws t p).words
 links_fit n bits t ws ClearNext in_lock links = set_links n ws _ 0 (omega arith) links
 links_fit n bits t ws SwapTail in_lock links =
     either_way (λ (change : Change). AreLinks n change.words) (slice_index ws 0 == 0) _ _

@@ -12,11 +12,11 @@ use Rattle.lk_locks.specs.Change.{Change}
 use Rattle.lk_locks.specs.Entries.{move_entries}
 use Rattle.lk_locks.specs.Sequential.{nobody, Sequential, has, is_allowed}
 use Rattle.lk_locks.specs.State.{phase_at, start}
-use Rattle.lk_locks.specs.Locks.{after_call, family_of}
+use Rattle.lk_locks.specs.Locks.{after_call, family_of, step_of}
 use Rattle.lk_locks.specs.Steps.{has_op, move_change, refusal_in}
 use Rattle.lk_locks.specs.invariants.Locks.{AgreeAs, AreLinks, IsPhaseOf}
 use Rattle.lk_locks.specs.invariants.ticket.{IsQueue, owed, ticket_of}
-use Rattle.lk_locks.specs.ticket.{entries, now_serving, step}
+use Rattle.lk_locks.specs.ticket.{entries, now_serving}
 use Rattle.lk_locks.proofs.Cases.{AreOf, Begins, Fits, GoesOn, IsAgreed, LockProof, IsTaken}
 use Rattle.lk_locks.proofs.Cases.{KeepsLength, either_way, waits}
 use Rattle.lk_locks.proofs.Threads.{all_idle, true_or_false}
@@ -37,7 +37,7 @@ use Rattle.lk_locks.specs.declared.kinds.Entry.TheVariants.{Acted}
 use Rattle.lk_locks.proofs.Requests.{allows_acquire, allows_release}
 
 -- each step adds the next entries of the pending call
-goes_on : (bits t : ℕ) (ws : List ℕ) (p : Phase) → GoesOn Ticket t p (step bits ws p)
+goes_on : (bits t : ℕ) (ws : List ℕ) (p : Phase) → GoesOn Ticket t p (step_of Ticket bits ws t p)
 goes_on bits t ws (AwaitTurn ticket) =
     either_way (GoesOn Ticket t (AwaitTurn ticket)) (slice_index ws now_serving == ticket) _ _ refl
     refl
@@ -63,7 +63,7 @@ few_entries t (PassOn ticket) Left = omega arith
 few_entries t p outcome = omega arith
 
 -- no step changes how many words there are
-keeps_length : (bits t : ℕ) (ws : List ℕ) (p : Phase) → KeepsLength ws (step bits ws p)
+keeps_length : (bits t : ℕ) (ws : List ℕ) (p : Phase) → KeepsLength ws (step_of Ticket bits ws t p)
 keeps_length bits t ws TakeTicket = length-set _ _ _
 keeps_length bits t ws (PassOn ticket) = length-set _ _ _
 keeps_length bits t ws (AwaitTurn ticket) =
@@ -72,7 +72,7 @@ keeps_length bits t ws p = refl
 
 -- the new phase is one of the lock's
 step_fits : (n bits t : ℕ) (ws : List ℕ) (p : Phase) → t < n → IsPhaseOf Ticket n p
-    → AreLinks Ticket n ws → Fits Ticket n (step bits ws p)
+    → AreLinks Ticket n ws → Fits Ticket n (step_of Ticket bits ws t p)
 step_fits n bits t ws (AwaitTurn ticket) in_lock fits links =
     either_way (Fits Ticket n) (slice_index ws now_serving == ticket) _ _ refl refl
 step_fits n bits t ws TakeTicket in_lock fits links = refl

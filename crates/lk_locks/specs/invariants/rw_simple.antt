@@ -1,6 +1,6 @@
 -- Invariants. The simple read-write lock's: its phases, and how its words agree with the
 -- holders of its sequential object.
-use Rattle.std.specs.Prelude.{◌≡◌, ℕ, ◌^◌, ◌<◌, List, [], length, slice_index, Bool, true, false}
+use Rattle.std.specs.Prelude.{◌≡◌, ℕ, ◌^◌, ◌<◌, List, length, slice_index, Bool, true, false}
 use Rattle.lk_locks.specs.Sequential.{Sequential}
 use Rattle.lk_locks.specs.rw_simple.{readers, flag}
 use Rattle.lk_locks.specs.invariants.read_write.{AreHolders, flag_of}
