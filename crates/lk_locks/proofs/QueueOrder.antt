@@ -4,10 +4,10 @@ use Rattle.std.proofs.Common.{◌∙◌, append_assoc, inl, inr, ◌⊎◌}
 use Rattle.std.proofs.lemmas.Bool.{eqb-true}
 use Rattle.std.proofs.lemmas.List.{append-nil}
 use Rattle.lk_locks.specs.Sequential.{Sequential, nobody, is_head, after_entry}
-use Rattle.lk_locks.specs.Legal.{AreEnabled}
+use Rattle.lk_locks.specs.Legal.{AreEnabled, OfEveryLegal}
 use Rattle.lk_locks.specs.Holding.{holder_after, one_or_none}
-use Rattle.lk_locks.specs.Exclusion.{IsHeldInTurn, HoldersAreApart}
-use Rattle.lk_locks.specs.Order.{EntersInOrder, requested, entered}
+use Rattle.lk_locks.specs.Exclusion.{IsHeldInTurn, HasOneHolder}
+use Rattle.lk_locks.specs.Order.{IsInOrder, requested, entered}
 use Rattle.lk_locks.proofs.Places.{HasOne, any_of}
 use Rattle.lk_locks.proofs.Histories.{holder_append}
 use Rattle.lk_locks.specs.declared.kinds.Op.TheVariants.{Acquire, Release}
@@ -42,7 +42,7 @@ unless_released t (e ∷ es) more (may, in_turn) =
     ]
 
 -- the law: between two entries into a queue lock, the first holder has released it
-pub holders_are_apart : HoldersAreApart
+pub holders_are_apart : OfEveryLegal (λ kind. HasOneHolder)
 holders_are_apart kind n es legal t other before middle after is =
     let all : IsHeldInTurn None (before ++ Returned t Acquire
     ∷ (middle ++ Returned other Acquire ∷ after)) =
@@ -109,6 +109,6 @@ served (Returned t op ∷ es) q holder (may_act, enabled) (head_holds, may_hold,
     served es q holder enabled along
 
 -- the law: a queue lock is entered in the order of its acquires
-pub enters_in_order : EntersInOrder
+pub enters_in_order : OfEveryLegal (λ kind. IsInOrder)
 enters_in_order kind n es legal =
     served es (nobody kind) None legal.allowed (in_order kind n es legal)

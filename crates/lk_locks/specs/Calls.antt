@@ -3,7 +3,7 @@
 use Rattle.std.specs.Prelude.{◌≡◌, ℕ, List, [], ◌∷◌, ◌++◌}
 use Rattle.lk_locks.specs.Locks.{family_of}
 use Rattle.lk_locks.specs.Acts.{announcement}
-use Rattle.lk_locks.specs.Legal.{Legal, subhistory}
+use Rattle.lk_locks.specs.Legal.{subhistory}
 use Rattle.lk_locks.specs.declared.kinds.LockKind.{LockKind}
 use Rattle.lk_locks.specs.declared.kinds.Op.{Op}
 use Rattle.lk_locks.specs.declared.kinds.Entry.{Entry}
@@ -22,9 +22,6 @@ ActsOnce kind es =
     (t : ℕ) (op : Op) (before after : List Entry) → es ≡ before ++ Returned t op ∷ after
     → HasDone t op (announcement (family_of kind) t op ++ Acted t op ∷ []) before
 
-abbrev pub CallsActOnce : Type 0
-CallsActOnce = (kind : LockKind) (n : ℕ) (es : List Entry) → Legal kind n es → ActsOnce kind es
-
 -- the next of a thread's entries, if there is one, is the return
 abbrev pub ReturnsNext : ℕ → Op → List Entry → Type 0
 ReturnsNext t op [] = Unit {0}
@@ -37,6 +34,3 @@ ActsInCalls kind es =
     (t : ℕ) (op : Op) (before after : List Entry) → es ≡ before ++ Acted t op ∷ after
     → HasDone t op (announcement (family_of kind) t op) before
     × ReturnsNext t op (subhistory t after)
-
-abbrev pub ActsAreCalled : Type 0
-ActsAreCalled = (kind : LockKind) (n : ℕ) (es : List Entry) → Legal kind n es → ActsInCalls kind es

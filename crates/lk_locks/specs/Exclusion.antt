@@ -25,9 +25,6 @@ abbrev pub HasOneHolder : List Entry → Type 0
 HasOneHolder es =
     (t u : ℕ) → Between (Returned t Acquire) (Returned u Acquire) (λ e. e ≡ Acted t Release) es
 
-abbrev pub HoldersAreApart : Type 0
-HoldersAreApart = (kind : LockKind) (n : ℕ) (es : List Entry) → Legal kind n es → HasOneHolder es
-
 -- who holds, from here on: an acquire returns only if nobody holds, and only who holds releases
 abbrev pub MayHold : Option ℕ → Entry → Type 0
 MayHold h (Returned t Acquire) = h ≡ None
@@ -38,19 +35,11 @@ abbrev pub IsHeldInTurn : Option ℕ → List Entry → Type 0
 IsHeldInTurn h [] = Unit {0}
 IsHeldInTurn h (e ∷ es) = MayHold h e × IsHeldInTurn (holder_after h (e ∷ [])) es
 
--- a queue lock is held by one thread at a time
-abbrev pub HoldersTakeTurns : Type 0
-HoldersTakeTurns =
-    (kind : LockKind) (n : ℕ) (es : List Entry) → Legal kind n es → IsHeldInTurn None es
-
 -- who holds is the head of the queue
 abbrev pub IsHeldByHead : LockKind → List Entry → Type 0
 IsHeldByHead kind es =
     (t : ℕ) → holder_after None es ≡ Some t
     → IsTrue (is_head (after_entries (nobody kind) es).queue t)
-
-abbrev pub HolderIsHead : Type 0
-HolderIsHead = (kind : LockKind) (n : ℕ) (es : List Entry) → Legal kind n es → IsHeldByHead kind es
 
 -- Read-write locks
 
@@ -62,9 +51,6 @@ StopsWriting t e = (e ≡ Acted t WriteUnlock) ⊎ (e ≡ Acted t Downgrade)
 abbrev pub HasOneWriter : List Entry → Type 0
 HasOneWriter es =
     (t u : ℕ) → Between (Acted t WriteLock) (Acted u WriteLock) (StopsWriting t) es
-
-abbrev pub NeverTwoWriters : Type 0
-NeverTwoWriters = (kind : LockKind) (n : ℕ) (es : List Entry) → Legal kind n es → HasOneWriter es
 
 -- A reader enters only after the writer before it stopped writing, and a writer only after each
 -- reader before it left, and each writer that became a reader. After whatever beginning of the
@@ -79,10 +65,6 @@ pub record IsNeverBesideReader (kind : LockKind) (es : List Entry) : Type 0 wher
   pub no_reader : (before after : List Entry) → es ≡ before ++ after
       → let now : Sequential = after_entries (nobody kind) before in
       (w : ℕ) → now.writer ≡ Some w → now.readers ≡ []
-
-abbrev pub NeverAWriterBesideAReader : Type 0
-NeverAWriterBesideAReader =
-    (kind : LockKind) (n : ℕ) (es : List Entry) → Legal kind n es → IsNeverBesideReader kind es
 
 -- between the announcement of a FIFO writer and a later reader's entering, or another's
 -- announcement, that writer's entering comes

@@ -1,8 +1,6 @@
 -- Definitions. The order in which a queue lock is entered: a law of every legal history. This
 -- project's own.
 use Rattle.std.specs.Prelude.{◌≡◌, ℕ, List, [], ◌∷◌, ◌++◌}
-use Rattle.lk_locks.specs.Legal.{Legal}
-use Rattle.lk_locks.specs.declared.kinds.LockKind.{LockKind}
 use Rattle.lk_locks.specs.declared.kinds.Op.TheVariants.{Acquire}
 use Rattle.lk_locks.specs.declared.kinds.Entry.{Entry}
 use Rattle.lk_locks.specs.declared.kinds.Entry.TheVariants.{Acted, Returned}
@@ -22,6 +20,3 @@ entered (e ∷ es) = entered es
 -- those that entered are, in order, a beginning of those that asked
 abbrev pub IsInOrder : List Entry → Type 0
 IsInOrder es = (rest : List ℕ) × (entered es ++ rest ≡ requested es)
-
-abbrev pub EntersInOrder : Type 0
-EntersInOrder = (kind : LockKind) (n : ℕ) (es : List Entry) → Legal kind n es → IsInOrder es

@@ -5,7 +5,6 @@ use Rattle.lk_locks.specs.State.{State, start}
 use Rattle.lk_locks.specs.Locks.{word_count}
 use Rattle.lk_locks.specs.Steps.{refusal_of, next_state}
 use Rattle.lk_locks.specs.Entries.{entries_of}
-use Rattle.lk_locks.specs.Legal.{Legal}
 use Rattle.lk_locks.specs.declared.kinds.LockKind.{LockKind}
 use Rattle.lk_locks.specs.declared.kinds.Move.{Move}
 use Rattle.lk_locks.specs.declared.kinds.Entry.{Entry}
@@ -25,7 +24,3 @@ OfEveryRun Holds =
     → n ≤ 64 → n < 2 ^ bits → word_count kind n ≤ length ws
     → ((i : ℕ) → i < length ws → slice_index ws i ≡ 0)
     → Holds kind n (entries_after (start kind bits ws n) ms)
-
--- whatever moves are played, the history of a new lock is legal
-abbrev pub EveryHistoryIsLegal : Type 0
-EveryHistoryIsLegal = OfEveryRun Legal

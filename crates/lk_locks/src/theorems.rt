@@ -4,18 +4,13 @@
 //! `Keeper::entries` ensures that what a keeper recorded is legal, so each law holds of every
 //! keeper's entries.
 
-ghost use Rattle.lk_locks.specs.Runs.{EveryHistoryIsLegal};
+ghost use Rattle.std.specs.Prelude.{None};
+ghost use Rattle.lk_locks.specs.Legal.{OfEveryLegal};
 ghost use Rattle.lk_locks.specs.MainTheorem.{EveryRunIsAsPromised};
-ghost use Rattle.lk_locks.specs.Exclusion.{HoldersTakeTurns, HolderIsHead, HoldersAreApart};
-ghost use Rattle.lk_locks.specs.Exclusion.{NeverTwoWriters, NeverAWriterBesideAReader};
-ghost use Rattle.lk_locks.specs.Exclusion.{AnnouncedWriterGoesFirst};
-ghost use Rattle.lk_locks.specs.Order.{EntersInOrder};
-ghost use Rattle.lk_locks.specs.Calls.{CallsActOnce, ActsAreCalled};
-
-/// Whatever moves are played, the history of a new lock is legal.
-pub fn every_history_is_legal()
-    ensures { EveryHistoryIsLegal }
-{}
+ghost use Rattle.lk_locks.specs.Exclusion.{IsHeldInTurn, IsHeldByHead, HasOneHolder, HasOneWriter};
+ghost use Rattle.lk_locks.specs.Exclusion.{IsNeverBesideReader, AnnouncedWriterGoesFirst};
+ghost use Rattle.lk_locks.specs.Order.{IsInOrder};
+ghost use Rattle.lk_locks.specs.Calls.{ActsOnce, ActsInCalls};
 
 /// Whatever moves are played, the history of a new lock is legal, and so there are never two
 /// holders or writers, nor a writer beside a reader, and a queue lock is entered in the order of
@@ -26,33 +21,33 @@ pub fn every_run_is_as_promised()
 
 /// An acquire returns only if nobody holds the queue lock, and only who holds it releases it.
 pub fn holders_take_turns()
-    ensures { HoldersTakeTurns }
+    ensures { OfEveryLegal (λ kind. IsHeldInTurn None) }
 {}
 
 /// Between the returns of two acquires is the act of the first one's release.
 pub fn holders_are_apart()
-    ensures { HoldersAreApart }
+    ensures { OfEveryLegal (λ kind. HasOneHolder) }
 {}
 
 /// Who holds a queue lock is the head of its queue.
 pub fn holder_is_head()
-    ensures { HolderIsHead }
+    ensures { OfEveryLegal IsHeldByHead }
 {}
 
 /// A queue lock is entered in the order of its tickets or swaps.
 pub fn enters_in_order()
-    ensures { EntersInOrder }
+    ensures { OfEveryLegal (λ kind. IsInOrder) }
 {}
 
 /// Between the acts of two writers the first stops writing.
 pub fn never_two_writers()
-    ensures { NeverTwoWriters }
+    ensures { OfEveryLegal (λ kind. HasOneWriter) }
 {}
 
 /// Between the acts of a writer and a reader the first stops writing or reading, and at no moment
 /// there are both.
 pub fn never_a_writer_beside_a_reader()
-    ensures { NeverAWriterBesideAReader }
+    ensures { OfEveryLegal IsNeverBesideReader }
 {}
 
 /// No reader enters between a FIFO writer's announcement and its entering, and no other writer
@@ -63,10 +58,10 @@ pub fn announced_writer_goes_first()
 
 /// Each finished call has acted once, between its call and its return.
 pub fn calls_act_once()
-    ensures { CallsActOnce }
+    ensures { OfEveryLegal ActsOnce }
 {}
 
 /// Each act is in a call, whose return comes next.
 pub fn acts_are_called()
-    ensures { ActsAreCalled }
+    ensures { OfEveryLegal ActsInCalls }
 {}
