@@ -9,9 +9,8 @@
 ghost use Rattle.std.specs.Prelude.{◌≡◌, ◌^◌, ◌<◌, ◌≤◌, length};
 ghost use Rattle.lk_locks.specs.rw_simple.{step};
 
-use crate::arithmetic::less_one;
 use crate::{Outcome, Phase};
-use lk_words::Words;
+use lk_words::{Words, greatest_of};
 
 const READERS: usize = 0;
 
@@ -38,7 +37,8 @@ pub fn section<W: Words>(words: &mut W, phase: Phase) -> (Phase, Outcome)
             (Reading, Entered)
         }
         LeaveRead => {
-            words.write(READERS, less_one(words.bits(), readers));
+            // adding 2^B - 1 subtracts one modulo 2^B, without a case for 0
+            words.fetch_and_add(READERS, greatest_of(words.bits()));
             (Idle, Left)
         }
         TryWrite if readers == 0 && flag == 0 => {

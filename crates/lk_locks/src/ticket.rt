@@ -8,13 +8,12 @@
 //! In contracts `after_call`, `operation`, `after` and `entries` are the definitions of
 //! `specs/ticket.antt`, and `(ws : List ℕ) →` means: for all lists of words.
 
-ghost use Rattle.std.specs.Prelude.{◌≡◌, ◌^◌, ◌<◌, ◌≤◌, ℕ, List, [], length};
+ghost use Rattle.std.specs.Prelude.{◌≡◌, ◌≤◌, ℕ, List, []};
 ghost use Rattle.lk_locks.specs.ticket.{after_call, operation, after, entries};
 
-use crate::arithmetic::plus_one;
 use crate::entries::Added;
 use crate::{Entry, Op, Outcome, Phase};
-use lk_words::{Answer, Operation};
+use lk_words::{Answer, Operation, sum};
 
 const NEXT_TICKET: usize = 0;
 
@@ -50,7 +49,7 @@ pub fn operation(bits: u8, phase: Phase) -> Option<Operation>
         // no fetch-and-add is needed: only the holder writes this word
         Phase::PassOn(serving) => Some(Operation::Write {
             word: NOW_SERVING,
-            value: plus_one(bits, serving),
+            value: sum(bits, serving, 1),
         }),
         _ => None,
     }

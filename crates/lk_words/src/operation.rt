@@ -4,7 +4,7 @@
 //! Different here: an operation is data, so a lock can say what a thread does next before it is
 //! done, and whoever watches a step reads what it does to its word in place of deriving it.
 
-ghost use Rattle.std.specs.Prelude.{◌≡◌, ◌≤◌, ◌<◌, ◌^◌, length};
+ghost use Rattle.std.specs.Prelude.{◌≡◌, ◌≤◌, ◌<◌, ◌+◌, ◌%◌, ◌^◌, length};
 ghost use Rattle.std.specs.Prelude.{slice_set};
 ghost use Rattle.lk_words.specs.Operations.{answer_of, effect_on, left_by, performed};
 ghost use Rattle.lk_words.specs.Operations.{word_of, Fits};
@@ -45,7 +45,16 @@ pub struct Effect {
     pub answer: Answer,
 }
 
+/// The sum of two words of so many bits, which wraps.
 #[tactic(auto, using(crate::proofs::Prefix::left_of_sum))]
+pub fn sum(bits: u8, word: u64, addend: u64) -> u64
+    requires least { 2 ≤ bits }
+    requires most { bits ≤ 64 }
+    ensures { result ≡ (word + addend) % 2 ^ bits }
+{
+    word.wrapping_add(addend) & greatest_of(bits)
+}
+
 impl Operation {
     /// The place of its word.
     pub fn word(self) -> usize
@@ -78,8 +87,7 @@ impl Operation {
             }
             Operation::CompareAndSwap { word, .. } => (word, found, Answer::Swapped(false)),
             Operation::FetchAndAdd { word, addend } => {
-                let sum = found.wrapping_add(addend) & greatest_of(bits);
-                (word, sum, Answer::Found(found))
+                (word, sum(bits, found, addend), Answer::Found(found))
             }
         };
         Effect {
