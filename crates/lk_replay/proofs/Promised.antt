@@ -1,18 +1,19 @@
 -- What is played of a schedule is a run of its lock, and so it is as promised.
 use Rattle.std.proofs.Common.{◌≡◌, ℕ, ◌+◌, ◌<◌, ◌≤◌, ◌^◌, List, [], ◌∷◌, ◌++◌, length, map, nat_le}
 use Rattle.std.proofs.Common.{nat_lt, ◌&&◌, replicate, Option, None, Some, IfSome, Result, Ok, Err}
-use Rattle.std.proofs.Common.{refl, sym, ap, ◌∙◌, subst, arith, append_assoc, append-nil, inl, inr}
+use Rattle.std.proofs.Common.{refl, sym, ap, ◌∙◌, subst, arith, inl, inr, is_none}
+use Rattle.std.proofs.Common.{if◌then◌else◌}
 use Rattle.std.specs.List.{flat_map}
 use Rattle.std.specs.Io.KnownBytes.{Appends}
 use Rattle.std.proofs.lemmas.Bool.{and_parts, cases_Bool, cond-false, cond-true, leb-true, ltb-true}
 use Rattle.std.proofs.lemmas.List.{get_or-replicate, length-replicate}
 use Rattle.lk_locks.proofs.Runs.{every_run_is_as_promised}
 use Rattle.lk_locks.specs.MainTheorem.{IsAsPromised}
-use Rattle.lk_locks.specs.Play.{RecordedLock, after_play}
-use Rattle.lk_locks.specs.Runs.{after_moves}
+use Rattle.lk_locks.specs.State.{State}
+use Rattle.lk_locks.specs.Runs.{entries_after}
 use Rattle.lk_locks.specs.Locks.{word_count}
 use Rattle.lk_locks.specs.Entries.{entries_of}
-use Rattle.lk_locks.specs.Steps.{refusal_of, unless_refused}
+use Rattle.lk_locks.specs.Steps.{refusal_of, next_state}
 use Rattle.lk_locks.specs.declared.kinds.Entry.{Entry}
 use Rattle.lk_locks.specs.declared.kinds.Move.{Move}
 use Rattle.lk_locks.specs.declared.kinds.Refusal.{Refusal}
@@ -21,12 +22,12 @@ use Rattle.lk_replay.specs.Header.{Header, Shape, header_of, header_of_shape, sh
 use Rattle.lk_replay.specs.Header.{with_threads}
 use Rattle.lk_replay.specs.Lines.{is_skipped, lines_of, words_of}
 use Rattle.lk_replay.specs.Replay.{Made, Replay, Replayed, made_by, refused_or, replay_from}
-use Rattle.lk_replay.specs.Replay.{replay_of, replayed_of, with_move}
+use Rattle.lk_replay.specs.Replay.{replay_of, replayed_of, start_of, with_move}
 use Rattle.lk_replay.specs.Report.{plan_text, report_text}
 use Rattle.lk_replay.specs.Digits.{is_plain_number, value_from}
 use Rattle.lk_replay.specs.Vocabulary.{number_of}
 use Rattle.lk_replay.specs.Whole.{AppendsReport, EveryReportIsAsPromised, IsReportOfText}
-use Rattle.lk_replay.specs.Whole.{IsHistoryOf, IsReportOf, lock_of}
+use Rattle.lk_replay.specs.Whole.{IsHistoryOf, IsReportOf}
 use Rattle.lk_replay.specs.Schedule.{Plan, moves_from, plan_from, plan_of, with_header}
 use Rattle.lk_replay.specs.declared.schedule.Line.{Line}
 
@@ -37,32 +38,30 @@ abbrev pub added_entries : List Made → List Entry
 added_entries ms = flat_map (λ m. m.entries) ms
 
 -- an accepted move, and then the rest
-one_run : (k : RecordedLock) (l : Line) (ls : List Line) (r : Option Refusal)
-    → refusal_of k.state l.thread l.action ≡ r
-    → ((j : RecordedLock) → (after_moves j (moves_made (replay_from j.state ls).made)).entries
-    ≡ j.entries ++ added_entries (replay_from j.state ls).made)
-    → let next : Replay =
-    refused_or r l.number
-    (with_move (made_by k.state l) (replay_from (after_play k l.thread l.action).state ls)) in
-    (after_moves k (moves_made next.made)).entries ≡ k.entries ++ added_entries next.made
-one_run k l ls None e rest =
-    let next : RecordedLock = after_play k l.thread l.action in
-    ap (λ (x : Option Refusal).
-    (after_moves (unless_refused x next k)
-    (moves_made (replay_from next.state ls).made)).entries) e
-    ∙ rest next ∙ append_assoc k.entries (entries_of k.state l.thread l.action)
-    (added_entries (replay_from next.state ls).made)
-one_run k l ls (Some x) e rest = sym (append-nil k.entries)
+one_run : (s : State) (l : Line) (ls : List Line) (r : Option Refusal)
+    → refusal_of s l.thread l.action ≡ r
+    → let rest : Replay = replay_from (next_state s l.thread l.action) ls in
+    entries_after (next_state s l.thread l.action) (moves_made rest.made) ≡ added_entries rest.made
+    → let next : Replay = refused_or r l.number (with_move (made_by s l) rest) in
+    entries_after s (moves_made next.made) ≡ added_entries next.made
+one_run s l ls None accepted same =
+    let more : State → List Entry = λ from. entries_after from
+    (moves_made (replay_from (next_state s l.thread l.action) ls).made) in
+    let own : List Entry = entries_of s l.thread l.action in
+    ap (λ x. if is_none x then own ++ more (next_state s l.thread l.action) else more s) accepted
+    ∙ ap (λ es. own ++ es) same
+one_run s l ls (Some x) refused same = refl
 
 -- the entries of the accepted moves are those that they leave
-run_of : (ls : List Line) (k : RecordedLock)
-    → (after_moves k (moves_made (replay_from k.state ls).made)).entries ≡ k.entries
-    ++ added_entries (replay_from k.state ls).made
-run_of [] k = sym (append-nil k.entries)
-run_of (l ∷ ls) k = one_run k l ls (refusal_of k.state l.thread l.action) refl (run_of ls)
+run_of : (ls : List Line) (s : State)
+    → entries_after s (moves_made (replay_from s ls).made) ≡ added_entries (replay_from s ls).made
+run_of [] s = refl
+run_of (l ∷ ls) s =
+    one_run s l ls (refusal_of s l.thread l.action) refl
+    (run_of ls (next_state s l.thread l.action))
 
 pub history_of : (p : Plan) → IsHistoryOf p (replayed_of p).accepted (replayed_of p).entries
-history_of p = sym (run_of p.moves (lock_of p))
+history_of p = sym (run_of p.moves (start_of p))
 
 -- so it is of what was played
 pub history_as_played : (p : Plan) (r : Replayed) → r ≡ replayed_of p

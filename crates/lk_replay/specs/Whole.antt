@@ -1,27 +1,21 @@
 -- Definitions: the theorem from bytes to bytes. A report describes a history that keeps
 -- the whole theorem. This project's own.
-use Rattle.std.specs.Prelude.{◌≡◌, ℕ, List, [], map, Option, Ok, replicate}
+use Rattle.std.specs.Prelude.{◌≡◌, ℕ, List, [], map, Option, Ok}
 use Rattle.std.specs.List.{flat_map}
 use Rattle.std.specs.Io.KnownBytes.{Appends}
 use Rattle.lk_locks.specs.MainTheorem.{IsAsPromised}
-use Rattle.lk_locks.specs.Play.{RecordedLock}
-use Rattle.lk_locks.specs.Runs.{after_moves, new_lock}
-use Rattle.lk_locks.specs.Locks.{word_count}
+use Rattle.lk_locks.specs.Runs.{entries_after}
 use Rattle.lk_locks.specs.declared.kinds.Entry.{Entry}
 use Rattle.lk_locks.specs.declared.kinds.Refusal.{Refusal}
-use Rattle.lk_replay.specs.Replay.{Made}
+use Rattle.lk_replay.specs.Replay.{Made, start_of}
 use Rattle.lk_replay.specs.Report.{lines_text, report_text}
 use Rattle.lk_replay.specs.Schedule.{Plan, plan_of}
 use Rattle.lk_replay.specs.declared.played.Accepted.{Accepted}
 
--- the lock of a schedule, on which nothing was played
-abbrev pub lock_of : Plan → RecordedLock
-lock_of p = new_lock p.kind p.bits (replicate (word_count p.kind p.threads) 0) p.threads
-
--- these are the entries that these moves leave on it
+-- these are the entries that these moves leave on a new lock of the schedule
 abbrev pub IsHistoryOf : Plan → List Accepted → List Entry → Type 0
 IsHistoryOf p accepted es =
-    es ≡ (after_moves (lock_of p) (map (λ a. (a.thread, a.action)) accepted)).entries
+    es ≡ entries_after (start_of p) (map (λ a. (a.thread, a.action)) accepted)
 
 -- A report of a schedule describes accepted moves, each with its entries, up to the refused one.
 -- `lines_text` shows in each line who holds and who waits after the entries so far, and all entries

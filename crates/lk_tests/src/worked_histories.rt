@@ -21,7 +21,8 @@ ghost use Rattle.lk_locks.specs.Exclusion.{StopsWriting, HasOneWriter, IsNeverBe
 ghost use Rattle.lk_locks.specs.Exclusion.{IsAnnouncedFirst};
 ghost use Rattle.lk_locks.specs.Order.{requested, entered, IsInOrder};
 ghost use Rattle.lk_locks.specs.Calls.{ActsOnce, ActsInCalls, ReturnsNext};
-ghost use Rattle.lk_locks.specs.Runs.{after_moves, new_lock};
+ghost use Rattle.lk_locks.specs.Runs.{entries_after};
+ghost use Rattle.lk_locks.specs.State.{start};
 ghost use Rattle.lk_locks.specs.MainTheorem.{IsAsPromised};
 ghost use Rattle.lk_locks.specs.declared.kinds.LockKind.TheVariants.{Ticket, Mcs, RwSimple, RwFifo};
 ghost use Rattle.lk_locks.specs.declared.kinds.Op.TheVariants.{Acquire, Release, WriteLock};
@@ -124,13 +125,13 @@ pub fn acts_of_calls()
 /// Moves lead to the entries that they are due, and refused ones to none. What they lead to is as
 /// promised.
 pub fn runs_of_moves()
-    ensures ticket { (after_moves (new_lock Ticket 2 (0 ∷ 0 ∷ []) 2) ticket_moves).entries
+    ensures ticket { entries_after (start Ticket 2 (0 ∷ 0 ∷ []) 2) ticket_moves
         ≡ handed_on }
-    ensures mcs { (after_moves (new_lock Mcs 2 (0 ∷ 0 ∷ 0 ∷ 0 ∷ 0 ∷ []) 2) mcs_moves).entries
+    ensures mcs { entries_after (start Mcs 2 (0 ∷ 0 ∷ 0 ∷ 0 ∷ 0 ∷ []) 2) mcs_moves
         ≡ handed_on }
-    ensures simple { (after_moves (new_lock RwSimple 2 (0 ∷ 0 ∷ []) 2) simple_moves).entries
+    ensures simple { entries_after (start RwSimple 2 (0 ∷ 0 ∷ []) 2) simple_moves
         ≡ two_readers }
-    ensures fifo { (after_moves (new_lock RwFifo 2 (0 ∷ 0 ∷ 0 ∷ []) 2) fifo_moves).entries
+    ensures fifo { entries_after (start RwFifo 2 (0 ∷ 0 ∷ 0 ∷ []) 2) fifo_moves
         ≡ announced_entered }
     ensures queue_lock { IsAsPromised Mcs 2 handed_on }
     ensures read_write_lock { IsAsPromised RwFifo 2 announced_entered }
