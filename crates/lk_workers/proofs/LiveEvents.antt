@@ -11,6 +11,7 @@ use Rattle.lk_workers.specs.TicketEvents.{Event, event, take_event, look_event, 
 use Rattle.lk_workers.specs.TicketEvents.{pass_event}
 use Rattle.lk_locks.specs.Change.{to}
 use Rattle.lk_locks.specs.Locks.{step_of}
+use Rattle.lk_locks.specs.declared.kinds.LockKind.TheVariants.{Ticket}
 use Rattle.lk_workers.specs.declared.live.LivePhase.{LivePhase}
 use Rattle.lk_workers.specs.declared.live.LivePhase.TheVariants.{Idle, Waiting, Inside, Leaving}
 use Rattle.lk_workers.specs.declared.live.rule.SeatState.{SeatState}

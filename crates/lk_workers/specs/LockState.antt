@@ -14,6 +14,7 @@ use Rattle.lk_locks.specs.declared.kinds.Phase.TheVariants.{PassOn}
 use Rattle.lk_locks.specs.Change.{to}
 use Rattle.lk_workers.specs.TicketEvents.{Event}
 use Rattle.lk_locks.specs.Locks.{step_of}
+use Rattle.lk_locks.specs.declared.kinds.LockKind.TheVariants.{Ticket}
 use Rattle.lk_workers.specs.declared.live.LivePhase.{LivePhase}
 use Rattle.lk_workers.specs.declared.live.LivePhase.TheVariants.{Idle, Waiting, Inside, Leaving}
 use Rattle.lk_workers.specs.declared.live.rule.SeatState.{SeatState}
