@@ -3,9 +3,13 @@
 --
 -- After Herlihy and Shavit, The Art of Multiprocessor Programming, chapter 8. `Downgrade`, by which
 -- a writer becomes a reader in one section, is this project's own.
-use Rattle.std.specs.Prelude.{ℕ, List, [], ◌∷◌, ◌++◌, Option, None, Some}
+use Rattle.std.specs.Prelude.{ℕ, ◌<◌, ◌^◌, slice_index, List, [], ◌∷◌, ◌++◌, Option, None, Some}
 use Rattle.lk_locks.specs.Acts.{acts, announcement}
+use Rattle.lk_locks.specs.Change.{Change}
+use Rattle.lk_locks.specs.rw_fifo
+use Rattle.lk_locks.specs.rw_simple
 use Rattle.lk_locks.specs.declared.kinds.Family.{Family}
+use Rattle.lk_locks.specs.declared.kinds.Family.TheVariants.{FifoReadWrite}
 use Rattle.lk_locks.specs.declared.kinds.Phase.{Phase}
 use Rattle.lk_locks.specs.declared.kinds.Phase.TheVariants.{Idle, TryRead, Reading, LeaveRead}
 use Rattle.lk_locks.specs.declared.kinds.Phase.TheVariants.{TryWrite, AwaitReaders, Writing}
@@ -35,6 +39,21 @@ step_due Idle = None
 step_due Reading = None
 step_due Writing = None
 step_due p = Some Section
+
+-- how many words the monitor has
+abbrev pub word_count : Family → ℕ
+word_count FifoReadWrite = 3
+word_count family = 2
+
+-- the monitor's words, of so many bits
+abbrev pub AreWords : ℕ → List ℕ → Type 0
+AreWords bits ws =
+    (slice_index ws 0 < 2 ^ bits) × (slice_index ws 1 < 2 ^ bits) × (slice_index ws 2 < 2 ^ bits)
+
+-- a section of a thread in this phase
+abbrev pub step : Family → ℕ → List ℕ → Phase → Change
+step FifoReadWrite bits ws p = rw_fifo.step bits ws p
+step family bits ws p = rw_simple.step bits ws p
 
 -- The entries of a section. A FIFO writer announces itself when it sets the flag; a call acts
 -- when it succeeds.

@@ -10,10 +10,8 @@ ghost use Rattle.lk_locks.specs.Steps.{same_step};
 ghost use Rattle.lk_locks.specs.invariants.WellFormed.{IsReady};
 
 use crate::entries::Added;
-use crate::{
-    Family, LockKind, Op, Outcome, Phase, StepKind, mcs, read_write, rw_fifo, rw_simple, ticket,
-};
-use lk_words::{Operation, Words, perform};
+use crate::{Family, LockKind, Op, Outcome, Phase, StepKind, mcs, read_write, ticket};
+use lk_words::{Operation, WordArray, Words, perform};
 
 /// The family of a lock.
 #[inline]
@@ -129,8 +127,23 @@ pub(crate) fn take_step<W: Words>(
             Some(operation) => mcs::after(phase, perform(words, operation)),
             None => (phase, Outcome::Waits),
         },
-        LockKind::RwSimple => rw_simple::section(words, phase),
-        LockKind::RwFifo => rw_fifo::section(words, phase),
+        LockKind::RwSimple => read_write::step(words, Family::ReadWrite, phase),
+        LockKind::RwFifo => read_write::step(words, Family::FifoReadWrite, phase),
+    }
+}
+
+/// What would come of a step of a thread in this phase, with nothing changed.
+pub(crate) fn outcome_of(words: &WordArray, kind: LockKind, thread: u8, phase: Phase) -> Outcome
+    requires { IsReady kind words.now.1 words.now.0 thread phase }
+    ensures { result ≡ (step_of kind words.now.1 words.now.0 thread phase).outcome }
+{
+    match (kind, operation_of(kind, words.bits(), thread, phase)) {
+        (LockKind::Ticket, Some(step)) => ticket::after(phase, words.effect(step).answer).1,
+        (LockKind::Mcs, Some(step)) => mcs::after(phase, words.effect(step).answer).1,
+        (LockKind::Ticket | LockKind::Mcs, None) => Outcome::Waits,
+        (LockKind::RwSimple | LockKind::RwFifo, _) => {
+            read_write::outcome(words, family_of(kind), phase)
+        }
     }
 }
 

@@ -1,14 +1,15 @@
 //! What the two read-write locks share: their calls, their one kind of step, and the entries of
-//! their sections.
+//! their sections. A lock's own table says what a section leaves in the words that it finds.
 //!
 //! After Herlihy and Shavit, The Art of Multiprocessor Programming, chapter 8. `Downgrade` is this
 //! project's own.
 
-ghost use Rattle.std.specs.Prelude.{◌≡◌, []};
-ghost use Rattle.lk_locks.specs.read_write.{after_call, step_due, entries};
+ghost use Rattle.std.specs.Prelude.{◌≡◌, ◌^◌, ◌<◌, ◌≤◌, length, []};
+ghost use Rattle.lk_locks.specs.read_write.{word_count, after_call, step_due, step, entries};
 
 use crate::entries::Added;
-use crate::{Entry, Family, Op, Outcome, Phase, StepKind};
+use crate::{Entry, Family, Op, Outcome, Phase, StepKind, rw_fifo, rw_simple};
+use lk_words::{WordArray, Words};
 
 /// The phase that a call leads to, if a thread in this phase may make it.
 #[inline(always)]
@@ -33,6 +34,48 @@ pub fn step_due(phase: Phase) -> Option<StepKind>
     match phase {
         Phase::Idle | Phase::Reading | Phase::Writing => None,
         _ => Some(StepKind::Section),
+    }
+}
+
+/// One section of a thread in this phase: its new phase, and the outcome.
+#[inline(always)]
+pub fn step<W: Words>(words: &mut W, family: Family, phase: Phase) -> (Phase, Outcome)
+    requires words { word_count family ≤ length (W.list words.old) }
+    requires one { 1 < 2 ^ W.width words.old }
+    ensures words { W.list words.new
+        ≡ (step family (W.width words.old) (W.list words.old) phase).words }
+    ensures phase { result.0
+        ≡ (step family (W.width words.old) (W.list words.old) phase).phase }
+    ensures outcome { result.1
+        ≡ (step family (W.width words.old) (W.list words.old) phase).outcome }
+    ensures width { W.width words.new ≡ W.width words.old }
+{
+    let bits = words.bits();
+    let (first, second) = (words.read(0), words.read(1));
+    let (left, phase, outcome) = match family {
+        Family::FifoReadWrite => {
+            let section = rw_fifo::section(bits, [first, second, words.read(2)], phase);
+            words.write(2, section.0[2]);
+            section
+        }
+        _ => rw_simple::section(bits, [first, second, 0], phase),
+    };
+    words.write(0, left[0]);
+    words.write(1, left[1]);
+    (phase, outcome)
+}
+
+/// The outcome that a section of a thread in this phase would have. Nothing changes.
+pub fn outcome(words: &WordArray, family: Family, phase: Phase) -> Outcome
+    requires words { word_count family ≤ length words.now.0 }
+    requires one { 1 < 2 ^ words.now.1 }
+    ensures { result ≡ (step family words.now.1 words.now.0 phase).outcome }
+{
+    let bits = words.bits();
+    let (first, second) = (words.get(0), words.get(1));
+    match family {
+        Family::FifoReadWrite => rw_fifo::section(bits, [first, second, words.get(2)], phase).2,
+        _ => rw_simple::section(bits, [first, second, 0], phase).2,
     }
 }
 

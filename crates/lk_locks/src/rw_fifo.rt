@@ -7,65 +7,45 @@
 //! have B bits and wrap; signals are not modelled; a writer may downgrade. Threads that wait for a
 //! clear flag enter in any order.
 
-ghost use Rattle.std.specs.Prelude.{◌≡◌, ◌^◌, ◌<◌, ◌≤◌, length};
+ghost use Rattle.std.specs.Prelude.{◌≡◌, ◌^◌, ◌<◌, ◌≤◌};
 ghost use Rattle.lk_locks.specs.rw_fifo.{step};
+ghost use Rattle.lk_locks.specs.read_write.{AreWords};
 
 use crate::{Outcome, Phase};
-use lk_words::Words;
+use lk_words::sum;
 
-const READ_ACQUIRES: usize = 0;
-
-const READ_RELEASES: usize = 1;
-
-const FLAG: usize = 2;
-
-/// One section of a thread in this phase: its new phase, and the outcome. In the contract `step` is
-/// the definition of `specs/rw_fifo.antt`.
+/// What a section of a thread in this phase does, if it finds these words of `bits` bits: the words
+/// that it leaves, the thread's new phase, and the outcome. In the contract `step` is the
+/// definition of `specs/rw_fifo.antt`.
 #[inline(always)]
-pub fn section<W: Words>(words: &mut W, phase: Phase) -> (Phase, Outcome)
-    requires words { 3 ≤ length (W.list words.old) }
-    requires one { 1 < 2 ^ W.width words.old }
-    ensures words { W.list words.new ≡ (step (W.width words.old) (W.list words.old) phase).words }
-    ensures phase { result.0 ≡ (step (W.width words.old) (W.list words.old) phase).phase }
-    ensures outcome { result.1 ≡ (step (W.width words.old) (W.list words.old) phase).outcome }
-    ensures width { W.width words.new ≡ W.width words.old }
+pub fn section(bits: u8, found: [u64; 3], phase: Phase) -> ([u64; 3], Phase, Outcome)
+    requires least { 2 ≤ bits }
+    requires most { bits ≤ 64 }
+    requires one { 1 < 2 ^ bits }
+    requires fits { AreWords bits found }
+    ensures words { result.0 ≡ (step bits found phase).words }
+    ensures phase { result.1 ≡ (step bits found phase).phase }
+    ensures outcome { result.2 ≡ (step bits found phase).outcome }
+    ensures fits { AreWords bits result.0 }
 {
     use Outcome::{Entered, Left, Moved, Waits};
     use Phase::{AwaitReaders, Idle, LeaveRead, LeaveWrite, Reading, Writing};
     use Phase::{TryDowngrade, TryRead, TryWrite};
+    let [acquires, releases, flag] = found;
     // No reader is inside: as many left as entered. Both counts wrap, but there are fewer threads
     // than a count has values.
-    let are_gone = words.read(READ_ACQUIRES) == words.read(READ_RELEASES);
-    let flag = words.read(FLAG);
+    let are_gone = acquires == releases;
     match phase {
-        TryRead if flag == 0 => {
-            words.fetch_and_add(READ_ACQUIRES, 1);
-            (Reading, Entered)
-        }
-        LeaveRead => {
-            words.fetch_and_add(READ_RELEASES, 1);
-            (Idle, Left)
-        }
+        TryRead if flag == 0 => ([sum(bits, acquires, 1), releases, flag], Reading, Entered),
+        LeaveRead => ([acquires, sum(bits, releases, 1), flag], Idle, Left),
+        TryWrite if flag == 0 && are_gone => ([acquires, releases, 1], Writing, Entered),
         // the flag is set while readers are inside, so that no later one enters before this writer
-        TryWrite if flag == 0 => {
-            words.write(FLAG, 1);
-            if are_gone {
-                (Writing, Entered)
-            } else {
-                (AwaitReaders, Moved)
-            }
-        }
-        AwaitReaders if are_gone => (Writing, Entered),
-        LeaveWrite => {
-            words.write(FLAG, 0);
-            (Idle, Left)
-        }
-        TryDowngrade => {
-            words.fetch_and_add(READ_ACQUIRES, 1);
-            words.write(FLAG, 0); // in the same section, so that no writer comes in between
-            (Reading, Entered)
-        }
+        TryWrite if flag == 0 => ([acquires, releases, 1], AwaitReaders, Moved),
+        AwaitReaders if are_gone => (found, Writing, Entered),
+        LeaveWrite => ([acquires, releases, 0], Idle, Left),
+        // both in one section, so that no writer comes in between
+        TryDowngrade => ([sum(bits, acquires, 1), releases, 0], Reading, Entered),
         // a failed poll; in a phase without a step the machine refuses the move
-        _ => (phase, Waits),
+        _ => (found, phase, Waits),
     }
 }

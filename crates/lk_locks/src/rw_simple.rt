@@ -6,55 +6,43 @@
 //! count is not 0 or the flag is set, and then sets the flag; the count has B bits; signals are not
 //! modelled; a writer may downgrade.
 
-ghost use Rattle.std.specs.Prelude.{◌≡◌, ◌^◌, ◌<◌, ◌≤◌, length};
+ghost use Rattle.std.specs.Prelude.{◌≡◌, ◌^◌, ◌<◌, ◌≤◌};
 ghost use Rattle.lk_locks.specs.rw_simple.{step};
+ghost use Rattle.lk_locks.specs.read_write.{AreWords};
 
 use crate::{Outcome, Phase};
-use lk_words::{Words, greatest_of};
+use lk_words::{greatest_of, sum};
 
-const READERS: usize = 0;
-
-const FLAG: usize = 1;
-
-/// One section of a thread in this phase: its new phase, and the outcome. In the contract `step` is
-/// the definition of `specs/rw_simple.antt`.
+/// What a section of a thread in this phase does, if it finds these words of `bits` bits: the words
+/// that it leaves, the thread's new phase, and the outcome. The third word is not this lock's. In
+/// the contract `step` is the definition of `specs/rw_simple.antt`.
 #[inline(always)]
-pub fn section<W: Words>(words: &mut W, phase: Phase) -> (Phase, Outcome)
-    requires words { 2 ≤ length (W.list words.old) }
-    requires one { 1 < 2 ^ W.width words.old }
-    ensures words { W.list words.new ≡ (step (W.width words.old) (W.list words.old) phase).words }
-    ensures phase { result.0 ≡ (step (W.width words.old) (W.list words.old) phase).phase }
-    ensures outcome { result.1 ≡ (step (W.width words.old) (W.list words.old) phase).outcome }
-    ensures width { W.width words.new ≡ W.width words.old }
+pub fn section(bits: u8, found: [u64; 3], phase: Phase) -> ([u64; 3], Phase, Outcome)
+    requires least { 2 ≤ bits }
+    requires most { bits ≤ 64 }
+    requires one { 1 < 2 ^ bits }
+    requires fits { AreWords bits found }
+    ensures words { result.0 ≡ (step bits found phase).words }
+    ensures phase { result.1 ≡ (step bits found phase).phase }
+    ensures outcome { result.2 ≡ (step bits found phase).outcome }
+    ensures fits { AreWords bits result.0 }
 {
     use Outcome::{Entered, Left, Waits};
     use Phase::{Idle, LeaveRead, LeaveWrite, Reading, TryDowngrade, TryRead, TryWrite, Writing};
-    let readers = words.read(READERS);
-    let flag = words.read(FLAG);
+    let [readers, flag, other] = found;
     match phase {
-        TryRead if flag == 0 => {
-            words.fetch_and_add(READERS, 1);
-            (Reading, Entered)
-        }
-        LeaveRead => {
-            // adding 2^B - 1 subtracts one modulo 2^B, without a case for 0
-            words.fetch_and_add(READERS, greatest_of(words.bits()));
-            (Idle, Left)
-        }
-        TryWrite if readers == 0 && flag == 0 => {
-            words.write(FLAG, 1);
-            (Writing, Entered)
-        }
-        LeaveWrite => {
-            words.write(FLAG, 0);
-            (Idle, Left)
-        }
-        TryDowngrade => {
-            words.fetch_and_add(READERS, 1);
-            words.write(FLAG, 0); // in the same section, so that no writer comes in between
-            (Reading, Entered)
-        }
+        TryRead if flag == 0 => ([sum(bits, readers, 1), flag, other], Reading, Entered),
+        // adding 2^B - 1 subtracts one modulo 2^B, without a case for 0
+        LeaveRead => (
+            [sum(bits, readers, greatest_of(bits)), flag, other],
+            Idle,
+            Left,
+        ),
+        TryWrite if readers == 0 && flag == 0 => ([readers, 1, other], Writing, Entered),
+        LeaveWrite => ([readers, 0, other], Idle, Left),
+        // both in one section, so that no writer comes in between
+        TryDowngrade => ([sum(bits, readers, 1), 0, other], Reading, Entered),
         // a failed poll; in a phase without a step the machine refuses the move
-        _ => (phase, Waits),
+        _ => (found, phase, Waits),
     }
 }

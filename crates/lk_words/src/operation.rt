@@ -50,7 +50,8 @@ pub struct Effect {
 pub fn sum(bits: u8, word: u64, addend: u64) -> u64
     requires least { 2 ≤ bits }
     requires most { bits ≤ 64 }
-    ensures { result ≡ (word + addend) % 2 ^ bits }
+    ensures value { result ≡ (word + addend) % 2 ^ bits }
+    ensures fits { result < 2 ^ bits }
 {
     word.wrapping_add(addend) & greatest_of(bits)
 }
