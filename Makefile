@@ -119,6 +119,7 @@ test-page: $(MODULE) $(PROGRAM) tools
 	tests/wanted.sh page browsers
 	node page/build.mjs $(MODULE) --check
 	tests/page/module.mjs $(MODULE)
+	tests/page/bytes.mjs $(MODULE)
 	tests/page/moments.mjs $(MODULE)
 	tests/page/known.mjs $(MODULE)
 	tests/page/run.py $(PROGRAM)

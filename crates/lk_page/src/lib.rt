@@ -27,8 +27,6 @@ mod playing;
 mod record;
 mod sought;
 mod state;
-#[cfg(test)]
-mod tests;
 mod told;
 
 use asking::{asked_of, lock_of};
