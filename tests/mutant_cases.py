@@ -65,15 +65,29 @@ CALLS = "fn c::f: no proof: it calls `c::g`, which is not proved"
 BOTH = f"{OWN}; it calls `c::g`, which is not proved"
 GONE = "./proofs/f/Answers.antt:9:3: error: `returns`: `c.in-else` is not in scope"
 FALSE = "./proofs/f/Answers.antt:8:3: error: `returns`: expected type `0 ≤ 1`"
+STANDS = "fn c::f: not proved; it stands on `Rattle.c.proofs.{}.Answers.r`, which antt refuses"
+
+
+def rests_on(*open_proofs):
+    return "fn c::f: depends on a hole in " + ", ".join(
+        f"`Rattle.c.proofs.{proof}`" for proof in open_proofs)
+
+
 VERDICTS = {
     "own goals": (OWN, "refused"), "a callee alone": (CALLS, "unclear"),
     "own goals and a callee": (BOTH, "refused"), "another function": ("fn c::g: proved", "unclear"),
     "a longer name": (OWN.replace("c::f", "c::fg"), "unclear"),
     "a closure": (OWN.replace("c::f", "c::f::{closure}"), "refused"),
     "a closure of one that is proved":
-        (f"fn c::f: proved\n{OWN.replace('c::f', 'c::f::{closure}')}", "refused"),
-    "proved": ("fn c::f: proved", "proved"), "no answer": ("fn c::f: could not tell", "unclear"),
+        (f"fn c::f: no holes\n{OWN.replace('c::f', 'c::f::{closure}')}", "refused"),
+    "proved": ("fn c::f: no holes", "proved"), "no answer": ("fn c::f: could not tell", "unclear"),
+    "proved over open proofs": (rests_on("g.Proof.g_spec", "T.h.Proof.h_spec"), "proved"),
+    "open itself": (rests_on("g.Proof.g_spec", "f.Proof.f_spec"), "unclear"),
+    "an open lemma": (rests_on("g.Proof.g_spec", "Sums.most"), "unclear"),
     "answers that wait": ("fn c::f: not proved; it calls `c::g`, which is not proved", "unclear"),
+    "an answer that is refused": (STANDS.format("f"), "refused"),
+    "an answer of another that is refused": (STANDS.format("g"), "unclear"),
+    "an answer with a name that is gone": (f"{GONE}\n{STANDS.format('f')}", "shape"),
     "false answers": (f"{FALSE}\nfn c::f: not proved", "refused"),
     "names that are gone": (f"{GONE}\nfn c::f: not proved", "shape"),
     "a name and an answer": (f"{GONE}\n{FALSE}\nfn c::f: not proved", "refused"),

@@ -94,11 +94,11 @@ class Crate:
         """Tries edits in one check, and answers those that are to be tried again."""
         files, group = self.put_in(lab.files, group)
         try:
-            is_proved, said = self.check(lab, files, functions_in(group))
+            said = self.check(lab, files, functions_in(group))
         except NotChecked as why:
             return self.without_those_in(lab, why, group)
         unclear = [edit for edit in group
-                   if not self.is_settled(edit, *verdict(edit, is_proved, said), len(group) == 1)]
+                   if not self.is_settled(edit, *verdict(edit, said), len(group) == 1)]
         for edit in unclear:
             if not self.keeps_apart(edit, said, functions_in(group) - edit.functions):
                 self.tries[edit] += 1
@@ -178,10 +178,8 @@ def proved_in(said):
     return set(PROVED.findall(said))
 
 
-def verdict(edit, is_proved, said):
+def verdict(edit, said):
     """What a check says of an edit in it: a word of `verdict_on`, and a line."""
-    if is_proved:
-        return "proved", ""
     found = [verdict_on(function, said) for function in sorted(edit.functions)]
     return next((it for it in found if it[0] == "refused"), found[0])
 
