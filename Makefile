@@ -182,12 +182,17 @@ bench: $(PROGRAM) tools
 	bench/run.py $(PROGRAM)
 	bench/batch.py $(PROGRAM)
 
-.PHONY: bench-search
+.PHONY: bench-search bench-instructions
 
 ## bench-search | counts the states of the locks' schedules with SPIN, beside the worked rows
 bench-search: tools
 	tests/wanted.sh bench-search
 	bench/count.py
+
+## bench-instructions | counts what a move takes, beside the replayer written by hand
+bench-instructions: $(PROGRAM) tools
+	tests/wanted.sh bench-instructions
+	bench/instructions.py $(PROGRAM)
 
 ## soak [SOAK_SECONDS=3600] | each long run once, then the fuzzer for the rest of the time
 soak: $(PROGRAM) tools

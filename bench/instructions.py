@@ -1,0 +1,43 @@
+#!/usr/bin/env python3
+"""Counts the instructions that a move takes: instructions.py PROGRAM [KIND]...
+
+Of each kind of bench/generate.py, it has `valgrind --tool=callgrind` count those of `PROGRAM replay`
+and of the replayer of handwritten.c, takes off what a schedule without a move takes, and divides by
+the moves. What else the machine does changes nothing, so a change of the code is seen that is too
+small for times.
+"""
+import pathlib
+import re
+import subprocess
+import sys
+import tempfile
+
+import generate
+from measuring import build
+
+MOVES = 4_000
+
+
+def instructions(program, kind):
+    """Those of a whole run."""
+    counting = ["valgrind", "--tool=callgrind", "--callgrind-out-file=/dev/null"]
+    ran = subprocess.run([*counting, program, "replay"], input=generate.schedule_of(kind, MOVES),
+                         capture_output=True, check=True)
+    return int(re.search(rb"Collected : (\d+)", ran.stderr)[1])
+
+
+def main(program, kinds):
+    with tempfile.TemporaryDirectory() as folder:
+        programs = [pathlib.Path(program).resolve(), build("handwritten", folder)]
+        starts = [instructions(one, "none") for one in programs]
+        print(f"{'kind':15}{'program':>10}{'by hand':>10}{'ratio':>8}")
+        for kind in kinds or [kind for kind in generate.KINDS if kind != "none"]:
+            own, hand = [(instructions(one, kind) - start) / MOVES
+                         for one, start in zip(programs, starts)]
+            print(f"{kind:15}{own:10.0f}{hand:10.0f}{own / hand:8.2f}", flush=True)
+
+
+if __name__ == "__main__":
+    if len(sys.argv) < 2 or not set(sys.argv[2:]) <= set(generate.KINDS):
+        sys.exit(__doc__)
+    main(sys.argv[1], sys.argv[2:])
