@@ -1,7 +1,7 @@
 #!/usr/bin/env python3
 """Counts the instructions that a move takes: instructions.py PROGRAM [KIND]...
 
-Of each kind of bench/generate.py, it has `valgrind --tool=callgrind` count those of `PROGRAM replay`
+Of each kind of bench/generate.py, `valgrind --tool=callgrind` counts those of `PROGRAM replay`
 and of the replayer of handwritten.c, takes off what a schedule without a move takes, and divides by
 the moves. What else the machine does changes nothing, so a change of the code is seen that is too
 small for times.

@@ -13,7 +13,7 @@ from collections import defaultdict
 from concurrent.futures import ThreadPoolExecutor
 from pathlib import Path
 
-from mutant_checks import unproved_below, verdict_on
+from mutant_checks import Lab, unproved_below, verdict_on
 from mutant_edits import BadEdit, Edit
 from mutants import TRIES, Lanes, group_of, proved_in
 from rattle_functions import functions_of
@@ -188,6 +188,24 @@ def try_edits(tally):
                 tally.check(str(path.relative_to(TOP)), changes(path, files), True)
 
 
+def try_open_proofs(tally):
+    """All proofs but those of some functions, and of those that have one proof together, are left
+    open, and no other time."""
+    with tempfile.TemporaryDirectory() as folder:
+        lab = Lab("lk_workers", Path(folder))
+        proofs = {path: path.read_text() for path in sorted(lab.folder.rglob("proofs/**/*.antt"))}
+        place = Path(folder, "proofs", "many")
+        lab.leave_open({"lk_workers::many::draw_all"})
+        tally.check("left open", "place_all_spec = ?" in (place / "place_all" / "Proof.antt")
+                    .read_text(), True)
+        tally.check("no other proof", (place / "place_all" / "Answers.antt").exists(), False)
+        tally.check("to be proved", (place / "draw_all" / "Proof.antt").exists(), False)
+        tally.check("in a cycle", (place / "work_all").exists(), False)
+        lab.leave_open(set(functions_of(lab.crate, lab.files)))
+        tally.check("as before", {path: path.read_text() for path in
+                                  sorted(lab.folder.rglob("proofs/**/*.antt"))}, proofs)
+
+
 def main():
     tally = Tally()
     tally.check("names", set(functions_of("c", FILES)), NAMES)
@@ -201,6 +219,7 @@ def main():
     tally.check("lanes", order_of("lk_locks", "lk_trace_files", "lk_replay"),
                 ["lk_trace_files", "lk_replay", "lk_locks"])
     try_groups(tally)
+    try_open_proofs(tally)
     try_edits(tally)
     return tally.end()
 
