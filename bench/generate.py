@@ -10,6 +10,8 @@
     alone            one thread of a ticket lock enters and leaves
     mcs-alone, simple-alone, fifo-alone   the same on the other locks
     alone-of-64      one thread of a ticket lock for 64 threads enters and leaves
+    simple-crowd     64 readers of a simple read-write lock, one of which goes and comes back
+    fifo-crowd       the same on a FIFO read-write lock
     none             a header and no move: what it costs to start
 
 The same kind always gives the same text. Which step is due the machine of fuzz/machine.py says.
@@ -50,6 +52,17 @@ def come_and_go(machine, chance):
         yield thread, next_move(machine, thread)
 
 
+def crowd(machine, chance):
+    """All threads read, and one after another stops and begins again."""
+    for thread in range(machine.threads):
+        for _ in range(2):
+            yield thread, next_move(machine, thread)
+    while True:
+        thread = chance.randrange(machine.threads)
+        for _ in range(4):
+            yield thread, next_move(machine, thread)
+
+
 def spin(machine, chance):
     """Thread 0 holds, the second does what it can, and then polls and fails."""
     taking = machine.lock.taking[-1]  # of a read-write lock the writer's
@@ -78,6 +91,8 @@ KINDS = {
     "simple-alone": ("rw-simple", 1, alone),
     "fifo-alone": ("rw-fifo", 1, alone),
     "alone-of-64": ("ticket", 64, alone),
+    "simple-crowd": ("rw-simple", 64, crowd),
+    "fifo-crowd": ("rw-fifo", 64, crowd),
     "none": ("ticket", 1, None),
 }
 

@@ -51,11 +51,13 @@ static unsigned threads;
 static uint64_t words[1 + 2 * MOST_THREADS], mask;
 static struct thread all[MOST_THREADS];
 
-/* What the report shows: a queue's text as a window, the readers in order, a holder or writer.
- * Of 65,536 moves at most 32,768 join the queue, with 3 bytes each. */
+/* What the report shows: a queue's text as a window, the readers as bits and as text, a holder or
+ * writer. Of 65,536 moves at most 32,768 join the queue, with 3 bytes each. */
 static char queue[3 << 15];
 static size_t queue_front, queue_end;
 static uint64_t readers;
+static char reader_text[3 * MOST_THREADS];
+static size_t reader_size;
 static int holder = -1, writer = -1, announced = -1;
 static char state[512];
 static size_t state_size;
@@ -82,11 +84,7 @@ static void show_state(void) {
     else if (writer >= 0) { *at++ = 'w'; at = put_number(at, writer); }
     else if (readers) {
         *at++ = 'r';
-        for (uint64_t rest = readers; rest; rest &= rest - 1) {
-            at = put_number(at, __builtin_ctzll(rest));
-            *at++ = ',';
-        }
-        at--;
+        at = put(at, reader_text, reader_size - 1);
     } else *at++ = '-';
     at = put(at, " queue ", 7);
     if (queue_end > queue_front) at = put(at, queue + queue_front, queue_end - queue_front - 1);
@@ -100,6 +98,29 @@ static void join_queue(unsigned t) {
     memcpy(queue + queue_end, number[t], number_size[t]);
     queue_end += number_size[t];
     queue[queue_end++] = ',';
+}
+
+/* Where a reader's number is in their text: one below 10 has 2 bytes with its comma, others 3. */
+static char *reader_place(unsigned t) {
+    uint64_t below = readers & ((1ull << t) - 1);
+    return reader_text + 3 * __builtin_popcountll(below) - __builtin_popcountll(below & 1023);
+}
+
+static void add_reader(unsigned t) {
+    char *at = reader_place(t);
+    size_t size = number_size[t];
+    memmove(at + size + 1, at, reader_text + reader_size - at);
+    memcpy(at, number[t], size);
+    at[size] = ',';
+    reader_size += size + 1;
+    readers |= 1ull << t;
+}
+
+static void remove_reader(unsigned t) {
+    char *at = reader_place(t), *next = at + number_size[t] + 1;
+    memmove(at, next, reader_text + reader_size - next);
+    reader_size -= next - at;
+    readers &= ~(1ull << t);
 }
 
 static enum outcome enter_queue_lock(unsigned t) {
@@ -144,12 +165,12 @@ static enum outcome section(unsigned t) {
     case TRY_READ:
         if (*flag) return WAITS;
         words[0] = (words[0] + 1) & mask;
-        readers |= 1ull << t;
+        add_reader(t);
         return change(t, READING, ENTERED);
     case LEAVE_READ:
         if (kind == RW_FIFO) words[1] = (words[1] + 1) & mask;
         else words[0] = (words[0] - 1) & mask;
-        readers &= ~(1ull << t);
+        remove_reader(t);
         return change(t, IDLE, LEFT);
     case LEAVE_WRITE:
         *flag = 0;
@@ -159,7 +180,7 @@ static enum outcome section(unsigned t) {
         *flag = 0;
         writer = -1;
         words[0] = (words[0] + 1) & mask;
-        readers |= 1ull << t;
+        add_reader(t);
         return change(t, READING, ENTERED);
     default: return write_section(t);
     }
@@ -330,7 +351,7 @@ static void forget(void) {
     memset(words, 0, sizeof words);
     memset(all, 0, sizeof all);
     queue_front = queue_end = 0;
-    readers = 0;
+    readers = reader_size = 0;
     holder = writer = announced = -1;
 }
 
