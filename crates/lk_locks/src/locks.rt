@@ -76,6 +76,7 @@ fn kind_of(operation: Operation) -> StepKind
 }
 
 /// What a thread in this phase does next, if that is one operation on one word of so many bits.
+#[inline(always)]
 pub fn operation_of(kind: LockKind, bits: u8, thread: u8, phase: Phase) -> Option<Operation>
     requires least { 2 ≤ bits }
     requires most { bits ≤ 64 }
