@@ -28,7 +28,7 @@ import tempfile
 import time
 
 import generate
-from measuring import Measure, Run, build, median_elapsed
+from measuring import Measure, Run, build, by_hand, median_elapsed
 
 MOST_OF_ONE_WORKER, MOST_TO_HAND, MOST_TO_READING = 0.62, 1.1, 2.0
 TOLERANCE = 1.1
@@ -51,7 +51,7 @@ class Bench:
         if output:
             self.measure.output = pathlib.Path(output)
         self.readall = build("readall", folder)
-        self.by_hand = build("handwritten", folder)
+        self.by_hand = by_hand(folder)
 
     def batch(self, workers, files):
         return [self.program, "batch", "--workers", str(workers), *files]

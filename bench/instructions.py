@@ -13,7 +13,7 @@ import sys
 import tempfile
 
 import generate
-from measuring import build
+from measuring import by_hand
 
 MOVES = 4_000
 
@@ -28,7 +28,7 @@ def instructions(program, kind):
 
 def main(program, kinds):
     with tempfile.TemporaryDirectory() as folder:
-        programs = [pathlib.Path(program).resolve(), build("handwritten", folder)]
+        programs = [pathlib.Path(program).resolve(), by_hand(folder)]
         starts = [instructions(one, "none") for one in programs]
         print(f"{'kind':15}{'program':>10}{'by hand':>10}{'ratio':>8}")
         for kind in kinds or [kind for kind in generate.KINDS if kind != "none"]:

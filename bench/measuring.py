@@ -10,11 +10,16 @@ HERE = pathlib.Path(__file__).parent
 Run = collections.namedtuple("Run", "elapsed processor peak")
 
 
-def build(name, folder):
+def build(name, folder, *flags):
     """Compiles bench/NAME.c into the folder and answers the path of the program."""
     built = pathlib.Path(folder) / name
-    subprocess.run(["cc", "-O2", "-Wall", "-o", built, HERE / f"{name}.c"], check=True)
+    subprocess.run(["cc", "-O2", "-Wall", *flags, "-o", built, HERE / f"{name}.c"], check=True)
     return built
+
+
+def by_hand(folder):
+    """The replayer that was written by hand, for the processor that the program is for."""
+    return build("handwritten", folder, "-march=x86-64-v2")
 
 
 class Measure:

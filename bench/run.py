@@ -33,7 +33,7 @@ import sys
 import tempfile
 
 import generate
-from measuring import Measure, build, median_elapsed, median_processor, median_ratio, ratio_spread
+from measuring import Measure, by_hand, median_elapsed, median_processor, median_ratio, ratio_spread
 
 sys.path.append(str(pathlib.Path(__file__).parent.parent / "fuzz"))
 import oracle
@@ -48,7 +48,7 @@ ATTEMPTS = 5
 class Bench:
     def __init__(self, program, rounds, folder):
         self.program = program
-        self.by_hand = build("handwritten", folder)
+        self.by_hand = by_hand(folder)
         self.rounds = rounds
         self.measure = Measure(folder)
         self.folder = pathlib.Path(folder)
