@@ -68,8 +68,11 @@ impl Ending {
 pub fn worst(endings: &[Ending]) -> u8
     ensures { result ≡ greatest_status endings.now }
 {
-    let statuses = endings.iter().map(|ending| ending.status());
-    statuses.max().unwrap_or(0)
+    let mut status = 0;
+    for ending in endings {
+        status = ending.status().max(status);
+    }
+    status
 }
 
 /// What came of one input.
