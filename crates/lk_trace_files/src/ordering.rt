@@ -80,7 +80,7 @@ fn order_into<R: Files + Eprint, O: Write>(
 ) -> Result<Sought, Failure>
     ensures { IfOk result IsSought }
 {
-    let taken = match take_logs(rt, alloc, &job.logs, report)? {
+    let taken = match take_logs(rt, alloc, &job.logs, &mut report.messages)? {
         Ok(taken) => taken,
         Err(bad) => {
             report.facts = Facts::BadLog(bad);

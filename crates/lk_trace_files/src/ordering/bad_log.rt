@@ -4,22 +4,26 @@ ghost use Rattle.std.specs.Prelude.{◌≡◌};
 ghost use Rattle.lk_trace_files.specs.Searches.{ending_of_bad};
 
 use crate::check::Ending;
-use lk_order::LogFault;
+use lk_order::{LogFault, Unfit};
+use thiserror::Error;
 
 /// What is wrong with a log, or with the logs together.
-#[derive(Clone, Copy, PartialEq, Eq, Debug)]
+#[derive(Clone, Copy, PartialEq, Eq, Debug, Error)]
 pub enum BadLog {
-    /// It could not be opened or read.
+    /// It could not be opened or read. The input's own error is what is said of it.
+    #[error("it cannot be read")]
     Unread,
-    /// It is no log.
+    #[error("{0}")]
     Fault(LogFault),
     /// It is of another lock than the first one.
+    #[error("{}", Unfit::OtherLock)]
     OtherLock,
     /// This thread's log is of another run than the first one.
+    #[error("of another run than the first log's")]
     OtherRun(u8),
-    /// This thread has two logs.
+    #[error("a second log of thread {0}")]
     SecondLog(u8),
-    /// This thread has no log.
+    #[error("no log of thread {0}")]
     Missing(u8),
 }
 

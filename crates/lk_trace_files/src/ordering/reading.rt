@@ -1,18 +1,15 @@
 //! The logs of a run, read from their files.
 
 use super::bad_log::BadLog;
-use super::report::OrderReport;
 use crate::course::said_of;
 use crate::lines::{Line, Lines};
+use crate::notes::Notes;
 use lk_order::{Log, LogFault, LogReader, MOST_THREADS, Shelf, Unfit};
 use std::alloc::{AllocError, Global};
 use std::io::{Error, ErrorKind};
 use std::rt::Files;
 use std::{fs, str};
 use thiserror::Error;
-
-// What is said of a log whose run has another number.
-const OTHER_RUN: &str = "of another run than the first log's";
 
 /// The logs of a run, with the names of their files, and which threads have not ended, each by
 /// thread.
@@ -82,61 +79,55 @@ struct Run<'a> {
 }
 
 impl<'a> Run<'a> {
-    // Takes a log. If it is none of the run, that is said.
-    fn put(
-        &mut self,
-        read: LogRead,
-        name: &'a str,
-        report: &mut OrderReport,
-    ) -> Result<Option<BadLog>, AllocError> {
+    // Takes a log, if it is one of the run.
+    fn put(&mut self, read: LogRead, name: &'a str) -> Result<(), BadLog> {
         let LogRead { log, run, is_open } = read;
         let thread = log.thread();
         let place = thread as usize;
-        match self.shelf.put(log) {
-            Ok(()) => {}
-            Err(Unfit::SecondLog) => {
-                let other = self.names.get(place).copied().unwrap_or("");
-                let said = format_args!("a second log of thread {thread}, beside {other}");
-                report.messages.put_in(name, 0, said)?;
-                return Ok(Some(BadLog::SecondLog(thread)));
-            }
-            Err(unfit) => {
-                report.messages.put_in(name, 0, unfit)?;
-                return Ok(Some(BadLog::OtherLock));
-            }
-        }
+        self.shelf.put(log).map_err(|unfit| match unfit {
+            Unfit::OtherLock => BadLog::OtherLock,
+            Unfit::SecondLog => BadLog::SecondLog(thread),
+        })?;
         if place < MOST_THREADS {
             self.names[place] = name;
             self.open[place] = is_open;
         }
         self.number = self.number.or(run);
         if run.is_some() && self.number != run {
-            report.messages.put_in(name, 0, OTHER_RUN)?;
-            return Ok(Some(BadLog::OtherRun(thread)));
+            return Err(BadLog::OtherRun(thread));
         }
-        Ok(None)
+        Ok(())
     }
 
-    // Reads a log of this name and takes it. The answer is what is wrong with it.
+    // Reads a log of this name and takes it. What is wrong with it is said, and is the answer.
     fn read<R: Files>(
         &mut self,
         rt: &R,
         alloc: Global,
         name: &'a str,
-        report: &mut OrderReport,
+        messages: &mut Notes,
     ) -> Result<Option<BadLog>, AllocError> {
-        match read_log(rt, alloc, name) {
-            Ok(read) => self.put(read, name, report),
-            Err(Unread::Memory(_) | Unread::Fault(_, LogFault::OutOfMemory)) => Err(AllocError),
-            Err(Unread::Fault(number, fault)) => {
-                report.messages.put_in(name, number, fault)?;
-                Ok(Some(BadLog::Fault(fault)))
+        let (number, bad) = match read_log(rt, alloc, name) {
+            Ok(read) => match self.put(read, name) {
+                Ok(()) => return Ok(None),
+                Err(bad) => (0, bad),
+            },
+            Err(Unread::Memory(_) | Unread::Fault(_, LogFault::OutOfMemory)) => {
+                return Err(AllocError);
             }
+            Err(Unread::Fault(number, fault)) => (number, BadLog::Fault(fault)),
             Err(Unread::Input(error)) => {
-                report.messages.put_in(name, 0, error)?;
-                Ok(Some(BadLog::Unread))
+                messages.put_in(name, 0, error)?;
+                return Ok(Some(BadLog::Unread));
             }
+        };
+        if let BadLog::SecondLog(thread) = bad {
+            let other = self.names.get(thread as usize).copied().unwrap_or("");
+            messages.put_in(name, 0, format_args!("{bad}, beside {other}"))?;
+        } else {
+            messages.put_in(name, number, bad)?;
         }
+        Ok(Some(bad))
     }
 }
 
@@ -146,7 +137,7 @@ pub fn take_logs<'a, R: Files>(
     rt: &R,
     alloc: Global,
     names: &'a [String],
-    report: &mut OrderReport,
+    messages: &mut Notes,
 ) -> Result<Result<Taken<'a>, BadLog>, AllocError> {
     let mut run = Run {
         shelf: Shelf::new(alloc)?,
@@ -156,7 +147,7 @@ pub fn take_logs<'a, R: Files>(
     };
     let mut worst: Option<BadLog> = None;
     for name in names {
-        if let Some(bad) = run.read(rt, alloc, name.as_str(), report)? {
+        if let Some(bad) = run.read(rt, alloc, name.as_str(), messages)? {
             let status = bad.ending().status();
             if worst.is_none_or(|worst| worst.ending().status() < status) {
                 worst = Some(bad);
@@ -167,9 +158,9 @@ pub fn take_logs<'a, R: Files>(
         return Ok(Err(bad));
     }
     if let Some(thread) = run.shelf.missing() {
-        let said = format_args!("no log of thread {thread}");
-        report.messages.put(0, said)?;
-        return Ok(Err(BadLog::Missing(thread)));
+        let bad = BadLog::Missing(thread);
+        messages.put(0, bad)?;
+        return Ok(Err(bad));
     }
     let (names, open) = (run.names, run.open);
     let logs = run.shelf.logs(alloc)?;
