@@ -183,7 +183,7 @@ def cut_output(what, words, stdin, report):
     """Where standard output takes no more than a beginning."""
     for size in (1, 1_000, 65_536, 65_537, len(report) - 1):
         full_file(what, words, stdin, report, size)
-    reader_leaves(what, words, stdin, report)
+    reader_leaves(what, words, stdin, report, 1_000)
 
 
 def full_file(what, words, stdin, report, size):
@@ -199,28 +199,8 @@ def full_file(what, words, stdin, report, size):
               output=(short.read(), report[:size]), error=(error, OUTPUT), status=(status, 3))
 
 
-def reader_leaves(what, words, stdin, report):
-    """Where the reader of standard output takes 1,000 bytes and leaves."""
-    reader, writer = os.pipe()
-    taken = []
-
-    def leave():
-        taken.append(os.read(reader, 1_000))
-        os.close(reader)
-
-    leaver = threading.Thread(target=leave)
-    leaver.start()
-    _, error, status = run(words, stdin=stdin, stdout=writer)
-    os.close(writer)
-    leaver.join()
-    check(f"{what}: a reader that leaves", output=(taken[0], report[:len(taken[0])]),
-          error=(error, OUTPUT), status=(status, 3))
-
-
-def reader_leaves_early():
-    """A reader of the pipe that takes the first 65,536 bytes of a report of 14 MB, and leaves."""
-    case("a report of 14 MB", ["replay"], 0, CROWDED_REPORT, stdin=CROWDED)
-    size = 65_536
+def reader_leaves(what, words, stdin, report, size):
+    """Where the reader of standard output takes so many bytes and leaves."""
     reader, writer = os.pipe()
     taken = bytearray()
 
@@ -231,11 +211,11 @@ def reader_leaves_early():
 
     leaver = threading.Thread(target=leave)
     leaver.start()
-    _, error, status = run(["replay"], stdin=CROWDED, stdout=writer)
+    _, error, status = run(words, stdin=stdin, stdout=writer)
     os.close(writer)
     leaver.join()
-    check("a reader that leaves after 65,536 bytes of 14 MB",
-          output=(bytes(taken), CROWDED_REPORT[:size]), error=(error, OUTPUT), status=(status, 3))
+    check(f"{what}: a reader that leaves after {size} bytes", output=(bytes(taken), report[:size]),
+          error=(error, OUTPUT), status=(status, 3))
 
 
 def command_line():
@@ -370,7 +350,8 @@ def main():
         standard_output(["batch", "--workers", "2", "spinning", "empty"], b"",
                         batch_text([SPINNING_REPORT, EMPTY_REPORT]))
         standard_output(["--help"], b"", b"")
-        reader_leaves_early()
+        case("a report of 14 MB", ["replay"], 0, CROWDED_REPORT, stdin=CROWDED)
+        reader_leaves("a report of 14 MB", ["replay"], CROWDED, CROWDED_REPORT, 65_536)
         command_line()
         batches()
         files()

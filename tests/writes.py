@@ -21,6 +21,7 @@ import tempfile
 import threading
 
 from process import CROWDED, CROWDED_REPORT, OUTPUT
+from tally import Tally
 
 WAITING = 65_536  # bytes
 MOST = 1 << 20    # bytes of one message
@@ -64,22 +65,19 @@ def written(program, folder, names):
     return writes, ended.stderr, ended.returncode
 
 
-def is_tried(program, name, texts, most_writes):
-    """Whether a batch of these schedules comes out whole, in at most so many writes."""
+def try_batch(tally, program, name, texts, most_writes):
+    """A batch of these schedules comes out whole, in at most so many writes."""
     with tempfile.TemporaryDirectory() as folder:
         for k, (text, _) in enumerate(texts):
             pathlib.Path(folder, f"text{k}").write_bytes(text)
         writes, error, status = written(program, folder, [f"text{k}" for k in range(len(texts))])
     due = b"".join(b"file %d\n" % k + report for k, (_, report) in enumerate(texts, 1))
-    is_well = (b"".join(writes), error, status) == (due, b"", 0) and len(writes) <= most_writes
-    if not is_well:
-        print(f"FAILED {name}: status {status}, {error!r}, {len(writes)} writes of "
-              f"{sum(map(len, writes))} bytes, wanted {len(due)}")
-    return is_well
+    tally.check(name, (b"".join(writes), error, status), (due, b"", 0))
+    tally.check(f"{name}: {len(writes)} writes", len(writes) <= most_writes, True)
 
 
-def is_cut(program, size):
-    """Whether a file with room for so many bytes gets the beginning of the report of 14 MB."""
+def try_cut(tally, program, size):
+    """A file with room for so many bytes gets the beginning of the report of 14 MB."""
     def before():
         signal.signal(signal.SIGXFSZ, signal.SIG_IGN)
         resource.setrlimit(resource.RLIMIT_FSIZE, (size, size))
@@ -89,10 +87,7 @@ def is_cut(program, size):
                                stderr=subprocess.PIPE, timeout=PATIENCE, preexec_fn=before)
         short.seek(0)
         found = short.read(), ended.stderr, ended.returncode
-    is_well = found == (CROWDED_REPORT[:size], OUTPUT, 3)
-    if not is_well:
-        print(f"FAILED a file with room for {size} bytes: {len(found[0])} bytes, {found[1:]}")
-    return is_well
+    tally.check(f"a file with room for {size} bytes", found, (CROWDED_REPORT[:size], OUTPUT, 3))
 
 
 def sizes_of_cuts():
@@ -103,17 +98,15 @@ def sizes_of_cuts():
 
 def main(program):
     around = [of_length(length) for length in (65_510, WAITING, WAITING + 1, 200_000, 65_520)]
-    tried = [
-        is_tried(program, "reports around what waits",
-                 [NO_MOVES, *around[:2], NO_MOVES, *around[2:4], NO_MOVES, around[4], NO_MOVES],
-                 12),
-        # 13 to 16 bytes each, 31,000 in all
-        is_tried(program, "2,000 short reports", [NO_MOVES] * 2_000, 1),
-        is_tried(program, "300 reports of 1,000 bytes", [of_length(1_000)] * 300, 5),
-    ]
-    tried += [is_cut(program, size) for size in sizes_of_cuts()]
-    print(f"{tried.count(True)} passed, {tried.count(False)} failed")
-    return 1 if False in tried else 0
+    tally = Tally()
+    try_batch(tally, program, "reports around what waits",
+              [NO_MOVES, *around[:2], NO_MOVES, *around[2:4], NO_MOVES, around[4], NO_MOVES], 12)
+    # 13 to 16 bytes each, 31,000 in all
+    try_batch(tally, program, "2,000 short reports", [NO_MOVES] * 2_000, 1)
+    try_batch(tally, program, "300 reports of 1,000 bytes", [of_length(1_000)] * 300, 5)
+    for size in sizes_of_cuts():
+        try_cut(tally, program, size)
+    return tally.end()
 
 
 if __name__ == "__main__":
