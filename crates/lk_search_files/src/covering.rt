@@ -7,7 +7,7 @@ use crate::listing::{Format, put_coverage, put_missing};
 use lk_locks::LockKind;
 use lk_search::{Coverage, LOCKS, Observed};
 use lk_trace::{Event, Made, TextFault, TraceLine, TraceReader};
-use lk_trace_files::{Line, Lines, Status, Summary};
+use lk_trace_files::{Status, Summary, take_lines};
 use std::alloc::{AllocError, Global};
 use std::fmt::Write;
 use std::fs;
@@ -123,27 +123,20 @@ fn take_trace<R: Read + Drop>(
     coverages: &mut [Coverage],
     errors: &mut String,
 ) -> Result<Status, AllocError> {
-    let mut lines = Lines::new(alloc, input)?;
-    let (mut line, mut trace, mut summary) = (Line::new(), TraceReader::new(), Summary::default());
-    let mut ended = None;
-    for number in 1..u64::MAX {
-        ended = match lines.next_line(&mut line) {
-            Ok(true) => {
-                let read = (name, number, line.bytes());
-                take_line(coverages, &mut summary, &mut trace, read, errors)?
-            }
-            Ok(false) => Some(end_of(&trace, name, number, errors)?),
-            Err(error) => {
-                writeln!(errors, "{name}: {error}")?;
-                Some(Status::Failed)
-            }
-        };
-        if ended.is_some() {
-            break;
+    let (mut trace, mut summary) = (TraceReader::new(), Summary::default());
+    let (number, ended) = take_lines(alloc, input, |number, line| {
+        let read = (name, number, line.bytes());
+        take_line(coverages, &mut summary, &mut trace, read, errors)
+    })?;
+    note_end(coverages, &summary, &trace);
+    match ended {
+        Ok(None) => end_of(&trace, name, number, errors),
+        Ok(Some(status)) => Ok(status),
+        Err(error) => {
+            writeln!(errors, "{name}: {error}")?;
+            Ok(Status::Failed)
         }
     }
-    note_end(coverages, &summary, &trace);
-    Ok(ended.unwrap_or(Status::Failed))
 }
 
 // Reads the trace in a file.

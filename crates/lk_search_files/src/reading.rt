@@ -5,7 +5,7 @@ use crate::faults::put_fault;
 use crate::sketches::{Sketch, SketchFault};
 use lk_replay::parts::Header;
 use lk_trace::TextFault;
-use lk_trace_files::{Line, Lines, Status};
+use lk_trace_files::{Status, take_lines};
 use std::alloc::{AllocError, Global};
 use std::fmt::Write;
 use std::fs;
@@ -39,25 +39,23 @@ fn read_input<R: Read + Drop>(
     name: &str,
     errors: &mut String,
 ) -> Result<Taken, AllocError> {
-    let mut lines = Lines::new(alloc, input)?;
-    let mut line = Line::new();
     let mut sketch = Sketch::new(alloc);
-    for number in 1..u64::MAX {
-        match lines.next_line(&mut line) {
-            Ok(true) => {}
-            Ok(false) => return whole(sketch, name, number, errors),
-            Err(error) => {
-                writeln!(errors, "{name}: {error}")?;
-                return Ok(Err(Status::Failed));
-            }
-        }
-        if let Some(fault) = sketch.line(alloc, line.bytes())? {
-            write!(errors, "{name}:{number}: ")?;
-            put_fault(errors, alloc, line.bytes(), fault)?;
-            return Ok(Err(Status::Faulty));
+    let (number, ended) = take_lines(alloc, input, |number, line| -> Result<_, AllocError> {
+        let Some(fault) = sketch.line(alloc, line.bytes())? else {
+            return Ok(None);
+        };
+        write!(errors, "{name}:{number}: ")?;
+        put_fault(errors, alloc, line.bytes(), fault)?;
+        Ok(Some(Status::Faulty))
+    })?;
+    match ended {
+        Ok(None) => whole(sketch, name, number, errors),
+        Ok(Some(status)) => Ok(Err(status)),
+        Err(error) => {
+            writeln!(errors, "{name}: {error}")?;
+            Ok(Err(Status::Failed))
         }
     }
-    Ok(Err(Status::Failed))
 }
 
 /// Reads the sketch whose lines are words of a command.

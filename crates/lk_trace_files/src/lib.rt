@@ -31,7 +31,7 @@ pub use checking::{CheckJob, check_files, check_side_by_side};
 pub use explain::{Asked, explain_input, put_wrong, wrong_in_header};
 pub use failures::Failure;
 pub use formats::Format;
-pub use lines::{Line, Lines};
+pub use lines::{Line, Lines, take_lines};
 pub use lk_replay::parts::Status;
 pub use ordering::{BadLog, OrderJob, Search, Sought, order_logs, search_logs};
 pub use scheduling::{Unscheduled, write_schedule};

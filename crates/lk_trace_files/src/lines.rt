@@ -166,3 +166,35 @@ impl<R: Read + Drop> Lines<R> {
         Err(Error::from(ErrorKind::FileTooLarge))
     }
 }
+
+/// Gives each line of an input to `take`, with its number from 1, up to the first at which `take`
+/// has a reason to stop. That number and reason are the answer. At the end of the input there is no
+/// reason, and the number is one more than the input has lines.
+///
+/// # Errors
+///
+/// Those of `take`, or a request for memory was refused. An input that fails is answered.
+pub fn take_lines<R: Read + Drop, S: Drop, E: From<AllocError> + Drop, F>(
+    alloc: Global,
+    input: R,
+    mut take: F,
+) -> Result<(u64, Result<Option<S>, Error>), E>
+where
+    F: FnMut(u64, &Line) -> Result<Option<S>, E>,
+    requires { F.IsAlwaysCallable take }
+    ensures { IfOk result (λ ended. 0 < ended.0) }
+{
+    let mut lines = Lines::new(alloc, input)?;
+    let mut line = Line::new();
+    for number in 1..u64::MAX {
+        let stopped = match lines.next_line(&mut line) {
+            Ok(true) => take(number, &line)?.map(|stop| Ok(Some(stop))),
+            Ok(false) => Some(Ok(None)),
+            Err(error) => Some(Err(error)),
+        };
+        if let Some(stopped) = stopped {
+            return Ok((number, stopped));
+        }
+    }
+    Ok((u64::MAX, Err(Error::from(ErrorKind::FileTooLarge))))
+}

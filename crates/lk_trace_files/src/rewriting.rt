@@ -1,9 +1,9 @@
 //! A text that is made of a trace, line by line, in memory that does not grow with it.
 
 use crate::failures::Failure;
-use crate::lines::{Line, Lines};
+use crate::lines::take_lines;
 use std::alloc::{AllocError, Global};
-use std::io::{Error, ErrorKind, Read, Write};
+use std::io::{Error, Read, Write};
 
 /// Bytes that wait before they are written.
 pub const MOST_WAITING: usize = 65_536;
@@ -30,24 +30,15 @@ pub fn rewrite<R: Read + Drop, W: Rewriter, O: Write>(
     rewriter: &mut W,
     output: &mut O,
 ) -> Result<(u64, Result<Option<W::Stop>, Error>), Failure> {
-    let mut lines = Lines::new(alloc, input)?;
-    let mut line = Line::new();
     let mut text = String::new(alloc);
-    for number in 1..u64::MAX {
-        let stopped = match lines.next_line(&mut line) {
-            Ok(true) => rewriter
-                .line(number, line.bytes(), &mut text)?
-                .map(|stop| Ok(Some(stop))),
-            Ok(false) => Some(Ok(None)),
-            Err(error) => Some(Err(error)),
-        };
-        if text.len() > MOST_WAITING || stopped.is_some() {
+    let ended = take_lines(alloc, input, |number, line| -> Result<_, Failure> {
+        let stopped = rewriter.line(number, line.bytes(), &mut text)?;
+        if text.len() > MOST_WAITING {
             output.write_all(text.as_bytes())?;
             text.clear();
         }
-        if let Some(stopped) = stopped {
-            return Ok((number, stopped));
-        }
-    }
-    Ok((u64::MAX, Err(Error::from(ErrorKind::FileTooLarge))))
+        Ok(stopped)
+    })?;
+    output.write_all(text.as_bytes())?;
+    Ok(ended)
 }

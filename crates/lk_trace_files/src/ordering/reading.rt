@@ -2,11 +2,11 @@
 
 use super::bad_log::BadLog;
 use crate::course::said_of;
-use crate::lines::{Line, Lines};
+use crate::lines::take_lines;
 use crate::notes::Notes;
 use lk_order::{Log, LogFault, LogReader, MOST_THREADS, Shelf, Unfit};
 use std::alloc::{AllocError, Global};
-use std::io::{Error, ErrorKind};
+use std::io::Error;
 use std::rt::Files;
 use std::{fs, str};
 use thiserror::Error;
@@ -48,24 +48,23 @@ fn run_of(line: &[u8]) -> Option<u64> {
 
 // Reads the log in the file of this name.
 fn read_log<R: Files>(rt: &R, alloc: Global, name: &str) -> Result<LogRead, Unread> {
-    let mut lines = Lines::new(alloc, fs::open(rt, name)?)?;
-    let mut line = Line::new();
     let mut reader = LogReader::new(alloc);
     let (mut run, mut last) = (None, None);
-    for number in 1..u64::MAX {
-        if !lines.next_line(&mut line)? {
-            let log = reader.log().map_err(|fault| Unread::Fault(number, fault))?;
-            let is_open = last == Some((log.thread(), false)) && log.dropped().is_none();
-            return Ok(LogRead { log, run, is_open });
-        }
-        let read = reader.line(line.bytes(), line.is_whole());
-        read.map_err(|fault| Unread::Fault(number, fault))?;
+    let input = fs::open(rt, name)?;
+    let (number, ended) = take_lines(alloc, input, |number, line| -> Result<_, AllocError> {
         if number == 1 {
             run = run_of(line.bytes());
         }
         last = said_of(line.bytes());
-    }
-    Err(Unread::Input(Error::from(ErrorKind::FileTooLarge)))
+        Ok(reader.line(line.bytes(), line.is_whole()).err())
+    })?;
+    let log = match ended? {
+        Some(fault) => Err(fault),
+        None => reader.log(),
+    };
+    let log = log.map_err(|fault| Unread::Fault(number, fault))?;
+    let is_open = last == Some((log.thread(), false)) && log.dropped().is_none();
+    Ok(LogRead { log, run, is_open })
 }
 
 // The logs that were taken, the names of their files by thread, and who has not ended.
