@@ -1,6 +1,9 @@
--- Lists of readers stay in ascending order if one joins or leaves.
-use Rattle.std.proofs.Common.{arith, eqb, false, inl, inr, List, nat_lt, [], ◌<◌, ◌∷◌, ◌≡◌, ℕ}
+-- Lists of readers stay in ascending order if one joins or leaves, and where that is.
+use Rattle.std.proofs.Common.{ap, arith, eqb, false, inl, inr, insert, leb, length, List, ltb, nat_lt}
+use Rattle.std.proofs.Common.{refl, remove, slice_index_or, true, zero, suc, [], ◌<◌, ◌≤◌, ◌∷◌, ◌≡◌, ℕ}
 use Rattle.std.specs.List.{AllByRecursion}
+use Rattle.std.specs.List.Sorted.{IsNonDecreasingBy, IsPartitionPoint}
+use Rattle.std.proofs.lemmas.Bool.{eqb-true, le-ltb, leb-false, leb-true, lt-ltb, ltb-false}
 use Rattle.std.proofs.lemmas.Bool.{ltb-true}
 use Rattle.std.proofs.lemmas.Bool.Decides.{nat_tests}
 use Rattle.lk_locks.specs.Sequential.{has, IsAscending, joined, left_by}
@@ -55,3 +58,70 @@ ascending_left (first ∷ ts) t (above, ascending) = elim (true_or_false (eqb t 
   | inl leaves ↦ rw leaves ascending
   | inr stays ↦ rw stays (all_left (λ u. first < u) ts t above, ascending_left ts t ascending)
 ]
+
+-- the first of an ascending list is below each one after it
+pub below_member : (ts : List ℕ) (t u : ℕ) → AllByRecursion (λ v. t < v) ts → has ts u ≡ true
+    → t < u
+below_member [] t u all member = absurd (cc)
+below_member (v ∷ ts) t u (here, rest) member = elim (true_or_false (eqb u v)) [
+  | inl same ↦ omega (arith, eqb-true u v same, here)
+  | inr differ ↦ below_member ts t u rest (let found : has (v ∷ ts) u ≡ true = member in
+      rw differ at found)
+]
+
+below_at : (ts : List ℕ) (t i d : ℕ) → AllByRecursion (λ v. t < v) ts → i < length ts
+    → t < slice_index_or ts i d
+below_at [] t i d all within = absurd (omega (arith, within))
+below_at (v ∷ ts) t zero d (here, rest) within = here
+below_at (v ∷ ts) t (suc i) d (here, rest) within = below_at ts t i d rest (omega (arith, within))
+
+pub never_falls : (ts : List ℕ) → IsAscending ts → IsNonDecreasingBy (λ t. t) ts
+never_falls [] ascending i j d le within = absurd (omega (arith, within))
+never_falls (t ∷ ts) (above, ascending) zero zero d le within = omega arith
+never_falls (t ∷ ts) (above, ascending) zero (suc j) d le within =
+    omega (arith, below_at ts t j d above (omega (arith, within)))
+never_falls (t ∷ ts) (above, ascending) (suc i) zero d le within = absurd (omega (arith, le))
+never_falls (t ∷ ts) (above, ascending) (suc i) (suc j) d le within =
+    never_falls ts ascending i j d (omega (arith, le)) (omega (arith, within))
+
+-- the place after those up to a thread is where it joins
+pub placed : (ts : List ℕ) (t i : ℕ) → i ≤ length ts
+    → IsPartitionPoint (λ u. leb u t ≡ true) (λ u. leb u t ≡ false) ts i
+    → insert ts i t ≡ joined ts t
+placed [] t zero within point = refl
+placed [] t (suc i) within point = absurd (omega (arith, within))
+placed (u ∷ ts) t zero within point =
+    rw (lt-ltb t u (leb-false u t (point.1 0 0 (omega arith) (omega arith)))) refl
+placed (u ∷ ts) t (suc i) within point =
+    rw (le-ltb t u (leb-true u t (point.0 0 0 (omega arith) (omega arith))))
+    (ap (λ us. u ∷ us) (placed ts t i (omega (arith, within)) (
+      λ k d low high. point.0 (suc k) d (omega arith) (omega (arith, high)),
+      λ k d low high. point.1 (suc k) d (omega (arith, low)) (omega (arith, high)),
+    )))
+
+-- the place after those below a thread is its own
+pub found : (ts : List ℕ) (t i : ℕ) → IsAscending ts → has ts t ≡ true → i ≤ length ts
+    → IsPartitionPoint (λ u. ltb u t ≡ true) (λ u. ltb u t ≡ false) ts i
+    → (i < length ts) × (remove ts i ≡ left_by ts t)
+found [] t i ascending member within point = absurd (cc)
+found (u ∷ ts) t zero (above, ascending) member within point = elim (true_or_false (eqb t u)) [
+  | inl same ↦ (omega arith, rw same refl)
+  | inr differ ↦
+      let here : has (u ∷ ts) t ≡ true = member in
+      absurd (omega (
+        arith,
+        ltb-false u t (point.1 0 0 (omega arith) (omega arith)),
+        below_member ts u t above (rw differ at here),
+      ))
+]
+found (u ∷ ts) t (suc i) (above, ascending) member within point =
+    let low : u < t = ltb-true u t (point.0 0 0 (omega arith) (omega arith)) in
+    elim (true_or_false (eqb t u)) [
+      | inl same ↦ absurd (omega (arith, low, eqb-true t u same))
+      | inr differ ↦
+          let here : has (u ∷ ts) t ≡ true = member in
+          let rest = found ts t i ascending (rw differ at here) (omega (arith, within)) (
+            λ k d low high. point.0 (suc k) d (omega arith) (omega (arith, high)),
+            λ k d low high. point.1 (suc k) d (omega (arith, low)) (omega (arith, high)),
+          ) in (omega (arith, rest.0), rw differ (ap (λ us. u ∷ us) rest.1))
+    ]
