@@ -5,9 +5,10 @@ mod faulty;
 
 use crate::check::Ending;
 use crate::failures::Failure;
-use crate::rewriting::{Rewriter, rewrite};
+use crate::lines::take_lines;
 use crate::sentences::sentence;
 use crate::texts::{Called, Lock, Standing, Wrong};
+use crate::written::write_waiting;
 use faulty::put_fault;
 pub use faulty::{put_wrong, wrong_in_header};
 use lk_locks::{Machine, Move};
@@ -102,9 +103,8 @@ struct Explainer<'a> {
     trace: TraceReader,
 }
 
-impl Rewriter for Explainer<'_> {
-    type Stop = Ending;
-
+impl Explainer<'_> {
+    // Describes the move of a line, or says why the trace ends there.
     fn line(
         &mut self,
         number: u64,
@@ -160,8 +160,12 @@ pub fn explain_input<R: Read + Drop, O: Write>(
         asked,
         trace: TraceReader::new(),
     };
-    let (number, stopped) = rewrite(alloc, input, &mut explainer, output)?;
     let mut text = String::new(alloc);
+    let (number, stopped) = take_lines(alloc, input, |number, line| -> Result<_, Failure> {
+        let stopped = explainer.line(number, line.bytes(), &mut text)?;
+        write_waiting(&mut text, output)?;
+        Ok(stopped)
+    })?;
     let ending = match stopped {
         Ok(None) if explainer.trace.checker().is_some() => Ending::Accepted,
         Ok(None) => {

@@ -18,13 +18,13 @@ mod formats;
 mod lines;
 mod notes;
 mod ordering;
-mod rewriting;
 mod scheduling;
 mod sentences;
 mod summary;
 mod texts;
 mod trail;
 mod waiting;
+mod written;
 
 pub use check::{Ending, NoWatcher, Report, Watcher, check_input, unread, worst};
 pub use checking::{CheckJob, check_files, check_side_by_side};

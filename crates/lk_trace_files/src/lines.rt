@@ -187,13 +187,12 @@ where
     let mut lines = Lines::new(alloc, input)?;
     let mut line = Line::new();
     for number in 1..u64::MAX {
-        let stopped = match lines.next_line(&mut line) {
-            Ok(true) => take(number, &line)?.map(|stop| Ok(Some(stop))),
-            Ok(false) => Some(Ok(None)),
-            Err(error) => Some(Err(error)),
-        };
-        if let Some(stopped) = stopped {
-            return Ok((number, stopped));
+        match lines.next_line(&mut line) {
+            Ok(true) => {}
+            ended => return Ok((number, ended.map(|_| None))),
+        }
+        if let Some(stop) = take(number, &line)? {
+            return Ok((number, Ok(Some(stop))));
         }
     }
     Ok((u64::MAX, Err(Error::from(ErrorKind::FileTooLarge))))

@@ -3,7 +3,8 @@
 
 use crate::check::Ending;
 use crate::failures::Failure;
-use crate::rewriting::{Rewriter, rewrite};
+use crate::lines::take_lines;
+use crate::written::write_waiting;
 use lk_replay::parts::{is_skipped, move_text};
 use lk_trace::{TextFault, read_header, read_line};
 use std::alloc::{AllocError, Global};
@@ -31,43 +32,32 @@ impl Unscheduled {
     }
 }
 
-// Makes the lines of a schedule.
-#[derive(Drop)]
-struct Shortener {
-    // whether the header was read
-    begun: bool,
-}
-
-impl Rewriter for Shortener {
-    type Stop = TextFault;
-
-    fn line(
-        &mut self,
-        _number: u64,
-        line: &[u8],
-        text: &mut String,
-    ) -> Result<Option<TextFault>, AllocError> {
-        if is_skipped(line) {
-            text.push('\n')?;
-            return Ok(None);
+// Writes the line of a schedule that a trace's line is. `begun` says whether the header was read.
+fn put_line(
+    text: &mut String,
+    begun: &mut bool,
+    line: &[u8],
+) -> Result<Option<TextFault>, AllocError> {
+    if is_skipped(line) {
+        text.push('\n')?;
+        return Ok(None);
+    }
+    if !*begun {
+        if let Err(fault) = read_header(line) {
+            return Ok(Some(fault));
         }
-        if !self.begun {
-            if let Err(fault) = read_header(line) {
-                return Ok(Some(fault));
-            }
-            self.begun = true;
-            let header = str::from_utf8(line).unwrap_or("");
-            writeln!(text, "{header}")?;
-            return Ok(None);
+        *begun = true;
+        let header = str::from_utf8(line).unwrap_or("");
+        writeln!(text, "{header}")?;
+        return Ok(None);
+    }
+    match read_line(line) {
+        Some(read) => {
+            let (thread, word) = (read.thread, move_text(read.action));
+            writeln!(text, "{thread} {word}")?;
+            Ok(None)
         }
-        match read_line(line) {
-            Some(read) => {
-                let (thread, word) = (read.thread, move_text(read.action));
-                writeln!(text, "{thread} {word}")?;
-                Ok(None)
-            }
-            None => Ok(Some(TextFault::BadLine)),
-        }
+        None => Ok(Some(TextFault::BadLine)),
     }
 }
 
@@ -82,11 +72,16 @@ pub fn write_schedule<R: Read + Drop, O: Write>(
     input: R,
     output: &mut O,
 ) -> Result<Result<(), Unscheduled>, Failure> {
-    let mut shortener = Shortener { begun: false };
-    let (number, stopped) = rewrite(alloc, input, &mut shortener, output)?;
+    let (mut text, mut begun) = (String::new(alloc), false);
+    let (number, stopped) = take_lines(alloc, input, |_, line| -> Result<_, Failure> {
+        let stopped = put_line(&mut text, &mut begun, line.bytes())?;
+        write_waiting(&mut text, output)?;
+        Ok(stopped)
+    })?;
+    output.write_all(text.as_bytes())?;
     output.flush()?;
     Ok(match stopped {
-        Ok(None) if shortener.begun => Ok(()),
+        Ok(None) if begun => Ok(()),
         Ok(None) => Err(Unscheduled::Faulty(number, TextFault::NoHeader)),
         Ok(Some(fault)) => Err(Unscheduled::Faulty(number, fault)),
         Err(error) => Err(Unscheduled::Unread(error)),

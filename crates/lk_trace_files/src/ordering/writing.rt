@@ -3,8 +3,8 @@
 
 use crate::course::{Course, Fate};
 use crate::failures::Failure;
-use crate::rewriting::MOST_WAITING;
 use crate::texts::Shown;
+use crate::written::write_waiting;
 use lk_order::{Order, Piece, Pieces};
 use lk_replay::parts::{lock_text, move_text};
 use std::alloc::{AllocError, Global};
@@ -50,10 +50,7 @@ pub fn write_trace<O: Write>(
             let line = Shown(&line);
             writeln!(text, "{line}")?;
         }
-        if text.len() > MOST_WAITING {
-            output.write_all(text.as_bytes())?;
-            text.clear();
-        }
+        write_waiting(&mut text, output)?;
     }
     if let Some(course) = hung {
         put_ends(&mut text, order.threads(), course)?;
