@@ -16,3 +16,4 @@ pub mod Printed
 pub mod Promised
 pub mod Skipped
 pub mod Expectations
+pub mod HeaderWords

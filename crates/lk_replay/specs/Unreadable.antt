@@ -1,7 +1,9 @@
 -- Definitions: the first place of a line at which something else is expected. This project's own.
 use Rattle.std.specs.Prelude.{ℕ, ◌+◌, List, [], ◌∷◌, Option, Some, None, Bool, true, false, is_some}
-use Rattle.std.specs.Prelude.{if◌then◌else◌, codes, length}
+use Rattle.std.specs.Prelude.{if◌then◌else◌, codes, length, Result, Ok, Err}
 use Rattle.std.specs.Str.{bytes_eq}
+use Rattle.lk_replay.specs.Faults.{Fault, WordsTooNarrow}
+use Rattle.lk_replay.specs.Header.{Header}
 use Rattle.lk_replay.specs.Vocabulary.{lock_named, move_named, number_of}
 use Rattle.lk_replay.specs.declared.unreadable.Expected.{Expected}
 use Rattle.lk_replay.specs.declared.unreadable.Expected.TheVariants.{Lock, Name, Threads, Count}
@@ -41,6 +43,12 @@ abbrev pub may_end : Expected → Bool
 may_end Bits = true
 may_end End = true
 may_end _ = false
+
+-- It is a header, but that its words may be too narrow for its threads.
+abbrev pub IsHeader : Result Header Fault → Type 0
+IsHeader (Ok header) = Unit {0}
+IsHeader (Err (WordsTooNarrow number)) = Unit {0}
+IsHeader (Err fault) = ⊥
 
 -- at the end of a line, or at a word that may not be here; each word is one space from the next
 abbrev pub unreadable_from : ℕ → Expected → List (List ℕ) → Option Unreadable

@@ -2,10 +2,11 @@
 //! its writer needs. Whether a line is a header or a move, `header_of` and `move_of` say; this goes
 //! along with them word by word.
 
-ghost use Rattle.std.specs.Prelude.{◌≡◌, IsSome, IsNone, ◌↔◌};
+ghost use Rattle.std.specs.Prelude.{◌≡◌, IsSome, IsNone, ◌↔◌, ℕ};
+ghost use Rattle.lk_replay.specs.Header.{header_of};
 ghost use Rattle.lk_replay.specs.Lines.{words_of};
 ghost use Rattle.lk_replay.specs.Schedule.{move_of};
-ghost use Rattle.lk_replay.specs.Unreadable.{after_word, may_end, unreadable_from};
+ghost use Rattle.lk_replay.specs.Unreadable.{IsHeader, after_word, may_end, unreadable_from};
 ghost use Rattle.lk_replay.specs.declared.unreadable.Expected.TheVariants.{Lock, Thread};
 
 use crate::lines::cut_at;
@@ -102,7 +103,8 @@ fn unreadable_from(line: &[u8], first: Expected) -> Option<Unreadable>
 /// Where a line stops being a header. Of a header whose words are too narrow for its threads there
 /// is no such place.
 pub fn unreadable_header(line: &[u8]) -> Option<Unreadable>
-    ensures { result ≡ unreadable_from 1 Lock (words_of line.now) }
+    ensures place { result ≡ unreadable_from 1 Lock (words_of line.now) }
+    ensures none { (number : ℕ) → IsNone result ↔ IsHeader (header_of number line.now) }
 {
     unreadable_from(line, Expected::Lock)
 }
