@@ -2,10 +2,11 @@
 """Compares the numbers that the page knows with the definitions of the page's module.
 
 The module's code is proved against the definitions of crates/lk_page/specs, and its numbers of
-moves, outcomes and refusals against those of crates/lk_trace/specs. That the page reads its numbers
-as these definitions mean them is not proved. Here each name and number of page/src/codes.js, and
-the order of the page's locks and of its ways to hold one, is compared with the definitions. So is
-the table of codes in page/MODULE.md. Prints `N passed, M failed`, and ends with 1 if one failed.
+moves, outcomes and refusals against those of crates/lk_trace/specs, and of phases against those of
+crates/lk_search/specs. That the page reads its numbers as these definitions mean them is not
+proved. Here each name and number of page/src/codes.js, and the order of the page's locks and of its
+ways to hold one, is compared with the definitions. So is the table of codes in page/MODULE.md.
+Prints `N passed, M failed`, and ends with 1 if one failed.
 """
 import pathlib
 import re
@@ -17,6 +18,7 @@ from tally import Tally
 TOP = pathlib.Path(__file__).resolve().parent.parent
 SPECS = TOP / "crates" / "lk_page" / "specs"
 OF_TRACES = TOP / "crates" / "lk_trace" / "specs"
+OF_PHASES = TOP / "crates" / "lk_search" / "specs" / "Phases.antt"
 PAGE = TOP / "page" / "src"
 LOCKS = {"Ticket": "ticket", "Mcs": "mcs", "RwSimple": "rw-simple", "RwFifo": "rw-fifo"}
 # who holds: a report's letter, and the page's text
@@ -127,7 +129,7 @@ def compare_limits(tally, page):
 def main():
     tally = Tally()
     page = read(PAGE / "codes.js")
-    codes = read(SPECS / "Codes.antt") + read(OF_TRACES / "Codes.antt")
+    codes = read(SPECS / "Codes.antt") + read(OF_TRACES / "Codes.antt") + read(OF_PHASES)
     table = read(TOP / "page" / "MODULE.md")
     compare_moves(tally, codes, page, table)
     compare_codes(tally, codes, page, table)

@@ -6,7 +6,8 @@ use Rattle.lk_locks.specs.State.{State, phase_at}
 use Rattle.lk_locks.specs.Locks.{step_due}
 use Rattle.lk_locks.specs.declared.kinds.Phase.{Phase}
 use Rattle.lk_locks.specs.declared.kinds.StepKind.{StepKind}
-use Rattle.lk_page.specs.Codes.{phase_code, phase_number, due_code}
+use Rattle.lk_search.specs.Phases.{phase_code, phase_number}
+use Rattle.lk_page.specs.Codes.{due_code}
 use Rattle.lk_page.specs.Layout.{own_bytes, thread_bytes, threads_bytes}
 use Rattle.lk_page.specs.Next.{allowed_calls}
 use Rattle.lk_page.specs.Owned.{next_word, locked_word, record_name}

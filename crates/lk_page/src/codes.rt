@@ -1,9 +1,9 @@
-//! The numbers by which a page knows locks, phases, due steps and faults, and what may come next in
-//! a line. Enums without fields are numbered in their order: from 0, and from 1 if 0 is none of
-//! them. Moves, outcomes and refusals have the numbers of `lk_trace`.
+//! The numbers by which a page knows locks, due steps and faults, and what may come next in a line.
+//! Enums without fields are numbered in their order: from 0, and from 1 if 0 is none of them.
+//! Moves, outcomes and refusals have the numbers of `lk_trace`, phases those of `lk_search`.
 
 ghost use Rattle.std.specs.Prelude.{◌≡◌, IfSome};
-ghost use Rattle.lk_page.specs.Codes.{lock_code, phase_code, phase_number, is_unlinked, due_code};
+ghost use Rattle.lk_page.specs.Codes.{lock_code, is_unlinked, due_code};
 ghost use Rattle.lk_page.specs.Codes.{refusal_step, fault_code, fault_line, as_fault};
 ghost use Rattle.lk_page.specs.Codes.{expected_code};
 
@@ -17,50 +17,6 @@ pub fn lock_code(kind: LockKind) -> u8
     ensures { result ≡ lock_code kind }
 {
     kind as u8
-}
-
-/// The number of a phase, without what it carries.
-pub fn phase_code(phase: Phase) -> u8
-    ensures { result ≡ phase_code phase }
-{
-    match phase {
-        Phase::Idle => 0,
-        Phase::TakeTicket => 1,
-        Phase::AwaitTurn(_) => 2,
-        Phase::TicketInside(_) => 3,
-        Phase::ReadServing(_) => 4,
-        Phase::PassOn(_) => 5,
-        Phase::ClearNext => 6,
-        Phase::SwapTail => 7,
-        Phase::SetLocked(_) => 8,
-        Phase::LinkTo(_) => 9,
-        Phase::AwaitGrant => 10,
-        Phase::McsInside => 11,
-        Phase::ReadNext => 12,
-        Phase::CasTail => 13,
-        Phase::AwaitLink => 14,
-        Phase::Grant(_) => 15,
-        Phase::TryRead => 16,
-        Phase::Reading => 17,
-        Phase::LeaveRead => 18,
-        Phase::TryWrite => 19,
-        Phase::AwaitReaders => 20,
-        Phase::Writing => 21,
-        Phase::LeaveWrite => 22,
-        Phase::TryDowngrade => 23,
-    }
-}
-
-/// The ticket, value or thread that a phase carries, and 0 if it carries none.
-pub fn phase_number(phase: Phase) -> u64
-    ensures { result ≡ phase_number phase }
-{
-    match phase {
-        Phase::AwaitTurn(n) | Phase::TicketInside(n) | Phase::ReadServing(n) | Phase::PassOn(n) =>
-            n,
-        Phase::SetLocked(t) | Phase::LinkTo(t) | Phase::Grant(t) => u64::from(t),
-        _ => 0,
-    }
 }
 
 /// Whether a thread in this phase is in the queue of an MCS lock, and has not linked itself to its

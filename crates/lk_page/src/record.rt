@@ -9,13 +9,14 @@ ghost use Rattle.lk_page.specs.Layout.{record_bytes, touched_word, found_of, lef
 ghost use Rattle.lk_page.specs.Layout.{thread_code};
 
 use crate::changes::make;
-use crate::codes::{due_code, is_unlinked, phase_code, phase_number};
+use crate::codes::{due_code, is_unlinked};
 use crate::layout::{put_bytes, put_u16, put_u32, put_u64};
 use crate::next::{allowed_calls, waits_after};
 use crate::told::{Record, Standing, Touch};
 use arrayvec::ArrayVec;
 use lk_locks::{Holders, Refusal, Tracker};
 use lk_replay::Line;
+use lk_search::phase_code;
 use lk_trace::{move_number, outcome_number};
 use lk_words::WordArray;
 
@@ -99,6 +100,7 @@ pub fn record_bytes(told: &Record) -> ArrayVec<u8, 56>
     ensures size { length result.items ≡ 56 }
 {
     let mut out = ArrayVec::new();
+    let (code, number) = phase_code(told.phase);
     let (found, left) = values_of(told.first);
     let (found_second, left_second) = values_of(told.second);
     put_u32(&mut out, told.line);
@@ -109,7 +111,7 @@ pub fn record_bytes(told: &Record) -> ArrayVec<u8, 56>
             move_number(told.action),
             0,
             outcome_number(told.outcome),
-            phase_code(told.phase),
+            code,
             thread_code(told),
         ],
     );
@@ -120,6 +122,6 @@ pub fn record_bytes(told: &Record) -> ArrayVec<u8, 56>
     put_u64(&mut out, left);
     put_u64(&mut out, found_second);
     put_u64(&mut out, left_second);
-    put_u64(&mut out, phase_number(told.phase));
+    put_u64(&mut out, number);
     out
 }

@@ -8,13 +8,14 @@ ghost use Rattle.lk_page.specs.Layout.{thread_bytes, threads_bytes, stop_numbers
 ghost use Rattle.lk_page.specs.Layout.{bytes_of_state, bytes_of_fault};
 
 use crate::changes::words_of;
-use crate::codes::{due_code, lock_code, phase_code, phase_number, refusal_step};
+use crate::codes::{due_code, lock_code, refusal_step};
 use crate::layout::{copy_of, put_bytes, put_u32s, put_u64, put_u64s, put_zeros};
 use crate::next::allowed_calls;
 use crate::owned::owned;
 use crate::told::Stopped;
 use arrayvec::ArrayVec;
 use lk_locks::{Holders, Machine, Refusal, Tracker};
+use lk_search::phase_code;
 use lk_trace::refusal_number;
 use lk_words::{WordArray, Words};
 
@@ -51,15 +52,12 @@ fn put_place(out: &mut ArrayVec<u8, 2304>, machine: &Machine<WordArray>, thread:
         put_zeros(out, THREAD_BYTES);
         return;
     }
-    let phase = machine.phase(thread);
+    let (code, number) = phase_code(machine.phase(thread));
     let due = due_code(machine.next_step(thread));
     let calls = allowed_calls(machine, thread);
     let (next, locked, name) = owned(machine.kind(), machine.words().bits(), thread);
-    put_bytes(
-        out,
-        &[phase_code(phase), due, calls, next, locked, name, 0, 0],
-    );
-    put_u64(out, phase_number(phase));
+    put_bytes(out, &[code, due, calls, next, locked, name, 0, 0]);
+    put_u64(out, number);
 }
 
 // All threads, and zeros for those that the lock does not have.

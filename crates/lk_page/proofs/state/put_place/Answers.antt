@@ -8,10 +8,10 @@ returns-clause-bytes c =
     let here : c.args.thread < length c.args.machine.now.phases =
     omega (arith, c.threads.ensures, c.if-thread-threads.false) in
     own_put c.args.machine.now c.args.thread _ _ _ _ _ _ _ _ _ c.args.out.now.items _ _ here
-    c.phase-phase.ensures c.next_step.ensures c.phase_code.ensures c.due_code-due.ensures
+    c.phase.ensures c.next_step.ensures c.phase_code-code.ensures.code c.due_code-due.ensures
     c.allowed_calls-calls.ensures
     (c.owned-next.ensures.next ∙ rw (bits, c.kind.ensures) refl)
     (c.owned-next.ensures.locked ∙ rw (bits, c.kind.ensures) refl)
     (c.owned-next.ensures.name ∙ rw (bits, c.kind.ensures) refl)
-    c.phase_number.ensures
+    c.phase_code-code.ensures.number
     c.put_bytes.ensures.bytes c.put_u64.ensures.bytes
