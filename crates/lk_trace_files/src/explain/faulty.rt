@@ -1,6 +1,10 @@
 //! A line that is not a trace's: the column, what is there, what could be there, and the
 //! nearest word.
 
+ghost use Rattle.std.specs.Prelude.{ℕ, IsNone, ◌↔◌};
+ghost use Rattle.lk_replay.specs.Header.{header_of};
+ghost use Rattle.lk_replay.specs.Unreadable.{IsHeader};
+
 use lk_replay::parts::{cut_word, unreadable_header};
 use lk_trace::{Due, MOST_OF_A_LINE, TextFault, unreadable_line};
 use std::alloc::{AllocError, Global};
@@ -28,7 +32,9 @@ fn nearest(
 }
 
 /// The column, from 1, at which a line stops being a header, and what could be there.
-pub fn wrong_in_header(line: &[u8]) -> Option<(usize, Due)> {
+pub fn wrong_in_header(line: &[u8]) -> Option<(usize, Due)>
+    ensures none { (number : ℕ) → IsNone result ↔ IsHeader (header_of number line.now) }
+{
     let place = unreadable_header(line)?;
     Some((place.column, Due::OfSchedule(place.expected)))
 }
