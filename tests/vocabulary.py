@@ -5,11 +5,12 @@
 
 The words of locks, calls, steps and outcomes are in crates/lk_replay/src/vocabulary.rt, those for
 the places of a lock in crates/lk_trace/src/names.rt, and the parts that may follow a place in
-due_texts.rt beside it. The names of refusals, faults and differences are those of their variants;
-their texts are beside these. What is written in another language, in a sentence, or where bytes are
-compared has all this once more, and nothing is generated. A table's words have the order of their
-enum. The names and numbers of record/locktrace.h are compared with the definitions NUMBERS, against
-which the library is proved. Prints `N passed, M failed`, and ends with 1 if one failed.
+due_texts.rt beside it. The names of refusals, faults and differences are those of their variants.
+The texts of faults and differences are beside these, and those of refusals in
+crates/lk_locks/src/refusals.rt. What is written in another language, in a sentence, or where bytes
+are compared has all this once more, and nothing is generated. A table's words have the order of
+their enum. The names and numbers of record/locktrace.h are compared with the definitions NUMBERS,
+against which the library is proved. Prints `N passed, M failed`, and ends with 1 if one failed.
 """
 import re
 import sys
@@ -116,15 +117,14 @@ LISTS = (
     List("crates/lk_search/src/kinds/*.rt", r'"(?:\*|\d+) ', r'"',
          "calls steps outcomes places of values results", among, "[a-z_]+"),
     # refusals, faults and differences
-    List("crates/lk_replay/src/report/closings.rt", r"fn push_reason", r"\n\}\n", "refusals",
-         word=r'b"([A-Z]\w+)'),
+    List("crates/lk_locks/src/refusals.rt", r"fn words", r"\n    \}\n", "refusals", in_order,
+         r'=> "(\w+)" "'),
     List("crates/lk_replay/src/report/closings.rt", r"fn fault_text", r"\n\}\n", "faults",
          word=r'b"(?:fault )?([A-Z]\w+)'),
-    List(f"{FILES}/facts.rt", r"fn difference_code", r"\n\}\n", "refusals differences"),
-    List(f"{FILES}/texts.rt", r"fn put_refusal", r"\n    \}\n", "refusals", word=r'\((\w+)\)"'),
+    List(f"{FILES}/facts.rt", r"fn difference_code", r"\n\}\n", "differences"),
     List(f"{FILES}/texts.rt", r"WroteOther \{ wrote: \w+ \}", r"\)", "wrote",
          word=r'\{step\} (.*)"'),
-    List(C, r"\b1 =>", r"\b8 =>", "refusal_texts", in_order, r'"(.*)"'),
+    List(C, r"\b1 =>", r"\b8 =>", "refusals", in_order, r"Refusal::(\w+)"),
     List(C, r"(?=\b8 =>)", r"\b16 =>", "differences", in_order, r'"(\w+): '),
     List(C, r"(?=\b16 =>)", r"_ =>", "trace_faults", in_order, r'"(\w+): '),
     List(C, r"(?=\b17 =>)", r"_ =>", "trace_fault_texts", in_order, r'"(.*)"'),
@@ -152,7 +152,7 @@ SENTENCES = (
 COUNTS = {
     "locks": 4, "calls": 7, "steps": 6, "operations": 5, "outcomes": 4, "called": 1,
     "places": 5, "counters": 2, "tail": 1, "records": 2, "monitors": 4, "of": 1, "values": 2,
-    "results": 2, "refusals": 7, "refusal_texts": 7, "faults": 7, "memory": 1, "trace_faults": 5,
+    "results": 2, "refusals": 7, "faults": 7, "memory": 1, "trace_faults": 5,
     "trace_fault_texts": 4, "differences": 6, "wrote": 2,
 }
 SHELLS = ((f"{COMPLETIONS}.bash", 1), (f"{COMPLETIONS}.zsh", 3), (f"{COMPLETIONS}.fish", 1))
@@ -220,7 +220,6 @@ def of_faults():
     wrote = re.findall(r'^ +"(.*)"$', read(f"{TRACE}/difference.rt"), re.MULTILINE)
     return {
         **{kind: {name: name for name in of_kind} for kind, of_kind in names.items()},
-        "refusal_texts": {name: f"{name}: {text}" for name, text in refusals.items()},
         # a program says of a file `no header`, and the library of a text `there is no header`
         "trace_fault_texts": {name: f"{name}: {text}".removesuffix(f" ({name})")
                               for name, text in of_a_trace.items() if name != "NoHeader"},

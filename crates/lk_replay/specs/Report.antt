@@ -7,9 +7,8 @@ use Rattle.lk_locks.specs.Holding.{Holding, Free, HeldBy, ReadBy, WrittenBy, hol
 use Rattle.lk_locks.specs.declared.kinds.LockKind.{LockKind}
 use Rattle.lk_locks.specs.declared.kinds.Entry.{Entry}
 use Rattle.lk_locks.specs.declared.kinds.Refusal.{Refusal}
-use Rattle.lk_locks.specs.declared.kinds.Refusal.TheVariants.{NoSuchThread, WrongLock, Busy}
-use Rattle.lk_locks.specs.declared.kinds.Refusal.TheVariants.{NotHolder, AlreadyHolds, NoCall}
 use Rattle.lk_locks.specs.declared.kinds.Refusal.TheVariants.{WrongStep}
+use Rattle.lk_locks.specs.Refusals.{name_of}
 use Rattle.lk_replay.specs.Faults.{Fault, TooLong, NoHeader, BadHeader, BadThreads, BadLine}
 use Rattle.lk_replay.specs.Faults.{TooManyMoves, WordsTooNarrow}
 use Rattle.lk_replay.specs.Vocabulary.{move_word, outcome_word, step_word}
@@ -57,14 +56,10 @@ move_text count a =
 abbrev pub line_text : LockKind → ℕ → List Entry → Accepted → List ℕ
 line_text kind count es a = move_text count a ++ state_text kind es
 
+-- its name, and ` next ` with the thread's next step if another was to be made
 unfoldable pub refusal_text : Refusal → List ℕ
-refusal_text NoSuchThread = codes "NoSuchThread"
-refusal_text WrongLock = codes "WrongLock"
-refusal_text Busy = codes "Busy"
-refusal_text NotHolder = codes "NotHolder"
-refusal_text AlreadyHolds = codes "AlreadyHolds"
-refusal_text NoCall = codes "NoCall"
-refusal_text (WrongStep next) = codes "WrongStep next " ++ step_word next
+refusal_text (WrongStep next) = name_of (WrongStep next) ++ codes " next " ++ step_word next
+refusal_text refusal = name_of refusal
 
 -- `WHAT line L `
 abbrev pub at_line : List ℕ → ℕ → List ℕ

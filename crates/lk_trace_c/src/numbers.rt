@@ -4,6 +4,7 @@ ghost use Rattle.std.specs.Prelude.{◌≡◌};
 ghost use Rattle.lk_trace_c.specs.Numbers.{difference_number, fault_number};
 ghost use Rattle.lk_trace_c.specs.Texts.{text_of_number};
 
+use lk_locks::{Refusal, StepKind};
 use lk_trace::{Difference, TextFault, refusal_number};
 
 /// Refusals from 1, values from 8.
@@ -38,15 +39,16 @@ pub fn fault_number(fault: TextFault) -> u32
 pub fn fault_text(fault: u32) -> &'static str
     ensures { result.now ≡ text_of_number fault }
 {
+    let next = StepKind::Read; // whichever it is, the text is the same
     match fault {
         0 => "accepted",
-        1 => "NoSuchThread: no such thread",
-        2 => "WrongLock: the lock has no such operation or step",
-        3 => "Busy: the thread has a pending call",
-        4 => "NotHolder: the thread does not hold the lock in that mode",
-        5 => "AlreadyHolds: the thread holds the lock already",
-        6 => "NoCall: the thread has no pending call",
-        7 => "WrongStep: the thread's next step is a different one",
+        1 => Refusal::NoSuchThread.text(),
+        2 => Refusal::WrongLock.text(),
+        3 => Refusal::Busy.text(),
+        4 => Refusal::NotHolder.text(),
+        5 => Refusal::AlreadyHolds.text(),
+        6 => Refusal::NoCall.text(),
+        7 => Refusal::WrongStep { next }.text(),
         8 => "OtherWord: the lock's step is on another word",
         9 => "FoundOther: the lock has another value in the word",
         10 => "LeftOther: the lock leaves another value in the word",

@@ -35,13 +35,7 @@ pub enum Facts {
 // The name of a difference, or of the lock's refusal.
 fn difference_code(difference: Difference) -> &'static str {
     match difference {
-        Difference::Refused(Refusal::NoSuchThread) => "NoSuchThread",
-        Difference::Refused(Refusal::WrongLock) => "WrongLock",
-        Difference::Refused(Refusal::Busy) => "Busy",
-        Difference::Refused(Refusal::NotHolder) => "NotHolder",
-        Difference::Refused(Refusal::AlreadyHolds) => "AlreadyHolds",
-        Difference::Refused(Refusal::NoCall) => "NoCall",
-        Difference::Refused(Refusal::WrongStep { .. }) => "WrongStep",
+        Difference::Refused(refusal) => refusal.name(),
         Difference::OtherWord { .. } => "OtherWord",
         Difference::FoundOther { .. } => "FoundOther",
         Difference::LeftOther { .. } => "LeftOther",

@@ -140,20 +140,19 @@ impl Wrong<'_> {
         let lock = lock_text(lock.kind());
         write!(f, "'{thread} {word}', but ")?;
         match refusal {
-            Refusal::NoSuchThread => f.write_str("the lock has no such thread (NoSuchThread)"),
-            Refusal::WrongLock => write!(f, "the {lock} lock has no such move (WrongLock)"),
-            Refusal::Busy => write!(f, "{called}'s last call is pending (Busy)"),
-            Refusal::NotHolder => write!(
-                f,
-                "{called} does not hold the lock in that mode (NotHolder)"
-            ),
-            Refusal::AlreadyHolds => write!(f, "{called} holds the lock already (AlreadyHolds)"),
-            Refusal::NoCall => write!(f, "{called} has no pending call (NoCall)"),
+            Refusal::NoSuchThread => f.write_str("the lock has no such thread")?,
+            Refusal::WrongLock => write!(f, "the {lock} lock has no such move")?,
+            Refusal::Busy => write!(f, "{called}'s last call is pending")?,
+            Refusal::NotHolder => write!(f, "{called} does not hold the lock in that mode")?,
+            Refusal::AlreadyHolds => write!(f, "{called} holds the lock already")?,
+            Refusal::NoCall => write!(f, "{called} has no pending call")?,
             Refusal::WrongStep { next } => {
                 let next = move_text(Move::Step(next));
-                write!(f, "{called}'s next step is '{next}' (WrongStep)")
+                write!(f, "{called}'s next step is '{next}'")?;
             }
         }
+        let name = refusal.name();
+        write!(f, " ({name})")
     }
 }
 

@@ -47,17 +47,10 @@ fn push_reason(text: &mut Text, refusal: Refusal)
     ensures reason { text.new ≡ text.old ++ refusal_text refusal }
     ensures short { length text.new ≤ 128 }
 {
-    match refusal {
-        Refusal::NoSuchThread => text.push(b"NoSuchThread"),
-        Refusal::WrongLock => text.push(b"WrongLock"),
-        Refusal::Busy => text.push(b"Busy"),
-        Refusal::NotHolder => text.push(b"NotHolder"),
-        Refusal::AlreadyHolds => text.push(b"AlreadyHolds"),
-        Refusal::NoCall => text.push(b"NoCall"),
-        Refusal::WrongStep { next } => {
-            text.push(b"WrongStep next ");
-            text.push(step_word(next));
-        }
+    text.push(refusal.name().as_bytes());
+    if let Refusal::WrongStep { next } = refusal {
+        text.push(b" next ");
+        text.push(step_word(next));
     }
 }
 

@@ -1,0 +1,27 @@
+-- Definitions. The name of each refusal, and what it says. This project's own.
+use Rattle.std.specs.Prelude.{ℕ, List, ◌++◌, codes}
+use Rattle.lk_locks.specs.declared.kinds.Refusal.{Refusal}
+use Rattle.lk_locks.specs.declared.kinds.Refusal.TheVariants.{NoSuchThread, WrongLock, Busy}
+use Rattle.lk_locks.specs.declared.kinds.Refusal.TheVariants.{NotHolder, AlreadyHolds, NoCall}
+use Rattle.lk_locks.specs.declared.kinds.Refusal.TheVariants.{WrongStep}
+
+abbrev pub name_of : Refusal → List ℕ
+name_of NoSuchThread = codes "NoSuchThread"
+name_of WrongLock = codes "WrongLock"
+name_of Busy = codes "Busy"
+name_of NotHolder = codes "NotHolder"
+name_of AlreadyHolds = codes "AlreadyHolds"
+name_of NoCall = codes "NoCall"
+name_of (WrongStep next) = codes "WrongStep"
+
+abbrev pub message_of : Refusal → List ℕ
+message_of NoSuchThread = codes "no such thread"
+message_of WrongLock = codes "the lock has no such operation or step"
+message_of Busy = codes "the thread has a pending call"
+message_of NotHolder = codes "the thread does not hold the lock in that mode"
+message_of AlreadyHolds = codes "the thread holds the lock already"
+message_of NoCall = codes "the thread has no pending call"
+message_of (WrongStep next) = codes "the thread's next step is a different one"
+
+abbrev pub text_of : Refusal → List ℕ
+text_of refusal = name_of refusal ++ codes ": " ++ message_of refusal

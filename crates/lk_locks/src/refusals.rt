@@ -1,0 +1,54 @@
+//! The name of each refusal, and what it says. The names are this project's own. Each text is
+//! written once: reports, messages and the library for C have theirs from here.
+
+ghost use Rattle.std.specs.Prelude.{◌≡◌, ◌≤◌, length};
+ghost use Rattle.lk_locks.specs.Refusals.{message_of, name_of, text_of};
+
+use crate::Refusal;
+
+// A refusal's name, its message, and both.
+macro_rules! words {
+    ($refusal:expr; $($pattern:pat => $name:literal $message:literal,)+) => {
+        match $refusal { $($pattern => ($name, $message, concat!($name, ": ", $message)),)+ }
+    };
+}
+
+impl Refusal {
+    fn words(self) -> (&'static str, &'static str, &'static str)
+        ensures name { result.0.now ≡ name_of self }
+        ensures message { result.1.now ≡ message_of self }
+        ensures text { result.2.now ≡ text_of self }
+    {
+        words!(self;
+            Refusal::NoSuchThread => "NoSuchThread" "no such thread",
+            Refusal::WrongLock => "WrongLock" "the lock has no such operation or step",
+            Refusal::Busy => "Busy" "the thread has a pending call",
+            Refusal::NotHolder => "NotHolder" "the thread does not hold the lock in that mode",
+            Refusal::AlreadyHolds => "AlreadyHolds" "the thread holds the lock already",
+            Refusal::NoCall => "NoCall" "the thread has no pending call",
+            Refusal::WrongStep { .. } => "WrongStep" "the thread's next step is a different one",
+        )
+    }
+
+    /// Its name.
+    pub fn name(self) -> &'static str
+        ensures name { result.now ≡ name_of self }
+        ensures short { length result.now ≤ 14 }
+    {
+        self.words().0
+    }
+
+    /// What it says, as `Display` has it.
+    pub fn message(self) -> &'static str
+        ensures { result.now ≡ message_of self }
+    {
+        self.words().1
+    }
+
+    /// Its name, and what it says.
+    pub fn text(self) -> &'static str
+        ensures { result.now ≡ text_of self }
+    {
+        self.words().2
+    }
+}
