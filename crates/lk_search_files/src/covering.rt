@@ -3,6 +3,7 @@
 ghost use Rattle.std.specs.Prelude.{◌≡◌, max};
 ghost use Rattle.lk_search_files.specs.Statuses.{number_of};
 
+use crate::faults::put_unread;
 use crate::listing::{Format, put_coverage, put_missing};
 use lk_locks::LockKind;
 use lk_search::{Coverage, LOCKS, Observed};
@@ -132,10 +133,7 @@ fn take_trace<R: Read + Drop>(
     match ended {
         Ok(None) => end_of(&trace, name, number, errors),
         Ok(Some(status)) => Ok(status),
-        Err(error) => {
-            writeln!(errors, "{name}: {error}")?;
-            Ok(Status::Failed)
-        }
+        Err(error) => put_unread(errors, name, error),
     }
 }
 
@@ -152,10 +150,7 @@ fn take_file<R: Runtime>(
     }
     match fs::open(rt, name) {
         Ok(input) => take_trace(alloc, input, name, coverages, errors),
-        Err(error) => {
-            writeln!(errors, "{name}: {error}")?;
-            Ok(Status::Failed)
-        }
+        Err(error) => put_unread(errors, name, error),
     }
 }
 

@@ -1,7 +1,7 @@
 //! A sketch, read from a file or from the words of a command.
 
 use crate::asked::Source;
-use crate::faults::put_fault;
+use crate::faults::{put_fault, put_unread};
 use crate::sketches::{Sketch, SketchFault};
 use lk_replay::parts::Header;
 use lk_trace::TextFault;
@@ -51,10 +51,7 @@ fn read_input<R: Read + Drop>(
     match ended {
         Ok(None) => whole(sketch, name, number, errors),
         Ok(Some(status)) => Ok(Err(status)),
-        Err(error) => {
-            writeln!(errors, "{name}: {error}")?;
-            Ok(Err(Status::Failed))
-        }
+        Err(error) => Ok(Err(put_unread(errors, name, error)?)),
     }
 }
 
@@ -93,10 +90,7 @@ pub fn read_sketch<R: Runtime>(
         }
         Source::File(name) => match fs::open(rt, name.as_str()) {
             Ok(input) => read_input(alloc, input, name, errors),
-            Err(error) => {
-                writeln!(errors, "{name}: {error}")?;
-                Ok(Err(Status::Failed))
-            }
+            Err(error) => Ok(Err(put_unread(errors, name, error)?)),
         },
     }
 }

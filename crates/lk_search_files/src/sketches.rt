@@ -1,5 +1,7 @@
 //! A sketch of a run, read line by line: a header, and lines of a trace in which parts are open.
 
+ghost use Rattle.std.specs.Prelude.{◌≡◌, ◌≤◌, vec_len};
+
 use lk_replay::parts::{Header, is_skipped, number_of};
 use lk_search::{Admitted, admit};
 use lk_trace::{TextFault, read_header};
@@ -40,6 +42,7 @@ pub struct Sketch {
     pub lines: Vec<String>,
     /// What each line admits.
     pub admitted: Vec<Admitted>,
+    ghost few: { vec_len lines ≤ 255 },
 }
 
 impl Sketch {
@@ -51,6 +54,13 @@ impl Sketch {
             lines: Vec::new(alloc),
             admitted: Vec::new(alloc),
         }
+    }
+
+    /// How many lines are to occur.
+    pub fn count(&self) -> u16
+        ensures { result ≡ vec_len self.now.lines }
+    {
+        self.lines.len() as u16
     }
 
     // Reads a comment.
