@@ -1,6 +1,6 @@
 //! The two jobs of the program, over any devices.
 
-ghost use Rattle.std.specs.Prelude.{◌≡◌, ◌⊎◌, ◌≤◌, length, map, IfOk, IfErr};
+ghost use Rattle.std.specs.Prelude.{◌≡◌, if◌then◌else◌, ◌⊎◌, ◌≤◌, length, map, IfOk, IfErr};
 ghost use Rattle.lockreplay.specs.Batches.{EndsBatch, IsFileFault, status_of_reports};
 ghost use Rattle.lockreplay.specs.Replays.{EndsReplay};
 ghost use Rattle.lockreplay.specs.Jobs.{EndsJob, IsFitJob};
@@ -8,6 +8,7 @@ ghost use Rattle.lockreplay.specs.Jobs.{EndsJob, IsFitJob};
 use crate::command_line::Job;
 use crate::faults::ProgramFault;
 use crate::sending::send_reports;
+use lk_replay::parts::Status;
 use lk_replay::{Ending, Report, RunFault, read_text, run, status_of};
 use lk_workers::{OpenGate, report_many};
 use std::alloc::Global;
@@ -70,6 +71,18 @@ fn file_texts<R: Files>(
     Ok(texts)
 }
 
+// The status of a batch of which each report is accepted, or not.
+fn status_if(accepted: bool) -> u8
+    ensures { result ≡ if accepted then 0 else 1 }
+{
+    let status = if accepted {
+        Status::Accepted
+    } else {
+        Status::Refused
+    };
+    status as u8
+}
+
 /// The status of a batch with these reports: 0 if every move of every schedule was accepted, as
 /// if there is no report, else 1.
 pub fn batch_status(reports: &[Report]) -> u8
@@ -78,7 +91,7 @@ pub fn batch_status(reports: &[Report]) -> u8
     let accepted = reports
         .iter()
         .all(|report| report.ending == Ending::Accepted);
-    u8::from(!accepted)
+    status_if(accepted)
 }
 
 /// Replays the schedule of each file by this many workers, writes the reports in the order of the

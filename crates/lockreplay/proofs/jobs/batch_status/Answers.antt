@@ -1,9 +1,8 @@
 -- `all` over the endings is the test over the texts, since each ending is its text's.
-use Rattle.std.proofs.Common.{Bool, true, false, not, ◌&&◌, if◌then◌else◌, ◌≡◌, ◌∙◌, refl, ap, ap₂}
-use Rattle.std.proofs.Common.{ℕ, List, [], ◌∷◌, map, rules, tests}
+use Rattle.std.proofs.Common.{Bool, ◌&&◌, if◌then◌else◌, ◌≡◌, ◌∙◌, refl, ap, ap₂}
+use Rattle.std.proofs.Common.{List, [], ◌∷◌, map, rules, tests}
 use Rattle.std.proofs.lemmas.Iterator.{YieldsList-from_slice}
 use Rattle.std.proofs.lemmas.Iterator.Search.{all_from_yields_List}
-use Rattle.std.specs.Int.{from_bool}
 use Rattle.std.specs.List.{list_all}
 use Rattle.lk_replay.specs.Ending.{ending_of}
 use Rattle.lk_replay.specs.declared.report.Report.{Report}
@@ -15,14 +14,10 @@ judged : (rs : List Report) → list_all (λ r. is_accepted r.ending) rs
 judged [] = refl
 judged (r ∷ rs) = ap₂ (λ e b. is_accepted e && b) r.told (judged rs)
 
-none_else_one : (b : Bool) (n : ℕ) → n ≡ from_bool (not b) → n ≡ (if b then 0 else 1)
-none_else_one true n is = is
-none_else_one false n is = is
-
 pub returns : goal.returns
 returns c =
     let xs = c.args.reports.now in
     let all =
     all_from_yields_List (λ r. is_accepted r.ending) _ _ c.all-accepted.result
     c.all-accepted.ensures.ran (YieldsList-from_slice xs cc) (λ x b q k. search (rules, tests)) in
-    none_else_one _ _ (c.from.ensures ∙ ap (λ b. from_bool (not b)) (all ∙ judged xs))
+    c.status_if.ensures ∙ ap (λ (b : Bool). if b then 0 else 1) (all ∙ judged xs)
