@@ -16,6 +16,7 @@ use Rattle.lk_locks.specs.declared.kinds.Phase.{Phase}
 use Rattle.lk_locks.specs.declared.kinds.Op.{Op}
 use Rattle.lk_locks.specs.declared.kinds.StepKind.{StepKind}
 use Rattle.lk_locks.specs.declared.kinds.StepKind.TheVariants.{Read, Write, Swap, Cas, Add, Section}
+use Rattle.lk_locks.specs.declared.kinds.SectionEffect.{SectionEffect}
 use Rattle.lk_locks.specs.declared.kinds.Outcome.{Outcome}
 use Rattle.lk_locks.specs.declared.kinds.Entry.{Entry}
 
@@ -49,6 +50,13 @@ abbrev pub operation_of : LockKind → ℕ → ℕ → Phase → Option Operatio
 operation_of Ticket bits t p = ticket.operation bits p
 operation_of Mcs bits t p = mcs.operation t p
 operation_of kind bits t p = None
+
+-- what the section of a thread in this phase finds and leaves, if its next step is one
+abbrev pub section_of : LockKind → ℕ → List ℕ → Phase → Option SectionEffect
+section_of Ticket bits ws p = None
+section_of Mcs bits ws p = None
+section_of kind bits ws p =
+    option_map (λ due. read_write.section (family_of kind) bits ws p) (read_write.step_due p)
 
 -- The step that a thread in this phase takes next. There is none if it has no pending call. Which
 -- kind it is depends on neither thread nor bits.

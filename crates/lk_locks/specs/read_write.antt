@@ -4,6 +4,7 @@
 -- After Herlihy and Shavit, The Art of Multiprocessor Programming, chapter 8. `Downgrade`, by which
 -- a writer becomes a reader in one section, is this project's own.
 use Rattle.std.specs.Prelude.{ℕ, ◌<◌, ◌^◌, slice_index, List, [], ◌∷◌, ◌++◌, Option, None, Some}
+use Rattle.std.specs.Prelude.{◌≡◌, ◌≢◌, ◌≤◌, ◌⊎◌, length}
 use Rattle.lk_locks.specs.Acts.{acts, announcement}
 use Rattle.lk_locks.specs.Change.{Change}
 use Rattle.lk_locks.specs.rw_fifo
@@ -19,6 +20,7 @@ use Rattle.lk_locks.specs.declared.kinds.Op.TheVariants.{ReadLock, ReadUnlock, W
 use Rattle.lk_locks.specs.declared.kinds.Op.TheVariants.{WriteUnlock, Downgrade}
 use Rattle.lk_locks.specs.declared.kinds.StepKind.{StepKind}
 use Rattle.lk_locks.specs.declared.kinds.StepKind.TheVariants.{Section}
+use Rattle.lk_locks.specs.declared.kinds.SectionEffect.{SectionEffect}
 use Rattle.lk_locks.specs.declared.kinds.Outcome.{Outcome}
 use Rattle.lk_locks.specs.declared.kinds.Outcome.TheVariants.{Moved, Entered, Left}
 use Rattle.lk_locks.specs.declared.kinds.Entry.{Entry}
@@ -54,6 +56,31 @@ AreWords bits ws =
 abbrev pub step : Family → ℕ → List ℕ → Phase → Change
 step FifoReadWrite bits ws p = rw_fifo.step bits ws p
 step family bits ws p = rw_simple.step bits ws p
+
+-- the words of the monitor; the simple lock has no third one
+abbrev pub first_words : Family → List ℕ → List ℕ
+first_words FifoReadWrite ws = slice_index ws 0 ∷ slice_index ws 1 ∷ slice_index ws 2 ∷ []
+first_words family ws = slice_index ws 0 ∷ slice_index ws 1 ∷ 0 ∷ []
+
+-- what a section of a thread in this phase finds in them, what it leaves, and its outcome
+abbrev pub section : Family → ℕ → List ℕ → Phase → SectionEffect
+section family bits ws p = record {
+  found = first_words family ws;
+  left = first_words family (step family bits ws p).words;
+  outcome = (step family bits ws p).outcome;
+}
+
+-- A section tells all that it does to the words: where it finds and leaves the same, the word
+-- stays. It changes one at most of the second and the third word, and none after them.
+pub record Tells (section : SectionEffect) (before after : List ℕ) : Type 0 where
+  pub changed : (i : ℕ) → slice_index section.left i ≢ slice_index section.found i
+      → (i < length before) × (slice_index section.found i ≡ slice_index before i)
+      × (slice_index section.left i ≡ slice_index after i)
+  pub kept : (i : ℕ) → slice_index section.left i ≡ slice_index section.found i
+      → slice_index after i ≡ slice_index before i
+  pub few : (slice_index section.left 1 ≡ slice_index section.found 1)
+      ⊎ (slice_index section.left 2 ≡ slice_index section.found 2)
+  pub rest : (i : ℕ) → 3 ≤ i → slice_index section.left i ≡ slice_index section.found i
 
 -- The entries of a section. A FIFO writer announces itself when it sets the flag; a call acts
 -- when it succeeds.

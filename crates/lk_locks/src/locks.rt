@@ -1,16 +1,19 @@
 //! The functions of each lock's module, by the lock, and the family that it belongs to. Code that
 //! the locks share calls these, and knows no lock.
 
-ghost use Rattle.std.specs.Prelude.{◌≡◌, ◌≤◌, []};
+ghost use Rattle.std.specs.Prelude.{◌≡◌, ◌≤◌, [], IfSome};
 ghost use Rattle.std.specs.List.{list_any};
 ghost use Rattle.lk_locks.specs.Change.{kind_of};
 ghost use Rattle.lk_locks.specs.Locks.{family_of, word_count, steps_of, after_call, step_due};
-ghost use Rattle.lk_locks.specs.Locks.{operation_of, step_of, step_entries};
+ghost use Rattle.lk_locks.specs.Locks.{operation_of, section_of, step_of, step_entries};
+ghost use Rattle.lk_locks.specs.read_write.{Tells};
 ghost use Rattle.lk_locks.specs.Steps.{same_step};
 ghost use Rattle.lk_locks.specs.invariants.WellFormed.{IsReady};
 
 use crate::entries::Added;
-use crate::{Family, LockKind, Op, Outcome, Phase, StepKind, mcs, read_write, ticket};
+use crate::{
+    Family, LockKind, Op, Outcome, Phase, SectionEffect, StepKind, mcs, read_write, ticket,
+};
 use lk_words::{Operation, WordArray, Words, perform};
 
 /// The family of a lock.
@@ -143,7 +146,28 @@ pub(crate) fn outcome_of(words: &WordArray, kind: LockKind, thread: u8, phase: P
         (LockKind::Mcs, Some(step)) => mcs::after(phase, words.effect(step).answer).1,
         (LockKind::Ticket | LockKind::Mcs, None) => Outcome::Waits,
         (LockKind::RwSimple | LockKind::RwFifo, _) => {
-            read_write::outcome(words, family_of(kind), phase)
+            read_write::section(words, family_of(kind), phase).outcome
+        }
+    }
+}
+
+/// What the section of a thread in this phase would do, if its next step is one.
+pub(crate) fn section_of(
+    words: &WordArray,
+    kind: LockKind,
+    thread: u8,
+    phase: Phase,
+) -> Option<SectionEffect>
+    requires { IsReady kind words.now.1 words.now.0 thread phase }
+    ensures value { result ≡ section_of kind words.now.1 words.now.0 phase }
+    ensures tells { IfSome result (λ section.
+        Tells section words.now.0 (step_of kind words.now.1 words.now.0 thread phase).words) }
+{
+    match kind {
+        LockKind::Ticket | LockKind::Mcs => None,
+        LockKind::RwSimple | LockKind::RwFifo => {
+            read_write::step_due(phase)?;
+            Some(read_write::section(words, family_of(kind), phase))
         }
     }
 }

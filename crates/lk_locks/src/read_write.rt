@@ -6,9 +6,10 @@
 
 ghost use Rattle.std.specs.Prelude.{◌≡◌, ◌^◌, ◌<◌, ◌≤◌, length, []};
 ghost use Rattle.lk_locks.specs.read_write.{word_count, after_call, step_due, step, entries};
+ghost use Rattle.lk_locks.specs.read_write.{Tells, section};
 
 use crate::entries::Added;
-use crate::{Entry, Family, Op, Outcome, Phase, StepKind, rw_fifo, rw_simple};
+use crate::{Entry, Family, Op, Outcome, Phase, SectionEffect, StepKind, rw_fifo, rw_simple};
 use lk_words::{WordArray, Words};
 
 /// The phase that a call leads to, if a thread in this phase may make it.
@@ -65,17 +66,34 @@ pub fn step<W: Words>(words: &mut W, family: Family, phase: Phase) -> (Phase, Ou
     (phase, outcome)
 }
 
-/// The outcome that a section of a thread in this phase would have. Nothing changes.
-pub fn outcome(words: &WordArray, family: Family, phase: Phase) -> Outcome
+/// What a section of a thread in this phase would do. Nothing changes.
+pub fn section(words: &WordArray, family: Family, phase: Phase) -> SectionEffect
     requires words { word_count family ≤ length words.now.0 }
     requires one { 1 < 2 ^ words.now.1 }
-    ensures { result ≡ (step family words.now.1 words.now.0 phase).outcome }
+    ensures value { result ≡ section family words.now.1 words.now.0 phase }
+    ensures tells { Tells result words.now.0 (step family words.now.1 words.now.0 phase).words }
 {
     let bits = words.bits();
     let (first, second) = (words.get(0), words.get(1));
     match family {
-        Family::FifoReadWrite => rw_fifo::section(bits, [first, second, words.get(2)], phase).2,
-        _ => rw_simple::section(bits, [first, second, 0], phase).2,
+        Family::FifoReadWrite => {
+            let found = [first, second, words.get(2)];
+            let (left, _, outcome) = rw_fifo::section(bits, found, phase);
+            SectionEffect {
+                found,
+                left,
+                outcome,
+            }
+        }
+        _ => {
+            let found = [first, second, 0];
+            let (left, _, outcome) = rw_simple::section(bits, found, phase);
+            SectionEffect {
+                found,
+                left,
+                outcome,
+            }
+        }
     }
 }
 

@@ -7,7 +7,7 @@
 //! have B bits and wrap; signals are not modelled; a writer may downgrade. Threads that wait for a
 //! clear flag enter in any order.
 
-ghost use Rattle.std.specs.Prelude.{◌≡◌, ◌^◌, ◌<◌, ◌≤◌};
+ghost use Rattle.std.specs.Prelude.{◌≡◌, ◌⊎◌, ◌^◌, ◌<◌, ◌≤◌, slice_index};
 ghost use Rattle.lk_locks.specs.rw_fifo.{step};
 ghost use Rattle.lk_locks.specs.read_write.{AreWords};
 
@@ -27,6 +27,8 @@ pub fn section(bits: u8, found: [u64; 3], phase: Phase) -> ([u64; 3], Phase, Out
     ensures phase { result.1 ≡ (step bits found phase).phase }
     ensures outcome { result.2 ≡ (step bits found phase).outcome }
     ensures fits { AreWords bits result.0 }
+    ensures few { slice_index result.0 1 ≡ slice_index found 1
+        ⊎ slice_index result.0 2 ≡ slice_index found 2 }
 {
     use Outcome::{Entered, Left, Moved, Waits};
     use Phase::{AwaitReaders, Idle, LeaveRead, LeaveWrite, Reading, Writing};

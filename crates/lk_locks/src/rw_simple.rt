@@ -6,7 +6,7 @@
 //! count is not 0 or the flag is set, and then sets the flag; the count has B bits; signals are not
 //! modelled; a writer may downgrade.
 
-ghost use Rattle.std.specs.Prelude.{◌≡◌, ◌^◌, ◌<◌, ◌≤◌};
+ghost use Rattle.std.specs.Prelude.{◌≡◌, ◌⊎◌, ◌^◌, ◌<◌, ◌≤◌, slice_index};
 ghost use Rattle.lk_locks.specs.rw_simple.{step};
 ghost use Rattle.lk_locks.specs.read_write.{AreWords};
 
@@ -26,6 +26,8 @@ pub fn section(bits: u8, found: [u64; 3], phase: Phase) -> ([u64; 3], Phase, Out
     ensures phase { result.1 ≡ (step bits found phase).phase }
     ensures outcome { result.2 ≡ (step bits found phase).outcome }
     ensures fits { AreWords bits result.0 }
+    ensures few { slice_index result.0 1 ≡ slice_index found 1
+        ⊎ slice_index result.0 2 ≡ slice_index found 2 }
 {
     use Outcome::{Entered, Left, Waits};
     use Phase::{Idle, LeaveRead, LeaveWrite, Reading, TryDowngrade, TryRead, TryWrite, Writing};

@@ -1,4 +1,3 @@
-pub mod AtMostTwo
 pub mod Touched
 pub mod Tracks
 pub mod PlayedOn

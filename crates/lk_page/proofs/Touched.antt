@@ -9,11 +9,9 @@ use Rattle.lk_words.specs.declared.operation.Operation.{Operation}
 use Rattle.lk_words.specs.declared.operation.Operation.TheVariants.{Read, Write, Swap}
 use Rattle.lk_words.specs.declared.operation.Operation.TheVariants.{CompareAndSwap, FetchAndAdd}
 use Rattle.lk_words.proofs.Operations.{one_word}
-use Rattle.lk_locks.specs.Entries.{entries_of}
 use Rattle.lk_locks.specs.Locks.{operation_of}
 use Rattle.lk_locks.specs.State.{State, phase_at}
-use Rattle.lk_locks.specs.Steps.{next_state}
-use Rattle.lk_locks.specs.Tracked.{Tracked, followed}
+use Rattle.lk_locks.specs.Steps.{change_of}
 use Rattle.lk_locks.specs.declared.kinds.Move.{Move}
 use Rattle.lk_locks.specs.declared.kinds.Move.TheVariants.{Step}
 use Rattle.lk_locks.specs.declared.kinds.StepKind.{StepKind}
@@ -45,23 +43,17 @@ within bits size (Swap i v) h = h.0
 within bits size (CompareAndSwap i old new) h = h.0
 within bits size (FetchAndAdd i d) h = h.0
 
--- a step of a lock that is seen in this state
-pub step_touches : (k next : Tracked) (seen : State) (t : ℕ) (m : Move) (kind : StepKind)
-    (o : Operation) (e : Effect)
-    → m ≡ Step kind → seen ≡ k.state
-    → next ≡ followed k (next_state k.state t m) (entries_of k.state t m)
-    → Some o ≡ operation_of seen.kind seen.bits t (phase_at seen.phases t)
-    → Fits seen.bits (length seen.words) o → e ≡ effect_on k.state.bits k.state.words o
-    → AreTouched k.state.words next.state.words
-    (Some (record { word = e.word; found = e.found; left = e.left })) None
-step_touches k next seen t m kind o e is same after due fits does =
-    let s : State = k.state in
-    let due : Some o ≡ operation_of s.kind s.bits t (phase_at s.phases t) = rw same at due in
+-- a step that is one operation
+pub step_touches : (s : State) (t : ℕ) (m : Move) (kind : StepKind) (o : Operation) (e : Effect)
+    → m ≡ Step kind → Some o ≡ operation_of s.kind s.bits t (phase_at s.phases t)
+    → Fits s.bits (length s.words) o → e ≡ effect_on s.bits s.words o
+    → AreTouched s.words (change_of s t m).words
+    (Some (record { word = e.word; found = slice_index s.words e.word; left = e.left })) None
+step_touches s t m kind o e is due fits does =
     rw (
-      after,
       is,
       does,
       step_words s.kind s.bits s.words t (phase_at s.phases t) o (sym due),
       one_word s.bits s.words o,
     )
-    (one_touched s.words _ (within _ _ o (rw same at fits)) refl)
+    (one_touched s.words _ (within _ _ o fits) refl)

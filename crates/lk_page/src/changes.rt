@@ -1,57 +1,81 @@
 //! What a move does to the words. A step of a queue lock is one operation, and its effect says what
-//! it does. Only around a section, which is on all words of its monitor, are the words compared.
+//! it does to its word. Of a section, only the words that it changes are told.
 
-ghost use Rattle.std.specs.Prelude.{◌≡◌, ◌≢◌, ◌<◌, ◌≤◌, None, length, MatchOption};
+ghost use Rattle.std.specs.Prelude.{◌≡◌, ◌≢◌, ◌<◌, ◌≤◌, ℕ, List, None, length};
+ghost use Rattle.lk_locks.specs.read_write.{Tells};
 ghost use Rattle.lk_locks.specs.Steps.{change_of, refusal_of};
 ghost use Rattle.lk_locks.specs.Tracked.{after_tracked};
-ghost use Rattle.lk_page.specs.Changes.{AreKept, AreTwoAtMost, IsNextChange};
+ghost use Rattle.lk_page.specs.Changes.{IsChangeAt};
 ghost use Rattle.lk_page.specs.Told.{AreTouched, IsChange, IsOwn, own_word};
 
-use crate::layout::copy_of;
 use crate::told::Touch;
-use lk_locks::{Added, Move, Outcome, Tracker};
+use lk_locks::{Added, Machine, Move, Outcome, SectionEffect, Tracker};
 use lk_words::WordArray;
 
 /// The words as they are.
-pub fn words_of(lock: &Tracker<WordArray>) -> &[u64]
-    ensures words { result.now ≡ lock.now.state.words }
+pub fn words_of(machine: &Machine<WordArray>) -> &[u64]
+    ensures words { result.now ≡ machine.now.words }
     ensures few { length result.now ≤ 129 }
 {
-    lock.machine().words().as_slice()
+    machine.words().as_slice()
 }
 
-// The first word from `from` on that is not as it was.
-fn next_change(before: &[u64], after: &[u64], from: usize) -> Option<Touch>
-    requires same { length before.now ≡ length after.now }
-    requires few { length before.now ≤ 129 }
-    ensures { MatchOption result (AreKept before.now after.now from (length before.now))
-        (IsNextChange before.now after.now from) }
+// The word of a section at this place, if it changed.
+fn change_at(section: &SectionEffect, place: usize) -> Option<Touch>
+    requires { place < 3 }
+    ensures { IsChangeAt section.now place result }
 {
-    for word in from..before.len() {
-        if before[word] != after[word] {
-            return Some(Touch {
-                word: word as u8,
-                found: before[word],
-                left: after[word],
-            });
-        }
+    let (found, left) = (section.found[place], section.left[place]);
+    if left == found {
+        return None;
     }
-    None
+    Some(Touch {
+        word: place as u8,
+        found,
+        left,
+    })
 }
 
-// The words that a section changed.
-fn changes(before: &[u64], after: &[u64]) -> (Option<Touch>, Option<Touch>)
-    requires same { length before.now ≡ length after.now }
-    requires few { length before.now ≤ 129 }
-    requires changes { AreTwoAtMost before.now after.now }
-    ensures touched { AreTouched before.now after.now result.0 result.1 }
+// The words that a section changed: of the second and the third it changes one at most.
+fn changes(section: &SectionEffect) -> (Option<Touch>, Option<Touch>)
+    ensures touched { (before after : List ℕ) → Tells section.now before after
+        → AreTouched before after result.0 result.1 }
     ensures changed { result.0 ≢ None → IsChange result.0 }
 {
-    let Some(first) = next_change(before, after, 0) else {
+    let first = change_at(section, 0);
+    let other = change_at(section, 1).or(change_at(section, 2));
+    if first.is_some() {
+        (first, other)
+    } else {
+        (other, None)
+    }
+}
+
+// The words that a move which is accepted touches. A call touches none.
+fn touches(machine: &Machine<WordArray>, thread: u8, action: Move) -> (Option<Touch>, Option<Touch>)
+    requires { refusal_of machine.now thread action ≡ None }
+    ensures touched { AreTouched machine.now.words (change_of machine.now thread action).words
+        result.0 result.1 }
+    ensures own { IsOwn (length machine.now.words) (own_word machine.now thread action)
+        result.0 result.1 }
+{
+    if let Move::Call(_) = action {
         return (None, None);
-    };
-    let second = next_change(before, after, first.word as usize + 1);
-    (Some(first), second)
+    }
+    let words = words_of(machine);
+    match (machine.operation(thread), machine.section(thread)) {
+        (Some(operation), _) => {
+            let effect = machine.words().effect(operation);
+            let touch = Touch {
+                word: effect.word as u8,
+                found: words[effect.word],
+                left: effect.left,
+            };
+            (Some(touch), None)
+        }
+        (None, Some(section)) => changes(&section),
+        (None, None) => (None, None),
+    }
 }
 
 /// Makes a move that is accepted: its outcome, and the words that it touched.
@@ -67,26 +91,7 @@ pub fn make(
     ensures own { IsOwn (length lock.old.state.words) (own_word lock.old.state thread action)
         result.1 result.2 }
 {
-    let added = &mut Added::none();
-    let words = words_of(lock);
-    match action {
-        Move::Call(_) => (lock.make(thread, action, added), None, None),
-        Move::Step(_) => match lock.machine().operation(thread) {
-            Some(operation) => {
-                let effect = lock.machine().words().effect(operation);
-                let touch = Touch {
-                    word: effect.word as u8,
-                    found: effect.found,
-                    left: effect.left,
-                };
-                (lock.make(thread, action, added), Some(touch), None)
-            }
-            None => {
-                let before = copy_of::<u64, 129>(words);
-                let outcome = lock.make(thread, action, added);
-                let (first, second) = changes(before.as_slice(), words_of(lock));
-                (outcome, first, second)
-            }
-        },
-    }
+    let (first, second) = touches(lock.machine(), thread, action);
+    let outcome = lock.make(thread, action, &mut Added::none());
+    (outcome, first, second)
 }

@@ -123,8 +123,8 @@ pub fn state_bytes(lock: &Tracker<WordArray>, moves: u32, stopped: Stopped) -> A
     let queue = lock.queue();
     let holder_slice = holders.as_slice();
     let queue_slice = queue.as_slice();
-    let words = words_of(lock);
     let machine = lock.machine();
+    let words = words_of(machine);
     let bits = machine.words().bits();
     let kind = lock_code(lock.kind());
     put_u32s(&mut out, &stop_numbers(stopped.refused));

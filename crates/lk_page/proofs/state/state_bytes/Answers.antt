@@ -25,7 +25,7 @@ returns-clause-bytes c =
     (c.as_slice-holder_slice.ensures.value ∙ c.holder_list-code.ensures.list
     ∙ ap holder_list c.holders.ensures.holding)
     (c.as_slice-queue_slice.ensures.value ∙ c.queue-queue.ensures)
-    c.words_of-words.ensures.words
+    (c.words_of-words.ensures.words ∙ ap (λ (s : State). s.words) c.machine-machine.ensures)
     c.new-out.ensures c.put_u32s.ensures.bytes c.put_u32s-2.ensures.bytes c.put_list.ensures.bytes
     c.put_list-2.ensures.bytes
     (c.put_threads.ensures.bytes
