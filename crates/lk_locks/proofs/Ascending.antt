@@ -1,6 +1,8 @@
 -- Lists of readers stay in ascending order if one joins or leaves, and where that is.
-use Rattle.std.proofs.Common.{ap, arith, eqb, false, inl, inr, insert, leb, length, List, ltb, nat_lt}
-use Rattle.std.proofs.Common.{refl, remove, slice_index_or, true, zero, suc, [], ◌<◌, ◌≤◌, ◌∷◌, ◌≡◌, ℕ}
+use Rattle.std.proofs.Common.{ap, arith, eqb, false, inl, inr}
+use Rattle.std.proofs.Common.{insert, leb, length, List, ltb, nat_lt}
+use Rattle.std.proofs.Common.{refl, remove, slice_index_or, true, zero, suc}
+use Rattle.std.proofs.Common.{[], ◌<◌, ◌≤◌, ◌∷◌, ◌≡◌, ℕ}
 use Rattle.std.specs.List.{AllByRecursion}
 use Rattle.std.specs.List.Sorted.{IsNonDecreasingBy, IsPartitionPoint}
 use Rattle.std.proofs.lemmas.Bool.{eqb-true, le-ltb, leb-false, leb-true, lt-ltb, ltb-false}
