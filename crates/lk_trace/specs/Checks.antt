@@ -7,7 +7,7 @@ use Rattle.std.specs.Option.{option_and_then, option_or}
 use Rattle.lk_locks.specs.State.{State, start, phase_at}
 use Rattle.lk_words.specs.Operations.{effect_on}
 use Rattle.lk_words.specs.declared.operation.Effect.{Effect}
-use Rattle.lk_locks.specs.Locks.{operation_of, word_count}
+use Rattle.lk_locks.specs.Locks.{operation_of, section_of, word_count}
 use Rattle.lk_locks.specs.Steps.{refusal_of, change_of, next_state}
 use Rattle.lk_locks.specs.Entries.{entries_of}
 use Rattle.lk_locks.specs.Tracked.{Tracked, tracked, followed}
@@ -145,6 +145,7 @@ made_of s t m = record {
   from = phase_at s.phases t;
   outcome = (change_of s t m).outcome;
   effect = effect_of s t m;
+  section = section_of s.kind s.bits s.words (phase_at s.phases t);
 }
 
 abbrev pub answer_unless : Option Difference → Made → Result Made Difference

@@ -9,7 +9,7 @@ ghost use Rattle.lk_trace.specs.Checks.{new_lock, Checked};
 
 use crate::compare::{effect, first_difference};
 use crate::{Difference, Seen, TraceLine};
-use lk_locks::{Added, LockKind, Move, Outcome, Phase, Tracker, words_needed};
+use lk_locks::{Added, LockKind, Move, Outcome, Phase, SectionEffect, Tracker, words_needed};
 use lk_words::{Effect, WordArray};
 use std::marker::Model;
 
@@ -21,6 +21,8 @@ pub struct Made {
     pub outcome: Outcome,
     /// What it did to its word, if it was one operation on one word.
     pub effect: Option<Effect>,
+    /// What it did to the words of its monitor, if it was a section.
+    pub section: Option<SectionEffect>,
 }
 
 /// A lock on which a run is made again. A contract sees the lock, and the greatest count of a
@@ -114,12 +116,14 @@ impl Checker {
         }
         let from = self.lock.machine().phase(line.thread);
         let effect = effect(self.lock.machine(), line.thread, line.action);
+        let section = self.lock.machine().section(line.thread);
         self.sections = count_given(self.sections, line.seen);
         let outcome = self.lock.make(line.thread, line.action, &mut Added::none());
         Ok(Made {
             from,
             outcome,
             effect,
+            section,
         })
     }
 }

@@ -11,7 +11,7 @@ use crate::texts::{Called, Lock, Standing, Wrong};
 use crate::written::write_waiting;
 use faulty::put_fault;
 pub use faulty::{put_wrong, wrong_in_header};
-use lk_locks::{Machine, Move};
+use lk_locks::{Machine, Move, SectionEffect};
 use lk_replay::parts::{MOVE_WORDS, move_named, move_text, outcome_text};
 use lk_trace::{Event, Made, TextFault, TraceLine, TraceReader, name_at};
 use lk_words::{Effect, WordArray};
@@ -28,9 +28,8 @@ pub struct Asked<'a> {
 }
 
 // Writes the words that a section changed.
-fn put_changes(text: &mut String, lock: &Lock, before: &WordArray) -> Result<(), AllocError> {
-    let after = lock.machine().words().as_slice();
-    for (place, (old, new)) in before.as_slice().iter().zip(after).enumerate() {
+fn put_changes(text: &mut String, lock: &Lock, section: SectionEffect) -> Result<(), AllocError> {
+    for (place, (old, new)) in section.found.iter().zip(&section.left).enumerate() {
         match name_at(lock.kind(), place) {
             Some(word) if old != new => write!(text, ", {word} {old} to {new}")?,
             _ => {}
@@ -54,7 +53,6 @@ fn put_move(
     text: &mut String,
     names: &[String],
     lock: &Lock,
-    before: &WordArray,
     line: TraceLine,
     made: Made,
 ) -> Result<(), AllocError> {
@@ -64,9 +62,11 @@ fn put_move(
         outcome_text(made.outcome),
     );
     write!(text, "{thread} {word}: {came}")?;
-    match made.effect {
-        Some(effect) => put_values(text, lock, effect)?,
-        None => put_changes(text, lock, before)?,
+    if let Some(effect) = made.effect {
+        put_values(text, lock, effect)?;
+    }
+    if let Some(section) = made.section {
+        put_changes(text, lock, section)?;
     }
     let meaning = sentence(lock.kind(), made.from, line.action, made.outcome);
     let (called, standing) = (Called(thread, names), Standing(lock));
@@ -111,14 +111,12 @@ impl Explainer<'_> {
         line: &[u8],
         text: &mut String,
     ) -> Result<Option<Ending>, AllocError> {
-        let checker = self.trace.checker();
-        let before = checker.map(|checker| checker.lock().machine().words().copy());
         let event = self.trace.line(line);
         if let Event::Fault(fault) = event {
             put_fault(text, self.alloc, number, line, fault)?;
             return Ok(Some(Ending::Faulty));
         }
-        let (Some(checker), Some(before)) = (self.trace.checker(), before) else {
+        let Some(checker) = self.trace.checker() else {
             return Ok(None);
         };
         let lock = checker.lock();
@@ -127,7 +125,7 @@ impl Explainer<'_> {
                 let (first, last) = self.asked.lines;
                 if first <= number && number <= last {
                     write!(text, "{number}: ")?;
-                    put_move(text, self.asked.names, lock, &before, line, made)?;
+                    put_move(text, self.asked.names, lock, line, made)?;
                 }
                 Ok(None)
             }
