@@ -16,8 +16,8 @@ pub enum Sought {
     TooLarge { states: usize },
     /// There is a run, and no room for its moves.
     LongRun,
-    /// The text is no sketch.
-    NoSketch(SketchFault),
+    /// The text is no sketch, by this line.
+    NoSketch(u32, SketchFault),
 }
 
 /// The number of an answer.
@@ -29,9 +29,9 @@ pub fn sought_code(sought: Sought) -> u64
         Sought::Nowhere { .. } => 1,
         Sought::TooLarge { .. } => 2,
         Sought::LongRun => 3,
-        Sought::NoSketch(SketchFault::BadLine(_)) => 4,
-        Sought::NoSketch(SketchFault::TooManyLines(_)) => 5,
-        Sought::NoSketch(SketchFault::NoRoom(_)) => 6,
+        Sought::NoSketch(_, SketchFault::TooManyLines) => 5,
+        Sought::NoSketch(_, SketchFault::NoRoom) => 6,
+        Sought::NoSketch(_, _) => 4,
     }
 }
 
@@ -43,10 +43,6 @@ pub fn sought_number(sought: Sought) -> u64
         Sought::Found { moves } => moves as u64,
         Sought::Nowhere { states } | Sought::TooLarge { states } => states as u64,
         Sought::LongRun => 0,
-        Sought::NoSketch(
-            SketchFault::BadLine(line)
-            | SketchFault::TooManyLines(line)
-            | SketchFault::NoRoom(line),
-        ) => u64::from(line),
+        Sought::NoSketch(line, _) => u64::from(line),
     }
 }

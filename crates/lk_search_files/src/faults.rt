@@ -3,7 +3,7 @@
 
 ghost use Rattle.std.specs.Prelude.{◌≡◌, IfOk};
 
-use crate::sketches::SketchFault;
+use lk_search::SketchFault;
 use lk_trace::{MOST_OF_A_LINE, unreadable_sketch_line};
 use lk_trace_files::{Status, put_wrong, wrong_in_header};
 use std::alloc::{AllocError, Global};
@@ -32,7 +32,7 @@ pub fn put_fault(
     let wrong = match fault {
         SketchFault::Header(_) => wrong_in_header(line),
         SketchFault::BadLine => unreadable_sketch_line(line),
-        SketchFault::BadRounds | SketchFault::TooManyLines => return Ok(()),
+        _ => return Ok(()),
     };
     put_wrong(text, alloc, line, wrong)
 }

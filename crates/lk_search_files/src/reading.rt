@@ -2,8 +2,9 @@
 
 use crate::asked::Source;
 use crate::faults::{put_fault, put_unread};
-use crate::sketches::{Sketch, SketchFault};
+use crate::sketches::Sketch;
 use lk_replay::parts::Header;
+use lk_search::SketchFault;
 use lk_trace::TextFault;
 use lk_trace_files::{Status, take_lines};
 use std::alloc::{AllocError, Global};

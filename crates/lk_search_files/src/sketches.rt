@@ -3,33 +3,15 @@
 ghost use Rattle.std.specs.Prelude.{◌≡◌, ◌≤◌, vec_len};
 
 use lk_replay::parts::{Header, is_skipped, number_of};
-use lk_search::{Admitted, admit};
-use lk_trace::{TextFault, read_header};
+use lk_search::{Admitted, SketchFault, admit};
+use lk_trace::read_header;
 use std::alloc::{AllocError, Global};
-use thiserror::Error;
 
 /// The most lines of a sketch.
 const MOST_LINES: usize = 255;
 
 // The comment that says how many rounds a thread has.
 const ROUNDS: &str = "#! rounds ";
-
-/// Why a text is no sketch.
-#[derive(Clone, Copy, PartialEq, Eq, Debug, Error)]
-pub enum SketchFault {
-    /// The header is missing or none.
-    #[error("{0}")]
-    Header(TextFault),
-    /// `#! rounds` is not followed by a number from 1 to 255.
-    #[error("not a number of rounds, from 1 to 255 (BadRounds)")]
-    BadRounds,
-    /// A later line is no line of a trace, with or without open parts.
-    #[error("not a line of a sketch (BadLine)")]
-    BadLine,
-    /// Line number 256.
-    #[error("a sketch has at most 255 lines (TooManyLines)")]
-    TooManyLines,
-}
 
 /// A sketch of which some lines were read.
 #[derive(Drop)]
