@@ -1,8 +1,8 @@
 -- Lists of readers stay in ascending order if one joins or leaves, and where that is.
-use Rattle.std.proofs.Common.{ap, arith, eqb, false, inl, inr}
-use Rattle.std.proofs.Common.{insert, leb, length, List, ltb, nat_lt}
-use Rattle.std.proofs.Common.{refl, remove, slice_index_or, true, zero, suc}
-use Rattle.std.proofs.Common.{[], ◌<◌, ◌≤◌, ◌∷◌, ◌≡◌, ℕ}
+use Rattle.std.proofs.Common.{ap, arith, eqb, false, inl, inr, insert, leb, length, List, ltb}
+use Rattle.std.proofs.Common.{nat_lt}
+use Rattle.std.proofs.Common.{refl, remove, slice_index_or, true, zero, suc, [], ◌<◌, ◌≤◌, ◌∷◌, ◌≡◌}
+use Rattle.std.proofs.Common.{ℕ}
 use Rattle.std.specs.List.{AllByRecursion}
 use Rattle.std.specs.List.Sorted.{IsNonDecreasingBy, IsPartitionPoint}
 use Rattle.std.proofs.lemmas.Bool.{eqb-true, le-ltb, leb-false, leb-true, lt-ltb, ltb-false}
@@ -12,7 +12,7 @@ use Rattle.lk_locks.specs.Sequential.{has, IsAscending, joined, left_by}
 use Rattle.lk_locks.proofs.Threads.{true_or_false, neither}
 
 -- what holds of all in the list and of one who joins holds of all after that
-all_joined : (Holds : ℕ → Type 0) (ts : List ℕ) (t : ℕ) → Holds t → AllByRecursion Holds ts
+pub all_joined : (Holds : ℕ → Type 0) (ts : List ℕ) (t : ℕ) → Holds t → AllByRecursion Holds ts
     → AllByRecursion Holds (joined ts t)
 all_joined Holds [] t holds all = (holds, tt)
 all_joined Holds (first ∷ ts) t holds (here, rest) = elim (true_or_false (nat_lt t first)) [
@@ -21,7 +21,7 @@ all_joined Holds (first ∷ ts) t holds (here, rest) = elim (true_or_false (nat_
 ]
 
 -- what holds of all in the list holds of all after one has left
-all_left : (Holds : ℕ → Type 0) (ts : List ℕ) (t : ℕ) → AllByRecursion Holds ts
+pub all_left : (Holds : ℕ → Type 0) (ts : List ℕ) (t : ℕ) → AllByRecursion Holds ts
     → AllByRecursion Holds (left_by ts t)
 all_left Holds [] t all = tt
 all_left Holds (first ∷ ts) t (here, rest) = elim (true_or_false (eqb t first)) [
