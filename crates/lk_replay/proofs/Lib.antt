@@ -11,6 +11,7 @@ pub mod Reports
 pub mod LastLines
 pub mod Texts
 pub mod Listing
+pub mod Bits
 pub mod Passed
 pub mod Printed
 pub mod Promised

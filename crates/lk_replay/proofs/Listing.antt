@@ -5,18 +5,24 @@ use Rattle.std.proofs.Common.{◌∙◌, subst, arith, append_assoc, append-nil,
 use Rattle.std.proofs.Common.{IsTrue, ◌↔◌, inl, inr}
 use Rattle.std.specs.List.{AllByRecursion}
 use Rattle.std.proofs.Math.Seq.{drop-append_seam, take-append_seam}
-use Rattle.std.proofs.lemmas.Bool.{cases_Bool, eqb-true, le-ltb, lt-ltb}
+use Rattle.std.proofs.lemmas.Bool.{cases_Bool, eq-eqb, eqb-true, le-ltb, lt-ltb, ne_eqb}
 use Rattle.std.proofs.lemmas.Fmt.{length-decimal-le}
 use Rattle.lk_locks.specs.Sequential.{Sequential, IsAscending, has, is_head, joined, left_by}
+use Rattle.lk_locks.proofs.Ascending.{all_joined, all_left, below_member}
 use Rattle.std.proofs.lemmas.Grind.{flat_map-append}
-use Rattle.lk_replay.specs.Following.{above, up_to, AreListed}
+use Rattle.lk_replay.specs.Following.{below, bits_of, AreListed}
 use Rattle.lk_replay.specs.Report.{later_numbers, queue_text}
 
-later_append : (xs ys : List ℕ) → later_numbers (xs ++ ys) ≡ later_numbers xs ++ later_numbers ys
+pub later_append : (xs ys : List ℕ)
+    → later_numbers (xs ++ ys) ≡ later_numbers xs ++ later_numbers ys
 later_append xs ys = flat_map-append (λ (n : ℕ). 44 ∷ decimal n) xs ys
 
 abbrev pub AreBytes : List ℕ → Type 0
 AreBytes xs = AllByRecursion (λ t. t < 256) xs
+
+are_bytes : (xs : List ℕ) → AllByRecursion (λ u. u < 64) xs → AreBytes xs
+are_bytes [] all = tt
+are_bytes (x ∷ xs) (small, all) = (omega (arith, small), are_bytes xs all)
 
 -- each number has at most three digits and a comma
 pub later_most : (xs : List ℕ) → AreBytes xs → length (later_numbers xs) ≤ 4 * length xs
@@ -52,180 +58,198 @@ head_listed (x ∷ xs) text t gone head is wide =
           ∙ drop-append_seam (44 ∷ decimal x) (later_numbers xs),
     )
 
--- an ascending list, cut after a thread
-pub two_parts : (xs : List ℕ) (t : ℕ) → xs ≡ up_to xs t ++ above xs t
-two_parts [] t = refl
-two_parts (x ∷ xs) t = elim (cases_Bool (nat_lt t x)) [
-  | inl h ↦ rw h refl
-  | inr h ↦ rw h (ap (λ (ys : List ℕ). x ∷ ys) (two_parts xs t))
-]
+-- a list with a thread, cut before it
+pub record IsSplit (xs : List ℕ) (t : ℕ) : Type 0 where
+  pub after : List ℕ
+  pub whole : xs ≡ below xs t ++ t ∷ after
+  pub left : left_by xs t ≡ below xs t ++ after
 
-pub joined_parts : (xs : List ℕ) (t : ℕ) → joined xs t ≡ up_to xs t ++ t ∷ above xs t
-joined_parts [] t = refl
-joined_parts (x ∷ xs) t = elim (cases_Bool (nat_lt t x)) [
-  | inl h ↦ rw h refl
-  | inr h ↦ rw h (ap (λ (ys : List ℕ). x ∷ ys) (joined_parts xs t))
-]
-
--- all are above
-none_up : (xs : List ℕ) (t : ℕ) → AllByRecursion (λ y. t < y) xs
-    → (up_to xs t ≡ []) × (above xs t ≡ xs)
-none_up [] t a = (refl, refl)
-none_up (x ∷ xs) t (b, a) = rw (lt-ltb t x b) (refl, refl)
-
-below_member : (xs : List ℕ) (x t : ℕ) → AllByRecursion (λ y. x < y) xs → has xs t ≡ true → x < t
-below_member [] x t a h = absurd (cc)
-below_member (y ∷ ys) x t (b, a) h = elim (cases_Bool (eqb t y)) [
-  | inl e ↦ omega (arith, eqb-true t y e, b)
-  | inr e ↦ below_member ys x t a (let g : has (y ∷ ys) t ≡ true = h in rw e at g)
-]
-
--- who leaves is the last of the first part
-pub record IsLast (xs : List ℕ) (t : ℕ) : Type 0 where
-  pub before : List ℕ
-  pub up : up_to xs t ≡ before ++ t ∷ []
-  pub left : left_by xs t ≡ before ++ above xs t
-
-pub left_parts : (xs : List ℕ) (t : ℕ) → IsAscending xs → has xs t ≡ true → IsLast xs t
-left_parts [] t a h = absurd (cc)
-left_parts (x ∷ xs) t (b, a) h = elim (cases_Bool (eqb t x)) [
+pub split : (xs : List ℕ) (t : ℕ) → IsAscending xs → has xs t ≡ true → IsSplit xs t
+split [] t a h = absurd (cc)
+split (x ∷ xs) t (b, a) h = elim (cases_Bool (eqb t x)) [
   | inl e ↦ let same : t ≡ x = eqb-true t x e in
-      let none = none_up xs t (rw same b) in
-      let low : nat_lt t x ≡ false = le-ltb t x (omega (arith, same)) in
+      let low : nat_lt x t ≡ false = le-ltb x t (omega (arith, same)) in
       record {
-        before = [];
-        up = rw (low, none.0) (ap (λ (y : ℕ). y ∷ []) (sym same));
-        left = rw (e, low) (sym none.1);
+        after = xs;
+        whole = rw low (ap (λ (y : ℕ). y ∷ xs) (sym same));
+        left = rw (e, low) refl;
       }
   | inr e ↦ let g : has (x ∷ xs) t ≡ true = h in
-      let more : IsLast xs t = left_parts xs t a (rw e at g) in
-      let low : nat_lt t x ≡ false =
-      le-ltb t x (omega (arith, below_member xs x t b (rw e at g))) in
+      let more : IsSplit xs t = split xs t a (rw e at g) in
+      let high : nat_lt x t ≡ true = lt-ltb x t (below_member xs x t b (rw e at g)) in
       record {
-        before = x ∷ more.before;
-        up = rw low (ap (λ (ys : List ℕ). x ∷ ys) more.up);
-        left = rw (e, low) (ap (λ (ys : List ℕ). x ∷ ys) more.left);
+        after = more.after;
+        whole = rw high (ap (λ (ys : List ℕ). x ∷ ys) more.whole);
+        left = rw (e, high) (ap (λ (ys : List ℕ). x ∷ ys) more.left);
       }
 ]
 
-later_parts : (xs text : List ℕ) (t : ℕ) → text ≡ later_numbers xs
-    → text ≡ later_numbers (up_to xs t) ++ later_numbers (above xs t)
-later_parts xs text t is =
-    is ∙ ap later_numbers (two_parts xs t) ∙ later_append (up_to xs t) (above xs t)
+-- the texts of the list with the thread, and without it
+with_parts : (xs : List ℕ) (t : ℕ) → (s : IsSplit xs t)
+    → later_numbers xs
+    ≡ later_numbers (below xs t) ++ ((44 ∷ decimal t) ++ later_numbers s.after)
+with_parts xs t s = ap later_numbers s.whole ∙ later_append (below xs t) (t ∷ s.after)
 
-pub reader_place : (xs text : List ℕ) (t at : ℕ) → text ≡ later_numbers xs
-    → at ≡ length (later_numbers (up_to xs t)) → at ≤ length text
-reader_place xs text t at is place =
+without_parts : (xs : List ℕ) (t : ℕ) → (s : IsSplit xs t)
+    → later_numbers (left_by xs t) ≡ later_numbers (below xs t) ++ later_numbers s.after
+without_parts xs t s = ap later_numbers s.left ∙ later_append (below xs t) s.after
+
+pub reader_place : (xs text : List ℕ) (t at : ℕ) → IsAscending xs → has xs t ≡ true
+    → text ≡ later_numbers (left_by xs t) → at ≡ length (later_numbers (below xs t))
+    → at ≤ length text
+reader_place xs text t at a h is place =
+    let s : IsSplit xs t = split xs t a h in
     omega (
       arith,
       place,
-      ap length (later_parts xs text t is),
-      length-append (later_numbers (up_to xs t)) (later_numbers (above xs t)),
+      ap length (is ∙ without_parts xs t s),
+      length-append (later_numbers (below xs t)) (later_numbers s.after),
+    )
+
+-- the text without a thread has room for it
+pub shorter : (xs text : List ℕ) (t : ℕ) → IsAscending xs → has xs t ≡ true
+    → AllByRecursion (λ u. u < 64) xs → text ≡ later_numbers (left_by xs t)
+    → length text ≤ 4 * length xs
+shorter xs text t a h fit is =
+    let s : IsSplit xs t = split xs t a h in
+    omega (
+      arith,
+      ap length (is ∙ without_parts xs t s),
+      length-append (later_numbers (below xs t)) (later_numbers s.after),
+      later_most xs (are_bytes xs fit),
+      ap length (with_parts xs t s),
+      length-append (later_numbers (below xs t)) ((44 ∷ decimal t) ++ later_numbers s.after),
+      length-append (44 ∷ decimal t) (later_numbers s.after),
     )
 
 -- a reader comes
-pub reader_listed : (xs text now : List ℕ) (t at : ℕ) → text ≡ later_numbers xs
-    → at ≡ length (later_numbers (up_to xs t)) → now ≡ 44 ∷ decimal t
-    → (take at text ++ now) ++ drop at text ≡ later_numbers (joined xs t)
-reader_listed xs text now t at is place number =
-    let up : List ℕ = later_numbers (up_to xs t) in
-    let rest : List ℕ = later_numbers (above xs t) in
-    let whole : text ≡ up ++ rest = later_parts xs text t is in
+pub reader_listed : (xs text now : List ℕ) (t at : ℕ) → IsAscending xs → has xs t ≡ true
+    → text ≡ later_numbers (left_by xs t) → at ≡ length (later_numbers (below xs t))
+    → now ≡ 44 ∷ decimal t → (take at text ++ now) ++ drop at text ≡ later_numbers xs
+reader_listed xs text now t at a h is place number =
+    let s : IsSplit xs t = split xs t a h in
+    let up : List ℕ = later_numbers (below xs t) in
+    let rest : List ℕ = later_numbers s.after in
+    let whole : text ≡ up ++ rest = is ∙ without_parts xs t s in
     let prefix : take at text ≡ up =
     ap (λ (k : ℕ). take k text) place ∙ ap (take (length up)) whole
     ∙ take-append_seam up rest in
     let back : drop at text ≡ rest =
     ap (λ (k : ℕ). drop k text) place ∙ ap (drop (length up)) whole
     ∙ drop-append_seam up rest in
-    rw (prefix, back, number)
-    (append_assoc up (44 ∷ decimal t) rest
-    ∙ sym (ap later_numbers (joined_parts xs t) ∙ later_append (up_to xs t) (t ∷ above xs t)))
+    rw (prefix, back, number) (append_assoc up (44 ∷ decimal t) rest ∙ sym (with_parts xs t s))
 
 -- a reader goes
-pub record IsTakenOut (xs text : List ℕ) (t up gone : ℕ) : Type 0 where
-  pub some : gone ≤ up
-  pub within : up - gone + gone ≤ length text
-  pub rest : take (up - gone) text ++ drop (up - gone + gone) text ≡ later_numbers (left_by xs t)
+pub record IsTakenOut (xs text : List ℕ) (t at gone : ℕ) : Type 0 where
+  pub within : at + gone ≤ length text
+  pub rest : take at text ++ drop (at + gone) text ≡ later_numbers (left_by xs t)
 
-pub reader_gone : (xs text : List ℕ) (t up gone : ℕ) → IsAscending xs → has xs t ≡ true
-    → text ≡ later_numbers xs → up ≡ length (later_numbers (up_to xs t))
-    → gone ≡ length (decimal t) + 1
-    → IsTakenOut xs text t up gone
-reader_gone xs text t up gone a h is place wide =
-    let last : IsLast xs t = left_parts xs t a h in
-    let before : List ℕ = later_numbers last.before in
+pub reader_gone : (xs text : List ℕ) (t at gone : ℕ) → IsAscending xs → has xs t ≡ true
+    → text ≡ later_numbers xs → at ≡ length (later_numbers (below xs t))
+    → gone ≡ length (decimal t) + 1 → IsTakenOut xs text t at gone
+reader_gone xs text t at gone a h is place wide =
+    let s : IsSplit xs t = split xs t a h in
+    let up : List ℕ = later_numbers (below xs t) in
     let number : List ℕ = 44 ∷ decimal t in
-    let rest : List ℕ = later_numbers (above xs t) in
-    let first : later_numbers (up_to xs t) ≡ before ++ number =
-    ap later_numbers last.up ∙ later_append last.before (t ∷ [])
-    ∙ ap (λ (ys : List ℕ). before ++ 44 ∷ ys) (append-nil (decimal t)) in
-    let size : length (later_numbers (up_to xs t)) ≡ length before + length number =
-    ap length first ∙ length-append before number in
-    let whole : text ≡ before ++ (number ++ rest) =
-    later_parts xs text t is ∙ ap (λ (ys : List ℕ). ys ++ rest) first
-    ∙ append_assoc before number rest in
-    let at : up - gone ≡ length before = omega (arith, place, size, wide) in
-    let behind : up - gone + gone ≡ length (before ++ number) =
-    omega (arith, place, size, wide, length-append before number) in
+    let rest : List ℕ = later_numbers s.after in
+    let whole : text ≡ up ++ (number ++ rest) = is ∙ with_parts xs t s in
+    let behind : at + gone ≡ length (up ++ number) =
+    omega (arith, place, wide, length-append up number) in
     record {
-      some = omega (arith, place, size, wide);
       within = omega (
         arith,
         behind,
         ap length whole,
-        length-append before (number ++ rest),
+        length-append up (number ++ rest),
         length-append number rest,
-        length-append before number,
+        length-append up number,
       );
       rest =
-          ap (λ (k : ℕ). take k text ++ drop (up - gone + gone) text) at
-          ∙ ap (λ (k : ℕ). take (length before) text ++ drop k text) behind
-          ∙ ap (λ (ys : List ℕ). take (length before) ys ++ drop (length (before ++ number)) text)
-          whole
-          ∙ ap (λ (ys : List ℕ). ys ++ drop (length (before ++ number)) text)
-          (take-append_seam before (number ++ rest))
-          ∙ ap (λ (ys : List ℕ). before ++ drop (length (before ++ number)) ys)
-          (whole ∙ sym (append_assoc before number rest))
-          ∙ ap (λ (ys : List ℕ). before ++ ys) (drop-append_seam (before ++ number) rest)
-          ∙ sym (ap later_numbers last.left ∙ later_append last.before (above xs t));
+          ap (λ (k : ℕ). take k text ++ drop (at + gone) text) place
+          ∙ ap (λ (k : ℕ). take (length up) text ++ drop k text) behind
+          ∙ ap (λ (ys : List ℕ). take (length up) ys ++ drop (length (up ++ number)) text) whole
+          ∙ ap (λ (ys : List ℕ). ys ++ drop (length (up ++ number)) text)
+          (take-append_seam up (number ++ rest))
+          ∙ ap (λ (ys : List ℕ). up ++ drop (length (up ++ number)) ys)
+          (whole ∙ sym (append_assoc up number rest))
+          ∙ ap (λ (ys : List ℕ). up ++ ys) (drop-append_seam (up ++ number) rest)
+          ∙ sym (without_parts xs t s);
     }
-
--- ---- bytes stay bytes
-
-pub all_joined : (xs : List ℕ) (t : ℕ) → AreBytes xs → t < 256 → AreBytes (joined xs t)
-all_joined [] t a b = (b, tt)
-all_joined (x ∷ xs) t (c, a) b = elim (cases_Bool (nat_lt t x)) [
-  | inl h ↦ rw h (b, (c, a))
-  | inr h ↦ rw h (c, all_joined xs t a b)
-]
-
-pub all_left : (xs : List ℕ) (t : ℕ) → AreBytes xs → AreBytes (left_by xs t)
-all_left [] t a = tt
-all_left (x ∷ xs) t (c, a) = elim (cases_Bool (eqb t x)) [
-  | inl h ↦ rw h a
-  | inr h ↦ rw h (c, all_left xs t a)
-]
 
 -- ---- the lists after an act
 
-pub reader_came : (q r : Sequential) (requests readers new : List ℕ) (t : ℕ)
-    → AreListed q requests readers → r.queue ≡ q.queue → r.readers ≡ joined q.readers t → t < 256
-    → new ≡ later_numbers (joined q.readers t) → AreListed r requests new
-reader_came q r requests readers new t l same joins byte is = record {
+-- who joins is in the list, and the list without it is the one before
+has_joined : (xs : List ℕ) (t : ℕ) → has (joined xs t) t ≡ true
+has_joined [] t = rw (eq-eqb t t refl) refl
+has_joined (x ∷ xs) t = elim (cases_Bool (nat_lt t x)) [
+  | inl h ↦ rw (h, eq-eqb t t refl) refl
+  | inr h ↦ rw h (elim (cases_Bool (eqb t x)) [
+    | inl e ↦ rw e refl
+    | inr e ↦ rw e (has_joined xs t)
+  ])
+]
+
+left_joined : (xs : List ℕ) (t : ℕ) → IsAscending (joined xs t) → left_by (joined xs t) t ≡ xs
+left_joined [] t a = rw (eq-eqb t t refl) refl
+left_joined (x ∷ xs) t a = elim (cases_Bool (nat_lt t x)) [
+  | inl h ↦ rw (h, eq-eqb t t refl) refl
+  | inr h ↦
+      let up : IsAscending (joined (x ∷ xs) t) = a in
+      let parts : IsAscending (x ∷ joined xs t) = rw h at up in
+      let differ : eqb t x ≡ false =
+      ne_eqb t x (λ e. omega (
+        arith,
+        e,
+        below_member (joined xs t) x t parts.0 (has_joined xs t),
+      )) in
+      rw (h, differ) (ap (λ (ys : List ℕ). x ∷ ys) (left_joined xs t parts.1))
+]
+
+-- the texts and the bits as they are before the thread that joined is listed
+pub record HasJoined (now text : List ℕ) (bits t : ℕ) : Type 0 where
+  pub fit : AllByRecursion (λ u. u < 64) now
+  pub member : has now t ≡ true
+  pub listed : text ≡ later_numbers (left_by now t)
+  pub bits_are : bits ≡ bits_of (left_by now t)
+
+pub has_come : (q : Sequential) (requests text now : List ℕ) (bits t : ℕ)
+    → AreListed q requests text bits → now ≡ joined q.readers t → IsAscending now → t < 64
+    → HasJoined now text bits t
+has_come q requests text now bits t l joins ascending small =
+    let left : left_by now t ≡ q.readers =
+    ap (λ (xs : List ℕ). left_by xs t) joins
+    ∙ left_joined q.readers t (subst IsAscending joins ascending) in
+    record {
+      fit = subst (AllByRecursion (λ (u : ℕ). u < 64)) (sym joins)
+          (all_joined (λ u. u < 64) q.readers t small l.readers_fit);
+      member = ap (λ (xs : List ℕ). has xs t) joins ∙ has_joined q.readers t;
+      listed = l.readers_are ∙ ap later_numbers (sym left);
+      bits_are = l.bits_are ∙ ap bits_of (sym left);
+    }
+
+pub reader_came : (q r : Sequential) (requests text new : List ℕ) (bits more : ℕ)
+    → AreListed q requests text bits → r.queue ≡ q.queue
+    → AllByRecursion (λ u. u < 64) r.readers → new ≡ later_numbers r.readers
+    → more ≡ bits_of r.readers → AreListed r requests new more
+reader_came q r requests text new bits more l same fit is bits_are = record {
   requests_are = l.requests_are ∙ ap later_numbers (sym same);
-  readers_are = is ∙ ap later_numbers (sym joins);
+  readers_are = is;
+  bits_are = bits_are;
   requests_fit = subst AreBytes (sym same) l.requests_fit;
-  readers_fit = subst AreBytes (sym joins) (all_joined q.readers t l.readers_fit byte);
+  readers_fit = fit;
 }
 
-pub reader_left : (q r : Sequential) (requests readers new : List ℕ) (t : ℕ)
-    → AreListed q requests readers → r.queue ≡ q.queue → r.readers ≡ left_by q.readers t
-    → new ≡ later_numbers (left_by q.readers t) → AreListed r requests new
-reader_left q r requests readers new t l same leaves is = record {
+pub reader_left : (q r : Sequential) (requests text new : List ℕ) (bits less t : ℕ)
+    → AreListed q requests text bits → r.queue ≡ q.queue → r.readers ≡ left_by q.readers t
+    → new ≡ later_numbers (left_by q.readers t) → less ≡ bits_of (left_by q.readers t)
+    → AreListed r requests new less
+reader_left q r requests text new bits less t l same leaves is bits_are = record {
   requests_are = l.requests_are ∙ ap later_numbers (sym same);
   readers_are = is ∙ ap later_numbers (sym leaves);
+  bits_are = bits_are ∙ ap bits_of (sym leaves);
   requests_fit = subst AreBytes (sym same) l.requests_fit;
-  readers_fit = subst AreBytes (sym leaves) (all_left q.readers t l.readers_fit);
+  readers_fit = subst (AllByRecursion (λ (u : ℕ). u < 64)) (sym leaves)
+      (all_left (λ u. u < 64) q.readers t l.readers_fit);
 }
 
 -- ---- the lists as they are shown

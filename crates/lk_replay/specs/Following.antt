@@ -1,5 +1,6 @@
 -- Invariants: what a report follows of a history, entry by entry.
-use Rattle.std.specs.Prelude.{◌≡◌, ℕ, ◌<◌, List, [], ◌∷◌, Option, None, nat_lt, if◌then◌else◌}
+use Rattle.std.specs.Prelude.{◌≡◌, ℕ, ◌+◌, ◌^◌, ◌<◌, List, [], ◌∷◌, Option, None, nat_lt}
+use Rattle.std.specs.Prelude.{if◌then◌else◌}
 use Rattle.std.specs.List.{AllByRecursion}
 use Rattle.lk_locks.specs.Locks.{family_of}
 use Rattle.lk_locks.specs.Holding.{held_in, holder_after, waits_in}
@@ -37,19 +38,25 @@ followed_text f =
     shown_text (held_in (family_of f.kind) f.sequential f.holder)
     (waits_in (family_of f.kind) f.sequential)
 
--- the threads of an ascending list up to this one, and those above it
-abbrev pub up_to : List ℕ → ℕ → List ℕ
-up_to [] t = []
-up_to (x ∷ xs) t = if nat_lt t x then [] else x ∷ up_to xs t
+-- the threads of an ascending list below this one, and the others
+abbrev pub below : List ℕ → ℕ → List ℕ
+below [] t = []
+below (x ∷ xs) t = if nat_lt x t then x ∷ below xs t else []
 
-abbrev pub above : List ℕ → ℕ → List ℕ
-above [] t = []
-above (x ∷ xs) t = if nat_lt t x then x ∷ xs else above xs t
+abbrev pub not_below : List ℕ → ℕ → List ℕ
+not_below [] t = []
+not_below (x ∷ xs) t = if nat_lt x t then not_below xs t else x ∷ xs
 
--- the texts are those of the requests and of the readers, each number after a comma, and the
--- numbers are bytes
-pub record AreListed (q : Sequential) (requests readers : List ℕ) : Type 0 where
+-- threads as the bits of a number
+abbrev pub bits_of : List ℕ → ℕ
+bits_of [] = 0
+bits_of (x ∷ xs) = 2 ^ x + bits_of xs
+
+-- the texts are those of the requests and of the readers, each number after a comma, the bits are
+-- the readers', and the numbers are bytes and threads
+pub record AreListed (q : Sequential) (requests readers : List ℕ) (bits : ℕ) : Type 0 where
   pub requests_are : requests ≡ later_numbers q.queue
   pub readers_are : readers ≡ later_numbers q.readers
+  pub bits_are : bits ≡ bits_of q.readers
   pub requests_fit : AllByRecursion (λ t. t < 256) q.queue
-  pub readers_fit : AllByRecursion (λ t. t < 256) q.readers
+  pub readers_fit : AllByRecursion (λ t. t < 64) q.readers

@@ -26,9 +26,8 @@ use std::marker::Model;
 /// played: its words and phases, and who holds and who waits.
 ///
 /// There is a machine and no tracker. The text of a list changes with each entry that the move
-/// added, and a reader's place in it is read off the list before, so `StatusText` has a sequential
-/// lock of its own. A tracker would follow the same entries a second time, which took 2 to 11 % of
-/// the instructions.
+/// added, so `StatusText` follows the entries on a sequential lock of its own. A tracker would
+/// follow them a second time, which took 2 to 11 % of the instructions.
 #[derive(Drop)]
 pub struct Replay<'a> {
     moves: &'a [Line],

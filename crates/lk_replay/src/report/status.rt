@@ -2,12 +2,13 @@
 //! of the longer lists.
 //!
 //! An entry names the thread that joins a list or leaves it, so its number is put into the list's
-//! text or taken out of it.
+//! text or taken out of it. The readers are also kept as bits: counting those of the lower threads
+//! gives a reader's place in the text, without a look at the readers before it.
 
 ghost use Rattle.std.specs.Prelude.{◌≡◌, ◌+◌, ◌++◌, ◌∷◌, ◌<◌, ◌≤◌, [], IsTrue, drop, length, take};
 ghost use Rattle.std.specs.List.{AllByRecursion};
-ghost use Rattle.lk_locks.specs.Sequential.{IsAscending, has, is_head, joined, left_by};
-ghost use Rattle.lk_replay.specs.Following.{up_to, Following, AreListed, followed_by};
+ghost use Rattle.lk_locks.specs.Sequential.{IsAscending, has, is_head, left_by};
+ghost use Rattle.lk_replay.specs.Following.{below, bits_of, Following, AreListed, followed_by};
 ghost use Rattle.lk_replay.specs.Following.{followed_text, following};
 ghost use Rattle.lk_locks.specs.Holding.{held_by_one, one_or_none, shared_by};
 ghost use Rattle.lk_replay.specs.Report.{holding_text, later_numbers, queue_text};
@@ -20,7 +21,7 @@ use std::marker::Model;
 
 /// The sequential object after the entries so far and, of a queue lock, the thread whose acquire
 /// returned last, up to its release. Beside them are the requests and the readers as text, each
-/// number after a comma.
+/// number after a comma, and the readers as bits.
 #[derive(Drop)]
 pub struct StatusText {
     kind: LockKind,
@@ -28,6 +29,7 @@ pub struct StatusText {
     holder: Option<u8>,
     requests: Text,
     readers: Text,
+    reader_bits: u64,
 }
 
 impl Model for StatusText {
@@ -35,7 +37,7 @@ impl Model for StatusText {
 
     ghost view = { λ a. record { kind = a.kind; sequential = a.sequential; holder = a.holder } };
 
-    ghost invariant = { λ a. AreListed a.sequential a.requests a.readers };
+    ghost invariant = { λ a. AreListed a.sequential a.requests a.readers a.reader_bits };
 }
 
 // Lists a thread that joins the queue.
@@ -58,44 +60,50 @@ fn remove_request(text: &mut Text, queue: &[u8], thread: u8)
     text.remove(0, width(thread) + 1);
 }
 
-// The bytes of the numbers up to a thread in an ascending list, each after a comma.
-fn bytes_up_to(threads: &[u8], thread: u8) -> usize
-    requires { length threads.now ≤ 64 }
-    ensures { result ≡ length (later_numbers (up_to threads.now thread)) }
+// Where a thread's number is in the readers' text. With its comma one below 10 takes 2 bytes, and
+// each other 3.
+fn place_of(bits: u64, readers: &[u8], thread: u8) -> usize
+    requires bits { bits ≡ bits_of readers.now }
+    requires ascending { IsAscending readers.now }
+    requires fit { AllByRecursion (λ t. t < 64) readers.now }
+    requires fits { thread < 64 }
+    ensures { result ≡ length (later_numbers (below readers.now thread)) }
 {
-    let mut bytes = 0;
-    for listed in threads {
-        if thread < *listed {
-            return bytes;
-        }
-        bytes += width(*listed) + 1;
-    }
-    bytes
+    let below = bits % (1 << thread);
+    let short = below % 1024;
+    3 * below.count_ones() as usize - short.count_ones() as usize
 }
 
-// Lists a thread that joins the readers.
-fn insert_reader(text: &mut Text, readers: &[u8], thread: u8)
+// Lists a thread that joined the readers.
+fn insert_reader(text: &mut Text, bits: &mut u64, readers: &[u8], thread: u8)
     requires few { length readers.now ≤ 64 }
-    requires fit { AllByRecursion (λ t. t < 256) readers.now }
-    requires listed { text.old ≡ later_numbers readers.now }
-    ensures { text.new ≡ later_numbers (joined readers.now thread) }
+    requires ascending { IsAscending readers.now }
+    requires fit { AllByRecursion (λ t. t < 64) readers.now }
+    requires member { IsTrue (has readers.now thread) }
+    requires listed { text.old ≡ later_numbers (left_by readers.now thread) }
+    requires bits { bits.old ≡ bits_of (left_by readers.now thread) }
+    ensures text { text.new ≡ later_numbers readers.now }
+    ensures bits { bits.new ≡ bits_of readers.now }
 {
-    let at = bytes_up_to(readers, thread);
+    *bits += 1 << thread;
+    let at = place_of(*bits, readers, thread);
     let (block, len) = thread_block(b',', thread);
     text.insert(at, &block, len);
 }
 
 // Lists a thread that leaves the readers no more.
-fn remove_reader(text: &mut Text, readers: &[u8], thread: u8)
-    requires few { length readers.now ≤ 64 }
+fn remove_reader(text: &mut Text, bits: &mut u64, readers: &[u8], thread: u8)
     requires ascending { IsAscending readers.now }
+    requires fit { AllByRecursion (λ t. t < 64) readers.now }
     requires member { IsTrue (has readers.now thread) }
     requires listed { text.old ≡ later_numbers readers.now }
-    ensures { text.new ≡ later_numbers (left_by readers.now thread) }
+    requires bits { bits.old ≡ bits_of readers.now }
+    ensures text { text.new ≡ later_numbers (left_by readers.now thread) }
+    ensures bits { bits.new ≡ bits_of (left_by readers.now thread) }
 {
-    let gone = width(thread) + 1;
-    let at = bytes_up_to(readers, thread) - gone;
-    text.remove(at, gone);
+    let at = place_of(*bits, readers, thread);
+    text.remove(at, width(thread) + 1);
+    *bits -= 1 << thread;
 }
 
 // Writes a thread's number, or that there is none.
@@ -122,6 +130,7 @@ impl StatusText {
             holder: None,
             requests: Text::new(),
             readers: Text::new(),
+            reader_bits: 0,
         }
     }
 
@@ -143,18 +152,21 @@ impl StatusText {
                 self.holder = None;
             }
             Entry::Acted(t, Op::ReadLock) => {
-                insert_reader(&mut self.readers, self.sequential.readers(), t);
                 self.sequential.act(Act::ReadLock(t));
+                let readers = self.sequential.readers();
+                insert_reader(&mut self.readers, &mut self.reader_bits, readers, t);
             }
             Entry::Acted(t, Op::ReadUnlock) => {
-                remove_reader(&mut self.readers, self.sequential.readers(), t);
+                let readers = self.sequential.readers();
+                remove_reader(&mut self.readers, &mut self.reader_bits, readers, t);
                 self.sequential.act(Act::ReadUnlock(t));
             }
             Entry::Acted(t, Op::WriteLock) => self.sequential.act(Act::WriteLock(t)),
             Entry::Acted(t, Op::WriteUnlock) => self.sequential.act(Act::WriteUnlock(t)),
             Entry::Acted(t, Op::Downgrade) => {
-                insert_reader(&mut self.readers, self.sequential.readers(), t);
                 self.sequential.act(Act::Downgrade(t));
+                let readers = self.sequential.readers();
+                insert_reader(&mut self.readers, &mut self.reader_bits, readers, t);
             }
             _ => {}
         }

@@ -1,0 +1,20 @@
+-- The bits below a thread's are those of the threads before it.
+use Rattle.std.proofs.Common.{arith}
+use Rattle.lk_replay.proofs.Bits.{counted_place, shifted}
+use Rattle.lk_replay.proofs.report.status.place_of.Goals as goal
+
+pub overflow_sub-result : goal.overflow_sub-result
+overflow_sub-result c =
+    omega (
+      arith,
+      counted_place c.args.readers.now c.args.bits c.args.thread _ c.requires.bits
+          c.requires.ascending c.requires.fit (shifted c.args.thread c.requires.fits),
+    )
+
+pub returns : goal.returns
+returns c =
+    omega (
+      arith,
+      counted_place c.args.readers.now c.args.bits c.args.thread _ c.requires.bits
+          c.requires.ascending c.requires.fit (shifted c.args.thread c.requires.fits),
+    )
