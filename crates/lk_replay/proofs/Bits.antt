@@ -1,6 +1,6 @@
 -- An ascending list of threads as the bits of a number, and what counting bits tells of its text.
 use Rattle.std.proofs.Common.{◌≡◌, ℕ, suc, ◌+◌, ◌-◌, ◌*◌, ◌^◌, ◌%◌, ◌<◌, ◌≤◌, List, [], ◌∷◌, ◌++◌}
-use Rattle.std.proofs.Common.{length, decimal, count_ones, eqb, nat_lt, true, refl, sym, ap, ◌∙◌}
+use Rattle.std.proofs.Common.{length, decimal, count_ones, eqb, nat_lt, true, refl, ap, ◌∙◌}
 use Rattle.std.proofs.Common.{arith}
 use Rattle.std.proofs.Common.{inl, inr, length-append, pow_pos, pow_mono, pow-add, shl_exact}
 use Rattle.std.specs.Int.Count.{ones}

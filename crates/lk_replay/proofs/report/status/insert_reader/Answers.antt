@@ -1,7 +1,7 @@
 -- The number comes after those below it.
-use Rattle.std.proofs.Common.{◌∙◌, ◌+◌, ℕ, ap, arith, length}
+use Rattle.std.proofs.Common.{◌∙◌, arith}
 use Rattle.lk_replay.proofs.Bits.{bits_fit, bits_split, member_fits, shifted}
-use Rattle.lk_replay.proofs.Listing.{later_most, reader_listed, reader_place, shorter}
+use Rattle.lk_replay.proofs.Listing.{reader_listed, reader_place, shorter}
 use Rattle.lk_replay.proofs.report.status.insert_reader.Goals as goal
 
 pub overflow_shl-bits : goal.overflow_shl-bits
