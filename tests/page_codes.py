@@ -2,8 +2,8 @@
 """Compares the numbers that the page knows with the definitions of the page's module.
 
 The module's code is proved against the definitions of crates/lk_page/specs, and its numbers of
-moves, outcomes and refusals against those of crates/lk_trace/specs, and of phases against those of
-crates/lk_search/specs. That the page reads its numbers as these definitions mean them is not
+moves, outcomes, refusals and most faults against those of crates/lk_trace/specs, and of phases
+against those of crates/lk_search/specs. That the page reads its numbers as these definitions mean them is not
 proved. Here each name and number of page/src/codes.js, and the order of the page's locks and of its
 ways to hold one, is compared with the definitions. So is the table of codes in page/MODULE.md.
 Prints `N passed, M failed`, and ends with 1 if one failed.
@@ -26,14 +26,13 @@ HELD = {"ReadBy": ("r", "asReader"), "WrittenBy": ("w", "asWriter")}
 # of a kind of code: its definition, its list in codes.js, its row in page/MODULE.md, and its words
 KINDS = (("outcome_number", "OUTCOMES", "outcome", str.lower),
          ("refusal_number", "REFUSALS", "refusal", str),
-         ("fault_code", "FAULTS", "fault", str),
          ("phase_code", "PHASES", "phase", str),
          ("expected_code", "EXPECTED", "expected", str.lower))
 # of the bits of a record's thread: what the definition has there, and its name in codes.js
 BITS = {"r.standing.holds": "HOLDS", "r.standing.is_queued": "IN_LINE",
         "r.standing.writes": "AS_WRITER", "(is_unlinked r.phase)": "UNLINKED", "r.waits": "WAITS"}
 # the fault that the module cannot have, since it takes no memory
-OF_THE_LIBRARY = {"OutOfMemory": 7}
+OF_THE_LIBRARY = {"OutOfMemory": 23}
 
 
 def read(path):
@@ -81,9 +80,11 @@ def compare_moves(tally, codes, page, table):
 def compare_codes(tally, codes, page, table):
     for definition, name, row, word in KINDS:
         due = defined(codes, definition, word)
-        more = OF_THE_LIBRARY if name == "FAULTS" else {}
-        tally.check(f"{name} in codes.js", listed(page, name), {**due, **more})
+        tally.check(f"{name} in codes.js", listed(page, name), due)
         tally.check(f"{row} in MODULE.md", in_table(table, row), due)
+    faults = {**defined(codes, "fault_number"), **defined(codes, "fault_code")}
+    tally.check("FAULTS in codes.js", named(page, "FAULTS"), {**faults, **OF_THE_LIBRARY})
+    tally.check("fault in MODULE.md", in_table(table, "fault"), faults)
     locks = defined(codes, "lock_code", LOCKS.get)
     files = listed(read(PAGE / "locks.js"), "LOCKS", r"(\w+)")
     names = {re.sub("[A-Z]", lambda big: f"-{big[0].lower()}", name): at

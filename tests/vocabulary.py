@@ -129,7 +129,7 @@ LISTS = (
     List(C, r"(?=\b16 =>)", r"_ =>", "trace_faults", in_order, r'"(\w+): '),
     List(C, r"(?=\b17 =>)", r"_ =>", "trace_fault_texts", in_order, r'"(.*)"'),
     List(f"{PAGE}/codes.js", r"REFUSALS = \[", r"\];", "refusals", in_order),
-    List(f"{PAGE}/codes.js", r"FAULTS = \[", r"\];", "faults memory"),
+    List(f"{PAGE}/codes.js", r"FAULTS = \{", r"\};", "faults memory"),
     List(f"{PAGE}/refusal.js", r"WITH_\w+ = \[", r"\];", "refusals", among),
     List(f"{PAGE}/texts.js", r"\n  refused: \{", r"\n    due", "refusals", in_order, KEY),
     List(f"{MAN}/lockreplay.1", r"\.Ss Refusals\n", r"\.Sh", "refusals", in_order, ITEM),

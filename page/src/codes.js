@@ -15,10 +15,10 @@ export const PHASES = [
   'Grant', 'TryRead', 'Reading', 'LeaveRead', 'TryWrite', 'AwaitReaders', 'Writing', 'LeaveWrite',
   'TryDowngrade',
 ];
-export const FAULTS = [
-  '', 'TooLong', 'NoHeader', 'BadHeader', 'BadThreads', 'BadLine', 'TooManyMoves', 'OutOfMemory',
-  'WordsTooNarrow',
-];
+export const FAULTS = {
+  16: 'NoHeader', 17: 'BadHeader', 18: 'BadThreads', 19: 'WordsTooNarrow', 20: 'BadLine',
+  21: 'TooLong', 22: 'TooManyMoves', 23: 'OutOfMemory',
+};
 export const REFUSALS = [
   '', 'NoSuchThread', 'WrongLock', 'Busy', 'NotHolder', 'AlreadyHolds', 'NoCall', 'WrongStep',
 ];

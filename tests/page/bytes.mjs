@@ -53,7 +53,7 @@ const ROWS = [
   {
     what: 'a fault is numbered',
     text: 'lock mcs threads 0\n', most: 9, records: 0, state: STATE_BYTES, answer: 2,
-    inState: { 0: 2, 4: 4, 8: 1 },
+    inState: { 0: 2, 4: 18, 8: 1 },
   },
   {
     what: 'a state that is too short is left alone',

@@ -1,6 +1,7 @@
 -- Definitions. What the module of each lock defines, by the lock, and the family that it belongs
 -- to. Definitions that the locks share use these, and know no lock. This project's own.
 use Rattle.std.specs.Prelude.{ℕ, ◌+◌, ◌*◌, List, [], ◌∷◌, Option, None, option_map}
+use Rattle.lk_words.specs.Operations.{effect_on}
 use Rattle.lk_words.specs.declared.operation.Operation.{Operation}
 use Rattle.lk_locks.specs.Change.{Change, kind_of, step_by}
 use Rattle.lk_locks.specs.ticket
@@ -16,7 +17,8 @@ use Rattle.lk_locks.specs.declared.kinds.Phase.{Phase}
 use Rattle.lk_locks.specs.declared.kinds.Op.{Op}
 use Rattle.lk_locks.specs.declared.kinds.StepKind.{StepKind}
 use Rattle.lk_locks.specs.declared.kinds.StepKind.TheVariants.{Read, Write, Swap, Cas, Add, Section}
-use Rattle.lk_locks.specs.declared.kinds.SectionEffect.{SectionEffect}
+use Rattle.lk_locks.specs.declared.kinds.StepEffect.{StepEffect}
+use Rattle.lk_locks.specs.declared.kinds.StepEffect.TheVariants.{OneWord, Monitor}
 use Rattle.lk_locks.specs.declared.kinds.Outcome.{Outcome}
 use Rattle.lk_locks.specs.declared.kinds.Entry.{Entry}
 
@@ -51,13 +53,6 @@ operation_of Ticket bits t p = ticket.operation bits p
 operation_of Mcs bits t p = mcs.operation t p
 operation_of kind bits t p = None
 
--- what the section of a thread in this phase finds and leaves, if its next step is one
-abbrev pub section_of : LockKind → ℕ → List ℕ → Phase → Option SectionEffect
-section_of Ticket bits ws p = None
-section_of Mcs bits ws p = None
-section_of kind bits ws p =
-    option_map (λ due. read_write.section (family_of kind) bits ws p) (read_write.step_due p)
-
 -- The step that a thread in this phase takes next. There is none if it has no pending call. Which
 -- kind it is depends on neither thread nor bits.
 abbrev pub step_due : LockKind → Phase → Option StepKind
@@ -71,6 +66,20 @@ step_of Ticket bits ws t p = step_by ticket.after bits ws p (ticket.operation bi
 step_of Mcs bits ws t p = step_by mcs.after bits ws p (mcs.operation t p)
 step_of RwSimple bits ws t p = rw_simple.step bits ws p
 step_of RwFifo bits ws t p = rw_fifo.step bits ws p
+
+-- what an operation that is a step with this outcome does
+abbrev pub on_word : ℕ → List ℕ → Outcome → Operation → StepEffect
+on_word bits ws o operation = OneWord (effect_on bits ws operation) o
+
+-- what the next step of thread t in this phase would do, if it has one
+abbrev pub effect_of : LockKind → ℕ → List ℕ → ℕ → Phase → Option StepEffect
+effect_of Ticket bits ws t p =
+    option_map (on_word bits ws (step_of Ticket bits ws t p).outcome) (ticket.operation bits p)
+effect_of Mcs bits ws t p =
+    option_map (on_word bits ws (step_of Mcs bits ws t p).outcome) (mcs.operation t p)
+effect_of kind bits ws t p =
+    option_map (λ due. Monitor (read_write.section (family_of kind) bits ws p))
+    (read_write.step_due p)
 
 -- the entries of a step of thread t, from this phase and with this outcome
 abbrev pub step_entries : LockKind → ℕ → Phase → Outcome → List Entry

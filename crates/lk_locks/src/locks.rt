@@ -5,15 +5,13 @@ ghost use Rattle.std.specs.Prelude.{◌≡◌, ◌≤◌, [], IfSome};
 ghost use Rattle.std.specs.List.{list_any};
 ghost use Rattle.lk_locks.specs.Change.{kind_of};
 ghost use Rattle.lk_locks.specs.Locks.{family_of, word_count, steps_of, after_call, step_due};
-ghost use Rattle.lk_locks.specs.Locks.{operation_of, section_of, step_of, step_entries};
-ghost use Rattle.lk_locks.specs.read_write.{Tells};
+ghost use Rattle.lk_locks.specs.Locks.{operation_of, effect_of, step_of, step_entries};
+ghost use Rattle.lk_locks.specs.Effects.{IsEffectOf};
 ghost use Rattle.lk_locks.specs.Steps.{same_step};
 ghost use Rattle.lk_locks.specs.invariants.WellFormed.{IsReady};
 
 use crate::entries::Added;
-use crate::{
-    Family, LockKind, Op, Outcome, Phase, SectionEffect, StepKind, mcs, read_write, ticket,
-};
+use crate::{Family, LockKind, Op, Outcome, Phase, StepEffect, StepKind, mcs, read_write, ticket};
 use lk_words::{Operation, WordArray, Words, perform};
 
 /// The family of a lock.
@@ -136,38 +134,31 @@ pub(crate) fn take_step<W: Words>(
     }
 }
 
-/// What would come of a step of a thread in this phase, with nothing changed.
-pub(crate) fn outcome_of(words: &WordArray, kind: LockKind, thread: u8, phase: Phase) -> Outcome
-    requires { IsReady kind words.now.1 words.now.0 thread phase }
-    ensures { result ≡ (step_of kind words.now.1 words.now.0 thread phase).outcome }
-{
-    match (kind, operation_of(kind, words.bits(), thread, phase)) {
-        (LockKind::Ticket, Some(step)) => ticket::after(phase, words.effect(step).answer).1,
-        (LockKind::Mcs, Some(step)) => mcs::after(phase, words.effect(step).answer).1,
-        (LockKind::Ticket | LockKind::Mcs, None) => Outcome::Waits,
-        (LockKind::RwSimple | LockKind::RwFifo, _) => {
-            read_write::section(words, family_of(kind), phase).outcome
-        }
-    }
-}
-
-/// What the section of a thread in this phase would do, if its next step is one.
-pub(crate) fn section_of(
+/// What the next step of a thread in this phase would do, if it has one.
+pub(crate) fn effect_of(
     words: &WordArray,
     kind: LockKind,
     thread: u8,
     phase: Phase,
-) -> Option<SectionEffect>
+) -> Option<StepEffect>
     requires { IsReady kind words.now.1 words.now.0 thread phase }
-    ensures value { result ≡ section_of kind words.now.1 words.now.0 phase }
-    ensures tells { IfSome result (λ section.
-        Tells section words.now.0 (step_of kind words.now.1 words.now.0 thread phase).words) }
+    ensures value { result ≡ effect_of kind words.now.1 words.now.0 thread phase }
+    ensures tells { IfSome result
+        (IsEffectOf (step_of kind words.now.1 words.now.0 thread phase) words.now.0) }
 {
     match kind {
-        LockKind::Ticket | LockKind::Mcs => None,
+        LockKind::Ticket => {
+            let effect = words.effect(ticket::operation(words.bits(), phase)?);
+            Some(StepEffect::OneWord(effect, ticket::after(phase, effect.answer).1))
+        }
+        LockKind::Mcs => {
+            let effect = words.effect(mcs::operation(thread, phase)?);
+            Some(StepEffect::OneWord(effect, mcs::after(phase, effect.answer).1))
+        }
         LockKind::RwSimple | LockKind::RwFifo => {
             read_write::step_due(phase)?;
-            Some(read_write::section(words, family_of(kind), phase))
+            let section = read_write::section(words, family_of(kind), phase);
+            Some(StepEffect::Monitor(section))
         }
     }
 }

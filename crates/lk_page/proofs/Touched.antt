@@ -1,21 +1,23 @@
 -- An operation touches its word alone.
-use Rattle.std.proofs.Common.{◌≡◌, ℕ, ◌<◌, List, None, Some, length, set, slice_index, refl}
-use Rattle.std.proofs.Common.{sym, ap, ◌∙◌, inl, inr}
+use Rattle.std.proofs.Common.{◌≡◌, ℕ, ◌<◌, List, None, Option, Some, length, option_map, set}
+use Rattle.std.proofs.Common.{slice_index, refl, sym, ap, ◌∙◌, inl, inr}
 use Rattle.std.proofs.lemmas.Bool.{cases_eq}
 use Rattle.std.proofs.lemmas.List.{get_or-set_other, get_or-set_same, set-get_or}
-use Rattle.lk_words.specs.Operations.{Fits, effect_on, word_of}
+use Rattle.lk_words.specs.Operations.{word_of}
 use Rattle.lk_words.specs.declared.operation.Effect.{Effect}
 use Rattle.lk_words.specs.declared.operation.Operation.{Operation}
-use Rattle.lk_words.specs.declared.operation.Operation.TheVariants.{Read, Write, Swap}
-use Rattle.lk_words.specs.declared.operation.Operation.TheVariants.{CompareAndSwap, FetchAndAdd}
-use Rattle.lk_words.proofs.Operations.{one_word}
-use Rattle.lk_locks.specs.Locks.{operation_of}
-use Rattle.lk_locks.specs.State.{State, phase_at}
-use Rattle.lk_locks.specs.Steps.{change_of}
-use Rattle.lk_locks.specs.declared.kinds.Move.{Move}
-use Rattle.lk_locks.specs.declared.kinds.Move.TheVariants.{Step}
+use Rattle.lk_locks.specs.Locks.{effect_of, on_word, operation_of}
+use Rattle.lk_locks.specs.mcs
+use Rattle.lk_locks.specs.read_write
+use Rattle.lk_locks.specs.ticket
+use Rattle.lk_locks.specs.declared.kinds.LockKind.{LockKind}
+use Rattle.lk_locks.specs.declared.kinds.LockKind.TheVariants.{Mcs, RwFifo, RwSimple, Ticket}
+use Rattle.lk_locks.specs.declared.kinds.Outcome.{Outcome}
+use Rattle.lk_locks.specs.declared.kinds.Phase.{Phase}
+use Rattle.lk_locks.specs.declared.kinds.SectionEffect.{SectionEffect}
+use Rattle.lk_locks.specs.declared.kinds.StepEffect.{StepEffect}
+use Rattle.lk_locks.specs.declared.kinds.StepEffect.TheVariants.{Monitor, OneWord}
 use Rattle.lk_locks.specs.declared.kinds.StepKind.{StepKind}
-use Rattle.lk_locks.proofs.OneOperation.{step_words}
 use Rattle.lk_page.specs.Told.{AreTouched}
 use Rattle.lk_page.specs.declared.told.Touch.{Touch}
 
@@ -36,24 +38,31 @@ one_touched ws t h found = record {
   second_changed = λ there. absurd (there refl);
 }
 
-within : (bits size : ℕ) (o : Operation) → Fits bits size o → word_of o < size
-within bits size (Read i) h = h
-within bits size (Write i v) h = h.0
-within bits size (Swap i v) h = h.0
-within bits size (CompareAndSwap i old new) h = h.0
-within bits size (FetchAndAdd i d) h = h.0
-
 -- a step that is one operation
-pub step_touches : (s : State) (t : ℕ) (m : Move) (kind : StepKind) (o : Operation) (e : Effect)
-    → m ≡ Step kind → Some o ≡ operation_of s.kind s.bits t (phase_at s.phases t)
-    → Fits s.bits (length s.words) o → e ≡ effect_on s.bits s.words o
-    → AreTouched s.words (change_of s t m).words
-    (Some (record { word = e.word; found = slice_index s.words e.word; left = e.left })) None
-step_touches s t m kind o e is due fits does =
-    rw (
-      is,
-      does,
-      step_words s.kind s.bits s.words t (phase_at s.phases t) o (sym due),
-      one_word s.bits s.words o,
-    )
-    (one_touched s.words _ (within _ _ o fits) refl)
+pub step_touches : (before after : List ℕ) (e : Effect) → e.word < length before
+    → e.found ≡ slice_index before e.word → after ≡ set before e.word e.left
+    → AreTouched before after (Some (record { word = e.word; found = e.found; left = e.left })) None
+step_touches before after e within found does = rw does (one_touched before _ within found)
+
+word_in : Option StepEffect → Option ℕ
+word_in (Some (OneWord e o)) = Some e.word
+word_in effect = None
+
+-- the operation of a queue lock is on the word that its effect names
+of_operation : (bits : ℕ) (ws : List ℕ) (o : Outcome) (operation : Option Operation)
+    → word_in (option_map (on_word bits ws o) operation) ≡ option_map word_of operation
+of_operation bits ws o None = refl
+of_operation bits ws o (Some operation) = refl
+
+of_section : (section : SectionEffect) (due : Option StepKind)
+    → word_in (option_map (λ step. Monitor section) due) ≡ None
+of_section section None = refl
+of_section section (Some step) = refl
+
+-- the word that a step is on is that of its effect
+pub own_word_is : (kind : LockKind) (bits : ℕ) (ws : List ℕ) (t : ℕ) (p : Phase)
+    → option_map word_of (operation_of kind bits t p) ≡ word_in (effect_of kind bits ws t p)
+own_word_is Ticket bits ws t p = sym (of_operation bits ws _ (ticket.operation bits p))
+own_word_is Mcs bits ws t p = sym (of_operation bits ws _ (mcs.operation t p))
+own_word_is RwSimple bits ws t p = sym (of_section _ (read_write.step_due p))
+own_word_is RwFifo bits ws t p = sym (of_section _ (read_write.step_due p))

@@ -28,17 +28,11 @@ abbrev pub is_wait : Outcome → Bool
 is_wait Waits = true
 is_wait o = false
 
--- whether a move would be accepted, and would be a failed poll
-abbrev pub fails : State → ℕ → Move → Bool
-fails s t m = is_none (refusal_of s t m) && is_wait (change_of s t m).outcome
-
-abbrev pub step_fails : State → ℕ → Option StepKind → Bool
-step_fails s t None = false
-step_fails s t (Some step) = fails s t (Step step)
-
 -- whether the next step of a thread, taken now, would be a failed poll
 abbrev pub next_waits : State → ℕ → Bool
-next_waits s t = step_fails s t (step_due s.kind (phase_at s.phases t))
+next_waits s t =
+    is_some (step_due s.kind (phase_at s.phases t))
+    && is_wait (step_of s.kind s.bits s.words t (phase_at s.phases t)).outcome
 
 -- Whether a thread waits after a move of its own with this outcome: that was a failed poll, or the
 -- thread is in the queue and its next step would be one.

@@ -9,7 +9,7 @@ ghost use Rattle.lk_page.specs.Changes.{IsChangeAt};
 ghost use Rattle.lk_page.specs.Told.{AreTouched, IsChange, IsOwn, own_word};
 
 use crate::told::Touch;
-use lk_locks::{Added, Machine, Move, Outcome, SectionEffect, Tracker};
+use lk_locks::{Added, Machine, Move, Outcome, SectionEffect, StepEffect, Tracker};
 use lk_words::WordArray;
 
 /// The words as they are.
@@ -62,19 +62,17 @@ fn touches(machine: &Machine<WordArray>, thread: u8, action: Move) -> (Option<To
     if let Move::Call(_) = action {
         return (None, None);
     }
-    let words = words_of(machine);
-    match (machine.operation(thread), machine.section(thread)) {
-        (Some(operation), _) => {
-            let effect = machine.words().effect(operation);
+    match machine.effect(thread) {
+        Some(StepEffect::OneWord(effect, _)) => {
             let touch = Touch {
                 word: effect.word as u8,
-                found: words[effect.word],
+                found: effect.found,
                 left: effect.left,
             };
             (Some(touch), None)
         }
-        (None, Some(section)) => changes(&section),
-        (None, None) => (None, None),
+        Some(StepEffect::Monitor(section)) => changes(&section),
+        None => (None, None),
     }
 }
 

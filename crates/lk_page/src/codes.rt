@@ -1,16 +1,18 @@
 //! The numbers by which a page knows locks, due steps and faults, and what may come next in a line.
 //! Enums without fields are numbered in their order: from 0, and from 1 if 0 is none of them.
-//! Moves, outcomes and refusals have the numbers of `lk_trace`, phases those of `lk_search`.
+//! Moves, outcomes, refusals and the faults of traces have the numbers of `lk_trace`, phases those
+//! of `lk_search`.
 
 ghost use Rattle.std.specs.Prelude.{◌≡◌, IfSome};
 ghost use Rattle.lk_page.specs.Codes.{lock_code, is_unlinked, due_code};
 ghost use Rattle.lk_page.specs.Codes.{refusal_step, fault_code, fault_line, as_fault};
 ghost use Rattle.lk_page.specs.Codes.{expected_code};
+ghost use Rattle.lk_trace.specs.Codes.{fault_number};
 
 use lk_locks::{LockKind, Move, Phase, Refusal, StepKind};
 use lk_replay::ReadFault;
 use lk_replay::parts::Expected;
-use lk_trace::move_number;
+use lk_trace::{TextFault, fault_number, move_number};
 
 /// The number of a lock.
 pub fn lock_code(kind: LockKind) -> u8
@@ -44,19 +46,26 @@ pub fn refusal_step(refusal: Refusal) -> u8
     }
 }
 
+// The number of a fault that traces have too.
+fn number_of(fault: TextFault) -> u32
+    ensures { result ≡ fault_number fault }
+{
+    u32::from(fault_number(fault))
+}
+
 /// The number of a fault, and the line that it names.
 pub fn fault_codes(fault: ReadFault) -> (u32, u32)
     ensures { IfSome (as_fault fault) (λ f. (result.0 ≡ fault_code f) × (result.1 ≡ fault_line f)) }
 {
     match fault {
-        ReadFault::TooLong => (1, 0),
-        ReadFault::NoHeader(line) => (2, line),
-        ReadFault::BadHeader(line) => (3, line),
-        ReadFault::BadThreads(line) => (4, line),
-        ReadFault::BadLine(line) => (5, line),
-        ReadFault::TooManyMoves(line) => (6, line),
-        ReadFault::OutOfMemory => (7, 0),
-        ReadFault::WordsTooNarrow(line) => (8, line),
+        ReadFault::NoHeader(line) => (number_of(TextFault::NoHeader), line),
+        ReadFault::BadHeader(line) => (number_of(TextFault::BadHeader), line),
+        ReadFault::BadThreads(line) => (number_of(TextFault::BadThreads), line),
+        ReadFault::WordsTooNarrow(line) => (number_of(TextFault::WordsTooNarrow), line),
+        ReadFault::BadLine(line) => (number_of(TextFault::BadLine), line),
+        ReadFault::TooLong => (21, 0),
+        ReadFault::TooManyMoves(line) => (22, line),
+        ReadFault::OutOfMemory => (23, 0),
     }
 }
 

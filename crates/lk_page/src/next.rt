@@ -32,11 +32,10 @@ fn next_waits(machine: &Machine<WordArray>, thread: u8) -> bool
     requires { thread < length machine.now.phases }
     ensures { result ≡ next_waits machine.now thread }
 {
-    let Some(step) = machine.next_step(thread) else {
-        return false;
-    };
-    let next = Move::Step(step);
-    machine.check(thread, next).is_ok() && matches!(machine.outcome(thread, next), Outcome::Waits)
+    match machine.effect(thread) {
+        Some(effect) => matches!(effect.outcome(), Outcome::Waits),
+        None => false,
+    }
 }
 
 /// Whether a thread waits after a move of its own with this outcome: the move was a failed poll, or

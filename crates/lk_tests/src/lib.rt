@@ -3,8 +3,10 @@
 //!
 //! A crate that has tests is proved twice, with and without them. So the tests are in a crate
 //! of their own: it uses what the others make public, as any crate does, and none of them is
-//! proved anew for its tests. What the built program shows as well is not tried here: the worked
-//! rows, and each request for memory refused on each of them (tests/rows.py, tests/refusals.py).
+//! proved anew for its tests. What the built programs show as well is not tried here: the worked
+//! rows, and each request for memory refused on each of them (tests/rows.py, tests/refusals.py);
+//! the sizes, sketches and tours of small locks (tests/searches.py, tests/search_counts.py,
+//! tests/search_sketches.py).
 #![tactic(auto)]
 
 #[cfg(test)]
@@ -14,11 +16,7 @@ mod refusing;
 #[cfg(test)]
 mod replays;
 #[cfg(test)]
-mod sketches;
-#[cfg(test)]
-mod spaces;
-#[cfg(test)]
-mod tours;
+mod searches;
 #[cfg(test)]
 mod words;
 pub mod worked_histories;

@@ -7,7 +7,8 @@ use Rattle.std.specs.Option.{option_and_then, option_or}
 use Rattle.lk_locks.specs.State.{State, start, phase_at}
 use Rattle.lk_words.specs.Operations.{effect_on}
 use Rattle.lk_words.specs.declared.operation.Effect.{Effect}
-use Rattle.lk_locks.specs.Locks.{operation_of, section_of, word_count}
+use Rattle.lk_locks.specs.Locks as locks
+use Rattle.lk_locks.specs.Locks.{operation_of, word_count}
 use Rattle.lk_locks.specs.Steps.{refusal_of, change_of, next_state}
 use Rattle.lk_locks.specs.Entries.{entries_of}
 use Rattle.lk_locks.specs.Tracked.{Tracked, tracked, followed}
@@ -16,6 +17,9 @@ use Rattle.lk_locks.specs.declared.kinds.Move.{Move}
 use Rattle.lk_locks.specs.declared.kinds.Move.TheVariants.{Call, Step}
 use Rattle.lk_locks.specs.declared.kinds.Outcome.{Outcome}
 use Rattle.lk_locks.specs.declared.kinds.Outcome.TheVariants as outcome
+use Rattle.lk_locks.specs.declared.kinds.SectionEffect.{SectionEffect}
+use Rattle.lk_locks.specs.declared.kinds.StepEffect.{StepEffect}
+use Rattle.lk_locks.specs.declared.kinds.StepEffect.TheVariants.{Monitor, OneWord}
 use Rattle.lk_trace.specs.Names.{name_at, place_of, same_word}
 use Rattle.lk_trace.specs.declared.checker.Made.{Made}
 use Rattle.lk_trace.specs.declared.names.WordName.{WordName}
@@ -76,6 +80,15 @@ abbrev pub effect_of : State → ℕ → Move → Option Effect
 effect_of s t (Call op) = None
 effect_of s t (Step kind) =
     option_map (effect_on s.bits s.words) (operation_of s.kind s.bits t (phase_at s.phases t))
+
+abbrev pub section_in : StepEffect → Option SectionEffect
+section_in (Monitor section) = Some section
+section_in (OneWord effect outcome) = None
+
+-- what the next step of thread t does to the words of its monitor, if it is a section
+abbrev pub section_of : State → ℕ → Option SectionEffect
+section_of s t =
+    option_and_then section_in (locks.effect_of s.kind s.bits s.words t (phase_at s.phases t))
 
 -- the name of the word that an effect is on
 abbrev pub name_of : LockKind → Option Effect → Option WordName
@@ -145,7 +158,7 @@ made_of s t m = record {
   from = phase_at s.phases t;
   outcome = (change_of s t m).outcome;
   effect = effect_of s t m;
-  section = section_of s.kind s.bits s.words (phase_at s.phases t);
+  section = section_of s t;
 }
 
 abbrev pub answer_unless : Option Difference → Made → Result Made Difference

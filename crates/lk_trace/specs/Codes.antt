@@ -1,5 +1,5 @@
--- Definitions. Moves, outcomes and refusals as numbers. This project's own; `record/locktrace.h`
--- and the page have the same.
+-- Definitions. Moves, outcomes, refusals and the faults of texts as numbers. This project's own;
+-- `record/locktrace.h` and the page have the same.
 use Rattle.std.specs.Prelude.{ℕ}
 use Rattle.lk_locks.specs.declared.kinds.Op.TheVariants.{Acquire, Release, ReadLock, ReadUnlock}
 use Rattle.lk_locks.specs.declared.kinds.Op.TheVariants.{WriteLock, WriteUnlock, Downgrade}
@@ -12,6 +12,9 @@ use Rattle.lk_locks.specs.declared.kinds.Refusal.{Refusal}
 use Rattle.lk_locks.specs.declared.kinds.Refusal.TheVariants.{NoSuchThread, WrongLock, Busy}
 use Rattle.lk_locks.specs.declared.kinds.Refusal.TheVariants.{NotHolder, AlreadyHolds, NoCall}
 use Rattle.lk_locks.specs.declared.kinds.Refusal.TheVariants.{WrongStep}
+use Rattle.lk_trace.specs.declared.trace.TextFault.{TextFault}
+use Rattle.lk_trace.specs.declared.trace.TextFault.TheVariants.{NoHeader, BadHeader, BadThreads}
+use Rattle.lk_trace.specs.declared.trace.TextFault.TheVariants.{WordsTooNarrow, BadLine}
 
 -- calls from 0, steps from 16
 abbrev pub move_number : Move → ℕ
@@ -44,3 +47,11 @@ refusal_number NotHolder = 4
 refusal_number AlreadyHolds = 5
 refusal_number NoCall = 6
 refusal_number (WrongStep next) = 7
+
+-- the faults of texts, from 16
+abbrev pub fault_number : TextFault → ℕ
+fault_number NoHeader = 16
+fault_number BadHeader = 17
+fault_number BadThreads = 18
+fault_number WordsTooNarrow = 19
+fault_number BadLine = 20

@@ -7,7 +7,7 @@ ghost use Rattle.lk_trace.specs.Agreement.{Agrees, IsCounted, count_in};
 ghost use Rattle.lk_trace.specs.Checks.{after_line, answer_to, count_given, difference_of};
 ghost use Rattle.lk_trace.specs.Checks.{new_lock, Checked};
 
-use crate::compare::{effect, first_difference};
+use crate::compare::{effect, first_difference, section};
 use crate::{Difference, Seen, TraceLine};
 use lk_locks::{Added, LockKind, Move, Outcome, Phase, SectionEffect, Tracker, words_needed};
 use lk_words::{Effect, WordArray};
@@ -116,7 +116,7 @@ impl Checker {
         }
         let from = self.lock.machine().phase(line.thread);
         let effect = effect(self.lock.machine(), line.thread, line.action);
-        let section = self.lock.machine().section(line.thread);
+        let section = section(self.lock.machine(), line.thread);
         self.sections = count_given(self.sections, line.seen);
         let outcome = self.lock.make(line.thread, line.action, &mut Added::none());
         Ok(Made {

@@ -1,8 +1,10 @@
-//! Moves, outcomes and refusals as numbers. `record/locktrace.h` and the page have the same ones.
+//! Moves, outcomes, refusals and the faults of texts as numbers. `record/locktrace.h` and the page
+//! have the same ones.
 
 ghost use Rattle.std.specs.Prelude.{◌≡◌};
-ghost use Rattle.lk_trace.specs.Codes.{move_number, outcome_number, refusal_number};
+ghost use Rattle.lk_trace.specs.Codes.{fault_number, move_number, outcome_number, refusal_number};
 
+use crate::TextFault;
 use lk_locks::{Move, Outcome, Refusal};
 
 /// The number of a move: calls from 0, steps from 16, each in the order of its enum.
@@ -34,5 +36,18 @@ pub fn refusal_number(refusal: Refusal) -> u8
         Refusal::AlreadyHolds => 5,
         Refusal::NoCall => 6,
         Refusal::WrongStep { .. } => 7,
+    }
+}
+
+/// The number of a text's fault, from 16.
+pub fn fault_number(fault: TextFault) -> u8
+    ensures { result ≡ fault_number fault }
+{
+    match fault {
+        TextFault::NoHeader => 16,
+        TextFault::BadHeader => 17,
+        TextFault::BadThreads => 18,
+        TextFault::WordsTooNarrow => 19,
+        TextFault::BadLine => 20,
     }
 }

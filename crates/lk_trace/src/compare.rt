@@ -1,13 +1,13 @@
 //! In what a line of a trace differs from the machine, with nothing changed.
 
 ghost use Rattle.std.specs.Prelude.{◌≡◌, ◌<◌, ◌↔◌, None, length, IfSome};
-ghost use Rattle.lk_locks.specs.Steps.{refusal_of};
+ghost use Rattle.lk_locks.specs.Steps.{change_of, refusal_of};
 ghost use Rattle.lk_trace.specs.Agreement.{Agrees, AgreesOn};
 ghost use Rattle.lk_trace.specs.Checks.{difference_of, effect_of, effect_other, on};
-ghost use Rattle.lk_trace.specs.Checks.{section_other, seen_other};
+ghost use Rattle.lk_trace.specs.Checks.{section_of, section_other, seen_other};
 
 use crate::{Difference, Seen, TraceLine, WordName, name_at};
-use lk_locks::{LockKind, Machine, Move, Outcome};
+use lk_locks::{LockKind, Machine, Move, Outcome, SectionEffect, StepEffect};
 use lk_words::{Effect, WordArray};
 
 // What a move that does this differs in from what is given of its word.
@@ -72,6 +72,29 @@ pub(crate) fn effect(machine: &Machine<WordArray>, t: u8, m: Move) -> Option<Eff
     }
 }
 
+// What the next step of a thread does to the words of its monitor, if it is a section.
+pub(crate) fn section(machine: &Machine<WordArray>, t: u8) -> Option<SectionEffect>
+    requires { t < length machine.now.phases }
+    ensures { result ≡ section_of machine.now t }
+{
+    match machine.effect(t)? {
+        StepEffect::Monitor(section) => Some(section),
+        StepEffect::OneWord(..) => None,
+    }
+}
+
+// What comes of a move that the machine accepts.
+fn outcome(machine: &Machine<WordArray>, t: u8, m: Move) -> Outcome
+    requires { refusal_of machine.now t m ≡ None }
+    ensures { result ≡ (change_of machine.now t m).outcome }
+{
+    match (m, machine.effect(t)) {
+        (Move::Step(_), Some(effect)) => effect.outcome(),
+        (Move::Step(_), None) => Outcome::Waits,
+        (Move::Call(_), _) => Outcome::Called,
+    }
+}
+
 // In what a move that the machine accepts differs from what its thread saw.
 fn seen_other(
     machine: &Machine<WordArray>,
@@ -100,7 +123,7 @@ fn seen_other(
             wrote,
         ),
         Seen::InSection { count, outcome } => {
-            section_other(sections, machine.outcome(t, m), count, outcome)
+            section_other(sections, self::outcome(machine, t, m), count, outcome)
         }
     }
 }

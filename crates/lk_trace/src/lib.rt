@@ -18,7 +18,7 @@ mod trace;
 mod unreadable;
 
 pub use checker::{Checker, Made};
-pub use codes::{move_number, outcome_number, refusal_number};
+pub use codes::{fault_number, move_number, outcome_number, refusal_number};
 pub use compare::first_difference;
 pub use difference::Difference;
 pub use due::Due;

@@ -8,7 +8,8 @@ use Rattle.lk_trace.specs.declared.trace.Event.{Event}
 use Rattle.lk_trace.specs.declared.trace.Event.TheVariants.{Skipped, Began, Made, Differs}
 use Rattle.lk_trace.specs.declared.trace.Event.TheVariants.{Fault as FaultOf}
 use Rattle.lk_trace.specs.declared.trace.TextFault.TheVariants.{NoHeader}
-use Rattle.lk_trace_c.specs.Numbers.{difference_number, fault_number}
+use Rattle.lk_trace.specs.Codes.{fault_number}
+use Rattle.lk_trace_c.specs.Numbers.{difference_number}
 
 abbrev pub event_number : Event → ℕ
 event_number Skipped = 0

@@ -1,4 +1,4 @@
--- Definitions. Faults as numbers. This project's own; `record/locktrace.h` has the same.
+-- Definitions. Differences as numbers. This project's own; `record/locktrace.h` has the same.
 use Rattle.std.specs.Prelude.{ℕ}
 use Rattle.lk_trace.specs.Codes.{refusal_number}
 use Rattle.lk_trace.specs.declared.difference.Difference.{Difference}
@@ -6,11 +6,8 @@ use Rattle.lk_trace.specs.declared.difference.Difference.TheVariants.{Refused, O
 use Rattle.lk_trace.specs.declared.difference.Difference.TheVariants.{FoundOther, LeftOther}
 use Rattle.lk_trace.specs.declared.difference.Difference.TheVariants.{WroteOther, CountNotAbove}
 use Rattle.lk_trace.specs.declared.difference.Difference.TheVariants.{OtherOutcome}
-use Rattle.lk_trace.specs.declared.trace.TextFault.{TextFault}
-use Rattle.lk_trace.specs.declared.trace.TextFault.TheVariants.{NoHeader, BadHeader, BadThreads}
-use Rattle.lk_trace.specs.declared.trace.TextFault.TheVariants.{WordsTooNarrow, BadLine}
 
--- refusals from 1, values from 8, texts from 16
+-- refusals from 1, values from 8
 abbrev pub difference_number : Difference → ℕ
 difference_number (Refused refusal) = refusal_number refusal
 difference_number (OtherWord word given) = 8
@@ -19,10 +16,3 @@ difference_number (LeftOther word left given) = 10
 difference_number (WroteOther wrote) = 11
 difference_number (CountNotAbove last given) = 12
 difference_number (OtherOutcome outcome given) = 13
-
-abbrev pub fault_number : TextFault → ℕ
-fault_number NoHeader = 16
-fault_number BadHeader = 17
-fault_number BadThreads = 18
-fault_number WordsTooNarrow = 19
-fault_number BadLine = 20

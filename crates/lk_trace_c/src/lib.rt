@@ -11,8 +11,9 @@ ghost use Rattle.lk_trace_c.specs.Records.{answer_by, nothing, record_of, steps_
 ghost use Rattle.lk_trace_c.specs.Texts.{text_of_number};
 
 use lk_replay::parts::cut_line;
-use lk_trace::{Event, Made, TextFault, TraceLine, TraceReader, move_number, outcome_number};
-use numbers::{difference_number, fault_number, fault_text};
+use lk_trace::{Event, Made, TextFault, TraceLine, TraceReader};
+use lk_trace::{fault_number, move_number, outcome_number};
+use numbers::{difference_number, fault_text};
 
 /// A move that was made. `word` is the place of its word, or the greatest number if it is on
 /// none; what it found and left is 0 then.
@@ -89,7 +90,7 @@ fn take_line(
             0
         }
         Event::Differs(_, difference) => difference_number(difference),
-        Event::Fault(fault) => fault_number(fault),
+        Event::Fault(fault) => u32::from(fault_number(fault)),
     }
 }
 
@@ -99,7 +100,7 @@ fn end_of(trace: &TraceReader) -> u32
 {
     match trace.checker() {
         Some(_) => 0,
-        None => fault_number(TextFault::NoHeader),
+        None => u32::from(fault_number(TextFault::NoHeader)),
     }
 }
 

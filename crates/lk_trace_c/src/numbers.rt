@@ -1,11 +1,11 @@
 //! Faults as numbers, and their texts. `record/locktrace.h` has the same numbers.
 
 ghost use Rattle.std.specs.Prelude.{◌≡◌};
-ghost use Rattle.lk_trace_c.specs.Numbers.{difference_number, fault_number};
+ghost use Rattle.lk_trace_c.specs.Numbers.{difference_number};
 ghost use Rattle.lk_trace_c.specs.Texts.{text_of_number};
 
 use lk_locks::{Refusal, StepKind};
-use lk_trace::{Difference, TextFault, refusal_number};
+use lk_trace::{Difference, refusal_number};
 
 /// Refusals from 1, values from 8.
 pub fn difference_number(difference: Difference) -> u32
@@ -19,19 +19,6 @@ pub fn difference_number(difference: Difference) -> u32
         Difference::WroteOther { .. } => 11,
         Difference::CountNotAbove { .. } => 12,
         Difference::OtherOutcome { .. } => 13,
-    }
-}
-
-/// Texts that are no trace, from 16.
-pub fn fault_number(fault: TextFault) -> u32
-    ensures { result ≡ fault_number fault }
-{
-    match fault {
-        TextFault::NoHeader => 16,
-        TextFault::BadHeader => 17,
-        TextFault::BadThreads => 18,
-        TextFault::WordsTooNarrow => 19,
-        TextFault::BadLine => 20,
     }
 }
 

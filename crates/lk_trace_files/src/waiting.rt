@@ -4,7 +4,7 @@ use crate::course::{Course, Fate};
 use crate::notes::Notes;
 use crate::sentences::{Awaited, polled_for};
 use crate::texts::{Called, Lock};
-use lk_locks::{Move, Outcome};
+use lk_locks::Outcome;
 use lk_trace::name_at;
 use std::alloc::AllocError;
 use std::fmt;
@@ -32,15 +32,10 @@ impl Waiting<'_> {
     /// Whether its next step, if it is in a call, would be no failed poll.
     pub fn may_go_on(&self) -> bool {
         let machine = self.lock.machine();
-        if self.thread >= machine.threads() {
-            return false;
-        }
-        let Some(step) = machine.next_step(self.thread) else {
-            return false;
-        };
-        let next = Move::Step(step);
-        machine.check(self.thread, next).is_ok()
-            && machine.outcome(self.thread, next) != Outcome::Waits
+        self.thread < machine.threads()
+            && machine
+                .effect(self.thread)
+                .is_some_and(|effect| effect.outcome() != Outcome::Waits)
     }
 
     // Writes each word of a monitor with its value.
