@@ -12,7 +12,7 @@ ghost use Rattle.lk_locks.specs.Steps.{change_of, next_state, refusal_of};
 ghost use Rattle.lk_locks.specs.Entries.{entries_of};
 
 use crate::entries::Added;
-use crate::holders::{alone, copy_of};
+use crate::holders::copy_of;
 use crate::locks::family_of;
 use crate::{Entry, Family, Holders, LockKind, Machine, Move, Op, Outcome, SeqLock};
 use arrayvec::ArrayVec;
@@ -121,7 +121,7 @@ impl<W: Words> Tracker<W> {
             Family::Queue => copy_of(self.sequential.queue()),
             Family::ReadWrite => ArrayVec::new(),
             Family::FifoReadWrite => match self.sequential.announced() {
-                Some(t) => alone(t),
+                Some(t) => copy_of(&[t]),
                 None => ArrayVec::new(),
             },
         }
