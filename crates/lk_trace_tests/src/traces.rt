@@ -1,15 +1,13 @@
 //! Worked lines and moves. What they expect was made by hand.
 
-use lk_locks::{LockKind, Machine, Move, Op, Outcome, Phase, Refusal, StepKind, operation_of};
+use lk_locks::{LockKind, Move, Outcome, Phase, Refusal, StepKind, operation_of};
 use lk_replay::parts::whole_number;
 use lk_trace::{
     Checker, Difference, Event, Made, Seen, TextFault, TraceLine, TraceReader, WordName, name_at,
     read_line, read_log_line,
 };
-use lk_words::{Operation, WordArray};
+use lk_words::Operation;
 use std::process::Abort;
-
-const SWAP: Move = Move::Step(StepKind::Swap);
 
 fn on(word: WordName, found: Option<u64>, left: Option<u64>, wrote: Option<bool>) -> Option<Seen> {
     Some(Seen::OnWord {
@@ -254,81 +252,6 @@ fn sections_are_counted(rt: HostRuntime) {
         made(rt, &mut checker, b"1 section 3 moved"),
         Ok(Outcome::Moved)
     );
-}
-
-const READ: Move = Move::Step(StepKind::Read);
-
-const WRITE: Move = Move::Step(StepKind::Write);
-
-const CAS: Move = Move::Step(StepKind::Cas);
-
-const ADD: Move = Move::Step(StepKind::Add);
-
-const ACQUIRE: Move = Move::Call(Op::Acquire);
-
-const RELEASE: Move = Move::Call(Op::Release);
-
-// Each step of the run is on the word at its place, and a call is on none.
-fn is_on_its_words(
-    rt: &impl Abort,
-    machine: &mut Machine<WordArray>,
-    run: &[(u8, Move, Option<usize>)],
-) {
-    for &(thread, action, place) in run {
-        assert!(rt; thread < machine.threads());
-        let word = machine.operation(thread).map(|operation| operation.word());
-        assert_eq!(rt; word, place);
-        assert!(rt; machine.apply(thread, action).is_ok());
-    }
-}
-
-// Each of the four steps: a ticket is taken, looked for in vain and found, read and passed on.
-#[test]
-fn ticket_steps_are_on_their_words(rt: HostRuntime) {
-    let mut machine = Machine::new(LockKind::Ticket, 2, WordArray::new(2));
-    let run = [
-        (0, ACQUIRE, None),
-        (0, ADD, Some(0)),
-        (0, READ, Some(1)),
-        (1, ACQUIRE, None),
-        (1, ADD, Some(0)),
-        (1, READ, Some(1)),
-        (0, RELEASE, None),
-        (0, READ, Some(1)),
-        (0, WRITE, Some(1)),
-        (1, READ, Some(1)),
-    ];
-    is_on_its_words(&rt, &mut machine, &run);
-}
-
-// Each of the nine steps: thread 1 links itself to thread 0, which finds no link, fails to clear
-// the tail and waits for the link; then thread 1 is granted the lock and clears the tail. The words
-// are the tail, and next and locked of each thread.
-#[test]
-fn mcs_steps_are_on_their_words(rt: HostRuntime) {
-    let mut machine = Machine::new(LockKind::Mcs, 2, WordArray::new(5));
-    let run = [
-        (0, ACQUIRE, None),
-        (0, WRITE, Some(1)),
-        (0, SWAP, Some(0)),
-        (1, ACQUIRE, None),
-        (1, WRITE, Some(3)),
-        (1, SWAP, Some(0)),
-        (1, WRITE, Some(4)),
-        (0, RELEASE, None),
-        (0, READ, Some(1)),
-        (0, CAS, Some(0)),
-        (0, READ, Some(1)),
-        (1, WRITE, Some(1)),
-        (1, READ, Some(4)),
-        (0, READ, Some(1)),
-        (0, WRITE, Some(4)),
-        (1, READ, Some(4)),
-        (1, RELEASE, None),
-        (1, READ, Some(3)),
-        (1, CAS, Some(0)),
-    ];
-    is_on_its_words(&rt, &mut machine, &run);
 }
 
 // The fault of a new trace's first line, if it has one.
