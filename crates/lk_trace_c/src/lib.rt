@@ -11,8 +11,9 @@ ghost use Rattle.lk_trace_c.specs.Records.{answer_by, nothing, record_of, steps_
 ghost use Rattle.lk_trace_c.specs.Texts.{text_of_number};
 
 use lk_replay::parts::cut_line;
-use lk_trace::{Event, Made, TextFault, TraceLine, TraceReader};
-use lk_trace::{fault_number, move_number, outcome_number};
+use lk_trace::{
+    Event, Made, TextFault, TraceLine, TraceReader, fault_number, move_number, outcome_number,
+};
 use numbers::{difference_number, fault_text};
 
 /// A move that was made. `word` is the place of its word, or the greatest number if it is on
