@@ -1,6 +1,6 @@
 -- Definitions: the replay of a schedule, its moves in order up to the first refused one. This
 -- project's own; what a move does is said by the definitions of the locks alone.
-use Rattle.std.specs.Prelude.{ℕ, List, [], ◌∷◌, map, length, Option, None, Some, replicate}
+use Rattle.std.specs.Prelude.{ℕ, List, [], ◌∷◌, map, Option, None, Some, replicate}
 use Rattle.std.specs.List.{flat_map}
 use Rattle.lk_locks.specs.State.{State, start}
 use Rattle.lk_locks.specs.Locks.{word_count}
@@ -55,13 +55,12 @@ start_of p = start p.kind p.bits (replicate (word_count p.kind p.threads) 0) p.t
 abbrev pub replay_of : Plan → Replay
 replay_of p = replay_from (start_of p) p.moves
 
--- what a replay shows: the lock and the number of its threads, the accepted moves, how many entries
--- each of them added, all these entries, and the refused move
+-- what a replay shows: the lock and the number of its threads, the accepted moves, their entries,
+-- and the refused move
 pub record Replayed : Type 0 where
   pub kind : LockKind
   pub threads : ℕ
   pub accepted : List Accepted
-  pub added : List ℕ
   pub entries : List Entry
   pub refused : Option (ℕ × Refusal)
 
@@ -70,7 +69,6 @@ replayed kind threads r = record {
   kind = kind;
   threads = threads;
   accepted = map (λ m. m.accepted) r.made;
-  added = map (λ m. length m.entries) r.made;
   entries = flat_map (λ m. m.entries) r.made;
   refused = r.refused;
 }

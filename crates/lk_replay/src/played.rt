@@ -1,15 +1,12 @@
 //! The replay of a schedule: its moves, played in order up to the first refused one.
 
-ghost use Rattle.std.specs.Prelude.{◌≡◌, IfOk, replicate, ◌≤◌, length};
-ghost use Rattle.lk_locks.specs.Play.{new_lock};
-ghost use Rattle.lk_locks.specs.Locks.{word_count};
+ghost use Rattle.std.specs.Prelude.{◌≡◌, IfOk, ◌≤◌, length};
 ghost use Rattle.lk_replay.specs.Replay.{replayed_of, Replayed};
 ghost use Rattle.lk_replay.specs.Whole.{IsHistoryOf};
-ghost use Rattle.std.specs.List.{sum};
 ghost use Rattle.lk_locks.specs.MainTheorem.{IsAsPromised};
 
 use crate::Schedule;
-use lk_locks::{Entry, Keeper, LockKind, Move, Outcome, PlayFault, Refusal, words_needed};
+use lk_locks::{Entry, Keeper, Move, Outcome, PlayFault, Refusal, words_needed};
 use lk_words::WordArray;
 use std::alloc::{AllocError, Global};
 use std::marker::Model;
@@ -26,10 +23,7 @@ pub struct Accepted {
 /// What playing a schedule up to its first refused move gave.
 #[derive(Drop)]
 pub struct Played {
-    kind: LockKind,
     accepted: Vec<Accepted>,
-    // How many entries each of them added.
-    added: Vec<u8>,
     keeper: Keeper<WordArray>,
     refused: Option<(u32, Refusal)>,
 }
@@ -38,17 +32,14 @@ impl Model for Played {
     ghost Value = { Replayed };
 
     ghost view = { λ a. record {
-      kind = a.kind;
+      kind = a.keeper.state.kind;
       threads = length a.keeper.state.phases;
       accepted = a.accepted.items;
-      added = a.added.items;
       entries = a.keeper.entries;
       refused = a.refused;
     } };
 
-    ghost invariant = { λ a. (a.kind ≡ a.keeper.state.kind) × (length a.accepted.items ≤ 65536)
-        × (length a.added.items ≡ length a.accepted.items)
-        × (sum a.added.items ≡ length a.keeper.entries) };
+    ghost invariant = { λ a. length a.accepted.items ≤ 65536 };
 }
 
 impl Played {
@@ -69,40 +60,12 @@ impl Played {
         self.keeper.entries()
     }
 
-    /// How many entries each accepted move added.
-    pub fn added(&self) -> &[u8]
-        ensures added { result.now ≡ self.now.added }
-        ensures each { length result.now ≡ length self.now.accepted }
-        ensures all { sum result.now ≡ length self.now.entries }
-    {
-        self.added.as_slice()
-    }
-
-    /// The lock.
-    pub fn kind(&self) -> LockKind
-        ensures { result ≡ self.now.kind }
-    {
-        self.kind
-    }
-
     /// The line of the first refused move, and why it was refused.
     pub fn refused(&self) -> Option<(u32, Refusal)>
         ensures { result ≡ self.now.refused }
     {
         self.refused
     }
-}
-
-/// A lock of the schedule's kind, on which nothing was played.
-pub fn new_keeper(alloc: Global, schedule: &Schedule) -> Keeper<WordArray>
-    ensures { let plan = schedule.now in
-        result ≡ new_lock plan.kind plan.bits (replicate (word_count plan.kind plan.threads) 0)
-        plan.threads }
-{
-    let kind = schedule.kind();
-    let threads = schedule.threads();
-    let words = WordArray::with_bits(words_needed(kind, threads), schedule.bits());
-    Keeper::new(alloc, kind, threads, words)
 }
 
 /// Plays the moves in order, up to the first refused one, which is no error.
@@ -115,27 +78,22 @@ pub fn replay(alloc: Global, schedule: &Schedule) -> Result<Played, AllocError>
     ensures moves { IfOk result
         (λ played. IsHistoryOf schedule.now played.accepted played.entries) }
 {
-    let mut keeper = new_keeper(alloc, schedule);
+    let (kind, threads) = (schedule.kind(), schedule.threads());
+    let words = WordArray::with_bits(words_needed(kind, threads), schedule.bits());
+    let mut keeper = Keeper::new(alloc, kind, threads, words);
     let moves = schedule.moves();
     let mut accepted = Vec::with_capacity(alloc, moves.len())?;
-    let mut added = Vec::with_capacity(alloc, moves.len())?;
     for line in moves {
-        let before = keeper.entries().len();
         match keeper.play(line.thread, line.action) {
-            Ok(outcome) => {
-                added.push((keeper.entries().len() - before) as u8)?;
-                accepted.push(Accepted {
-                    line: line.number,
-                    thread: line.thread,
-                    action: line.action,
-                    outcome,
-                })?;
-            }
+            Ok(outcome) => accepted.push(Accepted {
+                line: line.number,
+                thread: line.thread,
+                action: line.action,
+                outcome,
+            })?,
             Err(PlayFault::Refused(refusal)) => {
                 return Ok(Played {
-                    kind: schedule.kind(),
                     accepted,
-                    added,
                     keeper,
                     refused: Some((line.number, refusal)),
                 });
@@ -144,9 +102,7 @@ pub fn replay(alloc: Global, schedule: &Schedule) -> Result<Played, AllocError>
         }
     }
     Ok(Played {
-        kind: schedule.kind(),
         accepted,
-        added,
         keeper,
         refused: None,
     })

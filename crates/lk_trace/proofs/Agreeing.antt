@@ -1,8 +1,10 @@
 -- A line has no difference exactly if it agrees part by part.
-use Rattle.std.proofs.Common.{List, option_map, replicate, arith, ltb-true, lt-ltb, nat_lt, ◌<◌}
+use Rattle.std.proofs.Common.{List, option_map, replicate, arith, ◌<◌}
 use Rattle.std.proofs.Common.{◌≡◌, ℕ, ◌==◌, Option, Some, None, Bool, true, false, IfSome}
-use Rattle.std.proofs.Common.{if◌then◌else◌, refl, sym, ap, subst, length, not, ◌∙◌, ◌↔◌}
-use Rattle.std.specs.Bool.{beq}
+use Rattle.std.proofs.Common.{if◌then◌else◌, refl, sym, ap, length, not, ◌∙◌, ◌↔◌}
+use Rattle.std.specs.Cmp.{booleans_Decides}
+use Rattle.std.specs.Bool.{Decides}
+use Rattle.std.proofs.lemmas.Bool.Decides.{Decides-eqb, Decides-ltb}
 use Rattle.std.specs.Option.{option_or}
 use Rattle.std.proofs.lemmas.List.{get_or-replicate, length-replicate}
 use Rattle.lk_words.specs.Operations.{effect_on}
@@ -16,13 +18,13 @@ use Rattle.lk_locks.specs.Steps.{refusal_of}
 use Rattle.lk_locks.specs.invariants.WellFormed.{WellFormed}
 use Rattle.lk_locks.specs.declared.kinds.LockKind.{LockKind}
 use Rattle.lk_locks.specs.declared.kinds.Move.TheVariants.{Call, Step}
-use Rattle.lk_locks.specs.declared.kinds.Outcome.{Outcome}
-use Rattle.lk_locks.specs.declared.kinds.Outcome.TheVariants.{Called, Moved, Waits, Entered, Left}
 use Rattle.lk_locks.specs.declared.kinds.Refusal.{Refusal}
 use Rattle.lk_trace.specs.Agreement.{Agrees, AgreesOn, AgreesOnWord, IsCounted, count_in}
 use Rattle.lk_trace.specs.Checks.{Checked, checked, count_given, difference_of, effect_of}
 use Rattle.lk_trace.specs.Checks.{effect_other, is_word, name_of, new_lock, other_word, part_other}
-use Rattle.lk_trace.specs.Checks.{same_outcome, seen_other, value_after, values_other}
+use Rattle.lk_trace.specs.Checks.{seen_other, values_other}
+use denote.Enum.Bare.{same_true, true_same}
+use Rattle.lk_locks.specs.contracts.kinds.Outcome.{the_type}
 use Rattle.lk_trace.specs.declared.line.Seen.{Seen}
 use Rattle.lk_trace.specs.declared.line.Seen.TheVariants.{InSection, Nothing, OnWord}
 use Rattle.lk_trace.specs.declared.line.TraceLine.{TraceLine}
@@ -36,20 +38,14 @@ use Rattle.lk_trace.specs.declared.names.WordName.TheVariants.{NextTicket, NowSe
 use Rattle.lk_trace.specs.declared.names.WordName.TheVariants.{Locked, Readers, Flag, ReadAcquires}
 use Rattle.lk_trace.specs.declared.names.WordName.TheVariants.{ReadReleases}
 use Rattle.lk_trace.specs.declared.difference.Difference.{Difference}
-use Rattle.lk_trace.specs.declared.difference.Difference.TheVariants.{CountNotAbove, FoundOther}
-use Rattle.lk_trace.specs.declared.difference.Difference.TheVariants.{LeftOther, Refused}
+use Rattle.lk_trace.specs.declared.difference.Difference.TheVariants.{Refused}
 
 -- of two checks, one after the other, neither finds a difference
-both_none : (a b : Option Difference) → option_or a b ≡ None → (a ≡ None) × (b ≡ None)
-both_none None b none = (refl, none)
-both_none (Some d) b none = absurd (cc)
-
-none_of_both : (a b : Option Difference) → a ≡ None → b ≡ None → option_or a b ≡ None
-none_of_both a b first second = ap (λ x. option_or x b) first ∙ second
-
-not_refused : (refusal : Option Refusal) → option_map Refused refusal ≡ None → refusal ≡ None
-not_refused None none = refl
-not_refused (Some refusal) none = cc
+both_agree : {P Q : Type 0} (a b : Option Difference) → (a ≡ None ↔ P) → (b ≡ None ↔ Q)
+    → (option_or a b ≡ None ↔ P × Q)
+both_agree None b first second =
+    (λ none. (first.0 refl, second.0 none), λ both. second.1 both.1)
+both_agree (Some d) b first second = (λ none. cc, λ both. first.1 both.0)
 
 holds : (test : Bool) (d : Difference) → (if test then None else Some d) ≡ None → test ≡ true
 holds true d none = refl
@@ -57,16 +53,13 @@ holds false d none = cc
 
 -- a part that is given agrees exactly if no difference is found
 part_agrees : {A : Type 0} (agrees : A → Bool) (other : A → Difference) (P : A → Type 0)
-    (given : Option A) → ((v : A) → agrees v ≡ true → P v) → part_other agrees other given ≡ None
-    → IfSome given P
-part_agrees agrees other P None h none = tt
-part_agrees agrees other P (Some v) h none = h v (holds (agrees v) _ none)
-
-agreed_part : {A : Type 0} (agrees : A → Bool) (other : A → Difference) (P : A → Type 0)
-    (given : Option A) → ((v : A) → P v → agrees v ≡ true) → IfSome given P
-    → part_other agrees other given ≡ None
-agreed_part agrees other P None h is = refl
-agreed_part agrees other P (Some v) h is = cond-true (agrees v) _ _ (h v is)
+    (given : Option A) → ((v : A) → Decides (agrees v) (P v))
+    → (part_other agrees other given ≡ None ↔ IfSome given P)
+part_agrees agrees other P None decides = (λ none. tt, λ is. refl)
+part_agrees agrees other P (Some v) decides = (
+  λ none. (decides v).0 (holds (agrees v) _ none),
+  λ is. cond-true (agrees v) _ _ ((decides v).1 is),
+)
 
 -- names
 same_name : (a b : WordName) → same_word a b ≡ true → a ≡ b
@@ -96,109 +89,60 @@ named : (word : Option WordName) (given : WordName) → is_word word given ≡ t
 named None given is = cc
 named (Some word) given is = ap Some (same_name word given is)
 
-word_agrees : (word : Option WordName) (given : WordName) → other_word word given ≡ None
-    → word ≡ Some given
-word_agrees word given none = named word given (holds (is_word word given) _ none)
-
-agreed_word : (word : Option WordName) (given : WordName) → word ≡ Some given
-    → other_word word given ≡ None
-agreed_word word given is =
-    ap (λ w. other_word w given) is ∙ cond-true (same_word given given) _ _ (its_name given)
-
--- answers
-same_test : (a b : Bool) → beq a b ≡ true → a ≡ b
-same_test true true same = refl
-same_test false false same = refl
-same_test true false same = cc
-same_test false true same = cc
-
-its_answer : (a b : Bool) → a ≡ b → beq a b ≡ true
-its_answer true b is = ap (beq true) (sym is)
-its_answer false b is = ap (beq false) (sym is)
-
--- outcomes
-same_end : (a b : Outcome) → same_outcome a b ≡ true → a ≡ b
-same_end Called Called same = refl
-same_end Moved Moved same = refl
-same_end Waits Waits same = refl
-same_end Entered Entered same = refl
-same_end Left Left same = refl
-same_end a b same = cc
-
-its_end : (a : Outcome) → same_outcome a a ≡ true
-its_end Called = refl
-its_end Moved = refl
-its_end Waits = refl
-its_end Entered = refl
-its_end Left = refl
-
-end_is : (a b : Outcome) → a ≡ b → same_outcome a b ≡ true
-end_is a b is = ap (same_outcome a) (sym is) ∙ its_end a
-
--- what the line saw of a word
-abbrev AgreesHere : Checked → ℕ → Move → WordName → Option ℕ → Option ℕ → Option Bool → Type 0
-AgreesHere c t m word found left wrote = AgreesOnWord c.lock.state t m word found left wrote
-
-word_seen : (c : Checked) (t : ℕ) (m : Move) (word : WordName) (found left : Option ℕ)
-    (wrote : Option Bool) (effect : Option Effect) → effect_of c.lock.state t m ≡ effect
-    → IfSome effect (λ e. e.word < length c.lock.state.words)
-    → effect_other c.lock.state.kind effect word found left wrote ≡ None
-    → AgreesHere c t m word found left wrote
-word_seen c t m word found left wrote None is within none = cc
-word_seen c t m word found left wrote (Some e) is within none =
-    let kind = c.lock.state.kind in
-    let first = both_none (other_word (name_at kind e.word) word)
-    (values_other word e.found e.left found left wrote) none in
-    let second = both_none (part_other (λ v. e.found == v) (FoundOther word e.found) found) _
-    first.1 in
-    let third = both_none (part_other (λ v. e.left == v) (LeftOther word e.left) left) _
-    second.1 in
-    let named : name_at kind e.word ≡ Some word = word_agrees _ word first.0 in
-    let stood = has_values c.lock.state t m word e is within named in
-    record {
-      on_word = ap (name_of kind) is ∙ named;
-      found_is = subst (λ x. IfSome found (λ v. x ≡ v)) (sym stood.found)
-          (part_agrees _ _ (λ v. e.found ≡ v) found (eqb-true e.found) second.0);
-      left_is = subst (λ x. IfSome left (λ v. x ≡ v)) (sym stood.left)
-          (part_agrees _ _ (λ v. e.left ≡ v) left (eqb-true e.left) third.0);
-      wrote_is = subst (λ x. IfSome wrote (λ w. not (x == value_after c.lock.state t m word) ≡ w))
-          (sym stood.found)
-          (subst (λ x. IfSome wrote (λ w. not (e.found == x) ≡ w)) (sym stood.left)
-          (part_agrees _ _ (λ w. not (e.found == e.left) ≡ w) wrote (same_test _) third.1));
-    }
-
-word_agreed : (c : Checked) (t : ℕ) (m : Move) (word : WordName) (found left : Option ℕ)
-    (wrote : Option Bool) (effect : Option Effect) → effect_of c.lock.state t m ≡ effect
-    → IfSome effect (λ e. e.word < length c.lock.state.words)
-    → AgreesHere c t m word found left wrote
-    → effect_other c.lock.state.kind effect word found left wrote ≡ None
-word_agreed c t m word found left wrote None is within agrees =
-    let named : name_of c.lock.state.kind None ≡ Some word =
-    ap (name_of c.lock.state.kind) (sym is) ∙ agrees.on_word in cc
-word_agreed c t m word found left wrote (Some e) is within agrees =
-    let kind = c.lock.state.kind in
-    let named : name_at kind e.word ≡ Some word = ap (name_of kind) (sym is) ∙ agrees.on_word in
-    let stood = has_values c.lock.state t m word e is within named in
-    none_of_both _ _ (agreed_word _ word named) (none_of_both _ _
-    (agreed_part _ _ (λ v. e.found ≡ v) found (eq-eqb e.found)
-    (subst (λ x. IfSome found (λ v. x ≡ v)) stood.found agrees.found_is))
-    (none_of_both _ _
-    (agreed_part _ _ (λ v. e.left ≡ v) left (eq-eqb e.left)
-    (subst (λ x. IfSome left (λ v. x ≡ v)) stood.left agrees.left_is))
-    (agreed_part _ _ (λ w. not (e.found == e.left) ≡ w) wrote (its_answer _)
-    (subst (λ x. IfSome wrote (λ w. not (e.found == x) ≡ w)) stood.left
-    (subst (λ x. IfSome wrote (λ w. not (x == value_after c.lock.state t m word) ≡ w)) stood.found
-    agrees.wrote_is)))))
-
-pub word_both : (c : Checked) (t : ℕ) (m : Move) (word : WordName) (found left : Option ℕ)
-    (wrote : Option Bool)
-    → IfSome (effect_of c.lock.state t m) (λ e. e.word < length c.lock.state.words)
-    → (seen_other c t m (OnWord word found left wrote) ≡ None
-    ↔ AgreesOn c t m (OnWord word found left wrote))
-word_both c t m word found left wrote within = (
-  λ none. word_seen c t m word found left wrote (effect_of c.lock.state t m) refl within none,
-  λ agrees. word_agreed c t m word found left wrote (effect_of c.lock.state t m) refl within agrees,
+name_agrees : (word : Option WordName) (given : WordName)
+    → (other_word word given ≡ None ↔ word ≡ Some given)
+name_agrees word given = (
+  λ none. named word given (holds (is_word word given) _ none),
+  λ is. ap (λ w. other_word w given) is
+      ∙ cond-true (same_word given given) _ _ (its_name given),
 )
+
+-- what the line saw of a word that has these values
+values_agree : (word : WordName) (v w : ℕ) (found left : Option ℕ) (wrote : Option Bool)
+    → (values_other word v w found left wrote ≡ None
+    ↔ IfSome found (λ x. v ≡ x) × (IfSome left (λ x. w ≡ x)
+    × IfSome wrote (λ x. not (v == w) ≡ x)))
+values_agree word v w found left wrote =
+    both_agree _ _ (part_agrees _ _ _ found (Decides-eqb v))
+    (both_agree _ _ (part_agrees _ _ _ left (Decides-eqb w))
+    (part_agrees _ _ _ wrote (booleans_Decides (not (v == w)))))
+
+word_agrees : (s : State) (t : ℕ) (m : Move) (word : WordName) (found left : Option ℕ)
+    (wrote : Option Bool) (effect : Option Effect) → effect_of s t m ≡ effect
+    → IfSome effect (λ e. e.word < length s.words)
+    → (effect_other s.kind effect word found left wrote ≡ None
+    ↔ AgreesOnWord s t m word found left wrote)
+word_agrees s t m word found left wrote None is within = (
+  λ none. cc,
+  λ agrees. let named : name_of s.kind None ≡ Some word =
+      ap (name_of s.kind) (sym is) ∙ agrees.on_word in cc,
+)
+word_agrees s t m word found left wrote (Some e) is within =
+    let both = both_agree _ _ (name_agrees (name_at s.kind e.word) word)
+    (values_agree word e.found e.left found left wrote) in (
+      λ none.
+          let parts = both.0 none in
+          let stood = has_values s t m word e is within parts.0 in
+          record {
+            on_word = ap (name_of s.kind) is ∙ parts.0;
+            found_is = rw stood.found parts.1.0;
+            left_is = rw stood.left parts.1.1.0;
+            wrote_is = rw (stood.found, stood.left) parts.1.1.1;
+          },
+      λ agrees.
+          let named = ap (name_of s.kind) (sym is) ∙ agrees.on_word in
+          let stood = has_values s t m word e is within named in
+          both.1 (
+            named,
+            (
+              rw (← stood.found) agrees.found_is,
+              (
+                rw (← stood.left) agrees.left_is,
+                rw (← stood.found, ← stood.left) agrees.wrote_is,
+              ),
+            ),
+          ),
+    )
 
 of_operation : (s : State) (t : ℕ) (o : Option Operation) → WellFormed s → t < length s.phases
     → operation_of s.kind s.bits t (phase_at s.phases t) ≡ o
@@ -206,50 +150,62 @@ of_operation : (s : State) (t : ℕ) (o : Option Operation) → WellFormed s →
 of_operation s t None w h e = tt
 of_operation s t (Some o) w h e = operation_within s t o w h e
 
+-- the word of a move is one of the lock's
+abbrev IsWithin : State → ℕ → Move → Type 0
+IsWithin s t m = IfSome (effect_of s t m) (λ e. e.word < length s.words)
+
 effect_within : (s : State) (t : ℕ) (m : Move) → WellFormed s → t < length s.phases
-    → IfSome (effect_of s t m) (λ e. e.word < length s.words)
+    → IsWithin s t m
 effect_within s t (Call op) w h = tt
 effect_within s t (Step k) w h = of_operation s t _ w h refl
 
-seen_both : (c : Checked) (t : ℕ) (m : Move) (seen : Seen) → WellFormed c.lock.state
-    → t < length c.lock.state.phases → (seen_other c t m seen ≡ None ↔ AgreesOn c t m seen)
-seen_both c t m Nothing w h = (λ none. tt, λ agrees. refl)
-seen_both c t m (OnWord word found left wrote) w h =
-    word_both c t m word found left wrote (effect_within c.lock.state t m w h)
-seen_both c t m (InSection count outcome) w h = (
-  λ none.
-      let both = both_none (part_other (nat_lt c.sections) (CountNotAbove c.sections) count) _ none
-      in record {
-        count_is = part_agrees _ _ (λ n. c.sections < n) count (ltb-true c.sections) both.0;
-        outcome_is = part_agrees _ _ _ outcome (same_end _) both.1;
-      },
-  λ agrees. none_of_both _ _
-      (agreed_part _ _ (λ n. c.sections < n) count (lt-ltb c.sections) agrees.count_is)
-      (agreed_part _ _ _ outcome (end_is _) agrees.outcome_is),
-)
+seen_agrees : (c : Checked) (t : ℕ) (m : Move) (seen : Seen) → IsWithin c.lock.state t m
+    → (seen_other c t m seen ≡ None ↔ AgreesOn c t m seen)
+seen_agrees c t m Nothing within = (λ none. tt, λ agrees. refl)
+seen_agrees c t m (OnWord word found left wrote) within =
+    word_agrees c.lock.state t m word found left wrote (effect_of c.lock.state t m) refl within
+seen_agrees c t m (InSection count outcome) within =
+    let both = both_agree _ _ (part_agrees _ _ _ count (Decides-ltb c.sections))
+    (part_agrees _ _ _ outcome (λ o. (same_true the_type tt _ o, true_same the_type _ o))) in (
+      λ none. record { count_is = (both.0 none).0; outcome_is = (both.0 none).1 },
+      λ agrees. both.1 (agrees.count_is, agrees.outcome_is),
+    )
 
 -- a line, on a lock that is well formed
 thread_in : (s : State) (t : ℕ) (m : Move) → refusal_of s t m ≡ None → t < length s.phases
 thread_in s t m accepted = (accepted_of s t m accepted).thread
 
+line_agrees : (c : Checked) (l : TraceLine) (r : Option Refusal)
+    → refusal_of c.lock.state l.thread l.action ≡ r
+    → (r ≡ None → IsWithin c.lock.state l.thread l.action)
+    → (option_or (option_map Refused r) (seen_other c l.thread l.action l.seen) ≡ None
+    ↔ Agrees c l)
+line_agrees c l None is within =
+    let seen = seen_agrees c l.thread l.action l.seen (within refl) in (
+      λ none. record { accepted = is; seen = seen.0 none },
+      λ agrees. seen.1 agrees.seen,
+    )
+line_agrees c l (Some refusal) is within =
+    (λ none. cc, λ agrees. let no = sym is ∙ agrees.accepted in cc)
+
+pub agreeing : (c : Checked) (l : TraceLine)
+    → (refusal_of c.lock.state l.thread l.action ≡ None → IsWithin c.lock.state l.thread l.action)
+    → (difference_of c l ≡ None ↔ Agrees c l)
+agreeing c l = line_agrees c l (refusal_of c.lock.state l.thread l.action) refl
+
+well_agreeing : (c : Checked) (l : TraceLine) → WellFormed c.lock.state
+    → (difference_of c l ≡ None ↔ Agrees c l)
+well_agreeing c l w =
+    agreeing c l (λ accepted. effect_within c.lock.state l.thread l.action w
+    (thread_in c.lock.state l.thread l.action accepted))
+
 pub agrees : (c : Checked) (l : TraceLine) → WellFormed c.lock.state → difference_of c l ≡ None
     → Agrees c l
-agrees c l w none =
-    let both = both_none (option_map Refused (refusal_of c.lock.state l.thread l.action))
-    (seen_other c l.thread l.action l.seen) none in
-    let accepted = not_refused _ both.0 in
-    record {
-      accepted = accepted;
-      seen = (seen_both c l.thread l.action l.seen w
-          (thread_in c.lock.state l.thread l.action accepted)).0 both.1;
-    }
+agrees c l w = (well_agreeing c l w).0
 
 pub agreed : (c : Checked) (l : TraceLine) → WellFormed c.lock.state → Agrees c l
     → difference_of c l ≡ None
-agreed c l w agrees =
-    none_of_both _ _ (ap (option_map Refused) agrees.accepted)
-    ((seen_both c l.thread l.action l.seen w
-    (thread_in c.lock.state l.thread l.action agrees.accepted)).1 agrees.seen)
+agreed c l w = (well_agreeing c l w).1
 
 -- a new lock is well formed, and stays so
 pub new_is_well : (kind : LockKind) (threads bits : ℕ)

@@ -1,9 +1,11 @@
 -- Definitions. The check of a move with what its thread saw: where they differ first. This
 -- project's own; what a move does is said by the definitions of the locks alone.
 use Rattle.std.specs.Prelude.{ℕ, ◌==◌, [], replicate, slice_index, Option, Some, None, option_map}
-use Rattle.std.specs.Prelude.{Result, Ok, Err, Bool, true, false, not, nat_lt, if◌then◌else◌}
+use Rattle.std.specs.Prelude.{Result, Ok, Err, Bool, false, not, nat_lt, if◌then◌else◌}
 use Rattle.std.specs.Bool.{beq}
 use Rattle.std.specs.Option.{option_and_then, option_or}
+use denote.Enum.Bare.{sameb}
+use Rattle.lk_locks.specs.contracts.kinds.Outcome.{the_type}
 use Rattle.lk_locks.specs.State.{State, start, phase_at}
 use Rattle.lk_words.specs.Operations.{effect_on}
 use Rattle.lk_words.specs.declared.operation.Effect.{Effect}
@@ -16,7 +18,6 @@ use Rattle.lk_locks.specs.declared.kinds.LockKind.{LockKind}
 use Rattle.lk_locks.specs.declared.kinds.Move.{Move}
 use Rattle.lk_locks.specs.declared.kinds.Move.TheVariants.{Call, Step}
 use Rattle.lk_locks.specs.declared.kinds.Outcome.{Outcome}
-use Rattle.lk_locks.specs.declared.kinds.Outcome.TheVariants as outcome
 use Rattle.lk_locks.specs.declared.kinds.SectionEffect.{SectionEffect}
 use Rattle.lk_locks.specs.declared.kinds.StepEffect.{StepEffect}
 use Rattle.lk_locks.specs.declared.kinds.StepEffect.TheVariants.{Monitor, OneWord}
@@ -61,12 +62,7 @@ part_other agrees other None = None
 part_other agrees other (Some given) = if agrees given then None else Some (other given)
 
 abbrev pub same_outcome : Outcome → Outcome → Bool
-same_outcome outcome.Called outcome.Called = true
-same_outcome outcome.Moved outcome.Moved = true
-same_outcome outcome.Waits outcome.Waits = true
-same_outcome outcome.Entered outcome.Entered = true
-same_outcome outcome.Left outcome.Left = true
-same_outcome a b = false
+same_outcome = sameb the_type
 
 -- the value of a word, and its value after a move
 abbrev pub value_of : State → WordName → ℕ
@@ -85,9 +81,10 @@ abbrev pub section_in : StepEffect → Option SectionEffect
 section_in (Monitor section) = Some section
 section_in (OneWord effect outcome) = None
 
--- what the next step of thread t does to the words of its monitor, if it is a section
-abbrev pub section_of : State → ℕ → Option SectionEffect
-section_of s t =
+-- what a move of thread t does to the words of its monitor, if it is a section
+abbrev pub section_of : State → ℕ → Move → Option SectionEffect
+section_of s t (Call op) = None
+section_of s t (Step kind) =
     option_and_then section_in (locks.effect_of s.kind s.bits s.words t (phase_at s.phases t))
 
 -- the name of the word that an effect is on
@@ -158,7 +155,7 @@ made_of s t m = record {
   from = phase_at s.phases t;
   outcome = (change_of s t m).outcome;
   effect = effect_of s t m;
-  section = section_of s t;
+  section = section_of s t m;
 }
 
 abbrev pub answer_unless : Option Difference → Made → Result Made Difference

@@ -7,9 +7,8 @@ ghost use Rattle.lk_trace.specs.Agreement.{Agrees, IsCounted, count_in};
 ghost use Rattle.lk_trace.specs.Checks.{after_line, answer_to, count_given, difference_of};
 ghost use Rattle.lk_trace.specs.Checks.{new_lock, Checked};
 
-use crate::compare::{effect, first_difference, section};
-use crate::{Difference, Seen, TraceLine};
-use lk_locks::{Added, LockKind, Move, Outcome, Phase, SectionEffect, Tracker, words_needed};
+use crate::{Difference, Seen, TraceLine, check_line};
+use lk_locks::{Added, LockKind, Outcome, Phase, SectionEffect, Tracker, words_needed};
 use lk_words::{Effect, WordArray};
 use std::marker::Model;
 
@@ -95,7 +94,10 @@ impl Checker {
         ensures value { result ≡ difference_of self.now line }
         ensures agrees { result ≡ None ↔ Agrees self.now line }
     {
-        first_difference(self.lock.machine(), self.sections, line)
+        match check_line(self.lock.machine(), self.sections, line) {
+            Ok(_) => None,
+            Err(difference) => Some(difference),
+        }
     }
 
     /// Makes the move of a line. It is accepted exactly if the machine accepts it and each part
@@ -111,19 +113,9 @@ impl Checker {
         ensures answer { result ≡ answer_to self.old line }
         ensures after { self.new ≡ after_line self.old line }
     {
-        if let Some(difference) = self.difference(line) {
-            return Err(difference);
-        }
-        let from = self.lock.machine().phase(line.thread);
-        let effect = effect(self.lock.machine(), line.thread, line.action);
-        let section = section(self.lock.machine(), line.thread);
+        let made = check_line(self.lock.machine(), self.sections, line)?;
         self.sections = count_given(self.sections, line.seen);
-        let outcome = self.lock.make(line.thread, line.action, &mut Added::none());
-        Ok(Made {
-            from,
-            outcome,
-            effect,
-            section,
-        })
+        self.lock.make(line.thread, line.action, &mut Added::none());
+        Ok(made)
     }
 }

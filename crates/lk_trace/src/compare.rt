@@ -1,13 +1,12 @@
 //! In what a line of a trace differs from the machine, with nothing changed.
 
-ghost use Rattle.std.specs.Prelude.{◌≡◌, ◌<◌, ◌↔◌, None, length, IfSome};
-ghost use Rattle.lk_locks.specs.Steps.{change_of, refusal_of};
-ghost use Rattle.lk_trace.specs.Agreement.{Agrees, AgreesOn};
-ghost use Rattle.lk_trace.specs.Checks.{difference_of, effect_of, effect_other, on};
-ghost use Rattle.lk_trace.specs.Checks.{section_of, section_other, seen_other};
+ghost use Rattle.std.specs.Prelude.{◌≡◌, ◌<◌, ◌↔◌, None, Some, IsOk, IfOk, IfErr, IfSome, length};
+ghost use Rattle.lk_locks.specs.Steps.{refusal_of};
+ghost use Rattle.lk_trace.specs.Agreement.{Agrees};
+ghost use Rattle.lk_trace.specs.Checks.{difference_of, effect_other, made_of, on, section_other};
 
-use crate::{Difference, Seen, TraceLine, WordName, name_at};
-use lk_locks::{LockKind, Machine, Move, Outcome, SectionEffect, StepEffect};
+use crate::{Difference, Made, Seen, TraceLine, WordName, name_at};
+use lk_locks::{LockKind, Machine, Move, Outcome, StepEffect};
 use lk_words::{Effect, WordArray};
 
 // What a move that does this differs in from what is given of its word.
@@ -60,86 +59,63 @@ fn section_other(
     }
 }
 
-// What a move that the machine accepts does to its word, if it is one operation on one word.
-pub(crate) fn effect(machine: &Machine<WordArray>, t: u8, m: Move) -> Option<Effect>
-    requires { refusal_of machine.now t m ≡ None }
-    ensures value { result ≡ effect_of machine.now t m }
-    ensures within { IfSome result (λ effect. effect.word < length machine.now.words) }
-{
-    match m {
-        Move::Call(_) => None,
-        Move::Step(_) => Some(machine.words().effect(machine.operation(t)?)),
-    }
-}
-
-// What the next step of a thread does to the words of its monitor, if it is a section.
-pub(crate) fn section(machine: &Machine<WordArray>, t: u8) -> Option<SectionEffect>
-    requires { t < length machine.now.phases }
-    ensures { result ≡ section_of machine.now t }
-{
-    match machine.effect(t)? {
-        StepEffect::Monitor(section) => Some(section),
-        StepEffect::OneWord(..) => None,
-    }
-}
-
 // What comes of a move that the machine accepts.
-fn outcome(machine: &Machine<WordArray>, t: u8, m: Move) -> Outcome
+fn made_of(machine: &Machine<WordArray>, t: u8, m: Move) -> Made
     requires { refusal_of machine.now t m ≡ None }
-    ensures { result ≡ (change_of machine.now t m).outcome }
+    ensures value { result ≡ made_of machine.now t m }
+    ensures within { IfSome result.effect (λ effect. effect.word < length machine.now.words) }
 {
-    match (m, machine.effect(t)) {
-        (Move::Step(_), Some(effect)) => effect.outcome(),
-        (Move::Step(_), None) => Outcome::Waits,
-        (Move::Call(_), _) => Outcome::Called,
+    let (outcome, effect, section) = match (m, machine.effect(t)) {
+        (Move::Call(_), _) => (Outcome::Called, None, None),
+        (Move::Step(_), None) => (Outcome::Waits, None, None),
+        (Move::Step(_), Some(StepEffect::OneWord(effect, outcome))) => {
+            (outcome, Some(effect), None)
+        }
+        (Move::Step(_), Some(StepEffect::Monitor(section))) => {
+            (section.outcome, None, Some(section))
+        }
+    };
+    Made {
+        from: machine.phase(t),
+        outcome,
+        effect,
+        section,
     }
 }
 
-// In what a move that the machine accepts differs from what its thread saw.
-fn seen_other(
+/// What comes of the move of a line, if the greatest count of a section so far was `sections`. The
+/// move is not made.
+///
+/// # Errors
+///
+/// Where the line differs from the machine first.
+pub fn check_line(
     machine: &Machine<WordArray>,
     sections: u64,
-    t: u8,
-    m: Move,
-    seen: Seen,
-) -> Option<Difference>
-    requires { refusal_of machine.now t m ≡ None }
-    ensures value { result ≡ seen_other (on machine.now sections) t m seen }
-    ensures agrees { result ≡ None ↔ AgreesOn (on machine.now sections) t m seen }
+    line: TraceLine,
+) -> Result<Made, Difference>
+    ensures made { IfOk result (λ made. made ≡ made_of machine.now line.thread line.action) }
+    ensures none { IfOk result (λ made. difference_of (on machine.now sections) line ≡ None) }
+    ensures differs { IfErr result
+        (λ difference. difference_of (on machine.now sections) line ≡ Some difference) }
+    ensures agrees { IsOk result ↔ Agrees (on machine.now sections) line }
 {
-    match seen {
+    if let Err(refusal) = machine.check(line.thread, line.action) {
+        return Err(Difference::Refused(refusal));
+    }
+    let made = made_of(machine, line.thread, line.action);
+    let difference = match line.seen {
         Seen::Nothing => None,
         Seen::OnWord {
             word,
             found,
             left,
             wrote,
-        } => effect_other(
-            machine.kind(),
-            effect(machine, t, m),
-            word,
-            found,
-            left,
-            wrote,
-        ),
-        Seen::InSection { count, outcome } => {
-            section_other(sections, self::outcome(machine, t, m), count, outcome)
-        }
-    }
-}
-
-/// Where the line differs from the machine first, if the greatest count of a section so far was
-/// `sections`.
-pub fn first_difference(
-    machine: &Machine<WordArray>,
-    sections: u64,
-    line: TraceLine,
-) -> Option<Difference>
-    ensures value { result ≡ difference_of (on machine.now sections) line }
-    ensures agrees { result ≡ None ↔ Agrees (on machine.now sections) line }
-{
-    match machine.check(line.thread, line.action) {
-        Err(refusal) => Some(Difference::Refused(refusal)),
-        Ok(()) => seen_other(machine, sections, line.thread, line.action, line.seen),
+        } => effect_other(machine.kind(), made.effect, word, found, left, wrote),
+        Seen::InSection { count, outcome } => section_other(sections, made.outcome, count, outcome),
+    };
+    match difference {
+        Some(difference) => Err(difference),
+        None => Ok(made),
     }
 }

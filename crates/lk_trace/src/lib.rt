@@ -19,7 +19,7 @@ mod unreadable;
 
 pub use checker::{Checker, Made};
 pub use codes::{fault_number, move_number, outcome_number, refusal_number};
-pub use compare::first_difference;
+pub use compare::check_line;
 pub use difference::Difference;
 pub use due::Due;
 pub use line::{MOST_OF_A_LINE, Seen, TraceLine, read_line, read_log_line};
