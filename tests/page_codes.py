@@ -3,9 +3,10 @@
 
 The module's code is proved against the definitions of crates/lk_page/specs, and its numbers of
 moves, outcomes, refusals and most faults against those of crates/lk_trace/specs, and of phases
-against those of crates/lk_search/specs. That the page reads its numbers as these definitions mean them is not
-proved. Here each name and number of page/src/codes.js, and the order of the page's locks and of its
-ways to hold one, is compared with the definitions. So is the table of codes in page/MODULE.md.
+against those of crates/lk_search/specs. That the page reads its numbers as these definitions mean
+them is not proved. Here each name and number of page/src/codes.js, and the order of the page's
+locks and of its ways to hold one, is compared with the definitions. So is the table of codes in
+page/MODULE.md.
 Prints `N passed, M failed`, and ends with 1 if one failed.
 """
 import pathlib
