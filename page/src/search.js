@@ -50,10 +50,8 @@ export function textsOfKinds(machine, lock) {
   });
 }
 
-const WORDS = Object.values(MOVES);
-
-// A move by its code: 512 times its place among calls and steps, and its thread.
-const moveOf = (code) => `${code & 255} ${WORDS[code >> 9]}`;
+// A move of a run by its code: 512 times that of the move, and its thread.
+const moveOf = (code) => `${code & 255} ${MOVES[code >> 9]}`;
 
 // A shortest run of a new lock with the lines of the sketch, as lines of a schedule. `state` is the
 // lock's in the beginning, as played; each thread takes the lock at most `rounds` times. Answers

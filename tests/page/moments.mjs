@@ -28,7 +28,7 @@ const bytesOf = (text) => new TextEncoder().encode(text);
 
 // The move that a code names.
 function moveOf(code) {
-  const word = Object.values(MOVES)[Math.floor(code / 512)];
+  const word = MOVES[Math.floor(code / 512)];
   return { thread: code % 256, word, meets: Math.floor(code / 256) % 2 === 1 };
 }
 

@@ -1,4 +1,3 @@
-pub mod Touched
 pub mod Tracks
 pub mod PlayedOn
 pub mod Asked

@@ -1,5 +1,5 @@
 -- The record of a move that was made.
-use Rattle.std.proofs.Common.{◌≡◌, ℕ, Bool, List, ◌++◌, length, Option, None, refl, ap, subst}
+use Rattle.std.proofs.Common.{◌≡◌, ℕ, Bool, List, ◌++◌, length, Option, None, refl, ap}
 use Rattle.std.proofs.Common.{◌∙◌}
 use Rattle.lk_locks.specs.Locks.{step_due}
 use Rattle.lk_locks.specs.declared.kinds.StepKind.{StepKind}
@@ -36,7 +36,7 @@ pub is_told : (k next : Tracked) (es : List Entry) (l : Line) (o : Outcome) (p :
     → stand ≡ standing (holding_in next) (waiting_in next) l.thread
     → calls ≡ allowed_calls next.state l.thread
     → waits ≡ waits_after next.state l.thread o stand.is_queued
-    → AreTouched k.state.words next.state.words first second
+    → AreTouched k.state.words (change_of k.state l.thread l.action).words first second
     → IsOwn (length k.state.words) (own_word k.state l.thread l.action) first second
     → IsRecord (moment k.state es) l (record {
       line = l.number;
@@ -72,7 +72,6 @@ is_told k next es l o p d stand calls waits first second h a e oe pe de se ce we
       stands = se ∙ rw (g, holding_tracked new all, waiting_tracked new all) refl;
       calls = ce ∙ ap (λ (x : Tracked). allowed_calls x.state l.thread) g;
       waiting = we ∙ ap (λ (x : Tracked). waits_after x.state l.thread o stand.is_queued) g;
-      touched = subst (λ (x : Tracked). AreTouched k.state.words x.state.words first second) g
-          touched;
+      touched = touched;
       own = own;
     }

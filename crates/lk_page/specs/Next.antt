@@ -1,16 +1,14 @@
 -- Definitions: what a thread may do next, as the machine would answer. This project's own.
-use Rattle.std.specs.Prelude.{ℕ, ◌+◌, ◌*◌, Bool, true, false, ◌&&◌, Option, None, Some, is_none}
+use Rattle.std.specs.Prelude.{ℕ, ◌+◌, ◌*◌, Bool, true, false, ◌&&◌, is_none, is_some}
 use Rattle.lk_locks.specs.State.{State, phase_at}
-use Rattle.lk_locks.specs.Steps.{refusal_of, change_of}
-use Rattle.lk_locks.specs.Locks.{step_due}
+use Rattle.lk_locks.specs.Steps.{refusal_of}
+use Rattle.lk_locks.specs.Locks.{step_due, step_of}
 use Rattle.lk_locks.specs.declared.kinds.Op.{Op}
 use Rattle.lk_locks.specs.declared.kinds.Op.TheVariants.{Acquire, Release, ReadLock, ReadUnlock}
 use Rattle.lk_locks.specs.declared.kinds.Op.TheVariants.{WriteLock, WriteUnlock, Downgrade}
-use Rattle.lk_locks.specs.declared.kinds.Move.{Move}
-use Rattle.lk_locks.specs.declared.kinds.Move.TheVariants.{Call, Step}
+use Rattle.lk_locks.specs.declared.kinds.Move.TheVariants.{Call}
 use Rattle.lk_locks.specs.declared.kinds.Outcome.{Outcome}
 use Rattle.lk_locks.specs.declared.kinds.Outcome.TheVariants.{Waits}
-use Rattle.lk_locks.specs.declared.kinds.StepKind.{StepKind}
 use Rattle.lk_page.specs.Codes.{bit}
 
 -- 1 if the call would be accepted

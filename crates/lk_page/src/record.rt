@@ -8,13 +8,13 @@ ghost use Rattle.lk_page.specs.Told.{IsRecord, standing};
 ghost use Rattle.lk_page.specs.Layout.{record_bytes, touched_word, found_of, left_of};
 ghost use Rattle.lk_page.specs.Layout.{thread_code};
 
-use crate::changes::make;
+use crate::changes::touches;
 use crate::codes::{due_code, is_unlinked};
 use crate::layout::{put_bytes, put_u16, put_u32, put_u64};
 use crate::next::{allowed_calls, waits_after};
 use crate::told::{Record, Standing, Touch};
 use arrayvec::ArrayVec;
-use lk_locks::{Holders, Refusal, Tracker};
+use lk_locks::{Added, Holders, Refusal, Tracker};
 use lk_replay::Line;
 use lk_search::phase_code;
 use lk_trace::{move_number, outcome_number};
@@ -48,7 +48,8 @@ pub fn play_line(lock: &mut Tracker<WordArray>, line: &Line) -> Result<Record, R
         → IsRecord (record { state = lock.old.state; entries = es }) line.now told) }
 {
     lock.machine().check(line.thread, line.action)?;
-    let (outcome, first, second) = make(lock, line.thread, line.action);
+    let (first, second) = touches(lock.machine(), line.thread, line.action);
+    let outcome = lock.make(line.thread, line.action, &mut Added::none());
     let phase = lock.machine().phase(line.thread);
     let due = lock.machine().next_step(line.thread);
     let standing = standing_of(lock, line.thread);

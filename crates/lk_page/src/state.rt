@@ -7,7 +7,6 @@ ghost use Rattle.lk_page.specs.Layout.{padded, holding_code, holder_list};
 ghost use Rattle.lk_page.specs.Layout.{thread_bytes, threads_bytes, stop_numbers};
 ghost use Rattle.lk_page.specs.Layout.{bytes_of_state, bytes_of_fault};
 
-use crate::changes::words_of;
 use crate::codes::{due_code, lock_code, refusal_step};
 use crate::layout::{copy_of, put_bytes, put_u32s, put_u64, put_u64s, put_zeros};
 use crate::next::allowed_calls;
@@ -21,8 +20,6 @@ use lk_words::{WordArray, Words};
 
 /// How many bytes a state has.
 pub const STATE_BYTES: usize = 2304;
-
-const MOST_THREADS: usize = 64;
 
 const THREAD_BYTES: usize = 16;
 
@@ -79,7 +76,7 @@ fn put_list(out: &mut ArrayVec<u8, 2304>, threads: &[u8])
     ensures size { length out.new.items ≡ length out.old.items + 64 }
 {
     put_bytes(out, threads);
-    put_zeros(out, MOST_THREADS - threads.len());
+    put_zeros(out, 64 - threads.len());
 }
 
 // The number of those who hold a lock so, and their list.
@@ -124,7 +121,7 @@ pub fn state_bytes(lock: &Tracker<WordArray>, moves: u32, stopped: Stopped) -> A
     let holder_slice = holders.as_slice();
     let queue_slice = queue.as_slice();
     let machine = lock.machine();
-    let words = words_of(machine);
+    let words = machine.words().as_slice();
     let bits = machine.words().bits();
     let kind = lock_code(lock.kind());
     put_u32s(&mut out, &stop_numbers(stopped.refused));

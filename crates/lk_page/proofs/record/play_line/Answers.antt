@@ -1,4 +1,4 @@
-use Rattle.std.proofs.Common.{ap, sym, ◌∙◌}
+use Rattle.std.proofs.Common.{ap, refl, sym, ◌∙◌}
 use Rattle.lk_locks.specs.State.{State, phase_at}
 use Rattle.lk_locks.specs.Locks.{step_due}
 use Rattle.lk_locks.specs.Steps.{refused_with}
@@ -8,18 +8,20 @@ use Rattle.lk_page.proofs.record.play_line.Goals as goal
 
 pub returns-clause-record : goal.returns-clause-record
 returns-clause-record c = λ es h.
-    is_told c.args.lock.now c.make-outcome.new.lock es c.args.line.now _ _ _ _ _ _ _ _ h
-    (sym (rw c.machine.ensures at c.check.ensures) ∙ ap refused_with c.in_ok-check.was)
-    c.make-outcome.ensures.after c.make-outcome.ensures.outcome
+    let accepted = sym (rw c.machine.ensures at c.check.ensures)
+    ∙ ap refused_with c.in_ok-check.was in
+    is_told c.args.lock.now c.make-outcome.new.self es c.args.line.now _ _ _ _ _ _ _ _ h accepted
+    (c.make-outcome.ensures.after ∙ sym (rw accepted refl)) c.make-outcome.ensures.outcome
     (c.phase-phase.ensures
-    ∙ ap (λ (s : State). phase_at s.phases c.args.line.now.thread) c.machine-2.ensures)
+    ∙ ap (λ (s : State). phase_at s.phases c.args.line.now.thread) c.machine-3.ensures)
     (c.next_step-due.ensures
     ∙ ap (λ (s : State). step_due s.kind (phase_at s.phases c.args.line.now.thread))
-    c.machine-3.ensures)
+    c.machine-4.ensures)
     c.standing_of-standing.ensures
     (c.allowed_calls-calls.ensures
-    ∙ ap (λ (s : State). allowed_calls s c.args.line.now.thread) c.machine-4.ensures)
+    ∙ ap (λ (s : State). allowed_calls s c.args.line.now.thread) c.machine-5.ensures)
     (c.waits_after-waits.ensures
-    ∙ ap (λ (s : State). waits_after s c.args.line.now.thread c.make-outcome.result.0
-    c.standing_of-standing.result.is_queued) c.machine-5.ensures)
-    c.make-outcome.ensures.touched c.make-outcome.ensures.own
+    ∙ ap (λ (s : State). waits_after s c.args.line.now.thread c.make-outcome.result
+    c.standing_of-standing.result.is_queued) c.machine-6.ensures)
+    (rw c.machine-2.ensures at c.touches-first.ensures.touched)
+    (rw c.machine-2.ensures at c.touches-first.ensures.own)
