@@ -40,8 +40,9 @@ gate:
 	tests/wanted.sh rt gate
 	tests/gate.sh
 
-# What `make test` does after the proofs, in this order.
-PARTS := tried release-checks test-refused test-page test-library test-traces
+# What `make test` does after the proofs, in this order. The module is then newer than the page, so
+# release-checks writes the page anew: test-page has to look at it before.
+PARTS := tried test-page release-checks test-refused test-library test-traces
 
 ## test-built | what `make test` does after the proofs
 test-built:
@@ -118,6 +119,8 @@ page: $(MODULE)
 test-page: $(MODULE) $(PROGRAM) tools
 	tests/wanted.sh page browsers
 	node page/build.mjs $(MODULE) --check
+	@[ "$$(git status --porcelain 2> /dev/null)" != ' M $(PAGE)' ] || \
+	    { echo 'only $(PAGE) differs from what is committed: commit it too' >&2; exit 1; }
 	tests/page/module.mjs $(MODULE)
 	tests/page/bytes.mjs $(MODULE)
 	tests/page/moments.mjs $(MODULE)
