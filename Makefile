@@ -1,20 +1,22 @@
 # The commands of this repository: `make` lists them, from the lines that begin with ## beside them.
 # docs/CHECKING.md says how long each takes, and where the time goes.
 
-sources_of = $(shell find $(addprefix crates/,$(1)) -name out -prune \
+# The files of crates, with the list that says which others each one uses; and those others.
+sources_of = crates.txt $(shell find $(addprefix crates/,$(1)) -name out -prune \
 	-o \( -name '*.rt' -o -name '*.antt' \) -print)
+used_by = $(filter lk_%,$(shell sed -n 's/^$(1)[ :]//p' crates.txt))
 SOURCES := $(call sources_of,*)
 PROGRAM := crates/lockreplay/out/lockreplay
 TRACER  := crates/locktrace/out/locktrace
 LESSON  := examples/ticket-hand-over.schedule
 MODULE  := crates/lk_page/out/lockreplay.wasm
-MODULE_SOURCES := $(call sources_of,lk_words lk_locks lk_replay lk_trace lk_search lk_page)
+MODULE_SOURCES := $(call sources_of,lk_page $(call used_by,lk_page))
 # the check of a trace, for C
 LIBRARY := crates/lk_trace_c/out/liblk_trace_c.a
 # the crate with the tests, in some of which each request for memory is refused in turn
 TESTS := lk_tests
 TESTS_BUILT := crates/$(TESTS)/out/$(TESTS)_tests
-TESTS_SOURCES := $(call sources_of,lk_words lk_locks lk_replay lk_workers $(TESTS))
+TESTS_SOURCES := $(call sources_of,$(TESTS) $(call used_by,$(TESTS)))
 FUZZ_SECONDS := 60
 SHORT_FUZZ_SECONDS := 5
 SOAK_SECONDS := 3600
