@@ -55,6 +55,7 @@ test-parts:
 
 ## clean-room [PROVE=1] | demo and test-built in a minimal Debian; PROVE=1: without kept proofs
 clean-room:
+	tests/wanted.sh rt gate root
 	tests/clean_room.sh $(if $(PROVE),--prove)
 
 ## packages | prints the command that installs what any target needs of Debian
@@ -81,11 +82,13 @@ check:
 endif
 
 # The built program, and the rows by themselves, side by side. Nothing is proved here.
-TRIED := rows oracle process refusals writes short_memory memory documents documents_fail layout spaces fuzz
+TRIED := rows oracle process refusals writes short_memory memory documents documents_fail layout \
+	spaces fuzz
 .PHONY: tried $(addprefix tried-,$(TRIED))
 tried: $(PROGRAM) $(TRACER) tools
-	$(MAKE) --no-print-directory --jobs=$(shell nproc) --output-sync=target $(addprefix tried-,$(TRIED)) \
-	    FUZZ_SECONDS=$(FUZZ_SECONDS)
+	tests/wanted.sh rt
+	$(MAKE) --no-print-directory --jobs=$(shell nproc) --output-sync=target \
+	    $(addprefix tried-,$(TRIED)) FUZZ_SECONDS=$(FUZZ_SECONDS)
 
 tried-oracle:
 	tests/rows.py

@@ -18,7 +18,8 @@ case $* in
 '' | --prove) prove=$* ;;
 *) echo "usage: tests/clean_room.sh [--prove]" >&2 && exit 2 ;;
 esac
-kit=$(readlink -f "$(dirname "$(rt doc)")")
+guide=$(rt doc)
+kit=$(readlink -f "$(dirname "$guide")")
 room=$(mktemp -d -p /var/tmp)
 readonly root=$room/root table=$room/table
 child=

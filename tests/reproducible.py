@@ -113,7 +113,7 @@ def try_building(tally, debian):
 
 
 def main():
-    wanted.install("root", "deb")
+    wanted.install("rt", "tools", "root", "deb")
     tally, due = Tally(), {}
     for script in SCRIPTS:
         file = TOP / run(TOP / script).splitlines()[-1]
