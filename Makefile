@@ -33,10 +33,16 @@ help:
 demo: $(PROGRAM)
 	$(PROGRAM) replay < $(LESSON)
 
-## test | the one test command: proves all from nothing, then tries what is built
-test:
+## test | the one test command: proves all from nothing, then tries what is built. Needs root
+test: by-root
 	tests/wanted.sh --all
 	+tests/parts.sh gate $(PARTS)
+
+# release-checks, clean-room and test-reproducible install packages in Debian roots that they make.
+.PHONY: by-root
+by-root:
+	@[ "$$(id -u)" = 0 ] || \
+	    { echo 'only root may run make $(MAKECMDGOALS): it makes Debian roots' >&2; exit 1; }
 
 gate:
 	tests/wanted.sh rt gate
@@ -47,14 +53,14 @@ gate:
 PARTS := tried test-page release-checks test-refused test-library test-traces
 
 ## test-built | what `make test` does after the proofs
-test-built:
+test-built: by-root
 	+tests/parts.sh $(PARTS)
 
 test-parts:
 	@echo $(PARTS)
 
 ## clean-room [PROVE=1] | demo and test-built in a minimal Debian; PROVE=1: without kept proofs
-clean-room:
+clean-room: by-root
 	tests/wanted.sh rt gate root
 	tests/clean_room.sh $(if $(PROVE),--prove)
 

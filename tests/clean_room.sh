@@ -12,7 +12,7 @@
 # `rt check` keeps proofs, and `make test` does not: the status is 2 if those of a library are not
 # there. With --prove none are kept, so all that these need is proved from nothing, which takes an
 # hour. The gate itself, which tries the mutants too, is not run. The first step that fails
-# ends the whole; nothing stays on the machine but what tests/root.sh keeps.
+# ends the whole; nothing stays on the machine but what tests/root.sh keeps. Only root may do this.
 set -euo pipefail
 cd "$(dirname "$0")/.."
 readonly TREE=/root/lockreplay PATIENCE=900 # seconds, for the first crate

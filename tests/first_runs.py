@@ -73,6 +73,7 @@ def try_alone(debian, tally):
 
 
 def main():
+    wanted.need_root()
     wanted.install("root", "deb")
     tally = documents.Tally()
     made = subprocess.run(["make", "--no-print-directory", "--silent", "deb"], cwd=TOP, text=True,

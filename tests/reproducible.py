@@ -113,6 +113,7 @@ def try_building(tally, debian):
 
 
 def main():
+    wanted.need_root()
     wanted.install("rt", "tools", "root", "deb")
     tally, due = Tally(), {}
     for script in SCRIPTS:

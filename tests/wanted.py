@@ -12,6 +12,12 @@ def environment():
     return {name: value for name, value in os.environ.items() if name not in OF_MAKE}
 
 
+def need_root():
+    """Ends a test that makes a Debian root, if another user runs it."""
+    if os.geteuid() != 0:
+        sys.exit(f"{Path(sys.argv[0]).name}: only root may run this: it makes a Debian root")
+
+
 def install(*groups):
     """Installs what is missing of groups of packages.txt, or ends the test where that fails."""
     done = subprocess.run([Path(__file__).with_name("wanted.sh"), *groups], check=False)
