@@ -36,7 +36,7 @@ if [ -n "$lacking" ]; then
 fi
 guide=$(rt doc)
 kit=$(readlink -f "$(dirname "$guide")")
-room=$(mktemp -d -p /var/tmp)
+room=$(TMPDIR=${TMPDIR:-/var/tmp} mktemp -d) # it takes gigabytes, and /tmp may be memory
 readonly root=$room/root table=$room/table
 child=
 : > "$table"

@@ -120,7 +120,7 @@ def main():
         file = TOP / run(TOP / script).splitlines()[-1]
         due[file.name] = file.read_bytes()
     for suite in SUITES:
-        with tempfile.TemporaryDirectory() as folder:
+        with tempfile.TemporaryDirectory(dir=wanted.LARGE) as folder:
             debian = Debian(suite, Path(folder, "root"))
             try_packaging(tally, debian, due)
             if suite == SUITES[0]:

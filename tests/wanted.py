@@ -1,10 +1,13 @@
-"""What a test needs of the machine: Debian packages, and an environment to run `make` in."""
+"""What a test needs of the machine: Debian packages, an environment to run `make` in, and a place
+for large folders."""
 import os
 import subprocess
 import sys
 from pathlib import Path
 
 OF_MAKE = {"MAKELEVEL", "MAKEFLAGS", "MFLAGS"}
+# Where folders of gigabytes are made: in Debian 13 /tmp is memory.
+LARGE = os.environ.get("TMPDIR") or "/var/tmp"
 
 
 def environment():
