@@ -27,7 +27,7 @@ PROVE :=
 .PHONY: check mutants demo programs library bench soak tools
 
 help:
-	@sed -n 's/^## //p' $(MAKEFILE_LIST) | awk -F ' [|] ' '{ printf "make %-38s%s\n", $$1, $$2 }'
+	@sed -n 's/^## //p' $(MAKEFILE_LIST) | awk -F ' [|] ' '{ printf "make %-43s%s\n", $$1, $$2 }'
 
 ## demo | builds lockreplay, and replays a schedule of two threads
 demo: $(PROGRAM)
