@@ -1,20 +1,22 @@
 # The commands of this repository: `make` lists them, from the lines that begin with ## beside them.
 # docs/CHECKING.md says how long each takes, and where the time goes.
 
-sources_of = $(shell find $(addprefix crates/,$(1)) -name out -prune \
+# The files of crates, with the list that says which others each one uses; and those others.
+sources_of = crates.txt $(shell find $(addprefix crates/,$(1)) -name out -prune \
 	-o \( -name '*.rt' -o -name '*.antt' \) -print)
+used_by = $(filter lk_%,$(shell sed -n 's/^$(1)[ :]//p' crates.txt))
 SOURCES := $(call sources_of,*)
 PROGRAM := crates/lockreplay/out/lockreplay
 TRACER  := crates/locktrace/out/locktrace
 LESSON  := examples/ticket-hand-over.schedule
 MODULE  := crates/lk_page/out/lockreplay.wasm
-MODULE_SOURCES := $(call sources_of,lk_words lk_locks lk_replay lk_trace lk_search lk_page)
+MODULE_SOURCES := $(call sources_of,lk_page $(call used_by,lk_page))
 # the check of a trace, for C
 LIBRARY := crates/lk_trace_c/out/liblk_trace_c.a
 # the crate with the tests, in some of which each request for memory is refused in turn
 TESTS := lk_tests
 TESTS_BUILT := crates/$(TESTS)/out/$(TESTS)_tests
-TESTS_SOURCES := $(call sources_of,lk_words lk_locks lk_replay lk_workers $(TESTS))
+TESTS_SOURCES := $(call sources_of,$(TESTS) $(call used_by,$(TESTS)))
 FUZZ_SECONDS := 60
 SHORT_FUZZ_SECONDS := 5
 SOAK_SECONDS := 3600
@@ -25,33 +27,41 @@ PROVE :=
 .PHONY: check mutants demo programs library bench soak tools
 
 help:
-	@sed -n 's/^## //p' $(MAKEFILE_LIST) | awk -F ' [|] ' '{ printf "make %-38s%s\n", $$1, $$2 }'
+	@sed -n 's/^## //p' $(MAKEFILE_LIST) | awk -F ' [|] ' '{ printf "make %-43s%s\n", $$1, $$2 }'
 
 ## demo | builds lockreplay, and replays a schedule of two threads
 demo: $(PROGRAM)
 	$(PROGRAM) replay < $(LESSON)
 
-## test | the one test command: proves all from nothing, then tries what is built
-test:
+## test | the one test command: proves all from nothing, then tries what is built. Needs root
+test: by-root
 	tests/wanted.sh --all
 	+tests/parts.sh gate $(PARTS)
+
+# release-checks, clean-room and test-reproducible install packages in Debian roots that they make.
+.PHONY: by-root
+by-root:
+	@[ "$$(id -u)" = 0 ] || \
+	    { echo 'only root may run make $(MAKECMDGOALS): it makes Debian roots' >&2; exit 1; }
 
 gate:
 	tests/wanted.sh rt gate
 	tests/gate.sh
 
-# What `make test` does after the proofs, in this order.
-PARTS := tried release-checks test-refused test-page test-library test-traces
+# What `make test` does after the proofs, in this order. The module is then newer than the page, so
+# release-checks writes the page anew: test-page has to look at it before.
+PARTS := tried test-page release-checks test-refused test-library test-traces
 
 ## test-built | what `make test` does after the proofs
-test-built:
+test-built: by-root
 	+tests/parts.sh $(PARTS)
 
 test-parts:
 	@echo $(PARTS)
 
 ## clean-room [PROVE=1] | demo and test-built in a minimal Debian; PROVE=1: without kept proofs
-clean-room:
+clean-room: by-root
+	tests/wanted.sh rt gate root
 	tests/clean_room.sh $(if $(PROVE),--prove)
 
 ## packages | prints the command that installs what any target needs of Debian
@@ -78,11 +88,13 @@ check:
 endif
 
 # The built program, and the rows by themselves, side by side. Nothing is proved here.
-TRIED := rows oracle process refusals writes short_memory memory documents documents_fail layout spaces fuzz
+TRIED := rows oracle process refusals writes short_memory memory documents documents_fail layout \
+	spaces fuzz
 .PHONY: tried $(addprefix tried-,$(TRIED))
 tried: $(PROGRAM) $(TRACER) tools
-	$(MAKE) --no-print-directory --jobs=$(shell nproc) --output-sync=target $(addprefix tried-,$(TRIED)) \
-	    FUZZ_SECONDS=$(FUZZ_SECONDS)
+	tests/wanted.sh rt
+	$(MAKE) --no-print-directory --jobs=$(shell nproc) --output-sync=target \
+	    $(addprefix tried-,$(TRIED)) FUZZ_SECONDS=$(FUZZ_SECONDS)
 
 tried-oracle:
 	tests/rows.py
@@ -118,6 +130,8 @@ page: $(MODULE)
 test-page: $(MODULE) $(PROGRAM) tools
 	tests/wanted.sh page browsers
 	node page/build.mjs $(MODULE) --check
+	@[ "$$(git status --porcelain 2> /dev/null)" != ' M $(PAGE)' ] || \
+	    { echo 'only $(PAGE) differs from what is committed: commit it too' >&2; exit 1; }
 	tests/page/module.mjs $(MODULE)
 	tests/page/bytes.mjs $(MODULE)
 	tests/page/moments.mjs $(MODULE)
@@ -139,6 +153,11 @@ TRACED := recording recording_rust conform order_search recording_modes locktrac
 test-traces: $(TRACER) $(PROGRAM) $(LIBRARY) tools
 	$(MAKE) --no-print-directory --jobs=$(shell nproc) --output-sync=target \
 	    $(addprefix traced-,$(TRACED))
+
+# These three have a process for each processor. One after the other, beside the rest: side by side
+# there would be so many runs, whose threads spin, that one might not end in time.
+traced-recording_rust: | traced-recording
+traced-order_search: | traced-recording_rust
 
 traced-recording traced-searches: traced-%:
 	tests/$*.py $(TRACER) $(PROGRAM)

@@ -45,7 +45,7 @@ $(PAGE): $(MODULE) VERSION docs/LOCKS.md $(wildcard page/build.mjs page/build/* 
 
 # Side by side. Debian packages that these need are installed by them if they are missing.
 ## release-checks | tries what is installed and packaged, and two hosts over ssh
-release-checks: $(BUILT) tools
+release-checks: by-root $(BUILT) tools
 	$(MAKE) --no-print-directory --jobs=$(shell nproc) --output-sync=target \
 	    release-packages release-installed release-first-runs release-hosts
 
@@ -61,5 +61,5 @@ release-hosts:
 
 # Makes the artifacts, and the programs over what is proved, again in other roots: the same bytes.
 ## test-reproducible | makes the artifacts again under two Debians, and compares the bytes
-test-reproducible: $(BUILT) tools
+test-reproducible: by-root $(BUILT) tools
 	tests/reproducible.py

@@ -6,11 +6,13 @@
 #
 #   - `make demo` with nothing built. It is ended when the first crate is proved;
 #   - `make demo` over what this tree keeps of its proofs: the program is linked anew;
+#   - what `make test` does first: it installs what any test needs of Debian;
 #   - each part of what `make test` does after the proofs.
 #
-# With --prove no proofs are kept, so all that these need is proved from nothing, which takes an
+# `rt check` keeps proofs, and `make test` does not: the status is 2 if those of a library are not
+# there. With --prove none are kept, so all that these need is proved from nothing, which takes an
 # hour. The gate itself, which tries the mutants too, is not run. The first step that fails
-# ends the whole; nothing stays on the machine but what tests/root.sh keeps.
+# ends the whole; nothing stays on the machine but what tests/root.sh keeps. Only root may do this.
 set -euo pipefail
 cd "$(dirname "$0")/.."
 readonly TREE=/root/lockreplay PATIENCE=900 # seconds, for the first crate
@@ -18,8 +20,23 @@ case $* in
 '' | --prove) prove=$* ;;
 *) echo "usage: tests/clean_room.sh [--prove]" >&2 && exit 2 ;;
 esac
-kit=$(readlink -f "$(dirname "$(rt doc)")")
-room=$(mktemp -d -p /var/tmp)
+
+# without_proofs: the libraries of crates.txt of which nothing is kept
+without_proofs() {
+    for name in $(sed 's/^[^:]*://' crates.txt | tr ' ' '\n' | sort -u); do
+        [ ! -d "crates/$name" ] || [ -e "crates/$name/out/rlib/stamp" ] || echo "$name"
+    done
+}
+
+lacking=$([ -n "$prove" ] || without_proofs | xargs)
+if [ -n "$lacking" ]; then
+    echo "clean_room.sh: no proofs are kept of $lacking: run \`rt check\` in the folder of each" \
+        "crate first, or \`make clean-room PROVE=1\`, which proves all in the room" >&2
+    exit 2
+fi
+guide=$(rt doc)
+kit=$(readlink -f "$(dirname "$guide")")
+room=$(TMPDIR=${TMPDIR:-/var/tmp} mktemp -d) # it takes gigabytes, and /tmp may be memory
 readonly root=$room/root table=$room/table
 child=
 : > "$table"
@@ -83,7 +100,7 @@ copy_kept_proofs() {
     for out in crates/*/out; do
         cp -a "$out" "$root$TREE/$out"
     done
-    rm "$root$TREE/crates/lockreplay/out/lockreplay"
+    rm -f "$root$TREE/crates/lockreplay/out/lockreplay"
 }
 
 demo() {
@@ -93,8 +110,8 @@ demo() {
     tail -n 11 "$room/demo" | diff examples/ticket-hand-over.report -
 }
 
-part() {
-    begin make "$1"
+in_room() {
+    begin "$@"
     finish
 }
 
@@ -102,6 +119,7 @@ step "a minimal root, with the committed tree" make_room
 step "make demo, with nothing built, until a crate is proved" until_a_crate_is_proved
 [ -n "$prove" ] || step "a copy of the kept proofs" copy_kept_proofs
 step "make demo" demo
+step "what make test needs of Debian" in_room tests/wanted.sh --all
 for name in $(make --silent test-parts); do
-    step "make $name" part "$name"
+    step "make $name" in_room make "$name"
 done

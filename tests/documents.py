@@ -153,7 +153,11 @@ def try_document(document, program, names, tally):
     with tempfile.TemporaryDirectory(prefix="documents-") as folder:
         room = Room(pathlib.Path(folder), program)
         for block in blocks_of(lines):
-            try_block(block, room, tally, f"{name}:{block.first}")
+            where = f"{name}:{block.first}"
+            try:
+                try_block(block, room, tally, where)
+            except subprocess.TimeoutExpired:
+                tally.note(False, f"{where}: no end in {SECONDS} seconds")
     for number, line in without_blocks(lines):
         if INDENTED.match(line):
             tally.note(False, f"{name}:{number}: a command that is indented is not run")
@@ -168,7 +172,7 @@ def main(program, documents):
         names.looked_at = 0
         try:
             try_document(document, program, names, tally)
-        except (BadDocument, subprocess.TimeoutExpired) as error:
+        except BadDocument as error:
             tally.note(False, f"{document}: {error}")
     print(f"{tally.ran} commands ran, {sum(tally.marked.values())} are marked and did not")
     for reason, count in sorted(tally.marked.items()):

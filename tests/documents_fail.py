@@ -46,7 +46,10 @@ FAULTY = {
     "no such method": "`Keeper::no_such_method`",
     "a private function": "`Checker::seen_other`",
     "no such name": "`no_such_name`",
+    "a command that does not end": "```console\n$ sleep 20\n```",
+    "a script that does not end": "```sh\nsleep 20\n```",
 }
+SECONDS = 4  # that a block may take
 
 
 def fails(program, names, text):
@@ -64,6 +67,7 @@ def fails(program, names, text):
 
 
 def main(program):
+    documents.SECONDS = SECONDS
     names = documents.Names(documents.TOP)
     wrong = [f"FAILED {name}" for name, text in RIGHT.items() if fails(program, names, text)]
     wrong += [f"NOT FOUND {name}" for name, text in FAULTY.items()

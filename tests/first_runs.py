@@ -73,11 +73,12 @@ def try_alone(debian, tally):
 
 
 def main():
+    wanted.need_root()
     wanted.install("root", "deb")
     tally = documents.Tally()
     made = subprocess.run(["make", "--no-print-directory", "--silent", "deb"], cwd=TOP, text=True,
                           stdout=subprocess.PIPE, check=True, env=wanted.environment())
-    with tempfile.TemporaryDirectory() as folder:
+    with tempfile.TemporaryDirectory(dir=wanted.LARGE) as folder:
         debian = Debian(Path(folder, "root"), TOP / made.stdout.splitlines()[-1])
         for document in DOCUMENTS:
             try_document(debian, document, tally)

@@ -11,6 +11,8 @@ readonly TREE=$PWD
 readonly MADE="lockreplay/out/lockreplay locktrace/out/locktrace lk_page/out/lockreplay.wasm
     lk_trace_c/out/liblk_trace_c.a lk_tests/out/lk_tests_tests"
 
+# Not /tmp, which is memory in Debian 13: the copy, and those of the mutants, take gigabytes.
+export TMPDIR=${TMPDIR:-/var/tmp}
 copy=$(mktemp -d)
 beside=
 end() {

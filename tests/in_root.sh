@@ -5,7 +5,7 @@
 #
 # The command sees each PATH at its place, and cannot write there. It begins in / with an
 # environment of its own. Mounts and processes are in namespaces that end with the command, so
-# nothing is left of them however it ends. Its status is the command's.
+# nothing is left of them however it ends. Its status is the command's. Only root may do this.
 set -euo pipefail
 readonly KEPT=${XDG_CACHE_HOME:-$HOME/.cache}/lockreplay/packages
 seen=()
@@ -16,6 +16,10 @@ done
 if [ $# -lt 2 ]; then
     echo "usage: tests/in_root.sh [--see PATH]... FOLDER COMMAND..." >&2
     exit 2
+fi
+if [ "$(id -u)" != 0 ]; then
+    echo "in_root.sh: only root may run a command in a Debian root" >&2
+    exit 1
 fi
 folder=$(readlink -f "$1")
 shift

@@ -36,6 +36,7 @@ from threading import Condition
 from mutant_checks import Lab, NotChecked, unproved_below, verdict_on
 from mutant_edits import BadEdit, Edit
 from rattle_words import TOP, libraries_below
+from wanted import LARGE
 
 SIZE = 24  # mutants in one check: more of them take more memory, and gain little
 TRIES = 2  # in company that nothing speaks against, before an unclear one is tried alone
@@ -78,7 +79,7 @@ class Crate:
 
     def run(self, log):
         wait_for(libraries_below(self.name), log)
-        with tempfile.TemporaryDirectory(prefix=f"mutants-{self.name}-") as room:
+        with tempfile.TemporaryDirectory(prefix=f"mutants-{self.name}-", dir=LARGE) as room:
             lab = Lab(self.name, Path(room))
             for is_twin in (False, True):
                 self.try_all(lab, [edit for edit in self.edits if edit.is_twin is is_twin])

@@ -104,6 +104,18 @@ def try_replays(tally, name, tree):
     tally.check(f"{name}: no words", tree.run("lockreplay")[2], 2)
 
 
+def try_too_large(tally, name, tree):
+    """The texts that are too large to lie there are printed by the installed limits.sh."""
+    reports = [report for report in sorted(tree.examples.glob("*.report"))
+               if not report.with_suffix(".schedule").exists()]
+    tally.check(f"{name}: examples that are printed", len(reports), 2)
+    for report in reports:
+        printed = subprocess.run([tree.examples / "limits.sh", report.stem], check=True,
+                                 stdout=subprocess.PIPE).stdout
+        tally.check(f"{name}: {report.stem}", tree.run("lockreplay", "replay", stdin=printed),
+                    (report.read_bytes(), b"", 1))
+
+
 def try_traces(tally, name, tree):
     """The commands of `locktrace`, on texts of tests/locktrace.py with what is due for them."""
     def case(words, output, status, stdin=""):
@@ -266,6 +278,7 @@ def main():
         trees["deb"] = Unpacked(Path(folder, "deb"), "usr")
         for name, tree in trees.items():
             try_replays(tally, name, tree)
+            try_too_large(tally, name, tree)
             try_traces(tally, name, tree)
             try_libraries(tally, name, tree)
             built = Path(folder, f"{name}-built")

@@ -4,11 +4,11 @@
     tests/parallel_ssh.py PROGRAM
 
 The hosts are two sshd of this machine (hosts.py). 200 random schedules are replayed here and on
-both: the reports come in the order of the files, and the statuses are right. Of 40 on the hosts,
-nothing is lost if one goes away in the middle. A run that was ended in the middle goes on where
-it was. Reports and statuses that are due are the oracle's. The commands are taken from the document
-as they are there, and their logs stay for the next one to find. The last line counts the
-cases; the status is 1 if one failed.
+both: the reports come in the order of the files, and the statuses are right. A run that was ended
+in the middle goes on where it was. Of 40 on the hosts, nothing is lost if one goes away in the
+middle. Reports and statuses that are due are the oracle's. The commands are taken from the document
+as they are there, and run in one folder but the one of which a host goes away: a log stays for the
+next command to find. The last line counts the cases; the status is 1 if one failed.
 """
 import os
 import random
@@ -137,6 +137,8 @@ def try_host_that_goes_away(tally, work, host):
 
 def try_resumed(tally, name, work, command):
     """A run that is ended in the middle, and given again."""
+    for report in work.folder.glob("*.report"):
+        report.unlink()
     run = work.begin(command)
     work.wait_for_the_middle()
     run.send_signal(signal.SIGTERM)  # no further job is begun
@@ -168,8 +170,8 @@ def main(program):
         try_several_hosts(tally, work)
         left = [file for host in hosts for file in host.home.rglob("*.schedule")]
         tally.check("schedules left on the hosts", left, [])
+        try_resumed(tally, "hosts", work, RESUMED)
         few = Work(folder, program, hosts, FEW)
-        try_resumed(tally, "hosts", few, RESUMED)
         try_host_that_goes_away(tally, few, hosts[1])
     return tally.end()
 

@@ -113,13 +113,14 @@ def try_building(tally, debian):
 
 
 def main():
-    wanted.install("root", "deb")
+    wanted.need_root()
+    wanted.install("rt", "tools", "root", "deb")
     tally, due = Tally(), {}
     for script in SCRIPTS:
         file = TOP / run(TOP / script).splitlines()[-1]
         due[file.name] = file.read_bytes()
     for suite in SUITES:
-        with tempfile.TemporaryDirectory() as folder:
+        with tempfile.TemporaryDirectory(dir=wanted.LARGE) as folder:
             debian = Debian(suite, Path(folder, "root"))
             try_packaging(tally, debian, due)
             if suite == SUITES[0]:

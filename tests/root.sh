@@ -11,6 +11,10 @@ if [ $# -lt 2 ]; then
     echo "usage: tests/root.sh SUITE FOLDER [PACKAGE...]" >&2
     exit 2
 fi
+if [ "$(id -u)" != 0 ]; then
+    echo "root.sh: only root may make a Debian root" >&2
+    exit 1
+fi
 readonly SUITE=$1 FOLDER=$2
 shift 2
 readonly KEPT=${XDG_CACHE_HOME:-$HOME/.cache}/lockreplay

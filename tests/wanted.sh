@@ -2,7 +2,7 @@
 # Installs what is missing of what packages.txt lists for some groups; says first what and how much.
 #
 #     tests/wanted.sh GROUP...
-#     tests/wanted.sh --all       for all groups
+#     tests/wanted.sh --all       for all groups but bench-*, which no test needs
 #     tests/wanted.sh --list      prints the command that installs all packages of the list
 #
 # Several may run at once: one waits for another. If root does not run it, it says what root would
@@ -47,11 +47,13 @@ column() {
 }
 
 install() {
+    local said wait=(-o DPkg::Lock::Timeout=300)
     apt-get update > /dev/null
     echo "These Debian packages are missing, and are installed now: $*" >&2
-    { $INSTALL --assume-no "$@" 2> /dev/null || true; } |
-        grep -E 'newly installed|^Need to get|^After this' >&2
-    $INSTALL --yes -o DPkg::Lock::Timeout=300 "$@" > /dev/null
+    said=$($INSTALL --assume-no "${wait[@]}" "$@" 2>&1) || true
+    grep -E 'newly installed|^Need to get|^After this' <<< "$said" >&2 ||
+        fail "apt-get does not install them: $(sed -n 's/^E: //p' <<< "$said")"
+    $INSTALL --yes "${wait[@]}" "$@" > /dev/null
 }
 
 if [ "$*" = --list ]; then
@@ -61,7 +63,7 @@ fi
 [ $# -gt 0 ] || fail "usage: tests/wanted.sh GROUP... | --all | --list" 2
 if [ "$*" = --all ]; then
     # shellcheck disable=SC2046 # each group is a word
-    set -- $(awk 'NF && !/^#/ { print $1 }' "$LIST" | sort -u)
+    set -- $(awk 'NF && !/^(#|bench-)/ { print $1 }' "$LIST" | sort -u)
 fi
 exec 9< "$LIST"
 flock 9

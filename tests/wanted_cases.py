@@ -16,28 +16,32 @@ from tally import Tally
 
 SCRIPT = Path(__file__).with_name("wanted.sh")
 LIST = """# group package use reason
-here   bash       bash        is everywhere
-here   base-files /etc/passwd is everywhere
-lacks  tool-bin   no-such-tool for a test
-lacks  tool-dev   /no/such/file for a test
-outer  -          no-such-kit a kit
+here     bash       bash        is everywhere
+here     base-files /etc/passwd is everywhere
+lacks    tool-bin   no-such-tool for a test
+lacks    tool-dev   /no/such/file for a test
+bench-it tool-bench no-such-bench for a bench
+outer    -          no-such-kit a kit
 """
+SIMULATION = "printf '2 newly installed\\nNeed to get 7 kB\\nAfter this, 9 kB\\n'"
+UNKNOWN = "echo Reading package lists...; echo E: Unable to locate package tool-dev >&2"
 APT_GET = """#!/bin/sh
 echo "$*" >> {folder}/asked
 case $* in
-*--assume-no*) printf '2 newly installed\\nNeed to get 7 kB\\nAfter this, 9 kB\\n'; exit 1 ;;
+*--assume-no*) {says}; exit 1 ;;
 *--yes*) {brings} ;;
 esac
 """
 AS_ROOT = "apt-get install --no-install-recommends tool-bin tool-dev"
-SIMULATED = "install --no-install-recommends --assume-no tool-bin tool-dev"
-INSTALLED = "install --no-install-recommends --yes -o DPkg::Lock::Timeout=300 tool-bin tool-dev"
+WAIT = "-o DPkg::Lock::Timeout=300"
+SIMULATED = f"install --no-install-recommends --assume-no {WAIT} tool-bin tool-dev"
+INSTALLED = f"install --no-install-recommends --yes {WAIT} tool-bin tool-dev"
 
 
 class Machine:
     """A folder with a copy of the script, and commands that go before this machine's own."""
 
-    def __init__(self, folder, user, brings):
+    def __init__(self, folder, user, brings, says):
         self.folder = Path(folder)
         self.commands = self.folder / "bin"
         for name in ("tests", "bin"):
@@ -46,7 +50,7 @@ class Machine:
         (self.folder / "packages.txt").write_text(text)
         shutil.copy(SCRIPT, self.folder / "tests")
         self.command("id", f"#!/bin/sh\necho {user}\n")
-        self.command("apt-get", APT_GET.format(folder=folder, brings=brings))
+        self.command("apt-get", APT_GET.format(folder=folder, brings=brings, says=says))
 
     def command(self, name, text):
         (self.commands / name).write_text(text)
@@ -62,10 +66,12 @@ class Machine:
         return done.returncode, done.stdout + done.stderr, words
 
 
-def tried(user, brings, *words):
+def tried(user, brings, *words, says=SIMULATION, has=()):
     with tempfile.TemporaryDirectory() as folder:
-        brings = brings.replace("FOLDER", folder)
-        status, said, asked = Machine(folder, user, brings).run(*words)
+        machine = Machine(folder, user, brings.replace("FOLDER", folder), says)
+        for name in has:
+            machine.command(name, "#!/bin/sh\n")
+        status, said, asked = machine.run(*words)
         return status, said.replace(folder, "FOLDER"), asked
 
 
@@ -82,18 +88,24 @@ def main():
                 "After this, 9 kB\n")
     tally.check("all groups", tried(1000, brings, "--all"),
                 (1, "wanted.sh: not on the path: no-such-kit, a kit\n", []))
+    tally.check("all groups but those of benches",
+                tried(1000, brings, "--all", has=["no-such-kit"]), (1, lacking, []))
     status, said, asked = tried(0, "touch FOLDER/brought", "lacks")
     tally.check("brought nothing", (status, said.splitlines()[-1]),
                 (1, "wanted.sh: installed, and still not there: no-such-tool"))
     status, said, asked = tried(0, "exit 100", "lacks")
     tally.check("apt-get fails", status, 100)
+    status, said, asked = tried(0, brings, "lacks", says=UNKNOWN)
+    tally.check("a package that apt-get does not know", (status, said.splitlines()[-1], asked),
+                (1, "wanted.sh: apt-get does not install them: Unable to locate package tool-dev",
+                 ["update", SIMULATED]))
     tally.check("no package", tried(0, brings, "lacks", "outer"),
                 (1, "wanted.sh: not on the path: no-such-kit, a kit\n", []))
     tally.check("no such group", tried(0, brings, "here", "nobody"),
                 (2, "wanted.sh: packages.txt has no group nobody\n", []))
     tally.check("list", tried(1000, "", "--list"),
-                (0, "apt-get install --no-install-recommends base-files bash tool-bin tool-dev\n",
-                 []))
+                (0, "apt-get install --no-install-recommends base-files bash tool-bench "
+                 "tool-bin tool-dev\n", []))
     return tally.end()
 
 
