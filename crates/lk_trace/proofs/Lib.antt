@@ -2,6 +2,5 @@ mod Own
 mod HeaderFaults
 mod Naming
 pub mod Agreeing
-mod Columns
 mod Readable
 mod OpenLines

@@ -1,14 +1,15 @@
 -- Definitions. What is due in a line of a trace or of a sketch, word by word, and the first place
 -- at which something else is there. This project's own.
-use Rattle.std.specs.Prelude.{ℕ, ◌+◌, List, [], ◌∷◌, Option, Some, None, Bool, true, false, is_some}
-use Rattle.std.specs.Prelude.{if◌then◌else◌, ◌||◌, ◌&&◌, codes, length, option_map}
-use Rattle.std.specs.Option.{option_map_or, option_or}
+use Rattle.std.specs.Prelude.{ℕ, List, Option, Some, None, Bool, true, false, is_some}
+use Rattle.std.specs.Prelude.{if◌then◌else◌, ◌||◌, ◌&&◌, codes, option_map}
+use Rattle.std.specs.Option.{option_or}
 use Rattle.std.specs.Str.{bytes_eq}
 use Rattle.lk_locks.specs.declared.kinds.Move.{Move}
 use Rattle.lk_locks.specs.declared.kinds.Move.TheVariants.{Call, Step}
 use Rattle.lk_locks.specs.declared.kinds.StepKind.{StepKind}
 use Rattle.lk_locks.specs.declared.kinds.StepKind.TheVariants.{Section}
 use Rattle.lk_replay.specs.Digits.{whole_number}
+use Rattle.lk_replay.specs.Unreadable.{stop_from}
 use Rattle.lk_replay.specs.Vocabulary.{number_of, move_named, outcome_named}
 use Rattle.lk_replay.specs.declared.unreadable.Expected.{Expected}
 use Rattle.lk_replay.specs.declared.unreadable.Expected.TheVariants.{Thread, Action, End}
@@ -102,10 +103,7 @@ may_end due = true
 
 -- the column and what is due there: at the end of a line, or at a word that may not be here
 abbrev pub unreadable_from : ℕ → Due → Words → Option (ℕ × Due)
-unreadable_from column due [] = if may_end due then None else Some (column, due)
-unreadable_from column due (word ∷ words) =
-    option_map_or (λ next. unreadable_from (column + length word + 1) next words)
-    (after_word due word) (Some (column, due))
+unreadable_from = stop_from after_word may_end
 
 -- whether it is a line of a sketch, filled in with this thread, and with this word if it names none
 abbrev pub is_open_line : ℕ → WordName → List ℕ → Bool

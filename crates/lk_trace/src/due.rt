@@ -9,7 +9,7 @@ ghost use Rattle.lk_trace.specs.Unreadable.{may_end, opened};
 
 use crate::line::result_alone;
 use lk_locks::{Move, StepKind};
-use lk_replay::parts::{Expected, move_named, number_of, outcome_named, whole_number};
+use lk_replay::parts::{Expected, Grammar, move_named, number_of, outcome_named, whole_number};
 
 /// What may come next. If a part can be left out, the part after it or the end may come here too.
 /// After a step it says which: `done` and `failed` may follow a compare-and-swap alone.
@@ -167,12 +167,13 @@ fn after_any_thread(word: &[u8]) -> Option<Due>
     }
 }
 
-impl Due {
-    // What may come after this word, or none if it may not be here.
+impl Grammar for Due {
+    ghost next = { after_word };
+
+    ghost ends = { may_end };
+
     #[tactic(auto, unfolding(crate::specs::Unreadable::after_word))]
-    pub(crate) fn after(self, word: &[u8]) -> Option<Due>
-        ensures { result ≡ after_word self word.now }
-    {
+    fn after(self, word: &[u8]) -> Option<Due> {
         match self {
             Due::OfSchedule(expected) => after_expected(expected, word),
             Due::Count => after_count(word),
@@ -206,10 +207,7 @@ impl Due {
         }
     }
 
-    // Whether the line may end here.
-    pub(crate) fn may_end(self) -> bool
-        ensures { result ≡ may_end self }
-    {
+    fn may_end(self) -> bool {
         match self {
             Due::OfSchedule(expected) => matches!(expected, Expected::End),
             Due::Owner(_) | Due::FoundValue(_) | Due::LeftValue(_) => false,

@@ -10,31 +10,7 @@ ghost use Rattle.lk_trace.specs.declared.due.Due.TheVariants.{AnyThread, OfSched
 ghost use Rattle.lk_trace.specs.declared.names.WordName.{WordName};
 
 use crate::due::Due;
-use lk_replay::parts::{Expected, cut_word};
-
-// Goes along a line, from what its first word may be.
-fn unreadable_from(line: &[u8], first: Due) -> Option<(usize, Due)>
-    ensures { result ≡ unreadable_from 1 first (words_of line.now) }
-{
-    let mut rest = line;
-    let mut column: usize = 1;
-    let mut due = first;
-    while let Some((word, after)) = cut_word(rest) {
-        let Some(next) = due.after(word) else {
-            return Some((column, due));
-        };
-        column += word.len() + 1;
-        rest = after;
-        due = next;
-    }
-    let Some(next) = due.after(rest) else {
-        return Some((column, due));
-    };
-    if next.may_end() {
-        return None;
-    }
-    Some((column + rest.len() + 1, next))
-}
+use lk_replay::parts::{Expected, stop_of};
 
 /// The column, from 1, at which a line stops being a move of a trace, and what could be there. A
 /// move may have any length here.
@@ -42,7 +18,7 @@ pub fn unreadable_line(line: &[u8]) -> Option<(usize, Due)>
     ensures place { result ≡ unreadable_from 1 (OfSchedule Thread) (words_of line.now) }
     ensures none { IsNone result ↔ IsSome (trace_line_of line.now) }
 {
-    unreadable_from(line, Due::OfSchedule(Expected::Thread))
+    stop_of(line, Due::OfSchedule(Expected::Thread))
 }
 
 /// The column, from 1, at which a line stops being one of a sketch, and what could be there.
@@ -51,5 +27,5 @@ pub fn unreadable_sketch_line(line: &[u8]) -> Option<(usize, Due)>
     ensures none { length line.now ≤ 96 → (thread : ℕ) → (word : WordName)
         → (IsNone result ↔ IsTrue (is_open_line thread word line.now)) }
 {
-    unreadable_from(line, Due::AnyThread)
+    stop_of(line, Due::AnyThread)
 }

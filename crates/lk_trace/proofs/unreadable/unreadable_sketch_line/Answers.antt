@@ -1,4 +1,4 @@
--- The place is that of `unreadable_from`, of which the law is proved.
+-- The place is that of `stop_of`, of which the law is proved.
 use Rattle.std.proofs.Common.{IsNone, IsTrue, Option, ◌↔◌, ℕ, subst, sym}
 use Rattle.lk_trace.proofs.OpenLines.{open_lines_are_readable}
 use Rattle.lk_trace.specs.Unreadable.{is_open_line}
@@ -9,4 +9,4 @@ pub returns-clause-none : goal.returns-clause-none
 returns-clause-none c =
     λ within thread word.
     subst (λ (r : Option (ℕ × Due)). IsNone r ↔ IsTrue (is_open_line thread word c.args.line.now))
-    (sym c.unreadable_from.ensures) (open_lines_are_readable c.args.line.now within thread word)
+    (sym c.stop_of.ensures) (open_lines_are_readable c.args.line.now within thread word)
