@@ -3,6 +3,8 @@
 #
 #   fault-too-long         1,048,577 bytes, one more than a schedule may have
 #   fault-too-many-moves   65,537 moves, one more than a schedule may have
+#
+# SPDX-License-Identifier: Apache-2.0 OR MIT
 set -euo pipefail
 
 case "${1-}" in

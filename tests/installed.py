@@ -66,8 +66,9 @@ def try_licences(tally, tree):
     """What is copied alone says its licence, and the texts are there."""
     documents = tree / "share" / "doc" / "lockreplay"
     alone = [*tree.glob("include/**/*.h"), *documents.glob("examples/recording/*.[ch]"),
-             *documents.glob("examples/bindings/*"), *documents.glob("page/*")]
-    tally.check("files that are copied alone", len(alone), lambda count: count >= 30)
+             *documents.glob("examples/**/*.sh"), *documents.glob("examples/bindings/*"),
+             *documents.glob("record/**/*.[hr]*"), *documents.glob("page/*")]
+    tally.check("files that are copied alone", len(alone), lambda count: count >= 80)
     for file in alone:
         tally.check(f"licence of {file.name}", LICENCE in file.read_text(), True)
     tally.check("the Apache licence", (documents / "LICENSE-APACHE").read_text(),

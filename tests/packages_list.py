@@ -5,10 +5,13 @@
 
 Each group that is asked for is in the list, and each group of the list is asked for. What is used
 of a package is named in some script. If the package is on this machine, it has what is used of it.
-No script but tests/wanted.sh installs packages. The last line counts the cases; the status is 1 if
-one failed.
+A command that a script calls, if it is of a package of this machine, is of one of the list, or of
+one that each Debian has. No script but tests/wanted.sh installs packages. The last line counts the
+cases; the status is 1 if one failed.
 """
+import ast
 import re
+import shutil
 import subprocess
 import sys
 from collections import namedtuple
@@ -24,6 +27,15 @@ CODE = {".sh", ".py", ".mk", ".mjs", ".c", ".h"}
 IN_SHELL = re.compile(r'^[^#\n]*\bwanted\.sh"?((?: [a-z][a-z-]*)+)', re.MULTILINE)
 IN_PYTHON = re.compile(r"\bwanted\.install\(([^)]*)\)")
 INSTALLS = re.compile(r"\b(apt-get|aptitude|apt +install|dpkg +(-i|--install))\b")
+# What a line of a shell calls: its first word, and the first one after what begins a command.
+CALLED = re.compile(r"(?:^|[|&;(]|\b(?:then|do|else|exec|if|while|until) |! )[\t ]*@?"
+                    r"([a-z][\w.+-]*)(?=[\s;)]|$)", re.MULTILINE)
+# Comments, texts in quotes, and patterns of a `case`, in which nothing is called.
+NOT_CALLED = re.compile(r"^\s*#.*|'[^']*'|^ *[\w |*]+\)", re.MULTILINE)
+# The functions of the tests that run a command, whose words they are given.
+RUNNERS = {"output", "ran", "run"}
+# What README asks for, and what tests/wanted.sh looks for itself.
+AT_HAND = {"make", "apt"}
 Line = namedtuple("Line", "group package use")
 
 
@@ -72,6 +84,58 @@ def is_of(package, use):
     return not set(map(behind, places)).isdisjoint(asked.stdout.splitlines())
 
 
+def called_in_shell(text):
+    """What a script of the shell calls, but its own functions."""
+    text = NOT_CALLED.sub("", text)
+    return set(CALLED.findall(text)) - set(re.findall(r"^(\w+)\(\)", text, re.MULTILINE))
+
+
+def called_in_python(text):
+    """What begins the words that a function may run: of a call, or of a list that a call or a
+    variable is given."""
+    for node in ast.walk(ast.parse(text)):
+        if not isinstance(node, (ast.Call, ast.Assign)):
+            continue
+        given = node.args if isinstance(node, ast.Call) else [node.value]
+        lists = [value.elts for value in given if isinstance(value, ast.List)]
+        if getattr(getattr(node, "func", None), "id", "") in RUNNERS:
+            lists.append(given)
+        for words in filter(None, lists):
+            yield getattr(words[0], "value", None)
+
+
+def called(texts):
+    """The commands that scripts call, as far as this machine has them."""
+    of_shell = set(subprocess.check_output(["bash", "-c", "compgen -bk"], text=True).split())
+    words = set()
+    for name, text in texts.items():
+        if Path(name).suffix in (".sh", ".mk", ""):
+            words |= called_in_shell(text) - of_shell
+        elif Path(name).suffix == ".py":
+            words.update(word for word in called_in_python(text) if isinstance(word, str))
+    return sorted(word for word in words
+                  if re.fullmatch(r"[\w.+-]+", word) and shutil.which(word))
+
+
+def packages_of(commands):
+    """The packages of this machine that have each command."""
+    places = {command: {way for folder in ("/usr/bin", "/bin", "/usr/sbin", "/sbin")
+                        for way in (f"{folder}/{command}", behind(f"{folder}/{command}"))}
+              for command in commands}
+    asked = subprocess.run(["dpkg-query", "--search", *set().union(*places.values())],
+                           capture_output=True, text=True, check=False).stdout
+    found = re.findall(r"^([\w.+-]+)(?::\w+)?: (/.*)$", asked, re.MULTILINE)
+    return {command: {package for package, place in found if place in ways}
+            for command, ways in places.items()}
+
+
+def in_each_debian():
+    """The packages that each Debian has."""
+    shown = subprocess.check_output(["dpkg-query", "--show", "--showformat",
+                                     "${Package} ${Priority} ${Essential}\n"], text=True)
+    return set(re.findall(r"^(\S+) (?:required|\S+ yes)", shown, re.MULTILINE))
+
+
 def main():
     tally, lines, texts = Tally(), listed(), scripts()
     tally.check("groups", groups_asked_for(texts.values()), {line.group for line in lines})
@@ -81,6 +145,11 @@ def main():
         tally.check(f"{name}: a script has {line.use}", name_of(line.use) in words, True)
         if line.package != "-":
             tally.check(f"{name}: it has {line.use}", is_of(line.package, line.use), True)
+    known = in_each_debian() | AT_HAND | {line.package for line in lines}
+    uses = {name_of(line.use) for line in lines}
+    for command, packages in packages_of(called(texts)).items():
+        is_listed = command in uses or not packages or not packages.isdisjoint(known)
+        tally.check(f"{command} is of a package that is listed", is_listed, True)
     installers = {name for name, text in texts.items() if INSTALLS.search(text)}
     tally.check("what installs packages", installers, {INSTALLER})
     return tally.end()

@@ -2,6 +2,7 @@
 //!
 //! After Herlihy and Shavit, "The Art of Multiprocessor Programming", chapter 8, with a downgrade.
 //! A writer sets the flag first, and then waits for the readers that are inside.
+// SPDX-License-Identifier: Apache-2.0 OR MIT
 
 mod driver;
 mod read_write;

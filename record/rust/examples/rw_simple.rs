@@ -1,6 +1,7 @@
 //! The simple read-write lock, as a monitor.
 //!
 //! After Herlihy and Shavit, "The Art of Multiprocessor Programming", chapter 8, with a downgrade.
+// SPDX-License-Identifier: Apache-2.0 OR MIT
 
 mod driver;
 mod read_write;

@@ -2,6 +2,7 @@
 //!
 //! After Mellor-Crummey and Scott (ACM TOCS 9(1), 1991). Sequentially consistent, so that the logs
 //! of free threads have an order on every machine.
+// SPDX-License-Identifier: Apache-2.0 OR MIT
 
 mod driver;
 

@@ -1,4 +1,5 @@
 //! Atomics that note themselves.
+// SPDX-License-Identifier: Apache-2.0 OR MIT
 
 use std::fmt;
 use std::sync::atomic::{self, Ordering};

@@ -1,6 +1,7 @@
 //! Checks a run in the process, by the library `liblk_trace_c`, without a file.
 //!
 //! The library is the check of `locktrace`, as `record/locktrace.h` declares it for C.
+// SPDX-License-Identifier: Apache-2.0 OR MIT
 
 use crate::error::Error;
 use crate::run::{Run, Shared};

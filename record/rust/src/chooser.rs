@@ -1,4 +1,5 @@
 //! Who says whose turn is next, when one thread runs at a time.
+// SPDX-License-Identifier: Apache-2.0 OR MIT
 
 use crate::draw::Draw;
 use crate::follow::Following;

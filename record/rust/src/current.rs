@@ -1,6 +1,7 @@
 //! The log of the thread that runs, and what a lock says into it.
 //!
 //! A thread that has no log, or that unwinds, records nothing: its operations are made as they are.
+// SPDX-License-Identifier: Apache-2.0 OR MIT
 
 // clippy of Rust 1.63 takes the initial value in `thread_local!` for a constant of this module.
 #![allow(clippy::declare_interior_mutable_const)]

@@ -1,4 +1,5 @@
 //! Numbers by a seed: splitmix64 (Steele, Lea and Flood, 2014).
+// SPDX-License-Identifier: Apache-2.0 OR MIT
 
 /// The numbers of one seed, one after another.
 #[derive(Clone, Debug)]

@@ -1,4 +1,5 @@
 //! What can be wrong with how the crate is used, each with a sentence.
+// SPDX-License-Identifier: Apache-2.0 OR MIT
 
 use std::error;
 use std::fmt;

@@ -2,6 +2,7 @@
 //!
 //! A line is the turn of its thread. The turn ends at the thread's first hook after the line's
 //! move, or when it has left its monitor.
+// SPDX-License-Identifier: Apache-2.0 OR MIT
 
 use std::fmt;
 

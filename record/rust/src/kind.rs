@@ -1,4 +1,5 @@
 //! A move as a schedule names it: its word, without what the step was on and what it found.
+// SPDX-License-Identifier: Apache-2.0 OR MIT
 
 use crate::moves::{Call, Move};
 

@@ -109,6 +109,7 @@
 //! variable each. Without the feature `record`, which is on by default, the same types are those of
 //! the standard library in all but name: they are as large, and nothing of the notes is left. A
 //! lock's own crate depends on this one with `default-features = false`, and its tests with them.
+// SPDX-License-Identifier: Apache-2.0 OR MIT
 #![deny(unsafe_code)] // but for the two calls of a C library in `check`
 #![cfg_attr(not(feature = "check"), forbid(unsafe_code))]
 #![warn(missing_docs)]

@@ -1,4 +1,5 @@
 //! Which lock a run is of, and what the header of its texts says.
+// SPDX-License-Identifier: Apache-2.0 OR MIT
 
 use std::fmt;
 use std::str::FromStr;

@@ -1,4 +1,5 @@
 //! How the threads of a run are scheduled, and what that gives.
+// SPDX-License-Identifier: Apache-2.0 OR MIT
 
 use crate::schedule::Schedule;
 

@@ -1,4 +1,5 @@
 //! A monitor whose sections can be noted: a mutex and a condition variable.
+// SPDX-License-Identifier: Apache-2.0 OR MIT
 
 use std::fmt;
 use std::ops::{Deref, DerefMut};

@@ -1,4 +1,5 @@
 //! A move of a thread, and its line in a log or a trace (docs/TRACE.md).
+// SPDX-License-Identifier: Apache-2.0 OR MIT
 
 use std::fmt;
 

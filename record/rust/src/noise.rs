@@ -1,4 +1,5 @@
 //! Holds a thread up at times.
+// SPDX-License-Identifier: Apache-2.0 OR MIT
 
 use std::hint;
 use std::thread;

@@ -1,4 +1,5 @@
 //! The number of a run, by which its files are known.
+// SPDX-License-Identifier: Apache-2.0 OR MIT
 
 use std::process;
 use std::sync::atomic::{AtomicU64, Ordering};

@@ -1,4 +1,5 @@
 //! What `current` has, if nothing is recorded: nothing is left of it.
+// SPDX-License-Identifier: Apache-2.0 OR MIT
 
 use std::marker::PhantomData;
 

@@ -1,4 +1,5 @@
 //! Who is next in a run that is explored: the choices that are given, and then no preemption.
+// SPDX-License-Identifier: Apache-2.0 OR MIT
 
 /// A place in a run where one of several threads could go on.
 #[derive(Clone, Debug)]

@@ -1,4 +1,5 @@
 //! What the atomics of the standard library have in common.
+// SPDX-License-Identifier: Apache-2.0 OR MIT
 
 use std::fmt::Debug;
 use std::sync::atomic::{self, Ordering};

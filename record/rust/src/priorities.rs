@@ -3,6 +3,7 @@
 //! After Burckhardt, Kothari, Musuvathi and Nagarakatte, "A randomized scheduler with probabilistic
 //! guarantees of finding bugs" (ASPLOS 2010). What is different here: a thread that polled in vain
 //! is passed over until another one made a step, as if it were blocked.
+// SPDX-License-Identifier: Apache-2.0 OR MIT
 
 use crate::draw::Draw;
 use crate::path::{after, Effect, Stuck};

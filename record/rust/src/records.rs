@@ -1,6 +1,7 @@
 //! Whose MCS record an address is in, so that a pointer to it has a value.
 //!
 //! Nothing is read through the addresses: a record may be gone already.
+// SPDX-License-Identifier: Apache-2.0 OR MIT
 
 use std::sync::atomic::{AtomicUsize, Ordering};
 

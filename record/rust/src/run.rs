@@ -1,4 +1,5 @@
 //! A run: its threads, their logs, and how it ends.
+// SPDX-License-Identifier: Apache-2.0 OR MIT
 
 use std::cell::Cell;
 use std::io;
@@ -113,8 +114,7 @@ impl Setup {
 
     /// All runs in which at most so many times another thread takes the turn of one that could go
     /// on: so many *preemptions*. The threads run by turns, whatever the mode. A thread that polled
-    /// in vain, which found twice in a row the same in one atomic, cannot go on until another one
-    /// made a step.
+    /// in vain, finding the same in one atomic twice in a row, cannot go on until another steps.
     ///
     /// Runs with fewer preemptions come first. Each has to be run before the next one is asked for,
     /// with a new lock. If none is refused and none hangs, no run of these threads with so

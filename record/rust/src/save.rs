@@ -1,4 +1,5 @@
 //! The texts of a run: a log of each thread, and the trace if the order is known.
+// SPDX-License-Identifier: Apache-2.0 OR MIT
 
 use std::fs::{self, File};
 use std::io::{self, BufWriter, Write};

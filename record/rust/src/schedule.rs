@@ -1,4 +1,5 @@
 //! A schedule that a run follows.
+// SPDX-License-Identifier: Apache-2.0 OR MIT
 
 use std::fs;
 use std::path::Path;

@@ -1,5 +1,6 @@
 //! The state of a run that its threads share: who is inside, whose turn it is, and the order of the
 //! moves. Nothing here waits; that is in `turns`.
+// SPDX-License-Identifier: Apache-2.0 OR MIT
 
 use crate::chooser::Chooser;
 use crate::error::Error;

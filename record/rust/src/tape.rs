@@ -1,4 +1,5 @@
 //! The log of one thread in memory.
+// SPDX-License-Identifier: Apache-2.0 OR MIT
 
 use crate::error::Error;
 use crate::moves::Move;

@@ -2,6 +2,7 @@
 //!
 //! A thread that was stopped leaves its lock by unwinding, at its next operation on an atomic. It
 //! is no panic: nothing is printed.
+// SPDX-License-Identifier: Apache-2.0 OR MIT
 
 use std::panic;
 use std::sync::atomic::{AtomicBool, Ordering};

@@ -1,6 +1,7 @@
 //! Wakes for nothing: of threads that wait for a notification which nobody gave.
 //!
 //! POSIX and the standard library allow them, so a thread has to look again after each wait.
+// SPDX-License-Identifier: Apache-2.0 OR MIT
 
 use crate::draw::Draw;
 use crate::error::Error;

@@ -1,4 +1,5 @@
 //! Runs that are explored: which there are, in which order, and where they end.
+// SPDX-License-Identifier: Apache-2.0 OR MIT
 #![cfg(feature = "record")]
 
 use std::sync::atomic::{AtomicUsize, Ordering::SeqCst};

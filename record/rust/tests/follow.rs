@@ -1,4 +1,5 @@
 //! Schedules that are followed: the moves of each turn, and where a lock leaves its schedule.
+// SPDX-License-Identifier: Apache-2.0 OR MIT
 #![cfg(feature = "record")]
 
 mod ticket;

@@ -1,5 +1,6 @@
 //! What each mode does: seeds, noise, runs that hang, and threads that were started
 //! elsewhere.
+// SPDX-License-Identifier: Apache-2.0 OR MIT
 #![cfg(feature = "record")]
 
 mod ticket;

@@ -1,4 +1,5 @@
 //! Without the feature `record` the types are those of the standard library in all but name.
+// SPDX-License-Identifier: Apache-2.0 OR MIT
 #![cfg(not(feature = "record"))]
 
 use std::mem::size_of;

@@ -1,4 +1,5 @@
 //! The texts of a run, and what is said if the crate is used wrongly.
+// SPDX-License-Identifier: Apache-2.0 OR MIT
 #![cfg(feature = "record")]
 
 use std::fs;

@@ -1,4 +1,5 @@
 //! Makes all runs of a few threads and rounds with at most so many preemptions.
+// SPDX-License-Identifier: Apache-2.0 OR MIT
 
 use std::path::Path;
 use std::time::Duration;

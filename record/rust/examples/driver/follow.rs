@@ -1,4 +1,5 @@
 //! Follows every schedule of a folder, each with a new lock.
+// SPDX-License-Identifier: Apache-2.0 OR MIT
 
 use std::fs;
 use std::io;

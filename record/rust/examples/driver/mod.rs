@@ -10,6 +10,7 @@
 //! every schedule was followed, no run was refused; 1 some threads hang, after SECONDS (60) or if a
 //! run hangs, and their logs end there, or a schedule was not followed, or a run was refused;
 //! 2 usage; 3 memory, a thread, a read or a write was refused.
+// SPDX-License-Identifier: Apache-2.0 OR MIT
 
 mod explore;
 mod follow;

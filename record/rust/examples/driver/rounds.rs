@@ -1,4 +1,5 @@
 //! What the threads of an example do: rounds, in which each takes the lock and gives it back.
+// SPDX-License-Identifier: Apache-2.0 OR MIT
 
 use std::thread;
 

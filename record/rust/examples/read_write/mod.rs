@@ -1,4 +1,5 @@
 //! What the two read-write examples share: which of a lock's functions makes which call.
+// SPDX-License-Identifier: Apache-2.0 OR MIT
 
 use lockreplay_record::{Call, Lock};
 

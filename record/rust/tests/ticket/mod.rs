@@ -1,4 +1,5 @@
 //! A ticket lock with counters of 8 bits, for more than one test.
+// SPDX-License-Identifier: Apache-2.0 OR MIT
 
 use std::sync::atomic::Ordering::SeqCst;
 use std::thread;
