@@ -154,11 +154,6 @@ test-traces: $(TRACER) $(PROGRAM) $(LIBRARY) tools
 	$(MAKE) --no-print-directory --jobs=$(shell nproc) --output-sync=target \
 	    $(addprefix traced-,$(TRACED))
 
-# These three have a process for each processor. One after the other, beside the rest: side by side
-# there would be so many runs, whose threads spin, that one might not end in time.
-traced-recording_rust: | traced-recording
-traced-order_search: | traced-recording_rust
-
 traced-recording traced-searches: traced-%:
 	tests/$*.py $(TRACER) $(PROGRAM)
 traced-recording_rust:
