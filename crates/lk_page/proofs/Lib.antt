@@ -4,7 +4,6 @@ pub mod Asked
 pub mod Ends
 pub mod Replayed
 pub mod Records
-pub mod Places
 pub mod Threads
 pub mod OwnedBytes
 pub mod Turns

@@ -1,1 +1,0 @@
--- Bytes that are written from a place on.
