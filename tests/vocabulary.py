@@ -221,7 +221,7 @@ def of_faults():
     return {
         **{kind: {name: name for name in of_kind} for kind, of_kind in names.items()},
         # a program says of a file `no header`, and the library of a text `there is no header`
-        "trace_fault_texts": {name: f"{name}: {text}".removesuffix(f" ({name})")
+        "trace_fault_texts": {name: f"{name}: {text}".removesuffix(" ({name})")
                               for name, text in of_a_trace.items() if name != "NoHeader"},
         "wrote": dict(enumerate(wrote)),
     }

@@ -1,6 +1,6 @@
--- Definitions. Moves, outcomes, refusals and the faults of texts as numbers. This project's own;
--- `record/locktrace.h` and the page have the same.
-use Rattle.std.specs.Prelude.{ℕ}
+-- Definitions. Moves, outcomes, refusals and the faults of texts as numbers, and the names of faults
+-- and differences. This project's own; `record/locktrace.h` and the page have the same.
+use Rattle.std.specs.Prelude.{ℕ, List, codes}
 use Rattle.lk_locks.specs.declared.kinds.Op.TheVariants.{Acquire, Release, ReadLock, ReadUnlock}
 use Rattle.lk_locks.specs.declared.kinds.Op.TheVariants.{WriteLock, WriteUnlock, Downgrade}
 use Rattle.lk_locks.specs.declared.kinds.StepKind.TheVariants.{Read, Write, Swap, Cas, Add, Section}
@@ -12,6 +12,12 @@ use Rattle.lk_locks.specs.declared.kinds.Refusal.{Refusal}
 use Rattle.lk_locks.specs.declared.kinds.Refusal.TheVariants.{NoSuchThread, WrongLock, Busy}
 use Rattle.lk_locks.specs.declared.kinds.Refusal.TheVariants.{NotHolder, AlreadyHolds, NoCall}
 use Rattle.lk_locks.specs.declared.kinds.Refusal.TheVariants.{WrongStep}
+use Rattle.lk_locks.specs.Refusals.{name_of}
+use Rattle.lk_trace.specs.declared.difference.Difference.{Difference}
+use Rattle.lk_trace.specs.declared.difference.Difference.TheVariants.{Refused, OtherWord}
+use Rattle.lk_trace.specs.declared.difference.Difference.TheVariants.{FoundOther, LeftOther}
+use Rattle.lk_trace.specs.declared.difference.Difference.TheVariants.{WroteOther, CountNotAbove}
+use Rattle.lk_trace.specs.declared.difference.Difference.TheVariants.{OtherOutcome}
 use Rattle.lk_trace.specs.declared.trace.TextFault.{TextFault}
 use Rattle.lk_trace.specs.declared.trace.TextFault.TheVariants.{NoHeader, BadHeader, BadThreads}
 use Rattle.lk_trace.specs.declared.trace.TextFault.TheVariants.{WordsTooNarrow, BadLine}
@@ -55,3 +61,20 @@ fault_number BadHeader = 17
 fault_number BadThreads = 18
 fault_number WordsTooNarrow = 19
 fault_number BadLine = 20
+
+abbrev pub fault_name : TextFault → List ℕ
+fault_name NoHeader = codes "NoHeader"
+fault_name BadHeader = codes "BadHeader"
+fault_name BadThreads = codes "BadThreads"
+fault_name WordsTooNarrow = codes "WordsTooNarrow"
+fault_name BadLine = codes "BadLine"
+
+-- of a refusal it is the refusal's
+abbrev pub difference_name : Difference → List ℕ
+difference_name (Refused refusal) = name_of refusal
+difference_name (OtherWord word given) = codes "OtherWord"
+difference_name (FoundOther word found given) = codes "FoundOther"
+difference_name (LeftOther word left given) = codes "LeftOther"
+difference_name (WroteOther wrote) = codes "WroteOther"
+difference_name (CountNotAbove last given) = codes "CountNotAbove"
+difference_name (OtherOutcome outcome given) = codes "OtherOutcome"

@@ -1,5 +1,8 @@
 //! Where a run and the machine differ.
 
+ghost use Rattle.std.specs.Prelude.{◌≡◌};
+ghost use Rattle.lk_trace.specs.Codes.{difference_name};
+
 use crate::WordName;
 use lk_locks::{Outcome, Refusal};
 use lk_replay::parts::outcome_text;
@@ -50,6 +53,23 @@ pub enum Difference {
         outcome: Outcome,
         given: Outcome,
     },
+}
+
+impl Difference {
+    /// Its name, or that of the lock's refusal.
+    pub fn name(self) -> &'static str
+        ensures { result.now ≡ difference_name self }
+    {
+        match self {
+            Difference::Refused(refusal) => refusal.name(),
+            Difference::OtherWord { .. } => "OtherWord",
+            Difference::FoundOther { .. } => "FoundOther",
+            Difference::LeftOther { .. } => "LeftOther",
+            Difference::WroteOther { .. } => "WroteOther",
+            Difference::CountNotAbove { .. } => "CountNotAbove",
+            Difference::OtherOutcome { .. } => "OtherOutcome",
+        }
+    }
 }
 
 fn word(outcome: &Outcome) -> &'static str {

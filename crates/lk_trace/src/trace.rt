@@ -1,6 +1,7 @@
 //! A trace, read line by line: the header, and then the moves, each checked on the header's lock.
 
 ghost use Rattle.std.specs.Prelude.{◌≡◌, None, option_map, Option};
+ghost use Rattle.lk_trace.specs.Codes.{fault_name};
 ghost use Rattle.lk_trace.specs.Traces.{after_text_line, event_of, fault_named, read_header_of};
 ghost use Rattle.lk_trace.specs.Checks.{Checked};
 
@@ -15,20 +16,35 @@ use thiserror::Error;
 #[derive(Clone, Copy, PartialEq, Eq, Debug, Error)]
 pub enum TextFault {
     /// No line but comments and empty ones.
-    #[error("no header (NoHeader)")]
+    #[error("no header ({name})", name = self.name())]
     NoHeader,
     /// The first line that is not skipped is no header.
-    #[error("not a header (BadHeader)")]
+    #[error("not a header ({name})", name = self.name())]
     BadHeader,
     /// The header's number of threads is no number from 1 to 64.
-    #[error("not a number of threads (BadThreads)")]
+    #[error("not a number of threads ({name})", name = self.name())]
     BadThreads,
     /// The header's words have no more values than it has threads.
-    #[error("words too narrow for the threads (WordsTooNarrow)")]
+    #[error("words too narrow for the threads ({name})", name = self.name())]
     WordsTooNarrow,
     /// A later line is no move.
-    #[error("not a move (BadLine)")]
+    #[error("not a move ({name})", name = self.name())]
     BadLine,
+}
+
+impl TextFault {
+    /// Its name.
+    pub fn name(self) -> &'static str
+        ensures { result.now ≡ fault_name self }
+    {
+        match self {
+            TextFault::NoHeader => "NoHeader",
+            TextFault::BadHeader => "BadHeader",
+            TextFault::BadThreads => "BadThreads",
+            TextFault::WordsTooNarrow => "WordsTooNarrow",
+            TextFault::BadLine => "BadLine",
+        }
+    }
 }
 
 /// What a line of a trace came to.

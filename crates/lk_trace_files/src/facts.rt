@@ -32,19 +32,6 @@ pub enum Facts {
     Refused(TraceLine, Difference, Option<LastPoll>),
 }
 
-// The name of a difference, or of the lock's refusal.
-fn difference_code(difference: Difference) -> &'static str {
-    match difference {
-        Difference::Refused(refusal) => refusal.name(),
-        Difference::OtherWord { .. } => "OtherWord",
-        Difference::FoundOther { .. } => "FoundOther",
-        Difference::LeftOther { .. } => "LeftOther",
-        Difference::WroteOther { .. } => "WroteOther",
-        Difference::CountNotAbove { .. } => "CountNotAbove",
-        Difference::OtherOutcome { .. } => "OtherOutcome",
-    }
-}
-
 // The last poll of a thread, if its last move was one.
 fn last_poll(lock: &Lock, trail: &Trail, thread: u8) -> Option<LastPoll> {
     let step = trail.steps(thread)[0]?;
@@ -79,7 +66,10 @@ impl Facts {
             Facts::Nothing => Ok(()),
             Facts::Unread => text.push_str(",\"code\":\"Unread\""),
             Facts::Hangs => text.push_str(",\"code\":\"Hangs\""),
-            Facts::Fault(fault) => write!(text, ",\"code\":\"{fault:?}\""),
+            Facts::Fault(fault) => {
+                let code = fault.name();
+                write!(text, ",\"code\":\"{code}\"")
+            }
             Facts::BadLog(bad) => {
                 let code = bad.code();
                 write!(text, ",\"code\":\"{code}\"")?;
@@ -102,7 +92,7 @@ fn put_refused(
     difference: Difference,
     poll: Option<LastPoll>,
 ) -> Result<(), AllocError> {
-    let (code, thread) = (difference_code(difference), line.thread);
+    let (code, thread) = (difference.name(), line.thread);
     let step = move_text(line.action);
     write!(
         text,
