@@ -1,13 +1,14 @@
 -- An order on which nothing is placed.
-use Rattle.std.proofs.Common.{◌≡◌, ℕ, ◌<◌, ◌≤◌, List, [], Some, map, get_or, refl, sym, ap, ◌∙◌}
+use Rattle.std.proofs.Common.{◌≡◌, ℕ, ◌<◌, List, [], Some, map, get_or, refl, sym, ap, ◌∙◌}
 use Rattle.std.proofs.Common.{subst, arith, inl, inr}
 use Rattle.std.specs.Prelude.{option_map}
 use Rattle.std.specs.List.{All, slice_get}
 use Rattle.std.proofs.lemmas.List.{get_or_past, length-map}
 use Rattle.std.proofs.lemmas.List.Elements.{All-nil}
 use Rattle.std.proofs.lemmas.Option.{slice_get_cases, slice_get-map, get_or_from_slice_get}
-use Rattle.lk_locks.specs.declared.kinds.LockKind.{LockKind}
-use Rattle.lk_trace.specs.Checks.{Checked, new_lock}
+use Rattle.lk_replay.specs.Header.{Header}
+use Rattle.lk_trace.specs.Checks.{Checked}
+use Rattle.lk_trace.specs.Traces.{new_checked}
 use Rattle.lk_trace.specs.declared.line.TraceLine.{TraceLine}
 use Rattle.lk_order.specs.Logs.{ThreadLog}
 use Rattle.lk_order.specs.Runs.{IsRunOf, moves_of}
@@ -22,10 +23,9 @@ moves_at logs t log is =
     get_or_from_slice_get (map moves_in logs) t log.moves []
     (slice_get-map moves_in logs t ∙ ap (option_map moves_in) is)
 
-pub own_of : (kind : LockKind) (threads bits : ℕ) (logs : List ThreadLog)
-    → IsRunOf kind threads bits logs → (t : ℕ)
+pub own_of : (header : Header) (logs : List ThreadLog) → IsRunOf header logs → (t : ℕ)
     → All (λ (l : TraceLine). l.thread ≡ t) (moves_of logs t)
-own_of kind threads bits logs run t =
+own_of header logs run t =
     elim ((slice_get_cases logs t).1) [
       | inl found ↦
           subst (All (λ (l : TraceLine). l.thread ≡ t)) (sym (moves_at logs t found.0 found.2))
@@ -36,28 +36,18 @@ own_of kind threads bits logs run t =
           (All-nil (λ (l : TraceLine). l.thread ≡ t))
     ]
 
-pub kept_new : (kind : LockKind) (threads bits : ℕ) (logs : List ThreadLog) (lock : Checked)
-    (at : List ℕ)
-    → IsRunOf kind threads bits logs → threads ≤ 64
-    → lock ≡ new_lock kind threads bits → ((t : ℕ) → t < 256 → get_or at t 0 ≡ 0)
-    → IsKept (record {
-      kind = kind;
-      threads = threads;
-      bits = bits;
-      logs = logs;
-      trace = [];
-      lock = lock;
-    }) [] at
-kept_new kind threads bits logs lock at run few is zeros = record {
+pub kept_new : (header : Header) (logs : List ThreadLog) (lock : Checked) (at : List ℕ)
+    → IsRunOf header logs → lock ≡ new_checked header → ((t : ℕ) → t < 256 → get_or at t 0 ≡ 0)
+    → IsKept (record { header = header; logs = logs; trace = []; lock = lock }) [] at
+kept_new header logs lock at run is zeros = record {
   order = record {
     run = run;
     accepted = tt;
     lock_is = is;
     each = λ t below. refl;
-    others = All-nil (λ (l : TraceLine). l.thread < threads);
+    others = All-nil (λ (l : TraceLine). l.thread < header.threads);
   };
-  few = few;
-  own = own_of kind threads bits logs run;
+  own = own_of header logs run;
   inside = All-nil (IsInside logs);
   quiet = λ k place none. absurd (cc);
   counted = zeros;

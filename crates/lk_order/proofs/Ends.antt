@@ -17,7 +17,7 @@ past_all moves n none =
       | inr past ↦ past.0
     ]
 
-pub whole : (o : Ordered) → IsOrder o → ((t : ℕ) → t < o.threads → next_line o t ≡ None)
+pub whole : (o : Ordered) → IsOrder o → ((t : ℕ) → t < o.header.threads → next_line o t ≡ None)
     → ((t : ℕ) (log : ThreadLog) → slice_get o.logs t ≡ Some log → next_line o t ≡ None
     → log.dropped ≡ Some 0)
     → IsWhole o

@@ -1,9 +1,9 @@
 -- What is kept of an order stays so when a line is placed, and when none is.
-use Rattle.std.proofs.Common.{◌≡◌, ℕ, ◌+◌, ◌<◌, ◌≤◌, List, [], ◌∷◌, ◌++◌, Option, Some, None, Ok}
+use Rattle.std.proofs.Common.{◌≡◌, ℕ, ◌+◌, ◌<◌, List, [], ◌∷◌, ◌++◌, Option, Some, None, Ok}
 use Rattle.std.proofs.Common.{Err, length, map, get_or, set, refl, sym, ap, ap₂, ◌∙◌, subst, arith}
 use Rattle.std.proofs.Common.{◌↔◌, IsTrue, inl, inr}
 use Rattle.std.specs.List.{All, slice_get}
-use Rattle.std.proofs.lemmas.Bool.{cases_order}
+use Rattle.std.proofs.lemmas.Bool.{cases_lt}
 use Rattle.std.proofs.lemmas.List.{get_or_past, map-append, length-map}
 use Rattle.std.proofs.lemmas.List.Elements.{All-append, All-cons, All-nil}
 use Rattle.std.proofs.lemmas.Option.{slice_get_within, get_or_from_slice_get}
@@ -51,28 +51,16 @@ pub moved : (c : Checked) (line : TraceLine) (made : Made) → Ok made ≡ answe
 moved c line made is = ap (λ d. unless_other d (checked c line) c) (agrees c line made is)
 
 -- a thread with a next line is one of the lock's
-none_past : (logs : List (List TraceLine)) (t n : ℕ) (line : TraceLine)
-    → slice_get (get_or logs t []) n ≡ Some line → length logs ≤ t → t < length logs
-none_past logs t n line is past =
-    let none : slice_get (get_or logs t []) n ≡ None =
-    ap (λ l. slice_get l n) (get_or_past logs t [] past) in
-    absurd (cc)
-
-is_thread : (logs : List (List TraceLine)) (t n : ℕ) (line : TraceLine)
-    → slice_get (get_or logs t []) n ≡ Some line → t < length logs
-is_thread logs t n line is =
-    elim (cases_order t (length logs)) [
-      | inl same ↦ none_past logs t n line is (omega arith)
-      | inr other ↦
-          elim other [ inl below ↦ below | inr above ↦ none_past logs t n line is (omega arith) ]
-    ]
-
 pub below_threads : (o : Ordered) (t : ℕ) (line : TraceLine) → IsOrder o → next_line o t ≡ Some line
-    → t < o.threads
+    → t < o.header.threads
 below_threads o t line order next =
-    let below : t < length (map (λ (log : ThreadLog). log.moves) o.logs) =
-    is_thread _ t _ line next in
-    omega (arith, length-map o.logs (λ (log : ThreadLog). log.moves), order.run.one_each)
+    let moves_in = λ (log : ThreadLog). log.moves in
+    elim (cases_lt t (length (map moves_in o.logs))) [
+      | inl below ↦ omega (arith, length-map o.logs moves_in, order.run.one_each)
+      | inr past ↦
+          let none : moves_of o.logs t ≡ [] = get_or_past (map moves_in o.logs) t [] past in
+          omega (arith, ap length none, slice_get_within (moves_of o.logs t) _ line next)
+    ]
 
 -- the place of the next line has that line
 line_is : (o : Ordered) (t : ℕ) (line : TraceLine) (place : Place) → next_line o t ≡ Some line
@@ -111,11 +99,11 @@ kept_more o places places' at t line place kept more next own small long agrees 
     idle =
     let at_is : place.at ≡ placed_of o t = where_at ∙ kept.counted t small in
     let next_own : next_line o line.thread ≡ Some line = ap (next_line o) own ∙ next in
-    let below : line.thread < o.threads = below_threads o line.thread line kept.order next_own in
+    let below : line.thread < o.header.threads =
+    below_threads o line.thread line kept.order next_own in
     let order = order_more o line kept.order next_own below agrees in
     record {
       order = order;
-      few = kept.few;
       own = kept.own;
       inside =
           subst (All (IsInside o.logs)) (sym more)

@@ -72,7 +72,7 @@ each_other t trace moves line other starts =
     ∙ sym (ap (λ l. take (length l) moves) (by_other t trace line other))
 
 each_more : (o : Ordered) (line : TraceLine) → IsOrder o → next_line o line.thread ≡ Some line
-    → (u : ℕ) → u < o.threads
+    → (u : ℕ) → u < o.header.threads
     → lines_by u (o.trace ++ line ∷ [])
     ≡ take (length (lines_by u (o.trace ++ line ∷ []))) (moves_of o.logs u)
 each_more o line order next u below =
@@ -84,7 +84,7 @@ each_more o line order next u below =
     ]
 
 pub order_more : (o : Ordered) (line : TraceLine) → IsOrder o → next_line o line.thread ≡ Some line
-    → line.thread < o.threads → Agrees o.lock line → IsOrder (with_line o line)
+    → line.thread < o.header.threads → Agrees o.lock line → IsOrder (with_line o line)
 order_more o line order next below agrees = record {
   run = order.run;
   accepted =
@@ -92,9 +92,9 @@ order_more o line order next below agrees = record {
   lock_is = ap (λ c. checked c line) order.lock_is ∙ sym (after_more _ o.trace line);
   each = each_more o line order next;
   others =
-      All-append (λ (l : TraceLine). l.thread < o.threads) o.trace (line ∷ []) order.others
-      (All-cons (λ (l : TraceLine). l.thread < o.threads) line [] below
-      (All-nil (λ (l : TraceLine). l.thread < o.threads)));
+      All-append (λ (l : TraceLine). l.thread < o.header.threads) o.trace (line ∷ []) order.others
+      (All-cons (λ (l : TraceLine). l.thread < o.header.threads) line [] below
+      (All-nil (λ (l : TraceLine). l.thread < o.header.threads)));
 }
 
 -- how many lines of each thread are placed

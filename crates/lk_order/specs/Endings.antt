@@ -12,7 +12,7 @@ use Rattle.lk_order.specs.declared.find.Ending.TheVariants as ending
 
 -- of each thread all lines are placed, and no log is cut short
 pub record IsWhole (o : Ordered) : Type 0 where
-  pub all : (t : ℕ) → t < o.threads → lines_by t o.trace ≡ moves_of o.logs t
+  pub all : (t : ℕ) → t < o.header.threads → lines_by t o.trace ≡ moves_of o.logs t
   pub uncut : All (λ log. log.dropped ≡ Some 0) o.logs
 
 -- a log is cut short, and all of it is placed

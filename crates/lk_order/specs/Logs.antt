@@ -4,7 +4,6 @@ use Rattle.std.specs.Prelude.{Bool, Option, Some, None, Result, Ok, Err, is_some
 use Rattle.std.specs.Prelude.{codes, if◌then◌else◌}
 use Rattle.std.specs.List.{All, starts_with}
 use Rattle.std.specs.Str.{bytes_eq}
-use Rattle.lk_locks.specs.declared.kinds.LockKind.{LockKind}
 use Rattle.lk_replay.specs.Lines.{is_skipped}
 use Rattle.lk_replay.specs.Digits.{whole_number}
 use Rattle.lk_replay.specs.Vocabulary.{number_of}
@@ -19,9 +18,7 @@ use Rattle.lk_order.specs.declared.log.reader.LogFault.TheVariants.{AfterTheEnd,
 use Rattle.lk_order.specs.declared.log.reader.LogFault.TheVariants.{OutOfMemory}
 
 pub record ThreadLog : Type 0 where
-  pub kind : LockKind
-  pub threads : ℕ
-  pub bits : ℕ
+  pub header : Header
   pub thread : ℕ
   pub moves : List TraceLine
   pub lines : List ℕ
@@ -74,15 +71,8 @@ dropped_of line =
 
 -- a log without moves
 abbrev pub empty_log : Header → ℕ → ThreadLog
-empty_log header thread = record {
-  kind = header.kind;
-  threads = header.threads;
-  bits = header.bits;
-  thread = thread;
-  moves = [];
-  lines = [];
-  dropped = None;
-}
+empty_log header thread =
+    record { header = header; thread = thread; moves = []; lines = []; dropped = None }
 
 abbrev pub with_move : ThreadLog → ℕ → Option TraceLine → Result ThreadLog LogFault
 with_move log number (Some line) =

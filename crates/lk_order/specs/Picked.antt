@@ -1,11 +1,11 @@
 -- Definitions. How an order is kept: which line of whose log each step is, after which steps nobody
 -- is in a call or holds, and how many lines of each thread are placed.
-use Rattle.std.specs.Prelude.{◌≡◌, ℕ, ◌+◌, ◌<◌, ◌≤◌, ◌↔◌, IsTrue, Some, List, length, map}
+use Rattle.std.specs.Prelude.{◌≡◌, ℕ, ◌+◌, ◌<◌, ◌↔◌, IsTrue, Some, List, length, map}
 use Rattle.std.specs.Prelude.{slice_index_or}
 use Rattle.std.specs.List.{All, slice_get}
-use Rattle.lk_locks.specs.declared.kinds.LockKind.{LockKind}
 use Rattle.lk_locks.specs.declared.kinds.Move.TheVariants.{Step}
 use Rattle.lk_locks.specs.declared.kinds.StepKind.TheVariants.{Read}
+use Rattle.lk_replay.specs.Header.{Header}
 use Rattle.lk_trace.specs.Checks.{Checked}
 use Rattle.lk_trace.specs.declared.line.Seen.TheVariants.{Nothing}
 use Rattle.lk_trace.specs.declared.line.TraceLine.{TraceLine}
@@ -25,15 +25,9 @@ abbrev pub picked : List ThreadLog → List Place → List TraceLine
 picked logs places = map (line_at logs) places
 
 -- the order whose steps are at these places
-abbrev pub ordered_of : LockKind → ℕ → ℕ → List ThreadLog → List Place → Checked → Ordered
-ordered_of kind threads bits logs places lock = record {
-  kind = kind;
-  threads = threads;
-  bits = bits;
-  logs = logs;
-  trace = picked logs places;
-  lock = lock;
-}
+abbrev pub ordered_of : Header → List ThreadLog → List Place → Checked → Ordered
+ordered_of header logs places lock =
+    record { header = header; logs = logs; trace = picked logs places; lock = lock }
 
 abbrev pub IsInside : List ThreadLog → Place → Type 0
 IsInside logs place = place.at < length (moves_of logs place.thread)
@@ -46,7 +40,6 @@ KeepsQuiet o places =
 
 pub record IsKept (o : Ordered) (places : List Place) (at : List ℕ) : Type 0 where
   pub order : IsOrder o
-  pub few : o.threads ≤ 64
   pub own : (t : ℕ) → All (λ line. line.thread ≡ t) (moves_of o.logs t)
   pub inside : All (IsInside o.logs) places
   pub quiet : KeepsQuiet o places

@@ -4,32 +4,29 @@ use Rattle.std.specs.Prelude.{◌≡◌, ◌≢◌, ◌<◌, ℕ, List, replicat
 use Rattle.std.specs.Prelude.{Option, Some, None, IfSome, IsSome, IsSomeAnd}
 use Rattle.std.specs.List.{flat_map}
 use Rattle.std.specs.Option.{option_to_list}
-use Rattle.lk_locks.specs.declared.kinds.LockKind.{LockKind}
+use Rattle.lk_replay.specs.Header.{Header}
 use Rattle.lk_order.specs.Logs.{ThreadLog}
 use Rattle.lk_order.specs.declared.shelf.Unfit.{Unfit}
 use Rattle.lk_order.specs.declared.shelf.Unfit.TheVariants.{OtherLock, SecondLog}
 
--- the lock of the logs, with its numbers of threads and of bits, and at place t thread t's log
+-- the lock of the logs, and at place t thread t's log
 pub record Shelved : Type 0 where
-  pub lock : Option (LockKind × ℕ × ℕ)
+  pub lock : Option Header
   pub places : List (Option ThreadLog)
 
 -- no log was taken
 abbrev pub empty_shelf : Shelved
 empty_shelf = record { lock = None; places = replicate 64 None }
 
-abbrev pub lock_of : ThreadLog → LockKind × ℕ × ℕ
-lock_of log = (log.kind, log.threads, log.bits)
-
 abbrev pub log_at : Shelved → ℕ → Option ThreadLog
 log_at shelf t = slice_index_or shelf.places t None
 
 -- a log of the same lock as those before it
 abbrev pub IsOfLock : Shelved → ThreadLog → Type 0
-IsOfLock shelf log = IfSome shelf.lock (λ lock. lock ≡ lock_of log)
+IsOfLock shelf log = IfSome shelf.lock (λ lock. lock ≡ log.header)
 
 abbrev pub IsUnfit : Shelved → ThreadLog → Unfit → Type 0
-IsUnfit shelf log OtherLock = IsSomeAnd shelf.lock (λ lock. lock ≢ lock_of log)
+IsUnfit shelf log OtherLock = IsSomeAnd shelf.lock (λ lock. lock ≢ log.header)
 IsUnfit shelf log SecondLog = IsOfLock shelf log × IsSome (log_at shelf log.thread)
 
 -- a log is taken: the first of its thread
@@ -37,13 +34,13 @@ pub record IsTaken (old new : Shelved) (log : ThreadLog) : Type 0 where
   pub lock : IsOfLock old log
   pub first : log_at old log.thread ≡ None
   pub new_is : new ≡ record {
-    lock = Some (lock_of log);
+    lock = Some log.header;
     places = slice_set old.places log.thread (Some log);
   }
 
 -- how many threads have a log if none is missing
-abbrev pub threads_of : Option (LockKind × ℕ × ℕ) → ℕ
-threads_of (Some lock) = lock.1
+abbrev pub threads_of : Option Header → ℕ
+threads_of (Some lock) = lock.threads
 threads_of None = 1
 
 abbrev pub HaveLogs : Shelved → ℕ → Type 0

@@ -87,14 +87,14 @@ fn next_of(order: &Order, t: u8) -> Option<Next> {
         Move::Call(_) => None,
         // which word it is does not depend on the bits
         Move::Step(_) => {
-            operation_of(order.kind(), 64, t, phase).map(|operation| operation.word())
+            operation_of(order.header().kind(), 64, t, phase).map(|operation| operation.word())
         }
     };
     Some(Next {
         line,
         phase,
         word,
-        round: round_of(order.kind(), line, phase),
+        round: round_of(order.header().kind(), line, phase),
         asleep: false,
     })
 }
@@ -122,7 +122,7 @@ impl Engine {
     /// Nothing is placed yet.
     pub fn new(alloc: Global, order: &Order) -> Result<Engine, AllocError> {
         let mut next = [None; 64];
-        for t in 0..order.threads() {
+        for t in 0..order.header().threads() {
             next[t as usize] = next_of(order, t);
         }
         Ok(Engine {
@@ -152,7 +152,7 @@ impl Engine {
 
     // A thread that may make its step in this round. Those that may not are put to sleep.
     fn choose_in(&mut self, order: &Order, round: Round) -> Option<u8> {
-        let (from, threads) = (self.from, order.threads() as usize);
+        let (from, threads) = (self.from, order.header().threads() as usize);
         for i in 0..threads {
             let t = from.saturating_add(i) % threads;
             let Some(Some(next)) = self.next.get_mut(t) else {

@@ -83,10 +83,11 @@ fn suspect_of(order: &Order, thread: u8) -> Option<Suspect>
 // The step that is most certainly wrong, if one is left: of the same doubt that of the lower count.
 fn suspect_in(order: &Order) -> Option<Suspect>
     ensures stuck { IfSome result (λ s. IsStuck order.now s.stuck) }
-    ensures none { result ≡ None → (t : ℕ) → t < order.now.threads → next_line order.now t ≡ None }
+    ensures none { result ≡ None → (t : ℕ) → t < order.now.header.threads
+        → next_line order.now t ≡ None }
 {
     let mut worst: Option<Suspect> = None;
-    for t in 0..order.threads() {
+    for t in 0..order.header().threads() {
         let Some(suspect) = suspect_of(order, t) else {
             continue;
         };
@@ -106,7 +107,7 @@ fn ends_where_cut(order: &Order) -> bool
         → slice_get order.now.logs t ≡ Some log
         → next_line order.now t ≡ None → log.dropped ≡ Some 0 }
 {
-    for t in 0..order.threads() {
+    for t in 0..order.header().threads() {
         if let Some(log) = order.logs().get(t as usize) {
             if log.is_cut() && order.next(t).is_none() {
                 return true;

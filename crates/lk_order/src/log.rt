@@ -1,12 +1,11 @@
 //! A log: what one thread of a run wrote down by itself, read.
 
-ghost use Rattle.std.specs.Prelude.{◌≡◌, ◌≢◌, ◌<◌, ◌≤◌, ◌^◌, MatchBool, Some};
+ghost use Rattle.std.specs.Prelude.{◌≡◌, ◌≢◌, ◌<◌, ◌↔◌, IsTrue, MatchBool, Some};
 ghost use Rattle.lk_order.specs.Logs.{ThreadLog, IsSound};
 ghost use Rattle.std.specs.List.{All, slice_get};
 
 mod reader;
 
-use lk_locks::LockKind;
 use lk_replay::parts::Header;
 use lk_trace::TraceLine;
 pub use reader::{LogFault, LogReader};
@@ -27,9 +26,7 @@ impl Model for Log {
     ghost Value = { ThreadLog };
 
     ghost view = { λ a. record {
-      kind = a.header.kind;
-      threads = a.header.threads;
-      bits = a.header.bits;
+      header = a.header;
       thread = a.owner;
       moves = a.moves.items;
       lines = a.lines.items;
@@ -40,36 +37,26 @@ impl Model for Log {
 }
 
 impl Log {
-    /// The lock.
-    pub fn kind(&self) -> LockKind
-        ensures { result ≡ self.now.kind }
+    /// The lock, and how many threads it has, and its words bits.
+    pub fn header(&self) -> Header
+        ensures { result ≡ self.now.header }
     {
-        self.header.kind()
+        self.header
     }
 
-    /// How many threads the lock has.
-    pub fn threads(&self) -> u8
-        ensures threads { result ≡ self.now.threads }
-        ensures some { 0 < result }
-        ensures few { result ≤ 64 }
-        ensures narrow { result < 2 ^ self.now.bits }
+    // Whether it has this header.
+    pub(crate) fn has_header(&self, header: Header) -> bool
+        ensures { IsTrue result ↔ self.now.header ≡ header }
     {
-        self.header.threads()
-    }
-
-    /// How many bits the lock's words have.
-    pub fn bits(&self) -> u8
-        ensures bits { result ≡ self.now.bits }
-        ensures least { 2 ≤ result }
-        ensures most { result ≤ 64 }
-    {
-        self.header.bits()
+        self.header.kind() == header.kind()
+            && self.header.threads() == header.threads()
+            && self.header.bits() == header.bits()
     }
 
     /// Whose log it is.
     pub fn thread(&self) -> u8
         ensures thread { result ≡ self.now.thread }
-        ensures few { result < self.now.threads }
+        ensures few { result < self.now.header.threads }
         ensures own { All (λ line. line.thread ≡ result) self.now.moves }
     {
         self.owner

@@ -5,7 +5,7 @@ ghost use Rattle.lk_order.specs.Shelves.{Shelved, HaveLogs, IsFirstWithout, IsTa
 ghost use Rattle.lk_order.specs.Shelves.{empty_shelf, logs_of, threads_of};
 
 use crate::Log;
-use lk_locks::LockKind;
+use lk_replay::parts::Header;
 use std::alloc::{AllocError, Global};
 use std::marker::Model;
 use thiserror::Error;
@@ -28,8 +28,8 @@ pub enum Unfit {
 pub struct Shelf {
     // at t the log of thread t
     places: Vec<Option<Log>>,
-    // the lock, with its numbers of threads and bits
-    lock: Option<(LockKind, u8, u8)>,
+    // of the logs
+    lock: Option<Header>,
 }
 
 impl Model for Shelf {
@@ -67,18 +67,15 @@ impl Shelf {
         ensures err { IfErr result (IsUnfit self.old log) }
         ensures same { OnErr result (self.new ≡ self.old) }
     {
-        let lock = (log.kind(), log.threads(), log.bits());
-        if let Some(first) = self.lock {
-            if first != lock {
-                return Err(Unfit::OtherLock);
-            }
+        if self.lock.is_some_and(|lock| !log.has_header(lock)) {
+            return Err(Unfit::OtherLock);
         }
         let thread = log.thread() as usize;
         if self.places[thread].is_some() {
             return Err(Unfit::SecondLog);
         }
+        self.lock = Some(log.header());
         self.places[thread] = Some(log);
-        self.lock = Some(lock);
         Ok(())
     }
 
@@ -87,10 +84,7 @@ impl Shelf {
         ensures { MatchOption result (HaveLogs self.now (threads_of self.now.lock))
             (IsFirstWithout self.now) }
     {
-        let threads = match self.lock {
-            Some((_, threads, _)) => threads,
-            None => 1,
-        };
+        let threads = self.lock.map_or(1, |lock| lock.threads());
         for thread in 0..threads {
             if let Some(None) | None = self.places.get(thread as usize) {
                 return Some(thread);

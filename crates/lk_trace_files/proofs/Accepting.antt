@@ -16,9 +16,8 @@ use Rattle.lk_trace.specs.Traces.{after_move_line, new_checked}
 use Rattle.lk_trace.specs.declared.difference.Difference.{Difference}
 use Rattle.lk_trace.specs.declared.line.TraceLine.{TraceLine}
 use Rattle.lk_trace.specs.declared.trace.Event.{Event}
-use Rattle.lk_trace.specs.declared.trace.Event.TheVariants.{Skipped, Began, Made, Differs, Fault}
+use Rattle.lk_trace.specs.declared.trace.Event.TheVariants.{Skipped}
 use Rattle.lk_trace.specs.declared.trace.TextFault.{TextFault}
-use Rattle.lk_trace.specs.declared.trace.TextFault.TheVariants.{BadLine}
 use Rattle.lk_trace_files.specs.Accepted.{IsMove, AreMoves, IsHeader, IsTrace}
 use Rattle.lk_trace_files.specs.Verdicts.{Verdict, IsOfText, unless_ended, verdict, verdict_from}
 use Rattle.lk_trace_files.specs.Verdicts.{hanging, hangs_in, if_hangs, verdict_in, verdict_of}
@@ -41,56 +40,37 @@ skipped_line n r line lines skip =
     line_read n r r Skipped line lines (cond-true (is_skipped line) _ _ skip)
     (cond-true (is_skipped line) _ _ skip)
 
-header_line : (n : ℕ) (line : List ℕ) (lines : List (List ℕ)) (header : Header)
-    → is_skipped line ≡ false → read_header_of line ≡ Ok header
-    → verdict_from n None (line ∷ lines) ≡ verdict_from (n + 1) (Some (new_checked header)) lines
-header_line n line lines header stays read =
-    line_read n None (Some (new_checked header)) (Began header) line lines
+header_line : (n : ℕ) (line : List ℕ) (lines : List (List ℕ)) (h : Result Header TextFault)
+    → is_skipped line ≡ false → read_header_of line ≡ h
+    → verdict_from n None (line ∷ lines)
+    ≡ unless_ended n (header_event h) (verdict_from (n + 1) (after_header h) lines)
+header_line n line lines h stays read =
+    line_read n None (after_header h) (header_event h) line lines
     (cond-false (is_skipped line) _ _ stays ∙ ap header_event read)
     (cond-false (is_skipped line) _ _ stays ∙ ap after_header read)
 
-bad_header : (n : ℕ) (line : List ℕ) (lines : List (List ℕ)) (fault : TextFault)
-    → is_skipped line ≡ false → read_header_of line ≡ Err fault
-    → verdict_from n None (line ∷ lines) ≡ verdict Faulty n
-bad_header n line lines fault stays read =
-    line_read n None None (Fault fault) line lines
-    (cond-false (is_skipped line) _ _ stays ∙ ap header_event read)
-    (cond-false (is_skipped line) _ _ stays ∙ ap after_header read)
-
-made_line : (n : ℕ) (c : Checked) (line : List ℕ) (lines : List (List ℕ)) (l : TraceLine)
-    → is_skipped line ≡ false → short_line_of line ≡ Some l → difference_of c l ≡ None
-    → verdict_from n (Some c) (line ∷ lines) ≡ verdict_from (n + 1) (Some (checked c l)) lines
-made_line n c line lines l stays read none =
-    let came = made_of c.lock.state l.thread l.action in
-    line_read n (Some c) (Some (checked c l)) (Made l came) line lines
-    (cond-false (is_skipped line) _ _ stays ∙ ap (move_event c) read
-    ∙ ap (λ (d : Option Difference). answer_event l (answer_unless d came)) none)
-    (cond-false (is_skipped line) _ _ stays
-    ∙ ap (λ (m : Option TraceLine). Some (after_move_line c m)) read
-    ∙ ap (λ (d : Option Difference). Some (unless_other d (checked c l) c)) none)
-
-other_line : (n : ℕ) (c : Checked) (line : List ℕ) (lines : List (List ℕ)) (l : TraceLine)
-    (difference : Difference)
-    → is_skipped line ≡ false → short_line_of line ≡ Some l
-    → difference_of c l ≡ Some difference
-    → verdict_from n (Some c) (line ∷ lines) ≡ verdict Refused n
-other_line n c line lines l difference stays read some =
-    let came = made_of c.lock.state l.thread l.action in
-    line_read n (Some c) (Some c) (Differs l difference) line lines
-    (cond-false (is_skipped line) _ _ stays ∙ ap (move_event c) read
-    ∙ ap (λ (d : Option Difference). answer_event l (answer_unless d came)) some)
-    (cond-false (is_skipped line) _ _ stays
-    ∙ ap (λ (m : Option TraceLine). Some (after_move_line c m)) read
-    ∙ ap (λ (d : Option Difference). Some (unless_other d (checked c l) c)) some)
-
-bad_move : (n : ℕ) (c : Checked) (line : List ℕ) (lines : List (List ℕ)) → is_skipped line ≡ false
-    → short_line_of line ≡ None
-    → verdict_from n (Some c) (line ∷ lines) ≡ verdict Faulty n
-bad_move n c line lines stays read =
-    line_read n (Some c) (Some c) (Fault BadLine) line lines
+move_line : (n : ℕ) (c : Checked) (line : List ℕ) (lines : List (List ℕ)) (m : Option TraceLine)
+    → is_skipped line ≡ false → short_line_of line ≡ m
+    → verdict_from n (Some c) (line ∷ lines)
+    ≡ unless_ended n (move_event c m) (verdict_from (n + 1) (Some (after_move_line c m)) lines)
+move_line n c line lines m stays read =
+    line_read n (Some c) (Some (after_move_line c m)) (move_event c m) line lines
     (cond-false (is_skipped line) _ _ stays ∙ ap (move_event c) read)
     (cond-false (is_skipped line) _ _ stays
     ∙ ap (λ (m : Option TraceLine). Some (after_move_line c m)) read)
+
+-- how a text ends with a move that differs so, if it does
+abbrev if_differs : ℕ → Checked → TraceLine → List (List ℕ) → Option Difference → Verdict
+if_differs n c l lines d =
+    unless_ended n (answer_event l (answer_unless d (made_of c.lock.state l.thread l.action)))
+    (verdict_from (n + 1) (Some (unless_other d (checked c l) c)) lines)
+
+made_line : (n : ℕ) (c : Checked) (line : List ℕ) (lines : List (List ℕ)) (l : TraceLine)
+    (d : Option Difference)
+    → is_skipped line ≡ false → short_line_of line ≡ Some l → difference_of c l ≡ d
+    → verdict_from n (Some c) (line ∷ lines) ≡ if_differs n c l lines d
+made_line n c line lines l d stays read is =
+    move_line n c line lines (Some l) stays read ∙ ap (if_differs n c l lines) is
 
 -- the endings of equal verdicts
 ending_of : (a b : Verdict) → a ≡ b → a.ending ≡ b.ending
@@ -122,10 +102,11 @@ agreed_move n c line lines l None well stays read none accepted rest =
       agrees = agree;
       behind =
           rest (checked c l) (stays_well c l well agree.accepted)
-          (sym (ending_of _ _ (made_line n c line lines l stays read none)) ∙ accepted);
+          (sym (ending_of _ _ (made_line n c line lines l None stays read none)) ∙ accepted);
     }
 agreed_move n c line lines l (Some difference) well stays read some accepted rest =
-    absurd (never_refused _ n (other_line n c line lines l difference stays read some) accepted)
+    absurd (never_refused _ n (made_line n c line lines l (Some difference) stays read some)
+    accepted)
 
 a_move : (n : ℕ) (c : Checked) (line : List ℕ) (lines : List (List ℕ)) (m : Option TraceLine)
     → WellFormed c.lock.state → is_skipped line ≡ false → short_line_of line ≡ m
@@ -134,7 +115,7 @@ a_move : (n : ℕ) (c : Checked) (line : List ℕ) (lines : List (List ℕ)) (m 
     → (verdict_from (n + 1) (Some next) lines).ending ≡ Accepted → AreMoves next lines)
     → IsMove c line (λ next. AreMoves next lines)
 a_move n c line lines None well stays read accepted rest =
-    absurd (never_faulty _ n (bad_move n c line lines stays read) accepted)
+    absurd (never_faulty _ n (move_line n c line lines None stays read) accepted)
 a_move n c line lines (Some l) well stays read accepted rest =
     agreed_move n c line lines l (difference_of c l) well stays read refl accepted rest
 
@@ -165,7 +146,7 @@ moves_end n c (line ∷ lines) well (inl moves) =
     ∙ moves_end (n + 1) c lines well moves.1
 moves_end n c (line ∷ lines) well (inr moves) =
     ending_of _ _
-    (made_line n c line lines moves.move moves.kept moves.read
+    (made_line n c line lines moves.move None moves.kept moves.read
     (agreed c moves.move well moves.agrees))
     ∙ moves_end (n + 1) (checked c moves.move) lines
     (stays_well c moves.move well moves.agrees.accepted) moves.behind
@@ -180,10 +161,10 @@ a_header n line lines (Ok header) stays read accepted = record {
   behind =
       moves_are (n + 1) (new_checked header) lines
       (new_is_well header.kind header.threads header.bits)
-      (sym (ending_of _ _ (header_line n line lines header stays read)) ∙ accepted);
+      (sym (ending_of _ _ (header_line n line lines (Ok header) stays read)) ∙ accepted);
 }
 a_header n line lines (Err fault) stays read accepted =
-    absurd (never_faulty _ n (bad_header n line lines fault stays read) accepted)
+    absurd (never_faulty _ n (header_line n line lines (Err fault) stays read) accepted)
 
 no_header : (n : ℕ) → verdict_from n None [] ≡ verdict Faulty n
 unfolding verdict_from
@@ -206,7 +187,7 @@ trace_ends n [] trace = absurd trace
 trace_ends n (line ∷ lines) (inl trace) =
     ending_of _ _ (skipped_line n None line lines trace.0) ∙ trace_ends (n + 1) lines trace.1
 trace_ends n (line ∷ lines) (inr trace) =
-    ending_of _ _ (header_line n line lines trace.header trace.kept trace.read)
+    ending_of _ _ (header_line n line lines (Ok trace.header) trace.kept trace.read)
     ∙ moves_end (n + 1) (new_checked trace.header) lines
     (new_is_well trace.header.kind trace.header.threads trace.header.bits) trace.behind
 

@@ -2,4 +2,3 @@ pub mod Taken
 pub mod Reading
 pub mod Keeping
 pub mod Accepting
-pub mod FatesLeft

@@ -37,13 +37,17 @@ taken_none old line empty unended = record {
   some_is = λ (e : false ≡ true). cc;
 }
 
--- one part more
-pub taken_more : (old mid new : Option (List ℕ)) (before after : Line) (some : Bool)
-    → Taken old mid before some → TakesPart false mid new before after → Taken old new after true
-taken_more old mid new before after some so part = record {
+-- a part more, that does not end the line
+pub part_taken : (old mid next new : Option (List ℕ)) (before after : Line) (some whole : Bool)
+    → Taken old mid before some → Keeps mid next
+    → TakesPart whole next new before after → whole ≡ false → Taken old new after true
+part_taken old mid next new before after some true so same part is = absurd (cc)
+part_taken old mid next new before after some false so same part is = record {
   bytes = so.bytes ++ part.bytes;
   flat = All-append (λ x. is_line_feed x ≡ false) so.bytes part.bytes so.flat part.flat;
-  taken = Consumes-trans old mid new so.bytes part.bytes so.taken part.taken;
+  taken =
+      Consumes-trans old next new so.bytes part.bytes
+      (Consumes-kept old mid next so.bytes so.taken same) part.taken;
   kept_is =
       part.kept_is ∙ ap (λ l. take 97 (l ++ part.bytes)) so.kept_is
       ∙ take_again 97 so.bytes part.bytes;
@@ -52,16 +56,22 @@ taken_more old mid new before after some so part = record {
   some_is = λ _. omega (arith, length-append so.bytes part.bytes, part.some refl);
 }
 
--- the line feed ends the line
-pub takes_line : (old mid new : Option (List ℕ)) (before after : Line) (some : Bool)
-    → Taken old mid before some → TakesPart true mid new before after → TakesLine old new after
-takes_line None mid new before after some so part = tt
-takes_line (Some text) None new before after some so part = absurd so.taken
-takes_line (Some text) (Some y) None before after some so part = absurd part.taken
-takes_line (Some text) (Some y) (Some rest) before after some so part =
+-- a part more, whose line feed ends the line
+pub line_taken : (old mid next new : Option (List ℕ)) (before after : Line) (some whole : Bool)
+    → Taken old mid before some → Keeps mid next
+    → TakesPart whole next new before after → whole ≡ true → TakesLine old new after
+line_taken None mid next new before after some whole so same part is = tt
+line_taken (Some text) mid None new before after some whole so same part is =
+    absurd (Consumes-kept (Some text) mid None so.bytes so.taken same)
+line_taken (Some text) mid (Some y) None before after some whole so same part is =
+    absurd part.taken
+line_taken (Some text) mid (Some y) (Some rest) before after some false so same part is =
+    absurd (cc)
+line_taken (Some text) mid (Some y) (Some rest) before after some true so same part is =
     let line = so.bytes ++ part.bytes in
     let whole : text ≡ line ++ 10 ∷ rest =
-    so.taken ∙ ap (λ l. so.bytes ++ l) (part.taken ∙ append_assoc part.bytes (10 ∷ []) rest)
+    Consumes-kept (Some text) mid (Some y) so.bytes so.taken same
+    ∙ ap (λ l. so.bytes ++ l) (part.taken ∙ append_assoc part.bytes (10 ∷ []) rest)
     ∙ sym (append_assoc so.bytes part.bytes (10 ∷ rest)) in
     let cut : slice_split is_line_feed text ≡ line ∷ slice_split is_line_feed rest =
     ap (slice_split is_line_feed) whole
@@ -79,28 +89,35 @@ takes_line (Some text) (Some y) (Some rest) before after some so part =
     }
 
 -- the end of the input ends it too
-pub takes_last : (old new : Option (List ℕ)) (line : Line) → Taken old new line true → IsAtEnd new
-    → TakesLine old new line
-takes_last None new line so end = tt
-takes_last (Some text) None line so end = absurd so.taken
-takes_last (Some text) (Some rest) line so end =
-    let whole : text ≡ so.bytes = so.taken ∙ ap (λ l. so.bytes ++ l) end ∙ append-nil so.bytes in
+pub last_taken : (old mid new : Option (List ℕ)) (line : Line) (some : Bool)
+    → Taken old mid line some → Keeps mid new → IsAtEnd new → some ≡ true → TakesLine old new line
+last_taken None mid new line some so same end is = tt
+last_taken (Some text) mid None line some so same end is =
+    absurd (Consumes-kept (Some text) mid None so.bytes so.taken same)
+last_taken (Some text) mid (Some rest) line some so same end is =
+    let taken : text ≡ so.bytes ++ rest =
+    Consumes-kept (Some text) mid (Some rest) so.bytes so.taken same in
+    let whole : text ≡ so.bytes = taken ∙ ap (λ l. so.bytes ++ l) end ∙ append-nil so.bytes in
     let first : lines_of text ≡ so.bytes ∷ lines_of [] =
     ap lines_of whole
-    ∙ line_last so.bytes (so.some_is refl) (slice_split_none is_line_feed so.bytes so.flat) in
+    ∙ line_last so.bytes (so.some_is is) (slice_split_none is_line_feed so.bytes so.flat) in
     record {
       bytes = so.bytes;
       first = first ∙ ap (λ l. so.bytes ∷ lines_of l) (sym end);
       kept_is = so.kept_is;
       whole_is =
-          subst (λ (b : Bool). text ≡ with_end b so.bytes ++ rest) (sym so.whole_is) so.taken;
+          subst (λ (b : Bool). text ≡ with_end b so.bytes ++ rest) (sym so.whole_is) taken;
     }
 
-pub takes_none : (old new : Option (List ℕ)) (line : Line) → Taken old new line false
-    → IsAtEnd new → IsAtEnd old
-takes_none None new line so end = tt
-takes_none (Some text) None line so end = absurd so.taken
-takes_none (Some text) (Some rest) line so end = so.taken ∙ ap (λ l. l ++ rest) (so.none refl) ∙ end
+-- of an input that ends before a line
+pub none_taken : (old mid new : Option (List ℕ)) (line : Line) (some : Bool)
+    → Taken old mid line some → Keeps mid new → IsAtEnd new → some ≡ false → IsAtEnd old
+none_taken None mid new line some so same end is = tt
+none_taken (Some text) mid None line some so same end is =
+    absurd (Consumes-kept (Some text) mid None so.bytes so.taken same)
+none_taken (Some text) mid (Some rest) line some so same end is =
+    Consumes-kept (Some text) mid (Some rest) so.bytes so.taken same
+    ∙ ap (λ l. l ++ rest) (so.none is) ∙ end
 
 pub consumes_front : (known : Option (List ℕ)) (all front rest : List ℕ) → all ≡ front ++ rest
     → Consumes (prepend_known all known) (prepend_known rest known) front
@@ -163,47 +180,6 @@ pub at_end : (known : Option (List ℕ)) (ahead : List ℕ) → ahead ≡ [] →
     → IsAtEnd (prepend_known ahead known)
 at_end None ahead none end = tt
 at_end (Some xs) ahead none end = ap (λ l. l ++ xs) none ∙ end
-
-taken_kept : (old mid new : Option (List ℕ)) (line : Line) (some : Bool) → Taken old mid line some
-    → Keeps mid new → Taken old new line some
-taken_kept old mid new line some so same = record {
-  bytes = so.bytes;
-  flat = so.flat;
-  taken = Consumes-kept old mid new so.bytes so.taken same;
-  kept_is = so.kept_is;
-  whole_is = so.whole_is;
-  none = so.none;
-  some_is = so.some_is;
-}
-
--- a part was taken that ends the line
-pub line_taken : (old mid next new : Option (List ℕ)) (before after : Line) (some whole : Bool)
-    → Taken old mid before some → Keeps mid next
-    → TakesPart whole next new before after → whole ≡ true → TakesLine old new after
-line_taken old mid next new before after some true so same part is =
-    takes_line old next new before after some (taken_kept old mid next before some so same) part
-line_taken old mid next new before after some false so same part is = absurd (cc)
-
--- a part was taken that does not
-pub part_taken : (old mid next new : Option (List ℕ)) (before after : Line) (some whole : Bool)
-    → Taken old mid before some → Keeps mid next
-    → TakesPart whole next new before after → whole ≡ false → Taken old new after true
-part_taken old mid next new before after some true so same part is = absurd (cc)
-part_taken old mid next new before after some false so same part is =
-    taken_more old next new before after some (taken_kept old mid next before some so same) part
-
--- the input ended after a line, or before any
-pub last_taken : (old mid new : Option (List ℕ)) (line : Line) (some : Bool)
-    → Taken old mid line some → Keeps mid new → IsAtEnd new → some ≡ true → TakesLine old new line
-last_taken old mid new line true so same end is =
-    takes_last old new line (taken_kept old mid new line true so same) end
-last_taken old mid new line false so same end is = absurd (cc)
-
-pub none_taken : (old mid new : Option (List ℕ)) (line : Line) (some : Bool)
-    → Taken old mid line some → Keeps mid new → IsAtEnd new → some ≡ false → IsAtEnd old
-none_taken old mid new line true so same end is = absurd (cc)
-none_taken old mid new line false so same end is =
-    takes_none old new line (taken_kept old mid new line false so same) end
 
 -- nothing was read ahead
 pub keeps_new : (known : Option (List ℕ)) → Keeps known (prepend_known [] known)

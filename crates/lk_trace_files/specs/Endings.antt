@@ -1,6 +1,6 @@
 -- Definitions. How a file ended, as the status of the program: the greatest wins. This project's
 -- own.
-use Rattle.std.specs.Prelude.{ℕ, List, [], ◌∷◌, max}
+use Rattle.std.specs.Prelude.{ℕ, List, fold, max}
 use Rattle.lk_trace_files.specs.declared.check.Ending.{Ending}
 use Rattle.lk_trace_files.specs.declared.check.Ending.TheVariants.{Accepted, Refused, Unread}
 use Rattle.lk_trace_files.specs.declared.check.Ending.TheVariants.{Faulty, Hangs}
@@ -15,6 +15,5 @@ status_of Faulty = 4
 status_of Hangs = 1
 
 -- the greatest status of so many endings
-unfoldable pub greatest_status : List Ending → ℕ
-greatest_status [] = 0
-greatest_status (ending ∷ endings) = max (status_of ending) (greatest_status endings)
+abbrev pub greatest_status : List Ending → ℕ
+greatest_status endings = fold (λ worst ending. max (status_of ending) worst) 0 endings

@@ -2,8 +2,8 @@
 -- This project's own.
 use Rattle.std.specs.Prelude.{ℕ, ◌-◌, List, [], ◌∷◌, length, take, drop, codes, nat_eq, nat_lt}
 use Rattle.std.specs.Prelude.{Bool, true, false, Option, None, Some, option_map, slice_index_or}
-use Rattle.std.specs.Prelude.{replicate, slice_set, if◌then◌else◌}
-use Rattle.std.specs.List.{starts_with, ends_with}
+use Rattle.std.specs.Prelude.{replicate, slice_set, if◌then◌else◌, ◌&&◌}
+use Rattle.std.specs.List.{starts_with, ends_with, list_all, list_any}
 use Rattle.lk_locks.specs.declared.kinds.Outcome.{Outcome}
 use Rattle.lk_locks.specs.declared.kinds.Outcome.TheVariants.{Waits}
 use Rattle.lk_replay.specs.Vocabulary.{number_of}
@@ -77,16 +77,18 @@ after_line fates event.Skipped line = after_comment fates (said_of line)
 after_line fates (event.Made move made) line = slice_set fates move.thread (fate_after made.outcome)
 after_line fates event line = fates
 
--- each of these threads has ended or hangs, and one hangs: here, or before
-unfoldable pub hang_from : Bool → List Fate → Bool
-hang_from some [] = some
-hang_from some (Ended ∷ fates) = hang_from some fates
-hang_from some (Hangs ∷ fates) = hang_from true fates
-hang_from some (Moved ∷ fates) = false
-hang_from some (Polled ∷ fates) = false
+abbrev pub is_hung : Fate → Bool
+is_hung Hangs = true
+is_hung fate = false
 
+abbrev pub is_over : Fate → Bool
+is_over Ended = true
+is_over fate = is_hung fate
+
+-- each of these threads has ended or hangs, and one hangs
 abbrev pub hangs : ℕ → List Fate → Bool
-hangs threads fates = hang_from false (take threads fates)
+hangs threads fates =
+    list_all is_over (take threads fates) && list_any is_hung (take threads fates)
 
 -- whether a run hangs at the end of its text: the threads are those of its lock
 abbrev pub hangs_at : Option Checked → List Fate → Bool

@@ -18,8 +18,8 @@ use Rattle.lk_trace_files.specs.declared.ordering.search.Sought.TheVariants as s
 
 -- all lines are placed, each thread has ended or polls in vain, and one at least polls
 pub record IsHung (o : Ordered) (fates : List Fate) : Type 0 where
-  pub all : (t : ℕ) → t < o.threads → next_line o t ≡ None
-  pub polls : hangs o.threads fates ≡ true
+  pub all : (t : ℕ) → t < o.header.threads → next_line o t ≡ None
+  pub polls : hangs o.header.threads fates ≡ true
 
 -- an order that ends as the search says, and a run that hangs if it says so
 pub record IsSearch (s : Search) : Type 0 where

@@ -99,17 +99,13 @@ fn put_poll(
 
 // Says who wrote the word last that the thread's next step is on.
 fn put_write(notes: &mut Notes, lock: &Lock, trail: &Trail, thread: u8) -> Result<(), AllocError> {
-    let Some(step) = next_word(lock, thread).and_then(|place| trail.written(place)) else {
+    let Some((word, place)) = next_word(lock, thread) else {
         return Ok(());
     };
-    let Some(effect) = step.made.effect else {
-        return Ok(());
-    };
-    let Some(word) = name_at(lock.kind(), effect.word) else {
+    let Some((step, left)) = trail.written(place) else {
         return Ok(());
     };
     let (called, action) = (Called(step.line.thread, &[]), move_text(step.line.action));
-    let left = effect.left;
     notes.put(
         step.number,
         format_args!("{word} was last written here: {called}'s {action} left {left}"),

@@ -68,11 +68,9 @@ impl Ending {
 pub fn worst(endings: &[Ending]) -> u8
     ensures { result ≡ greatest_status endings.now }
 {
-    let mut status = 0;
-    for ending in endings {
-        status = ending.status().max(status);
-    }
-    status
+    endings
+        .iter()
+        .fold(0, |worst, ending| ending.status().max(worst))
 }
 
 /// What came of one input.
@@ -222,32 +220,18 @@ fn take_line(
     }
 }
 
-/// Somebody who is told of each line.
-pub trait Watcher {
-    /// The line of this number, from 1, was read.
-    fn line(&mut self, number: u64);
-}
-
-/// Nobody is told.
-#[derive(Drop)]
-pub struct NoWatcher;
-
-impl Watcher for NoWatcher {
-    fn line(&mut self, number: u64) {
-        let _ = number;
-    }
-}
-
-/// Checks an input to its end, or up to the first line that ends it.
+/// Checks an input to its end, or up to the first line that ends it. `watch` is called with the
+/// number of each line that is read, from 1.
 ///
 /// # Errors
 ///
 /// A request for memory was refused. An input that fails is no error: that is reported.
-pub fn check_input<R: Read + Drop, W: Watcher>(
+pub fn check_input<R: Read + Drop, F: FnMut(u64)>(
     alloc: Global,
     input: R,
-    watcher: &mut W,
+    mut watch: F,
 ) -> Result<Report, AllocError>
+    requires { (f : _) (number : _) → F.pre f number }
     ensures { IfOk result (λ report. IfSome (R.remaining input) (IsOfText report)) }
 {
     let mut report = Report::new(alloc);
@@ -267,7 +251,7 @@ pub fn check_input<R: Read + Drop, W: Watcher>(
         if !take_line(&mut trace, &mut course, number, line.bytes(), &mut report)? {
             return Ok(report);
         }
-        watcher.line(number);
+        watch(number);
     }
     unread(alloc, &Error::from(ErrorKind::FileTooLarge))
 }

@@ -4,9 +4,10 @@
 ghost use Rattle.lk_trace_files.specs.Verdicts.{AreOfTexts};
 ghost use Rattle.std.specs.Prelude.{◌≡◌, ◌+◌, ◌++◌, ◌∷◌, [], IfOk, OnOk, length};
 
-use crate::check::{Ending, NoWatcher, Report, Watcher, check_input, unread};
+use crate::check::{Ending, Report, check_input, unread};
 use crate::failures::Failure;
 use crate::formats::{Format, put_front, put_report};
+use crate::progress::Progress;
 use std::alloc::{AllocError, Global};
 use std::fs;
 use std::io::{Read, Write};
@@ -25,37 +26,6 @@ pub struct CheckJob {
     /// How many threads share the files.
     pub workers: u8,
     pub files: Vec<String>,
-}
-
-// Shows on a terminal, if one is told, how far a file is read.
-#[derive(Drop)]
-struct Progress<'a, R: Runtime> {
-    rt: &'a R,
-    name: &'a str,
-    told: bool,
-    shown: bool,
-}
-
-// Lines between two words of progress.
-const EVERY: u64 = 1_000_000;
-
-impl<R: Runtime> Watcher for Progress<'_, R> {
-    fn line(&mut self, number: u64) {
-        if self.told && number % EVERY == 0 {
-            let name = self.name;
-            let _ = eprint!(self.rt; "\r{name}: {number} lines");
-            self.shown = true;
-        }
-    }
-}
-
-impl<R: Runtime> Progress<'_, R> {
-    // Clears the line of the terminal.
-    fn end(&self) {
-        if self.shown {
-            let _ = eprint!(self.rt; "\r\x1b[K");
-        }
-    }
 }
 
 // The reports of a job, in the order of its files.
@@ -98,17 +68,13 @@ fn check_file<R: Runtime>(
     name: &str,
     told: bool,
 ) -> Result<Report, AllocError> {
-    let mut progress = Progress {
-        rt,
-        name,
-        told,
-        shown: false,
-    };
+    let mut progress = Progress::new(rt, told);
+    let watch = |number| progress.line(name, number);
     let report = if name == "-" {
-        check_input(alloc, rt.reader(), &mut progress)
+        check_input(alloc, rt.reader(), watch)
     } else {
         match fs::open(rt, name) {
-            Ok(file) => check_input(alloc, file, &mut progress),
+            Ok(file) => check_input(alloc, file, watch),
             Err(error) => unread(alloc, &error),
         }
     };
@@ -129,11 +95,7 @@ pub fn check_side_by_side<R: Threads + Sync, I: Read + Send + Drop>(
 ) -> Result<Vec<Result<Report, AllocError>>, AllocError>
     ensures { IfOk result (λ reports. AreOfTexts I.remaining inputs.items reports.items) }
 {
-    map_vec(
-        rt,
-        inputs,
-        &|input: I| check_input(alloc, input, &mut NoWatcher),
-    )
+    map_vec(rt, inputs, &|input: I| check_input(alloc, input, |_| {}))
 }
 
 // Opens the files of a round, and gives of each that is no input its report. Standard input is
@@ -147,7 +109,7 @@ fn open_round<R: Runtime>(
     let mut early = Vec::new(alloc);
     for name in names {
         if name.as_str() == "-" {
-            early.push(Some(check_input(alloc, rt.reader(), &mut NoWatcher)?))?;
+            early.push(Some(check_input(alloc, rt.reader(), |_| {})?))?;
             continue;
         }
         match fs::open(rt, name) {

@@ -2,9 +2,10 @@
 //! text says of its end, in comments that a recorder writes after the last move.
 
 ghost use Rattle.std.specs.Prelude.{◌≡◌, List, Some};
-ghost use Rattle.lk_trace_files.specs.Fates.{after_comment, after_line, hangs};
+ghost use Rattle.lk_trace_files.specs.Fates.{after_comment, after_line, hangs, is_hung, is_over};
 ghost use Rattle.lk_trace_files.specs.Fates.{new_fates, open_in, said_before, said_in, said_of};
 ghost use Rattle.lk_trace_files.specs.declared.course.Fate.{Fate as OfThread};
+ghost use Rattle.std.specs.List.{list_all, list_any};
 
 use crate::trail::Trail;
 use lk_locks::Outcome;
@@ -25,6 +26,22 @@ pub enum Fate {
     Hangs,
 }
 
+// Whether each of these threads has ended or hangs.
+fn are_over(fates: &[Fate]) -> bool
+    ensures { result ≡ list_all is_over fates.now }
+{
+    fates
+        .iter()
+        .all(|fate| matches!(fate, Fate::Ended | Fate::Hangs))
+}
+
+// Whether one of these threads hangs.
+fn one_hangs(fates: &[Fate]) -> bool
+    ensures { result ≡ list_any is_hung fates.now }
+{
+    fates.iter().any(|fate| matches!(fate, Fate::Hangs))
+}
+
 // The most bytes of a comment that says something of a thread.
 const MOST_OF_A_COMMENT: usize = 96;
 
@@ -32,9 +49,7 @@ const MOST_OF_A_COMMENT: usize = 96;
 fn open_in(front: &[u8]) -> Option<(u8, bool)>
     ensures { result ≡ open_in front.now }
 {
-    let Some(number) = front.strip_suffix(b" has not".as_slice()) else {
-        return None;
-    };
+    let number = front.strip_suffix(b" has not".as_slice())?;
     Some((number_of(number, 0, 63)?, false))
 }
 
@@ -52,10 +67,7 @@ fn said_before(front: &[u8]) -> Option<(u8, bool)>
 fn said_in(text: &[u8]) -> Option<(u8, bool)>
     ensures { result ≡ said_in text.now }
 {
-    let Some(front) = text.strip_suffix(b" ended".as_slice()) else {
-        return None;
-    };
-    said_before(front)
+    said_before(text.strip_suffix(b" ended".as_slice())?)
 }
 
 /// Which thread a comment says to have ended, or not to have.
@@ -143,14 +155,7 @@ impl Course {
     pub fn hangs(&self, threads: u8) -> bool
         ensures { result ≡ hangs threads self.now }
     {
-        let mut some = false;
-        for fate in &self.fates[..threads as usize] {
-            match fate {
-                Fate::Ended => {}
-                Fate::Hangs => some = true,
-                Fate::Moved | Fate::Polled => return false,
-            }
-        }
-        some
+        let fates = &self.fates[..threads as usize];
+        are_over(fates) && one_hangs(fates)
     }
 }

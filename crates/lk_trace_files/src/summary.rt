@@ -24,12 +24,9 @@ pub struct Summary {
     counter: u64,
 }
 
-// The word that counts without end, if the lock has one: `next_ticket`, or `readAcquires`.
-fn counter_of(lock: &Lock) -> Option<u64> {
-    match lock.kind() {
-        LockKind::Ticket | LockKind::RwFifo => lock.machine().words().as_slice().first().copied(),
-        LockKind::Mcs | LockKind::RwSimple => None,
-    }
+/// Whether the first word of the lock counts without end: `next_ticket`, or `readAcquires`.
+pub fn has_counter(kind: LockKind) -> bool {
+    matches!(kind, LockKind::Ticket | LockKind::RwFifo)
 }
 
 /// How many there are, in the form of one or of several.
@@ -60,7 +57,14 @@ impl Summary {
     // Counts a step that may have changed who is in the queue, and the lock's counter.
     fn note_lock(&mut self, lock: &Lock) {
         self.longest = self.longest.max(lock.queue().len());
-        if let Some(now) = counter_of(lock) {
+        if has_counter(lock.kind()) {
+            let now = lock
+                .machine()
+                .words()
+                .as_slice()
+                .first()
+                .copied()
+                .unwrap_or(0);
             if now < self.counter {
                 self.rounds = self.rounds.saturating_add(1);
             }

@@ -79,8 +79,9 @@ impl Trail {
         self.since.get(thread as usize).copied().filter(|n| *n > 0)
     }
 
-    /// The last write to the word at this place.
-    pub fn written(&self, place: usize) -> Option<Step> {
-        *self.writes.get(place)?
+    /// The last write to the word at this place, and what it left there.
+    pub fn written(&self, place: usize) -> Option<(Step, u64)> {
+        let step = (*self.writes.get(place)?)?;
+        Some((step, step.made.effect?.left))
     }
 }

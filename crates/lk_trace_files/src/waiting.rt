@@ -5,17 +5,18 @@ use crate::notes::Notes;
 use crate::sentences::{Awaited, polled_for};
 use crate::texts::{Called, Lock};
 use lk_locks::Outcome;
-use lk_trace::name_at;
+use lk_trace::{WordName, name_at};
 use std::alloc::AllocError;
 use std::fmt;
 
-/// The place of the word that a thread's next step is on, if it is on one.
-pub fn next_word(lock: &Lock, thread: u8) -> Option<usize> {
+/// The word that a thread's next step is on, if it is on one, and its place.
+pub fn next_word(lock: &Lock, thread: u8) -> Option<(WordName, usize)> {
     let machine = lock.machine();
     if thread >= machine.threads() {
         return None;
     }
-    Some(machine.operation(thread)?.word())
+    let place = machine.operation(thread)?.word();
+    Some((name_at(lock.kind(), place)?, place))
 }
 
 /// What is said of a run that hangs.
@@ -51,22 +52,18 @@ impl Waiting<'_> {
 
     // Writes what the word that is polled is waited for to be, and what it is.
     fn put_word<W: fmt::Write>(&self, f: &mut fmt::Formatter<W>, due: Awaited) -> fmt::Result {
-        let Some(place) = next_word(self.lock, self.thread) else {
-            return Ok(());
-        };
-        let Some(word) = name_at(self.lock.kind(), place) else {
+        let Some((word, place)) = next_word(self.lock, self.thread) else {
             return Ok(());
         };
         let words = self.lock.machine().words().as_slice();
         let value = words.get(place).copied().unwrap_or(0);
         match due {
-            Awaited::Ticket(due) => {
-                write!(f, "{word} to be {due}, its ticket; {word} is {value}")
-            }
-            Awaited::Value(due) => write!(f, "{word} to be {due}; {word} is {value}"),
-            Awaited::Other(due) => write!(f, "{word} to be other than {due}; {word} is {value}"),
-            Awaited::Section(_) => Ok(()),
+            Awaited::Ticket(due) => write!(f, "{word} to be {due}, its ticket")?,
+            Awaited::Value(due) => write!(f, "{word} to be {due}")?,
+            Awaited::Other(due) => write!(f, "{word} to be other than {due}")?,
+            Awaited::Section(_) => return Ok(()),
         }
+        write!(f, "; {word} is {value}")
     }
 }
 

@@ -43,18 +43,12 @@ fn both<R: Threads + Sync>(
             requires { IsIdleOf lock.now ROUNDS second }
         { recorded_rounds(alloc, lock, second, count, 1, ROUNDS) },
     );
-    let (Some(first), Some(second)) = (first?, second?) else {
-        return Ok(None);
-    };
-    Ok(Some((first, second)))
+    Ok(first?.zip(second?))
 }
 
 // What the lock's machine says of the two logs.
 fn verdict(alloc: Global, first: Log, second: Log) -> Result<&'static str, AllocError> {
-    let mut logs = Vec::with_capacity(alloc, 2)?;
-    logs.push(first)?;
-    logs.push(second)?;
-    let Some(found) = find_order(alloc, logs)? else {
+    let Some(found) = find_order(alloc, vec![in alloc; first, second]?)? else {
         return Ok("the logs are not of one run");
     };
     Ok(match found.ending {

@@ -40,7 +40,7 @@ impl Acquires {
     pub fn new(alloc: Global, order: &Order) -> Result<Acquires, AllocError> {
         let mut instances = Vec::new(alloc);
         for log in order.logs() {
-            instances.push(instances_of(alloc, order.kind(), log.moves())?)?;
+            instances.push(instances_of(alloc, order.header().kind(), log.moves())?)?;
         }
         let chains = Chains::new(alloc, order, &mut instances)?;
         Ok(Acquires {
@@ -72,7 +72,7 @@ impl Acquires {
 
     // Whether a release of a thread that is in the queue has still to find this in the tail.
     fn has_to_be_found(&self, order: &Order, tail: u64) -> bool {
-        (0..order.threads()).any(|t| {
+        (0..order.header().threads()).any(|t| {
             self.instance(t as usize)
                 .and_then(|instance| instance.failed)
                 .is_some_and(|(found, at)| found == tail && order.placed(t) <= at)

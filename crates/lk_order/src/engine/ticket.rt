@@ -32,7 +32,7 @@ impl Tickets {
             takes.push(takes_of(alloc, log.moves(), log.is_cut())?)?;
         }
         Ok(Tickets {
-            threads: ticket_order(alloc, &takes, order.bits())?,
+            threads: ticket_order(alloc, &takes, order.header())?,
             taken: 0,
         })
     }

@@ -143,20 +143,12 @@ impl LogReader {
         }
     }
 
-    /// How many lines were read.
-    pub fn number(&self) -> u32
-        ensures { result ≡ self.now.number }
-    {
-        self.number
-    }
-
     /// Reads the next line, without its line feed. What comes after the last one has not `ended`,
     /// and may be nothing: a move there was cut off while it was written, and is not looked at.
     ///
     /// # Errors
     ///
-    /// Every fault but `NoHeader`. Then nothing has changed, and the fault is in line
-    /// `number() + 1`.
+    /// Every fault but `NoHeader`. Then nothing has changed.
     pub fn line(&mut self, line: &[u8], ended: bool) -> Result<(), LogFault>
         ensures ok { OnOk result (line_read self.old ended line.now ≡ Ok self.new) }
         ensures err { IfErr result (IsFaultOf (line_read self.old ended line.now)) }

@@ -8,13 +8,14 @@ ghost use Rattle.lk_trace_files.specs.Searches.{IsHung};
 
 use crate::course::{Course, Fate};
 use crate::waiting::Waiting;
-use lk_order::{Log, Order};
+use lk_order::Order;
 use lk_trace::{Checker, Event};
 
 // Makes the steps of an order again, and notes how far each thread comes.
-fn course_of(order: &Order, first: &Log) -> Course {
+fn course_of(order: &Order) -> Course {
     let mut course = Course::new();
-    let mut checker = Checker::new(first.kind(), first.threads(), first.bits());
+    let header = order.header();
+    let mut checker = Checker::new(header.kind(), header.threads(), header.bits());
     let mut at = [0usize; 256];
     for k in 0..order.len() {
         let Some(line) = order.line(k) else {
@@ -37,12 +38,12 @@ fn course_of(order: &Order, first: &Log) -> Course {
 pub fn hung_course(order: &Order, unended: &[bool]) -> Option<Course>
     ensures { IfSome result (IsHung order.now) }
 {
-    let first = order.logs().first()?;
     if !unended.contains(&true) {
         return None;
     }
-    let mut course = course_of(order, first);
-    for t in 0..order.threads() {
+    let mut course = course_of(order);
+    let threads = order.header().threads();
+    for t in 0..threads {
         let is_open = unended.get(t as usize).copied().unwrap_or(false);
         let log = order.logs().get(t as usize)?;
         let is_whole = is_open || log.dropped() == Some(0);
@@ -51,17 +52,14 @@ pub fn hung_course(order: &Order, unended: &[bool]) -> Option<Course>
         }
         course.end(t, !is_open);
     }
-    if course.hangs(order.threads()) && !may_go_on(order, &course) {
-        Some(course)
-    } else {
-        None
-    }
+    let hangs = course.hangs(threads) && !may_go_on(order, &course);
+    hangs.then_some(course)
 }
 
 // Whether a thread that has not ended would find what it polls for.
 fn may_go_on(order: &Order, course: &Course) -> bool {
     let lock = order.checker().lock();
-    (0..order.threads()).any(|thread| {
+    (0..order.header().threads()).any(|thread| {
         course.fate(thread) == Fate::Hangs && Waiting { lock, thread }.may_go_on()
     })
 }

@@ -67,7 +67,7 @@ fn missing_in(kind: LockKind, line: TraceLine) -> Option<&'static str> {
 // Says which needed part is missing first in a log, if one is.
 fn put_missing(report: &mut OrderReport, log: &Log, name: &str) -> Result<(), AllocError> {
     for (at, line) in log.moves().iter().enumerate() {
-        if let Some(part) = missing_in(log.kind(), *line) {
+        if let Some(part) = missing_in(log.header().kind(), *line) {
             let number = u64::from(log.line_of(at).unwrap_or(0));
             let line = Shown(line);
             let said = format_args!("'{line}' has no {part}, which an order needs");
@@ -79,10 +79,9 @@ fn put_missing(report: &mut OrderReport, log: &Log, name: &str) -> Result<(), Al
 
 // The line of its file in which a thread's next step is.
 fn next_number(order: &Order, thread: u8) -> u64 {
-    match order.logs().get(thread as usize) {
-        Some(log) => u64::from(log.line_of(order.placed(thread)).unwrap_or(0)),
-        None => 0,
-    }
+    let log = order.logs().get(thread as usize);
+    log.and_then(|log| log.line_of(order.placed(thread)))
+        .map_or(0, |number| u64::from(number))
 }
 
 /// Says which step cannot be placed, and why, with the line of the thread's file that it is in; and
@@ -106,7 +105,7 @@ pub fn put_stuck(
             report.messages.put_in(name, number, said)?;
         }
     }
-    for thread in 0..order.threads() {
+    for thread in 0..order.header().threads() {
         let file = names.get(thread as usize).copied().unwrap_or("");
         match order.next(thread) {
             Some(line) if thread != stuck.thread => {

@@ -15,7 +15,8 @@ use std::rt::Files;
 
 // Writes the header of a trace or a schedule.
 fn put_header(text: &mut String, order: &Order) -> Result<(), AllocError> {
-    let (name, threads, bits) = (lock_text(order.kind()), order.threads(), order.bits());
+    let header = order.header();
+    let (name, threads, bits) = (lock_text(header.kind()), header.threads(), header.bits());
     write!(text, "lock {name} threads {threads}")?;
     if bits < 64 {
         write!(text, " bits {bits}")?;
@@ -53,7 +54,7 @@ pub fn write_trace<O: Write>(
         write_waiting(&mut text, output)?;
     }
     if let Some(course) = hung {
-        put_ends(&mut text, order.threads(), course)?;
+        put_ends(&mut text, order.header().threads(), course)?;
     }
     output.write_all(text.as_bytes())?;
     output.flush()?;

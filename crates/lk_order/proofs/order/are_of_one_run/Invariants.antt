@@ -7,4 +7,4 @@ use Rattle.lk_order.proofs.order.are_of_one_run.Given as goal
 abbrev pub invariant-loop-t : goal.invariant-loop-t
 invariant-loop-t l =
     (k : ℕ) (log : ThreadLog) → k < l.t → slice_get l.logs k ≡ Some log
-    → IsLogOf l.kind l.threads l.bits k log
+    → IsLogOf l.header k log

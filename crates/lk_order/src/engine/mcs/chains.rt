@@ -96,12 +96,8 @@ fn swapped(row: &[Instance]) -> usize {
 impl Chains {
     // An instance of the thread is in the chain that is added.
     fn note(&mut self, thread: u8, instance: usize) {
-        let place = self
-            .ends
-            .len()
-            .saturating_mul(self.threads)
-            .saturating_add(thread as usize);
-        if let Some(first) = self.first.get_mut(place) {
+        let base = self.ends.len().saturating_mul(self.threads);
+        if let Some(first) = self.first.get_mut(base.saturating_add(thread as usize)) {
             *first = (*first).min(instance.min(NONE as usize) as u32);
         }
     }
@@ -167,13 +163,13 @@ impl Chains {
         order: &Order,
         instances: &mut [Vec<Instance>],
     ) -> Result<Chains, AllocError> {
-        match_all(instances, order.threads());
+        match_all(instances, order.header().threads());
         let mut chains = Chains {
             first: Vec::new(alloc),
             ends: Vec::new(alloc),
-            threads: order.threads() as usize,
+            threads: order.header().threads() as usize,
         };
-        for thread in 0..order.threads() {
+        for thread in 0..order.header().threads() {
             chains.add_all(order, instances, thread)?;
         }
         Ok(chains)

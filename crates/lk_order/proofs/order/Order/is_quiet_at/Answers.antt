@@ -14,8 +14,7 @@ returns-else-k-eq0 c =
     let a = c.self.inside in
     let k : ℕ = c.args.k in
     let place : Place = c.index.result.now in
-    let o : Ordered =
-    ordered_of a.kind a.threads a.bits a.logs.items a.places.items a.checker in
+    let o : Ordered = ordered_of a.header a.logs.items a.places.items a.checker in
     let same : k - 1 + 1 ≡ k = omega (arith, c.if-k-eq0.false) in
     let inside : k ≤ length o.trace =
     subst (λ (x : Ordered). k ≤ length x.trace) (sym c.self.view_is) c.requires in

@@ -1,10 +1,12 @@
-//! What is shown on a terminal while long logs are put into one order: a million moves take
-//! seconds.
+//! What is shown on a terminal while a long file is read, or long logs are put into one order.
 
 use lk_order::Log;
 use std::io::Eprint;
 
-// From so many moves on something is shown.
+// Lines between two words of progress.
+const EVERY: u64 = 1_000_000;
+
+// From so many moves on something is shown: a million take seconds.
 const MANY: usize = 100_000;
 
 /// A line of a terminal, if standard error is one.
@@ -22,6 +24,14 @@ impl<'a, R: Eprint> Progress<'a, R> {
             rt,
             is_terminal,
             shown: false,
+        }
+    }
+
+    /// Says now and then how far the file of this name is read.
+    pub fn line(&mut self, name: &str, number: u64) {
+        if self.is_terminal && number % EVERY == 0 {
+            let _ = eprint!(self.rt; "\r{name}: {number} lines");
+            self.shown = true;
         }
     }
 
