@@ -4,7 +4,7 @@
 use lk_locks::LockKind;
 use lk_replay::parts::lock_text;
 use lk_search::{Coverage, Kind, kinds_of};
-use lk_trace_files::Count;
+use lk_trace_files::{Count, has_counter};
 use std::alloc::AllocError;
 use std::fmt;
 use std::fmt::Write;
@@ -30,11 +30,6 @@ impl fmt::Display for Command {
         }
         Ok(())
     }
-}
-
-// Whether the lock has a word that counts without end.
-fn has_counter(kind: LockKind) -> bool {
-    matches!(kind, LockKind::Ticket | LockKind::RwFifo)
 }
 
 fn put_text(text: &mut String, coverage: &Coverage) -> Result<(), AllocError> {

@@ -9,9 +9,7 @@ use std::alloc::Global;
 fn log_of(alloc: Global, lines: &[&[u8]]) -> Option<Log> {
     let mut reader = LogReader::new(alloc);
     for line in lines {
-        if reader.line(*line, true).is_err() {
-            return None;
-        }
+        reader.line(*line, true).ok()?;
     }
     reader.log().ok()
 }
@@ -26,10 +24,7 @@ fn found_of(alloc: Global, first: &[&[u8]], second: &[&[u8]]) -> Option<Found> {
 }
 
 fn ending_of(found: Option<Found>) -> Option<Ending> {
-    match found {
-        Some(found) => Some(found.ending),
-        None => None,
-    }
+    found.map(|found| found.ending)
 }
 
 const WAITED: [&[u8]; 9] = [

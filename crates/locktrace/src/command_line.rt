@@ -250,10 +250,7 @@ fn lines_of(text: &str) -> Option<(u64, u64)> {
     } else {
         last.parse::<u64>().ok()?
     };
-    if first == 0 || last < first {
-        return None;
-    }
-    Some((first, last))
+    (first > 0 && first <= last).then_some((first, last))
 }
 
 fn explain_given(alloc: Global, matches: &ArgMatches<'_>) -> Result<Job, ParseFault> {
