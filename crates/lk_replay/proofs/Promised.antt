@@ -149,15 +149,12 @@ every_report_is_as_promised bytes p is =
     let words : List ℕ = replicate (word_count p.kind p.threads) 0 in
     let size : length words ≡ word_count p.kind p.threads =
     length-replicate (word_count p.kind p.threads) 0 in
-    let made : List Made = (replay_of p).made in
     record {
-      made = made;
-      refused = (replay_of p).refused;
       text = ap plan_text is;
       history = history_of p;
       promised = subst (λ (es : List Entry). IsAsPromised p.kind p.threads es) (sym (history_of p))
           (every_run_is_as_promised p.kind p.bits words p.threads
-          (moves_made made) fits.few fits.narrow (omega (arith, size))
+          (moves_made (replay_of p).made) fits.few fits.narrow (omega (arith, size))
           (λ i low. get_or-replicate (word_count p.kind p.threads) i 0 0
           (omega (arith, size, low))));
     }

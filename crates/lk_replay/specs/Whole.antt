@@ -1,13 +1,11 @@
 -- Definitions: the theorem from bytes to bytes. A report describes a history that keeps
 -- the whole theorem. This project's own.
 use Rattle.std.specs.Prelude.{◌≡◌, ℕ, List, [], map, Option, Ok}
-use Rattle.std.specs.List.{flat_map}
 use Rattle.std.specs.Io.KnownBytes.{Appends}
 use Rattle.lk_locks.specs.MainTheorem.{IsAsPromised}
 use Rattle.lk_locks.specs.Runs.{entries_after}
 use Rattle.lk_locks.specs.declared.kinds.Entry.{Entry}
-use Rattle.lk_locks.specs.declared.kinds.Refusal.{Refusal}
-use Rattle.lk_replay.specs.Replay.{Made, start_of}
+use Rattle.lk_replay.specs.Replay.{replay_of, replayed_of, start_of}
 use Rattle.lk_replay.specs.Report.{lines_text, report_text}
 use Rattle.lk_replay.specs.Schedule.{Plan, plan_of}
 use Rattle.lk_replay.specs.declared.played.Accepted.{Accepted}
@@ -17,15 +15,13 @@ abbrev pub IsHistoryOf : Plan → List Accepted → List Entry → Type 0
 IsHistoryOf p accepted es =
     es ≡ entries_after (start_of p) (map (λ a. (a.thread, a.action)) accepted)
 
--- A report of a schedule describes accepted moves, each with its entries, up to the refused one.
--- `lines_text` shows in each line who holds and who waits after the entries so far, and all entries
--- together are the history that the moves leave, which is as promised.
+-- A report of a schedule describes its replay: the accepted moves, each with its entries, up to the
+-- refused one. `lines_text` shows in each line who holds and who waits after the entries so far, and
+-- all entries together are the history that the moves leave, which is as promised.
 pub record IsReportOf (p : Plan) (report : List ℕ) : Type 0 where
-  pub made : List Made
-  pub refused : Option (ℕ × Refusal)
-  pub text : report ≡ lines_text p.kind 0 [] made refused
-  pub history : IsHistoryOf p (map (λ m. m.accepted) made) (flat_map (λ m. m.entries) made)
-  pub promised : IsAsPromised p.kind p.threads (flat_map (λ m. m.entries) made)
+  pub text : report ≡ lines_text p.kind 0 [] (replay_of p).made (replay_of p).refused
+  pub history : IsHistoryOf p (replayed_of p).accepted (replayed_of p).entries
+  pub promised : IsAsPromised p.kind p.threads (replayed_of p).entries
 
 -- the report of this text describes such a history, if the text is a schedule
 abbrev pub IsReportOfText : List ℕ → List ℕ → Type 0
