@@ -1,9 +1,9 @@
 /* locktrace.h: the check of a trace (docs/TRACE.md) from C, C++ and whatever calls C.
    SPDX-License-Identifier: Apache-2.0 OR MIT
 
-   Link with liblk_trace_c.a. No call takes memory; the text and the records are the caller's. A
-   text is opened once, which checks all of it, and then stepped through, a call for each move that
-   was made:
+   Link with liblk_trace_c.a. No call allocates memory; the text and the records are the caller's.
+   A text is opened once, which checks all of it, and then stepped through, a call for each move
+   that was made:
 
        struct lt_run run;
        struct lt_step step;
@@ -45,7 +45,8 @@ enum {
     LT_NO_HEADER = 16, LT_BAD_HEADER, LT_BAD_THREADS, LT_WORDS_TOO_NARROW, LT_BAD_LINE
 };
 
-/* A move that was made. `word` is which of the lock's words it was on, or LT_NO_WORD. */
+/* A move that was made. `word` is its word's number in docs/LOCKS.md (mcs: 0 tail, 1 + 2j next of
+   j, 2 + 2j locked of j). A call or a section has LT_NO_WORD, and 0 in `found` and `left`. */
 struct lt_step {
     uint64_t line, found, left;
     uint32_t thread, action, outcome, word;
@@ -60,7 +61,7 @@ struct lt_answer {
 uint32_t lt_check(const uint8_t *text, size_t length, struct lt_step *steps, size_t room,
                   struct lt_answer *answer);
 
-/* Writes the text of a fault, without an end, as far as there is room. Returns how long it is. */
+/* Writes the text of a fault, without a NUL, as far as there is room. Returns its whole length. */
 size_t lt_fault_text(uint32_t fault, uint8_t *text, size_t room);
 
 struct lt_run {

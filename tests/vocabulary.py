@@ -83,7 +83,7 @@ LISTS = (
     List(f"{MAN}/locktrace-trace.5", r"\.It Ar call\n", r"\.It", "calls", in_order, ITALIC),
     List(f"{MAN}/locktrace-trace.5", r"\.It Ar step\n", r"\.It", "steps", word=ITALIC),
     List(f"{MAN}/locktrace-trace.5", r"\.It Ar outcome\n", r"\.El", "outcomes", word=ITALIC),
-    List(f"{MAN}/lockreplay-schedule.5", r"\.It Calls of queue locks\n", r"\.El",
+    List(f"{MAN}/lockreplay-schedule.5", r"\.It Calls of ticket and MCS locks\n", r"\.El",
          "calls steps", word=ITALIC),
     List(f"{MAN}/lockreplay.1", r"\.Ar outcome\nis one of\n", r"\.El", "called outcomes", in_order,
          ITEM),
