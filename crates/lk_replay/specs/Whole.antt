@@ -16,8 +16,8 @@ IsHistoryOf p accepted es =
     es ≡ entries_after (start_of p) (map (λ a. (a.thread, a.action)) accepted)
 
 -- A report of a schedule describes its replay: the accepted moves, each with its entries, up to the
--- refused one. `lines_text` shows in each line who holds and who waits after the entries so far, and
--- all entries together are the history that the moves leave, which is as promised.
+-- refused one. `lines_text` shows in each line who holds and who waits after the entries so far.
+-- All entries together are the history that the moves leave, which is as promised.
 pub record IsReportOf (p : Plan) (report : List ℕ) : Type 0 where
   pub text : report ≡ lines_text p.kind 0 [] (replay_of p).made (replay_of p).refused
   pub history : IsHistoryOf p (replayed_of p).accepted (replayed_of p).entries
