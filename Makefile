@@ -44,6 +44,7 @@ by-root:
 	@[ "$$(id -u)" = 0 ] || \
 	    { echo 'only root may run make $(MAKECMDGOALS): it makes Debian roots' >&2; exit 1; }
 
+## gate | the proofs and mutants of `make test`. No root is needed
 gate:
 	tests/wanted.sh rt gate
 	tests/gate.sh
@@ -69,6 +70,8 @@ packages:
 	@tests/wanted.sh --list
 
 .PHONY: test-refused
+
+## test-refused | the tests of the libraries, with each request for memory refused in turn
 test-refused: $(TESTS_BUILT) tools
 	tests/refuse/run.sh request $(TESTS_BUILT)
 
@@ -88,6 +91,7 @@ check:
 endif
 
 # The built program, and the rows by themselves, side by side. Nothing is proved here.
+## tried | the built programs and the rows, the documents and the layout, without a proof
 TRIED := rows oracle process refusals writes short_memory memory documents documents_fail layout \
 	spaces fuzz
 .PHONY: tried $(addprefix tried-,$(TRIED))

@@ -112,6 +112,8 @@ EDITS = {
                                       "self.left }\nnew: Pair { left: 0 }\n", "Pair { left: 0 }"),
     "a constant": ("file: src/lib.rt\nold: mod pairs;\nnew: mod pears;\nnoticed by: "
                    "c::pairs::least\n", "mod pears;"),
+    "a contract": ("function: c::pairs::Pair::left\nold: ensures { result ≡ self.now.left }\n"
+                   "new: ensures { result ≡ 0 }\n", "ensures { result ≡ 0 }"),
     "a constant that nobody has to notice": ("file: src/lib.rt\nold: mod pairs;\nnew: mod p;\n",
                                              None),
     "a constant for a function that is not there":
@@ -123,13 +125,21 @@ EDITS = {
 }
 
 
-def outcome(folder, text):
-    """The texts with an edit put in, or None if it cannot be."""
+ALONE = {"a value": False, "a constant": True, "a contract": True}
+
+
+def edit_of(folder, text):
+    """An edit of this text."""
     path = folder / "c" / "mutants" / "mistake.edit"
     path.parent.mkdir(parents=True, exist_ok=True)
     path.write_text(text)
+    return Edit(path)
+
+
+def outcome(folder, text):
+    """The texts with an edit put in, or None if it cannot be."""
     try:
-        return "".join(Edit(path).put_in(FILES).values())
+        return "".join(edit_of(folder, text).put_in(FILES).values())
     except BadEdit:
         return None
 
@@ -215,6 +225,8 @@ def main():
         for name, (text, part) in EDITS.items():
             tally.check(name, outcome(Path(folder), text),
                         lambda got, part=part: got is None if part is None else part in got)
+        for name, is_alone in ALONE.items():
+            tally.check(f"{name}, alone", edit_of(Path(folder), EDITS[name][0]).is_alone, is_alone)
     tally.check("proved or kept", proved_in(SAID_BY_CI), {"lk_words", "lk_locks"})
     tally.check("lanes", order_of("lk_locks", "lk_trace_files", "lk_replay"),
                 ["lk_trace_files", "lk_replay", "lk_locks"])

@@ -17,6 +17,8 @@ from pathlib import Path
 
 from rattle_functions import functions_of
 
+CLAUSES = ("requires", "ensures")
+
 
 class BadEdit(Exception):
     """Why an edit cannot be read or put in."""
@@ -24,7 +26,7 @@ class BadEdit(Exception):
 
 class Edit:
     """One file: `functions` are those that it changes, or that notice what it changes outside of
-    functions; `is_alone` if it changes something there."""
+    functions; `is_alone` if it changes something there, or a contract, which callers read too."""
 
     def __init__(self, path):
         self.path, self.name = path, path.stem
@@ -32,7 +34,8 @@ class Edit:
         self.is_twin = path.parent.name == "twins"
         self.has_twin = (path.parent.parent / "twins" / path.name).exists() and not self.is_twin
         self.pairs = list(pairs_of(path))
-        self.is_alone = any(key == "file" for key, _, _, _ in self.pairs)
+        self.is_alone = any(key == "file" or old.startswith(CLAUSES)
+                            for key, _, old, _ in self.pairs)
         self.functions = {place for key, place, _, _ in self.pairs if key == "function"}
         self.functions |= set(re.findall(r"(?m)^noticed by: *(\S+)$", path.read_text()))
         if not self.pairs:

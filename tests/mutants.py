@@ -13,7 +13,7 @@ if the check names its function with goals of its own; if all that is wrong is t
 what the mutant took away, only if it has a twin. One that is unclear, since its function only
 calls another that is not proved, is tried again without that one, and at last alone. A change of
 what is no function, as a constant, is tried alone, and the function that its edit names has to
-notice it.
+notice it. A change of a contract is tried alone too, since callers read it.
 
 Crates are tried side by side, one check of each at a time, over what earlier checks kept in `out`;
 with --beside, each when `rt ci`, whose output LOG is, has proved what is below it.
