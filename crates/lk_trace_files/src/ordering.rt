@@ -12,7 +12,6 @@ mod telling;
 mod writing;
 
 use crate::course::Course;
-use crate::facts::Facts;
 use crate::failures::Failure;
 use crate::formats::Format;
 use crate::progress::Progress;
@@ -82,12 +81,13 @@ fn order_into<R: Files + Eprint, O: Write>(
     let taken = match take_logs(rt, alloc, &job.logs, &mut report.messages)? {
         Ok(taken) => taken,
         Err(bad) => {
-            report.facts = Facts::BadLog(bad);
+            bad.put_fields(&mut report.fields)?;
             return Ok(Sought::Bad(bad));
         }
     };
-    progress.begin("ordering", &taken.logs);
-    let Some(search) = search_logs(alloc, taken.logs, &taken.open)? else {
+    let logs = taken.shelf.logs(alloc)?;
+    progress.begin("ordering", &logs);
+    let Some(search) = search_logs(alloc, logs, &taken.open)? else {
         report.messages.put(0, "the logs are not of one run")?;
         return Ok(Sought::Bad(BadLog::OtherLock));
     };
