@@ -1,12 +1,11 @@
 -- What is expected in a line, word by word. It is a move exactly if nothing else is expected.
 use Rattle.std.proofs.Common.{◌≡◌, ◌↔◌, ℕ, ◌+◌, List, [], ◌∷◌, Option, Some, None, cond, length}
-use Rattle.std.proofs.Common.{option_map, is_some, IsNone, IsSome, Bool, true, false, ap, refl, ◌∙◌}
+use Rattle.std.proofs.Common.{is_some, IsNone, IsSome, Bool, true, false, ap, refl, ◌∙◌}
 use Rattle.lk_locks.specs.declared.kinds.Move.{Move}
 use Rattle.lk_replay.specs.Lines.{words_of}
-use Rattle.std.specs.Option.{option_map_or, option_zip}
+use Rattle.std.specs.Option.{option_zip}
 use Rattle.lk_replay.specs.Schedule.{move_of, move_of_words}
-use Rattle.lk_replay.specs.Unreadable.{after_word, may_be, may_end, next_of, stop_from}
-use Rattle.lk_replay.specs.Unreadable.{unreadable_from}
+use Rattle.lk_replay.specs.Unreadable.{after_word, may_be, next_of, unreadable_from}
 use Rattle.lk_replay.specs.Vocabulary.{move_named, number_of}
 use Rattle.lk_replay.specs.declared.unreadable.Expected.{Expected}
 use Rattle.lk_replay.specs.declared.unreadable.Expected.TheVariants.{Thread}
@@ -14,55 +13,34 @@ use Rattle.lk_replay.specs.declared.unreadable.Unreadable.{Unreadable}
 
 -- ---- one word
 
-pub stops : {A : Type 0} (next : A → List ℕ → Option A) (ends : A → Bool) (column : ℕ) (due : A)
-    (line word : List ℕ) (words : List (List ℕ)) → words_of line ≡ word ∷ words
-    → next due word ≡ None → stop_from next ends column due (words_of line) ≡ Some (column, due)
-stops next ends column due line word words cut none =
-    ap (stop_from next ends column due) cut
-    ∙ ap (λ after. option_map_or (λ d. stop_from next ends (column + length word + 1) d words) after
-    (Some (column, due))) none
+stop_by : (b : Bool) (x : Expected) (u v : Option Unreadable) → cond b (Some x) None ≡ None
+    → cond b u v ≡ v
+stop_by true x u v e = absurd (cc)
+stop_by false x u v e = refl
 
-pub goes : {A : Type 0} (next : A → List ℕ → Option A) (ends : A → Bool) (column : ℕ) (due to : A)
-    (line word : List ℕ) (words : List (List ℕ)) → words_of line ≡ word ∷ words
-    → next due word ≡ Some to
-    → stop_from next ends column due (words_of line)
-    ≡ stop_from next ends (column + length word + 1) to words
-goes next ends column due to line word words cut some =
-    ap (stop_from next ends column due) cut
-    ∙ ap (λ after. option_map_or (λ d. stop_from next ends (column + length word + 1) d words) after
-    (Some (column, due))) some
+go_by : (b : Bool) (x next : Expected) (f : Expected → Option Unreadable) (v : Option Unreadable)
+    → cond b (Some x) None ≡ Some next → cond b (f x) v ≡ f next
+go_by true x next f v e = ap f (cc)
+go_by false x next f v e = absurd (cc)
 
--- ---- of a header or a move
-
-abbrev placed : Option (ℕ × Expected) → Option Unreadable
-placed = option_map (λ stop. record { column = stop.0; expected = stop.1 })
-
-at_end : (ends : Bool) (stop : ℕ × Expected)
-    → placed (cond ends None (Some stop)) ≡ cond ends None (placed (Some stop))
-at_end true stop = refl
-at_end false stop = refl
-
-at_word : (b : Bool) (next : Expected) (from : Expected → Option (ℕ × Expected))
-    (stop : ℕ × Expected)
-    → placed (option_map_or from (cond b (Some next) None) (Some stop))
-    ≡ cond b (placed (from next)) (placed (Some stop))
-at_word true next from stop = refl
-at_word false next from stop = refl
-
-same_place : (column : ℕ) (expected : Expected) (words : List (List ℕ))
-    → placed (stop_from after_word may_end column expected words)
-    ≡ unreadable_from column expected words
+pub stops : (column : ℕ) (expected : Expected) (line word : List ℕ) (words : List (List ℕ))
+    → words_of line ≡ word ∷ words → after_word expected word ≡ None
+    → unreadable_from column expected (words_of line)
+    ≡ Some (record { column = column; expected = expected })
 unfolding after_word
-same_place column expected [] = at_end (may_end expected) (column, expected)
-same_place column expected (word ∷ words) =
-    at_word (may_be expected word) (next_of expected) _ (column, expected)
-    ∙ ap (λ rest. cond (may_be expected word) rest (placed (Some (column, expected))))
-    (same_place (column + length word + 1) (next_of expected) words)
+stops column expected line word words cut none =
+    ap (unreadable_from column expected) cut
+    ∙ stop_by (may_be expected word) (next_of expected) _ _ none
 
-pub place_is : (line : List ℕ) (first : Expected) (stop : Option (ℕ × Expected))
-    → stop ≡ stop_from after_word may_end 1 first (words_of line)
-    → placed stop ≡ unreadable_from 1 first (words_of line)
-place_is line first stop is = ap placed is ∙ same_place 1 first (words_of line)
+pub goes : (column : ℕ) (expected next : Expected) (line word : List ℕ) (words : List (List ℕ))
+    → words_of line ≡ word ∷ words → after_word expected word ≡ Some next
+    → unreadable_from column expected (words_of line)
+    ≡ unreadable_from (column + length word + 1) next words
+unfolding after_word
+goes column expected next line word words cut some =
+    ap (unreadable_from column expected) cut
+    ∙ go_by (may_be expected word) (next_of expected) next
+    (λ e. unreadable_from (column + length word + 1) e words) _ some
 
 -- ---- the words of a move
 
