@@ -195,7 +195,7 @@ fn put_json(
     if report.ending != Ending::Accepted {
         let message = Quoted(&report.message);
         write!(text, ",\"line\":{line},\"message\":{message}")?;
-        report.facts.put_fields(text)?;
+        text.push_str(&report.fields)?;
     }
     put_note_fields(text, "notes", &report.notes)?;
     if !report.standing.is_empty() {

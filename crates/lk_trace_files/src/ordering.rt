@@ -12,7 +12,6 @@ mod telling;
 mod writing;
 
 use crate::course::Course;
-use crate::facts::Facts;
 use crate::failures::Failure;
 use crate::formats::Format;
 use crate::progress::Progress;
@@ -82,7 +81,7 @@ fn order_into<R: Files + Eprint, O: Write>(
     let taken = match take_logs(rt, alloc, &job.logs, &mut report.messages)? {
         Ok(taken) => taken,
         Err(bad) => {
-            report.facts = Facts::BadLog(bad);
+            bad.put_fields(&mut report.fields)?;
             return Ok(Sought::Bad(bad));
         }
     };

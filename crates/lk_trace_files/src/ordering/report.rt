@@ -2,7 +2,6 @@
 //! as TAP or JSON.
 
 use crate::check::Ending;
-use crate::facts::Facts;
 use crate::formats::{Format, Quoted, put_comments, put_note_fields, put_noted};
 use crate::notes::Notes;
 use std::alloc::{AllocError, Global};
@@ -15,7 +14,8 @@ pub struct OrderReport {
     pub placed: usize,
     /// What is wrong.
     pub messages: Notes,
-    pub facts: Facts,
+    /// The same for programs: further fields of its JSON object, each after a comma.
+    pub fields: String,
     pub warnings: Notes,
     pub notes: Notes,
 }
@@ -29,7 +29,7 @@ impl OrderReport {
         OrderReport {
             placed: 0,
             messages: Notes::new(alloc),
-            facts: Facts::Nothing,
+            fields: String::new(alloc),
             warnings: Notes::new(alloc),
             notes: Notes::new(alloc),
         }
@@ -62,7 +62,7 @@ impl OrderReport {
             text,
             "{{\"folder\":{folder},\"ending\":\"{ending}\",\"moves\":{placed}"
         )?;
-        self.facts.put_fields(text)?;
+        text.push_str(&self.fields)?;
         put_note_fields(text, "messages", &self.messages)?;
         put_note_fields(text, "warnings", &self.warnings)?;
         put_note_fields(text, "notes", &self.notes)?;
