@@ -85,8 +85,9 @@ fn order_into<R: Files + Eprint, O: Write>(
             return Ok(Sought::Bad(bad));
         }
     };
-    progress.begin("ordering", &taken.logs);
-    let Some(search) = search_logs(alloc, taken.logs, &taken.open)? else {
+    let logs = taken.shelf.logs(alloc)?;
+    progress.begin("ordering", &logs);
+    let Some(search) = search_logs(alloc, logs, &taken.open)? else {
         report.messages.put(0, "the logs are not of one run")?;
         return Ok(Sought::Bad(BadLog::OtherLock));
     };

@@ -6,38 +6,22 @@ use crate::lines::take_lines;
 use crate::notes::Notes;
 use lk_order::{Log, LogFault, LogReader, MOST_THREADS, Shelf, Unfit};
 use std::alloc::{AllocError, Global};
-use std::io::Error;
 use std::rt::Files;
 use std::{fs, str};
-use thiserror::Error;
 
-/// The logs of a run, with the names of their files, and which threads have not ended, each by
-/// thread.
+/// The logs of a run that were taken, with the names of their files, and which threads have not
+/// ended, each by thread.
 #[derive(Drop)]
 pub struct Taken<'a> {
-    pub logs: Vec<Log>,
+    pub shelf: Shelf,
+    // of the first log that has one
+    run: Option<u64>,
     pub names: [&'a str; 64],
     pub open: [bool; 64],
 }
 
-// Why a log could not be read.
-#[derive(Debug, Drop, Error)]
-enum Unread {
-    #[error("{0}")]
-    Input(#[from] Error),
-    #[error("{1}")]
-    Fault(u64, LogFault),
-    #[error("out of memory")]
-    Memory(#[from(alloc)] AllocError),
-}
-
 // A log, with the number of its run, if it has that, and whether its thread has not ended.
-#[derive(Drop)]
-struct LogRead {
-    log: Log,
-    run: Option<u64>,
-    is_open: bool,
-}
+type LogRead = (Log, Option<u64>, bool);
 
 // The number of a run, which a recorder writes into the first line.
 fn run_of(line: &[u8]) -> Option<u64> {
@@ -46,41 +30,50 @@ fn run_of(line: &[u8]) -> Option<u64> {
     u64::from_str_radix(text, 16).ok()
 }
 
-// Reads the log in the file of this name.
-fn read_log<R: Files>(rt: &R, alloc: Global, name: &str) -> Result<LogRead, Unread> {
+// Reads the log in the file of this name. What is wrong with it is said, and is the answer.
+fn read_log<R: Files>(
+    rt: &R,
+    alloc: Global,
+    name: &str,
+    messages: &mut Notes,
+) -> Result<Result<LogRead, BadLog>, AllocError> {
     let mut reader = LogReader::new(alloc);
     let (mut run, mut last) = (None, None);
-    let input = fs::open(rt, name)?;
-    let (number, ended) = take_lines(alloc, input, |number, line| -> Result<_, AllocError> {
-        if number == 1 {
-            run = run_of(line.bytes());
-        }
-        last = said_of(line.bytes());
-        Ok(reader.line(line.bytes(), line.is_whole()).err())
-    })?;
-    let log = match ended? {
-        Some(fault) => Err(fault),
-        None => reader.log(),
+    let (number, ended) = match fs::open(rt, name) {
+        Ok(input) => take_lines(alloc, input, |number, line| -> Result<_, AllocError> {
+            if number == 1 {
+                run = run_of(line.bytes());
+            }
+            last = said_of(line.bytes());
+            Ok(reader.line(line.bytes(), line.is_whole()).err())
+        })?,
+        Err(error) => (0, Err(error)),
     };
-    let log = log.map_err(|fault| Unread::Fault(number, fault))?;
-    let is_open = last == Some((log.thread(), false)) && log.dropped().is_none();
-    Ok(LogRead { log, run, is_open })
+    let log = match ended {
+        Ok(None) => reader.log(),
+        Ok(Some(fault)) => Err(fault),
+        Err(error) => {
+            messages.put_in(name, 0, error)?;
+            return Ok(Err(BadLog::Unread));
+        }
+    };
+    match log {
+        Ok(log) => {
+            let is_open = last == Some((log.thread(), false)) && log.dropped().is_none();
+            Ok(Ok((log, run, is_open)))
+        }
+        Err(LogFault::OutOfMemory) => Err(AllocError),
+        Err(fault) => {
+            messages.put_in(name, number, fault)?;
+            Ok(Err(BadLog::Fault(fault)))
+        }
+    }
 }
 
-// The logs that were taken, the names of their files by thread, and who has not ended.
-#[derive(Drop)]
-struct Run<'a> {
-    shelf: Shelf,
-    // of the first log that has one
-    number: Option<u64>,
-    names: [&'a str; 64],
-    open: [bool; 64],
-}
-
-impl<'a> Run<'a> {
+impl<'a> Taken<'a> {
     // Takes a log, if it is one of the run.
     fn put(&mut self, read: LogRead, name: &'a str) -> Result<(), BadLog> {
-        let LogRead { log, run, is_open } = read;
+        let (log, run, is_open) = read;
         let thread = log.thread();
         let place = thread as usize;
         self.shelf.put(log).map_err(|unfit| match unfit {
@@ -91,8 +84,8 @@ impl<'a> Run<'a> {
             self.names[place] = name;
             self.open[place] = is_open;
         }
-        self.number = self.number.or(run);
-        if run.is_some() && self.number != run {
+        self.run = self.run.or(run);
+        if run.is_some() && self.run != run {
             return Err(BadLog::OtherRun(thread));
         }
         Ok(())
@@ -106,25 +99,18 @@ impl<'a> Run<'a> {
         name: &'a str,
         messages: &mut Notes,
     ) -> Result<Option<BadLog>, AllocError> {
-        let (number, bad) = match read_log(rt, alloc, name) {
-            Ok(read) => match self.put(read, name) {
-                Ok(()) => return Ok(None),
-                Err(bad) => (0, bad),
-            },
-            Err(Unread::Memory(_) | Unread::Fault(_, LogFault::OutOfMemory)) => {
-                return Err(AllocError);
-            }
-            Err(Unread::Fault(number, fault)) => (number, BadLog::Fault(fault)),
-            Err(Unread::Input(error)) => {
-                messages.put_in(name, 0, error)?;
-                return Ok(Some(BadLog::Unread));
-            }
+        let read = match read_log(rt, alloc, name, messages)? {
+            Ok(read) => read,
+            Err(bad) => return Ok(Some(bad)),
+        };
+        let Err(bad) = self.put(read, name) else {
+            return Ok(None);
         };
         if let BadLog::SecondLog(thread) = bad {
             let other = self.names.get(thread as usize).copied().unwrap_or("");
             messages.put_in(name, 0, format_args!("{bad}, beside {other}"))?;
         } else {
-            messages.put_in(name, number, bad)?;
+            messages.put_in(name, 0, bad)?;
         }
         Ok(Some(bad))
     }
@@ -138,15 +124,15 @@ pub fn take_logs<'a, R: Files>(
     names: &'a [String],
     messages: &mut Notes,
 ) -> Result<Result<Taken<'a>, BadLog>, AllocError> {
-    let mut run = Run {
+    let mut taken = Taken {
         shelf: Shelf::new(alloc)?,
-        number: None,
+        run: None,
         names: [""; 64],
         open: [false; 64],
     };
     let mut worst: Option<BadLog> = None;
     for name in names {
-        if let Some(bad) = run.read(rt, alloc, name.as_str(), messages)? {
+        if let Some(bad) = taken.read(rt, alloc, name.as_str(), messages)? {
             let status = bad.ending().status();
             if worst.is_none_or(|worst| worst.ending().status() < status) {
                 worst = Some(bad);
@@ -156,12 +142,10 @@ pub fn take_logs<'a, R: Files>(
     if let Some(bad) = worst {
         return Ok(Err(bad));
     }
-    if let Some(thread) = run.shelf.missing() {
+    if let Some(thread) = taken.shelf.missing() {
         let bad = BadLog::Missing(thread);
         messages.put(0, bad)?;
         return Ok(Err(bad));
     }
-    let (names, open) = (run.names, run.open);
-    let logs = run.shelf.logs(alloc)?;
-    Ok(Ok(Taken { logs, names, open }))
+    Ok(Ok(taken))
 }
