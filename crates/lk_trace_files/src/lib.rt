@@ -35,5 +35,5 @@ pub use formats::Format;
 pub use lines::{Line, Lines, take_lines};
 pub use lk_replay::parts::Status;
 pub use ordering::{BadLog, OrderJob, Search, Sought, order_logs, search_logs};
-pub use scheduling::{Unscheduled, write_schedule};
+pub use scheduling::write_schedule;
 pub use summary::{Count, Summary, has_counter};

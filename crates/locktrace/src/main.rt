@@ -12,8 +12,7 @@ use command_line::{Color, Job, ParseFault, parse_words};
 use folders::files_named;
 use lk_search_files::{count_space, cover_traces, find_run, write_tour};
 use lk_trace_files::{
-    Asked, Ending, Failure, Status, Unscheduled, check_files, explain_input, order_logs, worst,
-    write_schedule,
+    Asked, Ending, Failure, Status, check_files, explain_input, order_logs, worst, write_schedule,
 };
 use searches::SearchJob;
 use std::alloc::{AllocError, Global};
@@ -47,19 +46,23 @@ fn write_file<R: Runtime, O: Write>(
     file: &str,
     output: &mut O,
 ) -> Result<Ending, Failure> {
-    let scheduled = if file == "-" {
+    let (number, stopped) = if file == "-" {
         write_schedule(alloc, rt.reader(), output)?
     } else {
         match fs::open(rt, file) {
             Ok(input) => write_schedule(alloc, input, output)?,
-            Err(error) => Err(Unscheduled::Unread(error)),
+            Err(error) => (0, Err(error)),
         }
     };
-    match scheduled {
-        Ok(()) => Ok(Ending::Accepted),
-        Err(unscheduled) => {
-            let _ = eprintln!(rt; "{file}{unscheduled}");
-            Ok(unscheduled.ending())
+    match stopped {
+        Ok(None) => Ok(Ending::Accepted),
+        Ok(Some(fault)) => {
+            let _ = eprintln!(rt; "{file}:{number}: {fault}");
+            Ok(Ending::Faulty)
+        }
+        Err(error) => {
+            let _ = eprintln!(rt; "{file}: {error}");
+            Ok(Ending::Unread)
         }
     }
 }
