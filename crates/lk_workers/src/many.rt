@@ -14,7 +14,7 @@ ghost use Rattle.lk_workers.specs.invariants.Collected.{bytes_of, numbered, MayW
 ghost use Rattle.lk_workers.specs.invariants.Collected.{IsEachOnce, placed};
 
 use crate::draws::{DrawSeat, Draws};
-use crate::gate::{Gate, Opened};
+use crate::gate::Gate;
 use lk_replay::Report;
 use std::alloc::{AllocError, Global};
 use std::thread::{Threads, join};
@@ -46,12 +46,14 @@ impl<'a, G: Gate> Batch<'a, G> {
         }
     }
 
-    // The report of one text, between the gate's two calls.
+    // The report of one text, between the gate's two calls. No `?` may come between them.
     fn replay_one(&self, text: &[u8], number: u32) -> Result<Report, AllocError>
         ensures { IfOk result (λ report. report.text.items ≡ report_text text.now) }
     {
-        let opened = Opened::begin(self.gate, number);
-        opened.end(Report::of(self.alloc, text))
+        self.gate.begin(number);
+        let report = Report::of(self.alloc, text);
+        self.gate.end(number);
+        report
     }
 
     // One worker: the reports of the texts whose numbers its seat draws.
