@@ -11,6 +11,7 @@ use Rattle.lk_workers.specs.declared.draws.Hand.{Hand}
 use Rattle.lk_workers.specs.Counting.{indicator, occurrences, once_below, IsEachBelow}
 use Rattle.lk_workers.specs.Drawing.{hand}
 use Rattle.lk_workers.specs.invariants.DrawRule.{Drawn, DrawFinds, CountFinds}
+use Rattle.lk_workers.proofs.Sums.{sum_over-cut, sum_over-two}
 use Rattle.lk_workers.proofs.Sums.{sum_over-set, sum_over-append, at_most_sum, sum_over-both}
 use Rattle.lk_workers.proofs.Sums.{alone_at, set_same}
 use Rattle.lk_workers.proofs.Below.{below_suc, below_of, all_below, each_below}
@@ -74,25 +75,15 @@ pub splits : (all id : ℕ) (v : Hand) (a : ℕ) → a ≤ v.left
 splits all id v a low s r at =
     let l : Hand = hand v.drawn (v.left - a) v.draws in
     let n : Hand = hand [] a v.draws in
-    let vs : List Hand = set s.views id l in
     record {
       one_word = r.one_word;
-      once = λ x. (
-          let f : Hand → ℕ = λ u. occurrences x u.drawn in
-          let c = sum_over-set f s.views id v l at in
-          let d = sum_over-append f vs (n ∷ []) in
-          let e = r.once x in
-          omega arith);
-      many = (
-          let f : Hand → ℕ = λ u. length u.drawn in
-          let c = sum_over-set f s.views id v l at in
-          let d = sum_over-append f vs (n ∷ []) in
-          let e = r.many in
-          omega arith);
+      once = λ x.
+          sum_over-cut (λ (u : Hand). occurrences x u.drawn) s.views id v l n at (omega arith)
+          ∙ r.once x;
+      many =
+          sum_over-cut (λ (u : Hand). length u.drawn) s.views id v l n at (omega arith) ∙ r.many;
       all = (
-          let f : Hand → ℕ = λ u. u.left in
-          let c = sum_over-set f s.views id v l at in
-          let d = sum_over-append f vs (n ∷ []) in
+          let c = sum_over-cut (λ (u : Hand). u.left) s.views id v l n at (omega arith) in
           let e = r.all in
           omega arith);
       few = r.few;
@@ -104,27 +95,19 @@ pub joins : (all id : ℕ) (v : Hand) (other : ℕ) (w : Hand)
 joins all id v other w s r at two there =
     let b : Hand = hand (v.drawn ++ w.drawn) (v.left + w.left) v.draws in
     let o : Hand = hand [] 0 0 in
-    let vs : List Hand = set s.views id b in
     record {
       one_word = r.one_word;
       once = λ x. (
           let f : Hand → ℕ = λ u. occurrences x u.drawn in
-          let c = sum_over-set f s.views id v b at in
-          let d = sum_over-set f vs other w o there in
           let g = sum_over-append (indicator x) v.drawn w.drawn in
-          let e = r.once x in
-          omega arith);
+          sum_over-two f s.views id other v w b o at there (omega arith) ∙ r.once x);
       many = (
           let f : Hand → ℕ = λ u. length u.drawn in
-          let c = sum_over-set f s.views id v b at in
-          let d = sum_over-set f vs other w o there in
           let g = length-append v.drawn w.drawn in
-          let e = r.many in
-          omega arith);
+          sum_over-two f s.views id other v w b o at there (omega arith) ∙ r.many);
       all = (
           let f : Hand → ℕ = λ u. u.left in
-          let c = sum_over-set f s.views id v b at in
-          let d = sum_over-set f vs other w o there in
+          let c = sum_over-two f s.views id other v w b o at there (omega arith) in
           let e = r.all in
           omega arith);
       few = r.few;

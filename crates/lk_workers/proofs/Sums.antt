@@ -20,6 +20,23 @@ module _ {A : Type 0} where
     sum_over-append [] m = omega arith
     sum_over-append (x ∷ xs) m = let r = sum_over-append xs m in omega arith
 
+    -- one element becomes two, the second of them at the end
+    pub sum_over-cut : (l : List A) (i : ℕ) (v a b : A) → get_elem? l i ≡ some v → f a + f b ≡ f v
+        → sum_over f (set l i a ++ b ∷ []) ≡ sum_over f l
+    sum_over-cut l i v a b at same =
+        let c = sum_over-set l i v a at in
+        let d = sum_over-append (set l i a) (b ∷ []) in
+        omega arith
+
+    -- two elements become two others
+    pub sum_over-two : (l : List A) (i j : ℕ) (v w a b : A) → get_elem? l i ≡ some v
+        → get_elem? (set l i a) j ≡ some w → f a + f b ≡ f v + f w
+        → sum_over f (set (set l i a) j b) ≡ sum_over f l
+    sum_over-two l i j v w a b at there same =
+        let c = sum_over-set l i v a at in
+        let d = sum_over-set (set l i a) j w b there in
+        omega arith
+
     pub at_most_sum : (l : List A) (i : ℕ) (v : A) → get_elem? l i ≡ some v → f v ≤ sum_over f l
     at_most_sum [] i v e = absurd (some-ne-none v (sym e))
     at_most_sum (x ∷ xs) zero v e = let is : f x ≡ f v = ap f (some-injective x v e) in omega arith
