@@ -145,6 +145,43 @@ module _ (takes slots id : ℕ) (me : Sees) (r : SeatState) (is : me.0 ≡ r ∷
             (omega arith, omega arith, omega arith),
       )
 
+  -- a load of `now_serving` that leaves the seat its ticket and what it took and has left
+  load : (live : LiveStep) (tells : SeatState → ℕ → Type 0)
+      → ((x m : ℕ) → ticket_indicator x (live.next r m) ≡ ticket_indicator x r)
+      → ((m : ℕ) → (live.next r m).taken ≡ r.taken) → ((m : ℕ) → (live.next r m).left ≡ r.left)
+      → ((m : ℕ) → Fits m r → Fits m (live.next r m) × tells r m)
+      → Allows (Running takes) slots id me 1 (λ n. n)
+      (OfOne live tells (step slots 1 0 0 none) me)
+  load live tells has taken left fits s h _ at0 _ =
+      let at : get_elem? s.views id ≡ some (r ∷ []) = at0 ∙ ap some is in
+      let n : ℕ = next_of s in
+      let m : ℕ = serving_of s in
+      let q : SeatState = noted (operation 1 0) (live.next r m) in
+      let vs : List (List SeatState) = s.views in
+      let new = fits m (h.seats id (r ∷ []) at).0.0 in (
+        (q ∷ []),
+        keeps,
+        tt,
+        built takes (stepped s 1 m id me.1 (q ∷ []) keeps) n m
+            (length-set s.words 1 _ ∙ h.two_words) (w10 s.words _)
+            (w11 s.words _ h.two_words) h.served
+            (λ x. let c = sum_over-set (sum_over (ticket_indicator x)) vs id (r ∷ []) (q ∷ []) at in
+            let a = has x m in
+            let t = h.tickets x in
+            omega arith)
+            (views_set (ViewFits m) vs id (q ∷ []) ((new.0, tt), omega arith)
+            (λ j u _ e. h.seats j u e))
+            (let c = sum_over-set (sum_over (λ u. u.taken)) vs id (r ∷ []) (q ∷ []) at in
+            let a = taken m in
+            let t = h.taken in
+            omega arith)
+            (let c = sum_over-set (sum_over (λ u. u.left)) vs id (r ∷ []) (q ∷ []) at in
+            let a = left m in
+            let t = h.left in
+            omega arith),
+        told live tells (step slots 1 0 0 none) me m r is new.1,
+      )
+
   look_indicator : (x t : ℕ) (b : Bool)
       → ticket_indicator_in x (if b then Inside else Waiting) t ≡ indicator x t
   look_indicator x t true = refl
@@ -158,71 +195,22 @@ module _ (takes slots id : ℕ) (me : Sees) (r : SeatState) (is : me.0 ≡ r ∷
   pub look : r.phase ≡ Waiting
       → Allows (Running takes) slots id me 1 (λ n. n)
       (OfOne look_step LookFinds (step slots 1 0 0 none) me)
-  look waiting s h _ at0 _ = let at : get_elem? s.views id ≡ some (r ∷ []) = at0 ∙ ap some is in
-      let n : ℕ = next_of s in
-      let m : ℕ = serving_of s in
-      let q : SeatState = moved look_step r m in
-      let vs : List (List SeatState) = s.views in
-      let old = h.seats id (r ∷ []) at in
-      let served = h.served in
-      let some_taken : 1 ≤ r.taken =
-      subst (λ p. FitsPhase m p r.ticket r.taken) waiting old.0.0.0 in (
-        (q ∷ []),
-        keeps,
-        tt,
-        built takes (stepped s 1 m id me.1 (q ∷ []) keeps) n m
-            (length-set s.words 1 _ ∙ h.two_words) (w10 s.words _)
-            (w11 s.words _ h.two_words) served
-            (λ x. let c = sum_over-set (sum_over (ticket_indicator x)) vs id (r ∷ []) (q ∷ []) at in
-            let a : ticket_indicator x r ≡ indicator x r.ticket =
-            ap (λ p. ticket_indicator_in x p r.ticket) waiting in
-            let b = look_indicator x r.ticket (m == r.ticket) in
-            let t = h.tickets x in
-            omega arith)
-            (views_set (ViewFits m) vs id (q ∷ []) (
-              ((look_fits m r.ticket r.taken (m == r.ticket) refl some_taken, omega arith), tt),
-              omega arith,
-            ) (λ j u _ e. h.seats j u e))
-            (let c = sum_over-set (sum_over (λ u. u.taken)) vs id (r ∷ []) (q ∷ []) at in
-            let t = h.taken in
-            omega arith)
-            (let c = sum_over-set (sum_over (λ u. u.left)) vs id (r ∷ []) (q ∷ []) at in
-            let t = h.left in
-            omega arith),
-        told look_step LookFinds (step slots 1 0 0 none) me m r is old.0.0.1,
-      )
+  look waiting = load look_step LookFinds
+      (λ x m. look_indicator x r.ticket (m == r.ticket)
+      ∙ sym (ap (λ (p : LivePhase). ticket_indicator_in x p r.ticket) waiting))
+      (λ m. refl) (λ m. refl)
+      (λ m old. let some_taken : 1 ≤ r.taken =
+      subst (λ p. FitsPhase m p r.ticket r.taken) waiting old.0 in
+      ((look_fits m r.ticket r.taken (m == r.ticket) refl some_taken, omega arith), old.1))
 
   pub read : r.phase ≡ Inside
       → Allows (Running takes) slots id me 1 (λ n. n)
       (OfOne read_step ReadFinds (step slots 1 0 0 none) me)
-  read inside s h _ at0 _ = let at : get_elem? s.views id ≡ some (r ∷ []) = at0 ∙ ap some is in
-      let n : ℕ = next_of s in
-      let m : ℕ = serving_of s in
-      let q : SeatState = moved read_step r m in
-      let vs : List (List SeatState) = s.views in
-      let old = h.seats id (r ∷ []) at in
-      let fits = subst (λ p. FitsPhase m p r.ticket r.taken) inside old.0.0.0 in (
-        (q ∷ []),
-        keeps,
-        tt,
-        built takes (stepped s 1 m id me.1 (q ∷ []) keeps) n m
-            (length-set s.words 1 _ ∙ h.two_words) (w10 s.words _)
-            (w11 s.words _ h.two_words) h.served
-            (λ x. let c = sum_over-set (sum_over (ticket_indicator x)) vs id (r ∷ []) (q ∷ []) at in
-            let a : ticket_indicator x r ≡ indicator x r.ticket =
-            ap (λ p. ticket_indicator_in x p r.ticket) inside in
-            let t = h.tickets x in
-            omega arith)
-            (views_set (ViewFits m) vs id (q ∷ []) (((fits, omega arith), tt), omega arith)
-            (λ j u _ e. h.seats j u e))
-            (let c = sum_over-set (sum_over (λ u. u.taken)) vs id (r ∷ []) (q ∷ []) at in
-            let t = h.taken in
-            omega arith)
-            (let c = sum_over-set (sum_over (λ u. u.left)) vs id (r ∷ []) (q ∷ []) at in
-            let t = h.left in
-            omega arith),
-        told read_step ReadFinds (step slots 1 0 0 none) me m r is (sym fits.0),
-      )
+  read inside = load read_step ReadFinds
+      (λ x m. sym (ap (λ (p : LivePhase). ticket_indicator_in x p r.ticket) inside))
+      (λ m. refl) (λ m. refl)
+      (λ m old. let fits = subst (λ p. FitsPhase m p r.ticket r.taken) inside old.0 in
+      ((fits, omega arith), sym fits.0))
 
   -- if no seat has the ticket that was served, each fits the next
   up_phase : (m : ℕ) (p : LivePhase) (t taken : ℕ) → FitsPhase m p t taken
