@@ -58,12 +58,12 @@ pub enum Color {
 /// The most workers of a check.
 pub const MOST_WORKERS: u8 = 64;
 
-/// The option of a report's form: these are the forms.
-pub fn format_arg<'a>(alloc: Global, forms: &'a str) -> Arg<'a> {
-    Arg::new(alloc, "format")
-        .long("format")
-        .value_name("FORMAT")
-        .help(forms)
+/// An option with a value.
+pub fn option_arg<'a>(alloc: Global, name: &'a str, value: &'a str, help: &'a str) -> Arg<'a> {
+    Arg::new(alloc, name)
+        .long(name)
+        .value_name(value)
+        .help(help)
         .action(ArgAction::Set)
 }
 
@@ -76,11 +76,8 @@ fn quiet_arg<'a>(alloc: Global) -> Arg<'a> {
 }
 
 fn check_command<'a>(alloc: Global) -> Result<Command<'a>, AllocError> {
-    let color = Arg::new(alloc, "color")
-        .long("color")
-        .value_name("WHEN")
-        .help("auto, always or never: auto is on a terminal alone")
-        .action(ArgAction::Set);
+    let help = "auto, always or never: auto is on a terminal alone";
+    let color = option_arg(alloc, "color", "WHEN", help);
     let summary = Arg::new(alloc, "summary")
         .long("summary")
         .help(
@@ -88,12 +85,8 @@ fn check_command<'a>(alloc: Global) -> Result<Command<'a>, AllocError> {
              longest queue, and wrap-arounds of the counter",
         )
         .action(ArgAction::SetTrue);
-    let workers = Arg::new(alloc, "jobs")
+    let workers = option_arg(alloc, "jobs", "N", "How many threads share the files")
         .short('j')
-        .long("jobs")
-        .value_name("N")
-        .help("How many threads share the files")
-        .action(ArgAction::Set)
         .value_parser(value_parser!(u8).range(1..=MOST_WORKERS as i64));
     let files = Arg::new(alloc, "files")
         .value_name("FILE")
@@ -102,7 +95,7 @@ fn check_command<'a>(alloc: Global) -> Result<Command<'a>, AllocError> {
         .action(ArgAction::Append);
     Command::new(alloc, "check")
         .about("Checks each move, and each value that is given, with the lock's machine")
-        .arg(format_arg(alloc, "text, tap or json"))?
+        .arg(option_arg(alloc, "format", "FORMAT", "text, tap or json"))?
         .arg(summary)?
         .arg(quiet_arg(alloc))?
         .arg(color)?
@@ -118,16 +111,10 @@ fn file_arg<'a>(alloc: Global) -> Arg<'a> {
 }
 
 fn explain_command<'a>(alloc: Global) -> Result<Command<'a>, AllocError> {
-    let moves = Arg::new(alloc, "moves")
-        .long("moves")
-        .value_name("FIRST..LAST")
-        .help("Only the moves in these lines, as 5..10, 5.. or 5")
-        .action(ArgAction::Set);
-    let names = Arg::new(alloc, "names")
-        .long("names")
-        .value_name("NAME,NAME")
-        .help("What the threads are called, from thread 0 on")
-        .action(ArgAction::Set);
+    let help = "Only the moves in these lines, as 5..10, 5.. or 5";
+    let moves = option_arg(alloc, "moves", "FIRST..LAST", help);
+    let help = "What the threads are called, from thread 0 on";
+    let names = option_arg(alloc, "names", "NAME,NAME", help);
     Command::new(alloc, "explain")
         .about("Says of each move what it found and left, and why the first wrong one is wrong")
         .arg(moves)?
@@ -154,7 +141,7 @@ fn order_command<'a>(alloc: Global) -> Result<Command<'a>, AllocError> {
              it found",
         )
         .arg(folder)?
-        .arg(format_arg(alloc, "text, tap or json"))?
+        .arg(option_arg(alloc, "format", "FORMAT", "text, tap or json"))?
         .arg(quiet_arg(alloc))?
         .arg(logs)
 }

@@ -1,6 +1,6 @@
 //! The words of the commands that search a lock's space, and the jobs that they ask for.
 
-use crate::command_line::{ParseFault, copied, format_arg, names_in, usage};
+use crate::command_line::{ParseFault, copied, names_in, option_arg, usage};
 use clap::{Arg, ArgAction, ArgMatches, Command, value_parser};
 use lk_search_files::{Asked, CoverJob, Format, Source, SpaceFormat, is_kind};
 use std::alloc::{AllocError, Global};
@@ -32,22 +32,13 @@ pub enum SearchJob {
 }
 
 fn with_bounds<'a>(alloc: Global, command: Command<'a>) -> Result<Command<'a>, AllocError> {
-    let rounds = Arg::new(alloc, "rounds")
-        .long("rounds")
-        .value_name("R")
-        .help("How many times each thread takes the lock at most; 1 if it is not given")
-        .action(ArgAction::Set)
+    let help = "How many times each thread takes the lock at most; 1 if it is not given";
+    let rounds = option_arg(alloc, "rounds", "R", help)
         .value_parser(value_parser!(u8).range(1..=255));
-    let bits = Arg::new(alloc, "bits")
-        .long("bits")
-        .value_name("B")
-        .help("How many bits a word has; 64 if it is not given")
-        .action(ArgAction::Set);
-    let limit = Arg::new(alloc, "limit")
-        .long("limit")
-        .value_name("N")
-        .help("How many states are searched at most; 1,000,000 if it is not given")
-        .action(ArgAction::Set)
+    let help = "How many bits a word has; 64 if it is not given";
+    let bits = option_arg(alloc, "bits", "B", help);
+    let help = "How many states are searched at most; 1,000,000 if it is not given";
+    let limit = option_arg(alloc, "limit", "N", help)
         .value_parser(value_parser!(u64).range(1..=MOST_STATES));
     command.arg(rounds)?.arg(bits)?.arg(limit)
 }
@@ -85,7 +76,7 @@ pub fn space_command<'a>(alloc: Global) -> Result<Command<'a>, AllocError> {
     let command = Command::new(alloc, "space").about(
         "Counts the states and the transitions of all runs of a lock, or draws them",
     );
-    let format = format_arg(alloc, "text, json or dot");
+    let format = option_arg(alloc, "format", "FORMAT", "text, json or dot");
     with_lock(alloc, with_bounds(alloc, command)?.arg(format)?)
 }
 
@@ -105,11 +96,8 @@ pub fn tour_command<'a>(alloc: Global) -> Result<Command<'a>, AllocError> {
 
 /// The command `cover`.
 pub fn cover_command<'a>(alloc: Global) -> Result<Command<'a>, AllocError> {
-    let required = Arg::new(alloc, "require")
-        .long("require")
-        .value_name("NAME,NAME")
-        .help("Fails if one of these kinds is missing; all is each one of the traces' locks")
-        .action(ArgAction::Set);
+    let help = "Fails if one of these kinds is missing; all is each one of the traces' locks";
+    let required = option_arg(alloc, "require", "NAME,NAME", help);
     let files = Arg::new(alloc, "files")
         .value_name("TRACE")
         .help("Traces or schedules; - is standard input, also if none is named")
@@ -118,7 +106,7 @@ pub fn cover_command<'a>(alloc: Global) -> Result<Command<'a>, AllocError> {
     Command::new(alloc, "cover")
         .about("Counts which kinds of transition traces took, and how to reach the others")
         .arg(required)?
-        .arg(format_arg(alloc, "text or json"))?
+        .arg(option_arg(alloc, "format", "FORMAT", "text or json"))?
         .arg(files)
 }
 
