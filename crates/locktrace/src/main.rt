@@ -132,19 +132,13 @@ fn search<R: Runtime, O: Write>(
     Ok(status as u8)
 }
 
-// Which outputs are terminals.
-#[derive(Clone, Copy)]
-struct Terminals {
-    output: bool,
-    errors: bool,
-}
-
-// Does a job, and gives the status that the program ends with.
-fn perform<R: Runtime + Threads + Sync + Clone + Drop, O: Write>(
+// Does a job, and gives the status that the program ends with. `told` if standard error is a
+// terminal.
+fn perform<R: Runtime + Threads + Sync + Clone + Drop, O: Write + IsTerminal>(
     rt: &R,
     alloc: Global,
     job: Job,
-    terminals: Terminals,
+    told: bool,
     output: &mut O,
 ) -> Result<u8, Failure>
 where
@@ -153,12 +147,12 @@ where
     match job {
         Job::Check { mut job, color } => {
             job.colored = match color {
-                Color::Auto => terminals.output,
+                Color::Auto => output.is_terminal(),
                 Color::Always => true,
                 Color::Never => false,
             };
             job.files = files_named(rt, alloc, &job.files)?;
-            let told = terminals.errors && !job.quiet;
+            let told = told && !job.quiet;
             Ok(worst(&check_files(rt, alloc, &job, told, output)?))
         }
         Job::Schedule { file } => Ok(write_file(rt, alloc, &file, output)?.status()),
@@ -172,7 +166,7 @@ where
         Job::Search(job) => search(rt, alloc, &job, output),
         Job::Order(job) => {
             let mut errors = String::new(alloc);
-            let ended = order_logs(rt, alloc, &job, terminals.errors, output, &mut errors);
+            let ended = order_logs(rt, alloc, &job, told, output, &mut errors);
             let _ = eprint!(rt; "{errors}");
             Ok(ended?.ending().status())
         }
@@ -182,11 +176,8 @@ where
 fn main(rt: HostRuntime) -> ExitCode {
     let ended = match job_given(&rt) {
         Ok(job) => {
-            let terminals = Terminals {
-                output: rt.stdout().is_terminal(),
-                errors: rt.stderr().is_terminal(),
-            };
-            perform(&rt, rt.alloc(), job, terminals, &mut rt.stdout())
+            let told = rt.stderr().is_terminal();
+            perform(&rt, rt.alloc(), job, told, &mut rt.stdout())
         }
         Err(ParseFault::Told(text)) => match rt.stdout().write_all(text.as_bytes()) {
             Ok(()) => Ok(Status::Accepted as u8),
