@@ -101,21 +101,6 @@ fn take_line(
     }
 }
 
-// The end of a trace after its last line.
-fn end_of(
-    trace: &TraceReader,
-    name: &str,
-    number: u64,
-    errors: &mut String,
-) -> Result<Status, AllocError> {
-    if trace.checker().is_some() {
-        return Ok(Status::Accepted);
-    }
-    let fault = TextFault::NoHeader;
-    writeln!(errors, "{name}:{number}: {fault}")?;
-    Ok(Status::Faulty)
-}
-
 // Reads a trace up to its end, or up to a line that ends it.
 fn take_trace<R: Read + Drop>(
     alloc: Global,
@@ -131,7 +116,12 @@ fn take_trace<R: Read + Drop>(
     })?;
     note_end(coverages, &summary, &trace);
     match ended {
-        Ok(None) => end_of(&trace, name, number, errors),
+        Ok(None) if trace.checker().is_some() => Ok(Status::Accepted),
+        Ok(None) => {
+            let fault = TextFault::NoHeader;
+            writeln!(errors, "{name}:{number}: {fault}")?;
+            Ok(Status::Faulty)
+        }
         Ok(Some(status)) => Ok(status),
         Err(error) => put_unread(errors, name, error),
     }
