@@ -1,6 +1,6 @@
 -- What is expected in a line, word by word. It is a move exactly if nothing else is expected.
 use Rattle.std.proofs.Common.{◌≡◌, ◌↔◌, ℕ, ◌+◌, List, [], ◌∷◌, Option, Some, None, cond, length}
-use Rattle.std.proofs.Common.{option_map, is_some, IsNone, IsSome, Bool, true, false, ap, refl, ◌∙◌}
+use Rattle.std.proofs.Common.{is_some, IsNone, IsSome, Bool, true, false, ap, refl, ◌∙◌, subst, sym}
 use Rattle.lk_locks.specs.declared.kinds.Move.{Move}
 use Rattle.lk_replay.specs.Lines.{words_of}
 use Rattle.std.specs.Option.{option_map_or, option_zip}
@@ -10,7 +10,6 @@ use Rattle.lk_replay.specs.Unreadable.{unreadable_from}
 use Rattle.lk_replay.specs.Vocabulary.{move_named, number_of}
 use Rattle.lk_replay.specs.declared.unreadable.Expected.{Expected}
 use Rattle.lk_replay.specs.declared.unreadable.Expected.TheVariants.{Thread}
-use Rattle.lk_replay.specs.declared.unreadable.Unreadable.{Unreadable}
 
 -- ---- one word
 
@@ -34,60 +33,53 @@ goes next ends column due to line word words cut some =
 
 -- ---- of a header or a move
 
-abbrev placed : Option (ℕ × Expected) → Option Unreadable
-placed = option_map (λ stop. record { column = stop.0; expected = stop.1 })
-
-at_end : (ends : Bool) (stop : ℕ × Expected)
-    → placed (cond ends None (Some stop)) ≡ cond ends None (placed (Some stop))
-at_end true stop = refl
-at_end false stop = refl
+-- the same place, word by word
+abbrev pub place_from : ℕ → Expected → List (List ℕ) → Option (ℕ × Expected)
+place_from column expected [] = cond (may_end expected) None (Some (column, expected))
+place_from column expected (word ∷ words) =
+    cond (may_be expected word) (place_from (column + length word + 1) (next_of expected) words)
+    (Some (column, expected))
 
 at_word : (b : Bool) (next : Expected) (from : Expected → Option (ℕ × Expected))
     (stop : ℕ × Expected)
-    → placed (option_map_or from (cond b (Some next) None) (Some stop))
-    ≡ cond b (placed (from next)) (placed (Some stop))
+    → option_map_or from (cond b (Some next) None) (Some stop) ≡ cond b (from next) (Some stop)
 at_word true next from stop = refl
 at_word false next from stop = refl
 
-same_place : (column : ℕ) (expected : Expected) (words : List (List ℕ))
-    → placed (stop_from after_word may_end column expected words)
-    ≡ unreadable_from column expected words
+pub place_is : (column : ℕ) (expected : Expected) (words : List (List ℕ))
+    → unreadable_from column expected words ≡ place_from column expected words
 unfolding after_word
-same_place column expected [] = at_end (may_end expected) (column, expected)
-same_place column expected (word ∷ words) =
+place_is column expected [] = refl
+place_is column expected (word ∷ words) =
     at_word (may_be expected word) (next_of expected) _ (column, expected)
-    ∙ ap (λ rest. cond (may_be expected word) rest (placed (Some (column, expected))))
-    (same_place (column + length word + 1) (next_of expected) words)
-
-pub place_is : (line : List ℕ) (first : Expected) (stop : Option (ℕ × Expected))
-    → stop ≡ stop_from after_word may_end 1 first (words_of line)
-    → placed stop ≡ unreadable_from 1 first (words_of line)
-place_is line first stop is = ap placed is ∙ same_place 1 first (words_of line)
+    ∙ ap (λ (rest : Option (ℕ × Expected)). cond (may_be expected word) rest
+    (Some (column, expected)))
+    (place_is (column + length word + 1) (next_of expected) words)
 
 -- ---- the words of a move
 
 abbrev no_move : Option (ℕ × Move)
 no_move = None
 
-one_word : (n : Option ℕ) (a b : Unreadable)
+one_word : (n : Option ℕ) (a b : ℕ × Expected)
     → IsNone (cond (is_some n) (Some b) (Some a)) ↔ IsSome no_move
 one_word (Some n) a b = (λ h. absurd (cc), λ h. absurd (cc))
 one_word None a b = (λ h. absurd (cc), λ h. absurd (cc))
 
-two_words : (n : Option ℕ) (m : Option Move) (a b : Unreadable)
+two_words : (n : Option ℕ) (m : Option Move) (a b : ℕ × Expected)
     → IsNone (cond (is_some n) (cond (is_some m) None (Some b)) (Some a)) ↔ IsSome (option_zip n m)
 two_words (Some n) (Some m) a b = (λ h. refl, λ h. refl)
 two_words (Some n) None a b = (λ h. absurd (cc), λ h. absurd (cc))
 two_words None m a b = (λ h. absurd (cc), λ h. absurd (cc))
 
-more_words : (n : Option ℕ) (m : Option Move) (a b d : Unreadable)
+more_words : (n : Option ℕ) (m : Option Move) (a b d : ℕ × Expected)
     → IsNone (cond (is_some n) (cond (is_some m) (Some d) (Some b)) (Some a)) ↔ IsSome no_move
 more_words (Some n) (Some m) a b d = (λ h. absurd (cc), λ h. absurd (cc))
 more_words (Some n) None a b d = (λ h. absurd (cc), λ h. absurd (cc))
 more_words None m a b d = (λ h. absurd (cc), λ h. absurd (cc))
 
 words_are : (words : List (List ℕ))
-    → IsNone (unreadable_from 1 Thread words) ↔ IsSome (move_of_words words)
+    → IsNone (place_from 1 Thread words) ↔ IsSome (move_of_words words)
 words_are [] = (λ h. absurd (cc), λ h. absurd (cc))
 words_are (thread ∷ []) = one_word (number_of 0 255 thread) _ _
 words_are (thread ∷ word ∷ []) = two_words (number_of 0 255 thread) (move_named word) _ _
@@ -97,4 +89,6 @@ words_are (thread ∷ word ∷ more ∷ words) =
 pub moves_are_readable : (line : List ℕ)
     → IsNone (unreadable_from 1 Thread (words_of line)) ↔ IsSome (move_of line)
 unfolding move_of
-moves_are_readable line = words_are (words_of line)
+moves_are_readable line =
+    subst (λ (o : Option (ℕ × Expected)). IsNone o ↔ IsSome (move_of line))
+    (sym (place_is 1 Thread (words_of line))) (words_are (words_of line))

@@ -37,15 +37,6 @@ pub enum Expected {
     End,
 }
 
-/// The first place of a line at which something else is expected.
-#[derive(Clone, Copy, PartialEq, Eq, Debug, Error)]
-#[error("column {column}: expected {expected}")]
-pub struct Unreadable {
-    /// Where the word begins, in bytes from 1, or the place at which one is missing.
-    pub column: usize,
-    pub expected: Expected,
-}
-
 /// What may come next in a line, word by word.
 pub trait Grammar: Copy {
     /// What may come after a word.
@@ -89,8 +80,8 @@ impl Grammar for Expected {
     }
 }
 
-/// Goes along a line, from what its first word may be: the column, from 1, at which something else
-/// is there, and what could be.
+/// Goes along a line, from what its first word may be: the column, in bytes from 1, at which a word
+/// begins that may not be there or one is missing, and what could be there.
 pub fn stop_of<G: Grammar>(line: &[u8], first: G) -> Option<(usize, G)>
     ensures { result ≡ stop_from G.next G.ends 1 first (words_of line.now) }
 {
@@ -114,27 +105,19 @@ pub fn stop_of<G: Grammar>(line: &[u8], first: G) -> Option<(usize, G)>
     Some((column + rest.len() + 1, next))
 }
 
-// The same of a line of a schedule.
-fn unreadable_from(line: &[u8], first: Expected) -> Option<Unreadable>
-    ensures { result ≡ unreadable_from 1 first (words_of line.now) }
-{
-    let (column, expected) = stop_of(line, first)?;
-    Some(Unreadable { column, expected })
-}
-
 /// Where a line stops being a header. Of a header whose words are too narrow for its threads there
 /// is no such place.
-pub fn unreadable_header(line: &[u8]) -> Option<Unreadable>
+pub fn unreadable_header(line: &[u8]) -> Option<(usize, Expected)>
     ensures place { result ≡ unreadable_from 1 Lock (words_of line.now) }
     ensures none { (number : ℕ) → IsNone result ↔ IsHeader (header_of number line.now) }
 {
-    unreadable_from(line, Expected::Lock)
+    stop_of(line, Expected::Lock)
 }
 
 /// Where a line stops being a move.
-pub fn unreadable_move(line: &[u8]) -> Option<Unreadable>
+pub fn unreadable_move(line: &[u8]) -> Option<(usize, Expected)>
     ensures place { result ≡ unreadable_from 1 Thread (words_of line.now) }
     ensures none { IsNone result ↔ IsSome (move_of line.now) }
 {
-    unreadable_from(line, Expected::Thread)
+    stop_of(line, Expected::Thread)
 }
