@@ -2,8 +2,9 @@
 use Rattle.std.proofs.Common.{◌≡◌, ℕ, ◌+◌, ◌-◌, ◌%◌, ◌^◌, ◌<◌, ◌≤◌, List, [], ◌∷◌, ◌++◌, length}
 use Rattle.std.proofs.Common.{get_or, All, set, sym, refl, ap, ◌∙◌, subst, arith, length-set}
 use Rattle.std.proofs.Common.{length-append, get_or-set_same}
-use mathlib.Core.Option.{none, some, some-injective, some-ne-none}
+use mathlib.Core.Option.{none, some}
 use lib.ListN.{get_elem?}
+use Rattle.std.proofs.lemmas.List.{set-get_or}
 use Rattle.atomic_table.specs.Table.{State, Me, step, keeps, Allows, Splits, Joins, Final, Seen}
 use Rattle.atomic_table.specs.Table.{opening}
 use Rattle.atomic_table.proofs.Lists.{set_again}
@@ -13,7 +14,7 @@ use Rattle.lk_workers.specs.Drawing.{hand}
 use Rattle.lk_workers.specs.invariants.DrawRule.{Drawn, DrawFinds, CountFinds}
 use Rattle.lk_workers.proofs.Sums.{sum_over-cut, sum_over-two}
 use Rattle.lk_workers.proofs.Sums.{sum_over-set, sum_over-append, at_most_sum, sum_over-both}
-use Rattle.lk_workers.proofs.Sums.{alone_at, set_same}
+use Rattle.lk_workers.proofs.Sums.{alone_at, word_at}
 use Rattle.lk_workers.proofs.Below.{below_suc, below_of, all_below, each_below}
 
 pub opens : (draws : ℕ) → draws ≤ 2 ^ 40 → Drawn draws (opening (0 ∷ []) [] (hand [] draws draws))
@@ -132,16 +133,12 @@ whole all id v s r at is = each_below (get_or s.words 0 0) v.drawn
     (λ j u _ e. no_occurrences x u.drawn (omega arith)) id v at (omega arith) in
     sym only ∙ r.once x)
 
-pub word_at : (ws : List ℕ) (n : ℕ) → get_elem? ws 0 ≡ some n → get_or ws 0 0 ≡ n
-word_at [] n e = absurd (some-ne-none n (sym e))
-word_at (w ∷ ws) n e = some-injective w n e
-
 pub closes : (all id : ℕ) (v : Hand) (words : List ℕ) (slots : List (Unit {0})) (n left : ℕ)
     → Final (Seen (Drawn all) id v) words slots → get_elem? words 0 ≡ some n → v.left ≡ left
     → length v.drawn + left ≡ all → IsEachBelow n v.drawn
 closes all id v words slots n left h word is full =
     subst (λ m. IsEachBelow m v.drawn)
-    (ap (λ (ws : List ℕ). get_or ws 0 0) h.2 ∙ word_at words n word)
+    (ap (λ (ws : List ℕ). get_or ws 0 0) h.2 ∙ word_at words 0 n word)
     (whole all id v h.0 h.1.0 h.1.1 (omega arith))
 
 pub counts : (all slots id : ℕ) (me : Me (Unit {0}) Hand)
@@ -155,7 +152,7 @@ counts all slots id me s r _ at _ =
       keeps,
       tt,
       subst (Drawn all) (λ k. record {
-        words = sym (set_same s.words 0) k;
+        words = sym (set-get_or s.words 0 0) k;
         homes = s.homes;
         views = sym (set_again s.views id v at) k;
       }) r,

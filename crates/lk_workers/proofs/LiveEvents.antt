@@ -4,6 +4,7 @@ use Rattle.std.proofs.Common.{[], ◌∷◌, length, get_or, if◌then◌else◌
 use Rattle.std.proofs.Common.{subst, arith, get_or-set_same, get_or-set_other}
 use mathlib.Core.Option.{some, some-ne-none}
 use lib.ListN.{get_elem?}
+use Rattle.std.proofs.lemmas.List.{set-get_or}
 use Rattle.atomic_table.proofs.Lists.{set_here, set_else}
 use Rattle.lk_locks.specs.declared.kinds.Phase.TheVariants.{AwaitTurn, TicketInside, PassOn}
 use Rattle.lk_locks.specs.declared.kinds.Outcome.TheVariants.{Waits, Entered, Left}
@@ -20,7 +21,6 @@ use Rattle.lk_workers.specs.SeatSteps.{LiveStep, take_step, look_step, read_step
 use Rattle.lk_workers.specs.SeatSteps.{after}
 use Rattle.lk_workers.specs.invariants.Running.{FitsPhase}
 use Rattle.lk_workers.specs.LockState.{Happens, IsEvent, due_in}
-use Rattle.lk_workers.proofs.Sums.{set_same}
 use Rattle.lk_workers.proofs.LockStates.{between}
 
 -- what looks of this word: inside if it is the ticket
@@ -65,7 +65,7 @@ takes all id s r h at is =
 -- a load stores nothing
 loads : (ws : List ℕ) (e : Event)
     → to ws e.phase e.outcome ≡ to (set ws 1 (get_or ws 1 0)) e.phase e.outcome
-loads ws e = ap (λ v. to v e.phase e.outcome) (sym (set_same ws 1))
+loads ws e = ap (λ v. to v e.phase e.outcome) (sym (set-get_or ws 1 0))
 
 -- what looks of this word: its phase and word
 seen_phase : (found t : ℕ) (b : Bool) → (found == t) ≡ b

@@ -15,8 +15,7 @@ use Rattle.lk_workers.specs.Seats.{Table, next_of, serving_of, ticket_indicator}
 use Rattle.lk_workers.specs.Seats.{ticket_indicator_in, IsHolding}
 use Rattle.lk_workers.specs.invariants.Running.{FitsPhase, Fits, Each, Running}
 use Rattle.lk_workers.specs.LockState.{IsAt, LockState, OthersStay, IsEnd}
-use Rattle.lk_workers.proofs.SeatJoins.{word_at}
-use Rattle.lk_workers.proofs.Sums.{at_most_sum, two_there, some_one}
+use Rattle.lk_workers.proofs.Sums.{at_most_sum, two_there, some_one, word_at}
 use Rattle.lk_workers.proofs.Below.{indicator_here, none_there, at_most_once, below_of, once_there}
 
 each_at : (P : SeatState → Type 0) (v : List SeatState) (k : ℕ) (r : SeatState) → Each P v

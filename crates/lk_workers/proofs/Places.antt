@@ -14,6 +14,7 @@ use lib.ListN.{length-map}
 use Rattle.lk_workers.specs.Counting.{occurrences, indicator}
 use Rattle.std.proofs.lemmas.List.Elements.{All-head, All-tail, All-cons}
 use Rattle.std.proofs.lemmas.List.{get_or-map, length-replicate}
+use Rattle.std.proofs.lemmas.Simd.{map-map, splat_is_map}
 use Rattle.lk_replay.specs.Report.{report_text}
 use Rattle.lk_workers.specs.invariants.Collected.{placed, report_at, IsEachOnce}
 
@@ -106,15 +107,6 @@ pub unmapped : {X Y : Type 0} (P : Y → Type 0) (f : X → Y) (xs : List X) →
 unmapped P f xs a k d h =
     subst P (get_or-map f xs k d (f d) h) (a k (f d) (let l = length-map xs f in omega arith))
 
-alike : {X T : Type 0} (x : X) (ts : List T) → replicate (length ts) x ≡ map (λ _. x) ts
-alike x [] = refl
-alike x (t ∷ ts) = ap (λ l. x ∷ l) (alike x ts)
-
-twice : {T : Type 0} (it : T → List ℕ) (F : List ℕ → Option (List ℕ)) (ts : List T)
-    → map F (map it ts) ≡ map (λ t. F (it t)) ts
-twice it F [] = refl
-twice it F (t ∷ ts) = ap (λ l. F (it t) ∷ l) (twice it F ts)
-
 module _ {X T : Type 0} (h : X → List ℕ) (it : T → List ℕ) (ts : List T) (reports : List (ℕ × X))
     (once : IsEachOnce (map it ts) (map (λ p. (p.0, h p.1)) reports)) where
   pub fits : All (λ p. p.0 < length ts) reports
@@ -128,8 +120,9 @@ module _ {X T : Type 0} (h : X → List ℕ) (it : T → List ℕ) (ts : List T)
   finished =
       let ps : List (ℕ × List ℕ) = map (λ p. (p.0, h p.1)) reports in
       ap (λ os. placed os ps)
-      (sym (alike None ts) ∙ ap (λ n. replicate n None) (sym (length-map ts it)))
-      ∙ filled (map it ts) ps once ∙ twice it (λ t. Some (report_text t)) ts
+      (sym (splat_is_map {Y = Option (List ℕ)} ts (length ts) None refl)
+      ∙ ap (λ n. replicate n None) (sym (length-map ts it)))
+      ∙ filled (map it ts) ps once ∙ map-map (λ (t : List ℕ). Some (report_text t)) it ts
 
 pub first : {X : Type 0} (n k : ℕ) (x : X) (rest old : List (ℕ × X)) → old ≡ (k, x) ∷ rest
     → All (λ p. p.0 < n) old → k < n

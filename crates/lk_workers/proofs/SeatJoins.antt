@@ -1,9 +1,9 @@
 -- Splits and joins of seats keep the rule of the running ticket lock, and what it says of the last
 -- state.
-use Rattle.std.proofs.Common.{◌≡◌, ℕ, zero, suc, ◌+◌, ◌≤◌, max, List, [], ◌∷◌, ◌++◌, get_or, set}
+use Rattle.std.proofs.Common.{◌≡◌, ℕ, ◌+◌, ◌≤◌, max, List, [], ◌∷◌, ◌++◌, get_or, set}
 use Rattle.std.proofs.Common.{sym, refl, ap, ◌∙◌, subst, arith, ⊎_elim, lt_of_not-le}
 use native.Mathlib.Decide.{dec_le}
-use mathlib.Core.Option.{some, some-injective, some-ne-none}
+use mathlib.Core.Option.{some}
 use lib.ListN.{get_elem?}
 use Rattle.atomic_table.specs.Table.{Splits, Joins, Final, Seen}
 use Rattle.atomic_table.proofs.Lists.{at_set, at_snoc}
@@ -17,6 +17,7 @@ use Rattle.lk_workers.specs.invariants.Running.{FitsPhase, Fits, Each, ViewFits,
 use Rattle.lk_workers.proofs.Sums.{sum_over-cut, sum_over-two, at_most_sum, alone_at}
 use Rattle.lk_workers.proofs.Below.{none_there, once_there}
 use Rattle.lk_workers.proofs.SeatMoves.{built, views_set}
+use Rattle.lk_workers.proofs.Sums.{word_at}
 
 -- a view becomes two lists of seats, which have together what it had
 two_lists : (takes id : ℕ) (v l b : List SeatState)
@@ -127,11 +128,6 @@ none_of_ticket x m (p ∷ ps) e z =
     let a = none_taken x m p.phase p.ticket p.taken e.0.0 (omega arith) in
     let b = none_of_ticket x m ps e.1 (omega arith) in
     omega arith
-
-pub word_at : (ws : List ℕ) (i n : ℕ) → get_elem? ws i ≡ some n → get_or ws i 0 ≡ n
-word_at [] i n e = absurd (some-ne-none n (sym e))
-word_at (w ∷ ws) zero n e = some-injective w n e
-word_at (w ∷ ws) (suc i) n e = word_at ws i n e
 
 pub closes : (takes id : ℕ) (v : List SeatState) (r : SeatState) (words : List ℕ)
     (slots : List (Unit {0})) (n m : ℕ)

@@ -4,6 +4,7 @@ use Rattle.std.proofs.Common.{false, List, [], ◌∷◌, ◌++◌, length, if�
 use Rattle.std.proofs.Common.{◌∙◌, subst, arith, length-set, ⊎_elim}
 use mathlib.Core.Option.{none, some, some-ne-none}
 use lib.ListN.{get_elem?}
+use Rattle.std.proofs.lemmas.List.{set-get_or}
 use Rattle.atomic_table.specs.Table.{Step, step, keeps, stepped, Allows, opening}
 use Rattle.atomic_table.proofs.Lists.{at_set, set_again}
 use Rattle.lk_workers.specs.declared.live.LivePhase.{LivePhase}
@@ -16,7 +17,7 @@ use Rattle.lk_workers.specs.SeatSteps.{LiveStep, take_step, look_step, read_step
 use Rattle.lk_workers.specs.invariants.Running.{Sees, loads_of, made_of, FitsPhase, Fits, Each}
 use Rattle.lk_workers.specs.invariants.Running.{ViewFits, Running, TakeFinds, LookFinds, ReadFinds}
 use Rattle.lk_workers.specs.invariants.Running.{PassFinds, OfOne, Counts, Compares}
-use Rattle.lk_workers.proofs.Sums.{sum_over-set, at_most_sum, set_same}
+use Rattle.lk_workers.proofs.Sums.{sum_over-set, at_most_sum}
 use Rattle.lk_workers.proofs.TwoWords.{w00, w01, w10, w11}
 use Rattle.lk_workers.proofs.Below.{below_suc, indicator_here, at_most_once, below_of, once_there}
 
@@ -302,7 +303,7 @@ module _ (takes slots id : ℕ) (me : Sees) (r : SeatState) (is : me.0 ≡ r ∷
         keeps,
         tt,
         subst (Running takes) (λ k. record {
-          words = sym (set_same s.words 0) k;
+          words = sym (set-get_or s.words 0 0) k;
           homes = s.homes;
           views = sym (set_again s.views id me.0 at0) k;
         }) h,
@@ -328,7 +329,7 @@ module _ (takes slots id : ℕ) (me : Sees) where
     keeps,
     tt,
     subst (Running takes) (λ k. record {
-      words = sym (set_same s.words 0) k;
+      words = sym (set-get_or s.words 0 0) k;
       homes = s.homes;
       views = sym (set_again s.views id me.0 at) k;
     }) h,

@@ -103,8 +103,8 @@ module _ {A : Type 0} (f : A → ℕ) where
       go (yes d) r = (zero, x, refl, d)
       go (no d) r = let q = r (let z = lt_of_not-le d in omega arith) in (suc q.0, q.1, q.2, q.3)
 
--- a word that is stored again
-pub set_same : (ns : List ℕ) (i : ℕ) → set ns i (get_or ns i 0) ≡ ns
-set_same [] i = refl
-set_same (n ∷ ns) zero = refl
-set_same (n ∷ ns) (suc i) = ap (λ ms. n ∷ ms) (set_same ns i)
+-- the word at a place
+pub word_at : (ws : List ℕ) (i n : ℕ) → get_elem? ws i ≡ some n → get_or ws i 0 ≡ n
+word_at [] i n e = absurd (some-ne-none n (sym e))
+word_at (w ∷ ws) zero n e = some-injective w n e
+word_at (w ∷ ws) (suc i) n e = word_at ws i n e

@@ -1,14 +1,15 @@
 -- What the getters read of the rows that a plain batch line gives.
 use Rattle.std.proofs.Common.{◌≡◌, ◌∙◌, ℕ, ◌+◌, ◌<◌, ◌≤◌, List, Option, Some, None, Result}
 use Rattle.std.proofs.Common.{option_map, codes, refl, ap, arith, zero, suc}
-use Rattle.std.specs.Prelude.{unwrap_or, IsSomeAnd}
+use Rattle.std.specs.Prelude.{unwrap_or, IsSomeAnd, ◌==◌}
+use Rattle.std.proofs.lemmas.Bool.{not-true}
 use Rattle.std.proofs.lemmas.Option.{none-some, same_Some}
 use Rattle.std.specs.Str.Parse.{ParsesUnsigned, digits_value, without_leading_plus, IsNumeral}
 use Rattle.std.specs.Char.{digit_value}
 use Rattle.clap.specs.Matches.{ReadsOne}
 use Rattle.clap.specs.Words.{Text, all_of, one_of}
 use Rattle.lockreplay.specs.Commands.{batch_rows, digit}
-use Rattle.lockreplay.proofs.PlainLines.{no_hyphen, plain_digit}
+use Rattle.lockreplay.proofs.PlainLines.{plain_digit}
 
 -- the digit is a numeral, and writes the number
 is_number : (workers : ℕ) → workers ≤ 9
@@ -47,7 +48,7 @@ reads_digit gives parses workers None most read =
 -- what is in the rows
 pub finds_digit : (workers : ℕ) (files : List Text)
     → one_of (codes "workers") (batch_rows workers files) ≡ Some (digit workers)
-finds_digit workers files = rw (no_hyphen (48 + workers) (plain_digit workers)) refl
+finds_digit workers files = rw (not-true ((48 + workers) == 45) (plain_digit workers)) refl
 
 pub finds_files : (workers : ℕ) (files : List Text)
     → all_of (codes "files") (batch_rows workers files) ≡ Some files
