@@ -1,8 +1,7 @@
 -- Reports put into their places, and taken out of them.
-use Rattle.std.proofs.Common.{Bool, true, false, cond, ltb, ltb-true, filter, All, subst, ◌≡◌, ℕ}
-use Rattle.std.proofs.Common.{◌<◌, ◌≤◌, List, [], ◌∷◌, length, map, set, get_or, replicate, drop}
-use Rattle.std.proofs.Common.{Some, None, option_map, sym, refl, ap, ap₂}
-use Rattle.std.proofs.Common.{◌∙◌, arith, get_or-set_same, get_or-set_other}
+use Rattle.std.proofs.Common.{◌≡◌, ℕ, ◌<◌, ◌≤◌, List, [], ◌∷◌, length, map, set, get_or, replicate}
+use Rattle.std.proofs.Common.{drop, filter, All, ltb, ltb-true, Some, None, option_map, sym, refl}
+use Rattle.std.proofs.Common.{ap, ap₂, ◌∙◌, subst, arith, get_or-set_same, get_or-set_other}
 use Rattle.std.proofs.Common.{ext_get_or, length-set}
 use Rattle.std.specs.Prelude.{Option}
 use Rattle.std.specs.List.{flat_map}
@@ -12,7 +11,7 @@ use native.Mathlib.Decide.{ℕ_discrete}
 use lib.Seq.{map-set}
 use lib.ListN.{length-map}
 use Rattle.lk_workers.specs.Counting.{occurrences, indicator}
-use Rattle.std.proofs.lemmas.List.Elements.{All-head, All-tail, All-cons}
+use Rattle.std.proofs.lemmas.List.Elements.{All-head, All-map, All-tail, filter_passes}
 use Rattle.std.proofs.lemmas.List.{get_or-map, length-replicate}
 use Rattle.std.proofs.lemmas.Simd.{map-map, splat_is_map}
 use Rattle.lk_replay.specs.Report.{report_text}
@@ -69,16 +68,9 @@ Below n p = p.0 < n
 
 kept_below : (n : ℕ) (ks : List ℕ) (f : ℕ → List ℕ)
     → All (Below n) (map (λ k. (k, f k)) (filter (λ j. ltb j n) ks))
-kept_below n [] f = λ k d h. absurd (omega arith)
-kept_below n (x ∷ xs) f = go (ltb x n) refl (kept_below n xs f)
-  where
-    go : (b : Bool) → ltb x n ≡ b → All (Below n) (map (λ k. (k, f k)) (filter (λ j. ltb j n) xs))
-        → All (Below n)
-        (map (λ k. (k, f k)) (cond b (x ∷ filter (λ j. ltb j n) xs) (filter (λ j. ltb j n) xs)))
-    go true e r =
-        All-cons (Below n) (x, f x) (map (λ k. (k, f k)) (filter (λ j. ltb j n) xs))
-        (ltb-true x n e) r
-    go false e r = r
+kept_below n ks f =
+    All-map (Below n) (λ (k : ℕ). (k, f k)) (filter (λ j. ltb j n) ks)
+    (λ i d h. ltb-true _ n (filter_passes (λ (j : ℕ). ltb j n) ks i d h))
 
 pub each_below : (texts : List (List ℕ)) (ps : List (ℕ × List ℕ)) → IsEachOnce texts ps
     → All (Below (length texts)) ps
