@@ -95,36 +95,20 @@ fn search<R: Runtime, O: Write>(
     output: &mut O,
 ) -> Result<u8, Failure> {
     let (mut text, mut errors) = (String::new(alloc), String::new(alloc));
+    let (found, told) = (&mut text, &mut errors);
     let status = match job {
-        SearchJob::Find { source, asked } => {
-            find_run(rt, alloc, source, *asked, &mut text, &mut errors)?
-        }
+        SearchJob::Find { source, asked } => find_run(rt, alloc, source, *asked, found, told)?,
         SearchJob::Space {
             header,
             asked,
             format,
-        } => count_space(
-            alloc,
-            header.as_slice(),
-            *asked,
-            *format,
-            &mut text,
-            &mut errors,
-        )?,
+        } => count_space(alloc, header, *asked, *format, found, told)?,
         SearchJob::Tour {
             header,
             asked,
             folder,
-        } => write_tour(
-            rt,
-            alloc,
-            header.as_slice(),
-            *asked,
-            folder.as_str(),
-            &mut text,
-            &mut errors,
-        )?,
-        SearchJob::Cover(job) => cover_traces(rt, alloc, job, &mut text, &mut errors)?,
+        } => write_tour(rt, alloc, header, *asked, folder, found, told)?,
+        SearchJob::Cover(job) => cover_traces(rt, alloc, job, found, told)?,
     };
     let _ = eprint!(rt; "{errors}");
     output.write_all(text.as_bytes())?;
