@@ -172,13 +172,8 @@ pub fn cover_traces<R: Runtime>(
         let status = take_file(rt, alloc, name, coverages.as_mut_slice(), errors)?;
         worst = worse(worst, status);
     }
-    put_coverage(text, job.format, coverages.as_slice())?;
-    if put_missing(
-        errors,
-        coverages.as_slice(),
-        job.all,
-        job.required.as_slice(),
-    )? {
+    put_coverage(text, job.format, &coverages)?;
+    if put_missing(errors, &coverages, job.all, &job.required)? {
         worst = worse(worst, Status::Refused);
     }
     Ok(worst)
