@@ -72,13 +72,13 @@ pub record IsAgreed (kind : LockKind) (agree : Sequential → Type 0) (q : Seque
   pub agrees : agree (after_entries q es)
 
 -- a thread that waits changes nothing
-pub waits : (kind : LockKind) (agree : List Phase → Sequential → Type 0) (ps : List Phase)
-    (q : Sequential) (t : ℕ) (p : Phase) → phase_at ps t ≡ p → q.kind ≡ kind → agree ps q
-    → IsAgreed kind (agree (set ps t p)) q []
-waits kind agree ps q t p was of_kind agreed = record {
+pub waits : {kind : LockKind} {bits : ℕ} {ws : List ℕ} {ps : List Phase} {q : Sequential} {t : ℕ}
+    {p : Phase} {m : Move} (agree : List Phase → Sequential → Type 0)
+    → IsTaken kind bits ws ps q t p m → agree ps q → IsAgreed kind (agree (set ps t p)) q []
+waits agree given agreed = record {
   allowed = tt;
-  kind_is = of_kind;
-  agrees = rw (sym was) (rw set-get_or agreed);
+  kind_is = given.kind_is;
+  agrees = rw (sym given.phase_is) (rw set-get_or agreed);
 }
 
 -- What has to be proved of a lock. `EachLock` has it of each.

@@ -7,6 +7,6 @@ pub mod McsQueue
 pub mod McsSteps
 pub mod mcs
 pub mod read_write
+pub mod ReadWriteMoves
 pub mod rw_simple
-pub mod FifoSteps
 pub mod rw_fifo

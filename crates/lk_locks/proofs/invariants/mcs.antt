@@ -222,8 +222,7 @@ keeps bits ws ps q t AwaitGrant (Step kind) given =
           ])
       | inr (test, _) ↦
           rw test
-          (waits Mcs (λ phases lock. IsQueue ws phases lock.queue) ps q t AwaitGrant was
-          given.kind_is agreed)
+          (waits (λ phases lock. IsQueue ws phases lock.queue) given agreed)
     ]
 keeps bits ws ps q t ReadNext (Step kind) given =
     let in_lock : t < length ps = given.thread in
@@ -295,8 +294,7 @@ keeps bits ws ps q t AwaitLink (Step kind) given =
     elim (eqb_tells (next_of ws t) 0) [
       | inl (test, _) ↦
           rw test
-          (waits Mcs (λ phases lock. IsQueue ws phases lock.queue) ps q t AwaitLink was
-          given.kind_is agreed)
+          (waits (λ phases lock. IsQueue ws phases lock.queue) given agreed)
       | inr (test, linked) ↦
           rw test
           (record {

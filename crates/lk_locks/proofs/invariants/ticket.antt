@@ -164,8 +164,7 @@ keeps bits ws ps q t (AwaitTurn ticket) (Step kind) given =
           })
       | inr (test, _) ↦
           rw test
-          (waits Ticket (λ phases lock. IsQueue bits ws phases lock.queue) ps q t
-          (AwaitTurn ticket) was given.kind_is agreed)
+          (waits (λ phases lock. IsQueue bits ws phases lock.queue) given agreed)
     ]
 keeps bits ws ps q t (ReadServing ticket) (Step kind) given =
     let in_lock : t < length ps = given.thread in

@@ -1,6 +1,7 @@
 -- Invariants. What the two read-write locks share: what a pending call still owes the history, who
 -- reads, who writes and who has announced itself.
-use Rattle.std.specs.Prelude.{◌≡◌, ℕ, List, [], ◌++◌, Option, None, Some, Bool, true, false}
+use Rattle.std.specs.Prelude.{◌≡◌, ◌<◌, ◌^◌, ℕ, List, [], ◌++◌, length, Option, None, Some}
+use Rattle.std.specs.Prelude.{Bool, true, false}
 use Rattle.lk_locks.specs.Acts.{acts, announcement}
 use Rattle.lk_locks.specs.State.{phase_at}
 use Rattle.lk_locks.specs.Sequential.{Sequential, has}
@@ -56,3 +57,12 @@ pub record AreHolders (ps : List Phase) (q : Sequential) : Type 0 where
 abbrev pub flag_of : Option ℕ → Option ℕ → ℕ
 flag_of None None = 0
 flag_of writer announced = 1
+
+-- Words that count readers in some way, and have this flag, agree with the holders. There are fewer
+-- threads than a word has values.
+pub record AgreeAsCounted (Count : ℕ → Type 0) (flag bits : ℕ) (ps : List Phase)
+    (q : Sequential) : Type 0 where
+  pub narrow : length ps < 2 ^ bits
+  pub count : Count (length q.readers)
+  pub flag_is : flag ≡ flag_of q.writer q.announced
+  pub holders : AreHolders ps q
