@@ -1,5 +1,5 @@
--- Each move of a read-write lock preserves that count and flag agree with the holders, whatever words
--- the lock counts in.
+-- Each move of a read-write lock preserves that count and flag agree with the holders, whatever
+-- words the lock counts in.
 use Rattle.std.proofs.Common.{List, None, [], ap, arith, length, refl, set, sym, true, false, ℕ}
 use Rattle.std.proofs.Common.{nat_lt, unwrap_or, ◌+◌, ◌<◌, ◌∙◌, ◌≡◌, ◌≢◌, ◌≤◌, ◌∷◌}
 use Rattle.std.proofs.lemmas.Bool.{lt-ltb}

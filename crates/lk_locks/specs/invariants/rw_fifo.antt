@@ -21,8 +21,8 @@ is_phase LeaveWrite = true
 is_phase TryDowngrade = true
 is_phase p = false
 
--- The words count the readers that entered and those that left. There are fewer threads than a count
--- has values, so the counts are equal if and only if there is no reader.
+-- The words count the readers that entered and those that left. There are fewer threads than a
+-- count has values, so the counts are equal if and only if there is no reader.
 pub record Count (bits : ℕ) (ws : List ℕ) (n : ℕ) : Type 0 where
   pub left : slice_index ws read_releases < 2 ^ bits
   pub came : slice_index ws read_acquires ≡ (slice_index ws read_releases + n) % 2 ^ bits
