@@ -75,15 +75,9 @@ same_name ReadReleases ReadReleases same = refl
 same_name a b same = cc
 
 its_name : (a : WordName) → same_word a a ≡ true
-its_name NextTicket = refl
-its_name NowServing = refl
-its_name Tail = refl
 its_name (Next i) = eq-eqb i i refl
 its_name (Locked i) = eq-eqb i i refl
-its_name Readers = refl
-its_name Flag = refl
-its_name ReadAcquires = refl
-its_name ReadReleases = refl
+its_name a = refl
 
 named : (word : Option WordName) (given : WordName) → is_word word given ≡ true → word ≡ Some given
 named None given is = cc
@@ -224,7 +218,5 @@ stays_well c l w accepted =
 
 -- a count that a line gives is the last one afterwards
 pub counted : (last : ℕ) (seen : Seen) → IsCounted last (count_in seen) (count_given last seen)
-counted last Nothing = record { given_is = tt; stays = λ _. refl }
-counted last (OnWord word found left wrote) = record { given_is = tt; stays = λ _. refl }
-counted last (InSection None outcome) = record { given_is = tt; stays = λ _. refl }
 counted last (InSection (Some n) outcome) = record { given_is = refl; stays = λ e. cc }
+counted last seen = record { given_is = tt; stays = λ _. refl }

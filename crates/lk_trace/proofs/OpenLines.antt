@@ -8,7 +8,7 @@ use Rattle.std.proofs.lemmas.Slice.Eq.{bytes_eq-Decides}
 use Rattle.lk_locks.specs.declared.kinds.Move.{Move}
 use Rattle.lk_locks.specs.declared.kinds.Move.TheVariants.{Call, Step}
 use Rattle.lk_locks.specs.declared.kinds.StepKind.{StepKind}
-use Rattle.lk_locks.specs.declared.kinds.StepKind.TheVariants.{Read, Write, Swap, Cas, Add, Section}
+use Rattle.lk_locks.specs.declared.kinds.StepKind.TheVariants.{Cas, Section}
 use Rattle.lk_replay.specs.Lines.{words_of}
 use Rattle.lk_replay.specs.Vocabulary.{move_named, number_of}
 use Rattle.lk_trace.specs.Lines.{Words, move_with, seen_of, section_of, tagged, values_of}
@@ -31,12 +31,8 @@ or_false false = refl
 -- ---- no name of a word is a part
 
 no_result : (kind : StepKind) (word : List ℕ) → wrote word ≡ None → after_result kind word ≡ None
-no_result Read word none = refl
-no_result Write word none = refl
-no_result Swap word none = refl
 no_result Cas word none = cc
-no_result Add word none = refl
-no_result Section word none = refl
+no_result kind word none = refl
 
 no_part : (kind : StepKind) (name text : List ℕ) → after_found kind text ≡ None
     → bytes_eq name text ≡ true → after_found kind name ≡ None
@@ -96,16 +92,8 @@ seen_reads thread place (Call op) (w ∷ words) = refl
 seen_reads thread place (Step Section) [] = refl
 seen_reads thread place (Step Section) (w ∷ words) =
     section_reads w words ∙ or_false (is_some (section_of (w ∷ words)))
-seen_reads thread place (Step Read) [] = refl
-seen_reads thread place (Step Read) (w ∷ words) = open_reads thread Read place w words
-seen_reads thread place (Step Write) [] = refl
-seen_reads thread place (Step Write) (w ∷ words) = open_reads thread Write place w words
-seen_reads thread place (Step Swap) [] = refl
-seen_reads thread place (Step Swap) (w ∷ words) = open_reads thread Swap place w words
-seen_reads thread place (Step Cas) [] = refl
-seen_reads thread place (Step Cas) (w ∷ words) = open_reads thread Cas place w words
-seen_reads thread place (Step Add) [] = refl
-seen_reads thread place (Step Add) (w ∷ words) = open_reads thread Add place w words
+seen_reads thread place (Step kind) [] = refl
+seen_reads thread place (Step kind) (w ∷ words) = open_reads thread kind place w words
 
 -- ---- a line
 

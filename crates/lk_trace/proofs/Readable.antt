@@ -8,7 +8,7 @@ use Rattle.lk_locks.specs.declared.kinds.Move.{Move}
 use Rattle.lk_locks.specs.declared.kinds.Move.TheVariants.{Call, Step}
 use Rattle.lk_locks.specs.declared.kinds.Outcome.{Outcome}
 use Rattle.lk_locks.specs.declared.kinds.StepKind.{StepKind}
-use Rattle.lk_locks.specs.declared.kinds.StepKind.TheVariants.{Read, Write, Swap, Cas, Add, Section}
+use Rattle.lk_locks.specs.declared.kinds.StepKind.TheVariants.{Section}
 use Rattle.lk_replay.specs.Lines.{words_of}
 use Rattle.lk_replay.specs.Digits.{whole_number}
 use Rattle.lk_replay.specs.Vocabulary.{move_named, number_of, outcome_named}
@@ -243,16 +243,8 @@ seen_reads thread (Call op) [] = refl
 seen_reads thread (Call op) (w ∷ words) = refl
 seen_reads thread (Step Section) [] = refl
 seen_reads thread (Step Section) (w ∷ words) = section_reads w words
-seen_reads thread (Step Read) [] = refl
-seen_reads thread (Step Read) (w ∷ words) = place_reads thread Read w words
-seen_reads thread (Step Write) [] = refl
-seen_reads thread (Step Write) (w ∷ words) = place_reads thread Write w words
-seen_reads thread (Step Swap) [] = refl
-seen_reads thread (Step Swap) (w ∷ words) = place_reads thread Swap w words
-seen_reads thread (Step Cas) [] = refl
-seen_reads thread (Step Cas) (w ∷ words) = place_reads thread Cas w words
-seen_reads thread (Step Add) [] = refl
-seen_reads thread (Step Add) (w ∷ words) = place_reads thread Add w words
+seen_reads thread (Step kind) [] = refl
+seen_reads thread (Step kind) (w ∷ words) = place_reads thread kind w words
 
 pub seen_is_some : (thread : ℕ) (action : Move) (seen : Option Seen)
     → is_some seen ≡ is_some (with_seen thread action seen)
