@@ -74,7 +74,7 @@ pub joins : {kind : LockKind} {Count More : ℕ → Type 0} {flag next bits : �
     {ps : List Phase} {q : Sequential} {t : ℕ} {m : Move}
     → IsTaken kind bits ws ps q t TryRead m → AgreeAsCounted Count flag bits ps q → flag ≡ 0
     → (q.writer ≡ None → q.announced ≡ None → has q.readers t ≡ false
-        → is_allowed q (Acted t ReadLock) ≡ true)
+    → is_allowed q (Acted t ReadLock) ≡ true)
     → ((n : ℕ) → n < length ps → Count n → More (n + 1)) → next ≡ flag
     → IsAgreed kind (AgreeAsCounted More next bits (set ps t Reading)) q (acts t ReadLock)
 joins {ps} {q} {t} given agreed flag_clear may_act one_more flag_stays =

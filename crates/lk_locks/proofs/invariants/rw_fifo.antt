@@ -228,7 +228,7 @@ keeps bits ws ps q t TryWrite (Step s) given =
             | inl (counts_test, counts_equal) ↦
                 let unread : q.readers ≡ [] = none_read bits ws ps q agreed counts_equal in
                 let may_enter : is_allowed (after_entry q (Announced t)) (Acted t WriteLock)
-                    ≡ true =
+                ≡ true =
                 rw (below_64 given, given.kind_is, unread, eqb-same t) refl in
                 rw (flag_test, counts_test) (record {
                   allowed = (may_announce, (may_enter, (tt, tt)));
@@ -274,7 +274,7 @@ keeps bits ws ps q t TryDowngrade (Step s) given =
     downgrades given agreed
     (λ written. rw (below_64 given, given.kind_is, written) refl)
     (λ n fits counted.
-      same_count bits (raised bits ws 0) 0 (n + 1) (one_came bits ws n three_words counted))
+    same_count bits (raised bits ws 0) 0 (n + 1) (one_came bits ws n three_words counted))
     (get_or-set_same (raised bits ws 0) 2 0 0 (omega arith))
 keeps bits ws ps q t p (Step s) given =
     let fits = given.fits in let own = given.own in let not_refused = given.not_refused in cc

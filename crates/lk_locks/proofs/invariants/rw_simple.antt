@@ -135,7 +135,7 @@ keeps bits ws ps q t TryRead (Step s) given =
           rw flag_test
           (joins given agreed flag_clear
           (λ unwritten unannounced unread.
-            rw (below_64 given, given.kind_is, unwritten, unread) refl)
+          rw (below_64 given, given.kind_is, unwritten, unread) refl)
           (λ n fits counted. one_more bits ws n two_words (omega arith) counted) (flag_stays ws _))
       | inr (flag_test, _) ↦ rw flag_test (waits (AgreesWith bits ws) given agreed)
     ]
@@ -184,7 +184,7 @@ keeps bits ws ps q t TryDowngrade (Step s) given =
     downgrades given agreed
     (λ written. rw (below_64 given, given.kind_is, written) refl)
     (λ n fits counted.
-      count_stays (raised bits ws 0) 0 ∙ one_more bits ws n two_words (omega arith) counted)
+    count_stays (raised bits ws 0) 0 ∙ one_more bits ws n two_words (omega arith) counted)
     (get_or-set_same (raised bits ws 0) 1 0 0 (omega arith))
 keeps bits ws ps q t p (Step s) given =
     let fits = given.fits in let own = given.own in let not_refused = given.not_refused in cc
