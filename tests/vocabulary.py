@@ -123,8 +123,6 @@ LISTS = (
          word=r'b"(?:fault )?([A-Z]\w+)'),
     List(f"{TRACE}/difference.rt", r"fn name\(", r"\n\}\n", "differences"),
     List(f"{TRACE}/trace.rt", r"fn name\(", r"\n\}\n", "trace_faults"),
-    List(f"{FILES}/texts.rt", r"WroteOther \{ wrote: \w+ \}", r"\)", "wrote",
-         word=r'\{step\} (.*)"'),
     List(C, r"\b1 =>", r"\b8 =>", "refusals", in_order, r"Refusal::(\w+)"),
     List(C, r"(?=\b8 =>)", r"\b16 =>", "differences", in_order, r'"(\w+): '),
     List(C, r"(?=\b16 =>)", r"_ =>", "trace_faults", in_order, r'"(\w+): '),
@@ -154,7 +152,7 @@ COUNTS = {
     "locks": 4, "calls": 7, "steps": 6, "operations": 5, "outcomes": 4, "called": 1,
     "places": 5, "counters": 2, "tail": 1, "records": 2, "monitors": 4, "of": 1, "values": 2,
     "results": 2, "refusals": 7, "faults": 7, "memory": 1, "trace_faults": 5,
-    "trace_fault_texts": 4, "differences": 6, "wrote": 2,
+    "trace_fault_texts": 4, "differences": 6,
 }
 SHELLS = ((f"{COMPLETIONS}.bash", 1), (f"{COMPLETIONS}.zsh", 3), (f"{COMPLETIONS}.fish", 1))
 
@@ -218,13 +216,11 @@ def of_faults():
         "memory": faults.keys() & {"OutOfMemory"}, "trace_faults": of_a_trace,
         "differences": [name for name in differences if name != "Refused"],
     }
-    wrote = re.findall(r'^ +"(.*)"$', read(f"{TRACE}/difference.rt"), re.MULTILINE)
     return {
         **{kind: {name: name for name in of_kind} for kind, of_kind in names.items()},
         # a program says of a file `no header`, and the library of a text `there is no header`
         "trace_fault_texts": {name: f"{name}: {text}".removesuffix(" ({name})")
                               for name, text in of_a_trace.items() if name != "NoHeader"},
-        "wrote": dict(enumerate(wrote)),
     }
 
 

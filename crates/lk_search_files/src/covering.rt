@@ -6,8 +6,9 @@ ghost use Rattle.lk_search_files.specs.Statuses.{number_of};
 use crate::faults::put_unread;
 use crate::listing::{Format, put_coverage, put_missing};
 use lk_locks::LockKind;
+use lk_replay::parts::move_text;
 use lk_search::{Coverage, LOCKS, Observed};
-use lk_trace::{Event, Made, TextFault, TraceLine, TraceReader};
+use lk_trace::{Difference, Event, Made, TextFault, TraceLine, TraceReader};
 use lk_trace_files::{Status, Summary, take_lines};
 use std::alloc::{AllocError, Global};
 use std::fmt::Write;
@@ -90,8 +91,13 @@ fn take_line(
             note_move(coverages, summary, trace, line, made);
             Ok(None)
         }
-        Event::Differs(_, difference) => {
-            writeln!(errors, "{name}:{number}: refused: {difference}")?;
+        Event::Differs(line, difference) => {
+            if let Difference::Refused(_) = difference {
+                writeln!(errors, "{name}:{number}: refused: {difference}")?;
+            } else {
+                let step = move_text(line.action);
+                writeln!(errors, "{name}:{number}: refused: {step} {difference}")?;
+            }
             Ok(Some(Status::Refused))
         }
         Event::Fault(fault) => {
