@@ -1,10 +1,9 @@
 -- Which of the next steps is most certainly wrong, if one thread more is looked at.
-use Rattle.std.proofs.Common.{◌≡◌, ℕ, ◌+◌, ◌<◌, ◌≤◌, None, arith}
+use Rattle.std.proofs.Common.{◌≡◌, ℕ, ◌+◌, ◌<◌, ◌≤◌, None, refl, arith, below_more}
 use Rattle.lk_order.specs.Orders.{Ordered, next_line}
 use Rattle.lk_order.specs.Endings.{IsWorst, count_at, doubt_at}
-use borrow.Author.Count.{below_more}
 
-no_next : (o : Ordered) (t : ℕ) → next_line o t ≡ None → doubt_at o t ≡ 4
+pub no_next : (o : Ordered) (t : ℕ) → next_line o t ≡ None → doubt_at o t ≡ 4
 no_next o t none = rw none refl
 
 -- thread k's step is the first that is left
