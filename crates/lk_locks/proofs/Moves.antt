@@ -1,17 +1,14 @@
 -- What every move keeps, whatever the lock.
 use Rattle.std.proofs.Common.{Bool, List, None, Option, Some, false, if◌then◌else◌, length, arith}
-use Rattle.std.proofs.Common.{nat_lt, refl, set, true, ℕ, ◌<◌, ◌≡◌, ◌≤◌}
+use Rattle.std.proofs.Common.{nat_lt, refl, set, true, ℕ, ◌<◌, ◌≡◌}
 use Rattle.std.proofs.lemmas.Bool.{ltb-true}
 use Rattle.std.proofs.lemmas.List.{length-set}
 use Rattle.lk_locks.specs.Change.{Change}
-use Rattle.lk_locks.specs.Entries.{entries_of}
-use Rattle.lk_locks.specs.Sequential.{Sequential}
 use Rattle.lk_locks.specs.State.{State, phase_at}
 use Rattle.lk_locks.specs.Steps.{belongs, change_of, move_change, next_state, refusal_in}
 use Rattle.lk_locks.specs.Steps.{refusal_of}
-use Rattle.lk_locks.specs.invariants.Locks.{AgreeAs, AreLinks, IsPhaseOf}
+use Rattle.lk_locks.specs.invariants.Locks.{AreLinks, IsPhaseOf}
 use Rattle.lk_locks.specs.invariants.WellFormed.{WellFormed}
-use Rattle.lk_locks.proofs.Cases.{IsAgreed, IsTaken}
 use Rattle.lk_locks.proofs.EachLock.{proof_of}
 use Rattle.lk_locks.proofs.Threads.{each_phase}
 use Rattle.lk_locks.specs.declared.kinds.LockKind.{LockKind}
@@ -76,28 +73,5 @@ gate false b r h = cc
 -- a move that is not refused is accepted
 pub accepted_of : (s : State) (t : ℕ) (m : Move) → refusal_of s t m ≡ None → Accepted s t m
 accepted_of s t m h =
-    let g =
-    gate (nat_lt t (length s.phases)) (belongs s.kind m) (refusal_in s.kind
-    (phase_at s.phases t) m) h in
-    record { thread = ltb-true t (length s.phases) g.0; own = g.1; fits = g.2 }
-
--- an accepted move's acts may come, and lock and sequential lock agree after it
-pub agreed : (kind : LockKind) (bits : ℕ) (ws : List ℕ) (ps : List Phase) (q : Sequential) (t : ℕ)
-    (m : Move)
-    → let s : State = record { kind = kind; bits = bits; words = ws; phases = ps } in WellFormed s
-    → length ps ≤ 64 → q.kind ≡ kind → Accepted s t m → AgreeAs kind s q
-    → IsAgreed kind (AgreeAs kind (next_state s t m)) q (entries_of s t m)
-agreed kind bits ws ps q t m w n k a g =
-    let p : Phase = phase_at ps t in
-    let given : IsTaken kind bits ws ps q t p m = record {
-      kind_is = k;
-      thread = a.thread;
-      few = n;
-      enough = w.enough;
-      phase_is = refl;
-      fits = w.phases_fit t a.thread;
-      own = a.own;
-      not_refused = a.fits;
-      agrees = g;
-    } in
-    (proof_of kind).keeps bits ws ps q t p m given
+    let (in_lock, own, fits) = gate (nat_lt t (length s.phases)) (belongs s.kind m) _ h in
+    record { thread = ltb-true t (length s.phases) in_lock; own = own; fits = fits }
