@@ -1,7 +1,8 @@
 -- Lists of threads.
 use Rattle.std.proofs.Common.{Bool, List, [], arith, eqb, false, inl, inr, length, refl, set, sym}
-use Rattle.std.proofs.Common.{replicate, true, ℕ, ◌++◌, ◌<◌, ◌∙◌, ◌∷◌, ◌≡◌, ◌≢◌, ◌⊎◌, drop}
-use Rattle.std.proofs.lemmas.Bool.{cases_lt, eq-eqb, eqb-false, ne_eqb, or_left}
+use Rattle.std.proofs.Common.{replicate, true, ℕ, ◌++◌, ◌<◌, ◌∙◌, ◌∷◌, ◌≡◌, ◌≢◌, ◌⊎◌, drop, Option}
+use Rattle.std.proofs.Common.{None, Some, ap}
+use Rattle.std.proofs.lemmas.Bool.{cases_lt, eq-eqb, eqb-false, ne_eqb, or_left, eqb-true}
 use Rattle.std.proofs.lemmas.Bool.{or_parts, or_right}
 use Rattle.std.proofs.lemmas.Bool.Decides.{eqb_tells}
 use Rattle.std.proofs.lemmas.List.{get_or-replicate, get_or-set_other, get_or-set_same, get_or_past}
@@ -10,7 +11,7 @@ use Rattle.std.proofs.lemmas.List.Folds.{list_any-append}
 use Rattle.std.specs.List.{AllByRecursion, IsDistinct}
 use Rattle.lk_locks.specs.Sequential.{has}
 use Rattle.lk_locks.specs.State.{phase_at}
-use Rattle.lk_locks.specs.invariants.Threads.{EachOnce}
+use Rattle.lk_locks.specs.invariants.Threads.{EachOnce, is_this}
 use Rattle.lk_locks.specs.declared.kinds.Phase.{Phase}
 use Rattle.lk_locks.specs.declared.kinds.Phase.TheVariants.{Idle}
 use Rattle.std.proofs.Math.Bool.{or-false}
@@ -19,6 +20,11 @@ use Rattle.std.proofs.Math.Bool.{or-false}
 pub true_or_false : (b : Bool) → (b ≡ true) ⊎ (b ≡ false)
 true_or_false true = inl refl
 true_or_false false = inr refl
+
+-- whom the test finds to have a place has it
+pub this_is : (place : Option ℕ) (t : ℕ) → is_this place t ≡ true → place ≡ Some t
+this_is None t found = cc
+this_is (Some other) t found = ap (λ thread. Some thread) (sym (eqb-true t other found))
 
 -- the first of a list is in it
 pub first_has : (t : ℕ) (rest : List ℕ) → has (t ∷ rest) t ≡ true
