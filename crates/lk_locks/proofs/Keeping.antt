@@ -83,10 +83,12 @@ keeps s q es t m k a =
       kind = same_kind q new ∙ k.kind;
       now = after_append _ es new ∙ ap (λ x. after_entries x new) k.now;
       allowed = allowed_append _ es new k.allowed (rw k.now allowed);
-      turns = each_phase (λ v r. IsInTurn s.kind (es ++ new) v r) s.phases t next a.thread
+      turns =
+          rw n
+          (each_phase (λ v r. IsInTurn s.kind (es ++ new) v r) s.phases t next a.thread
           (turn_kept s.kind (length s.phases) s.bits s.words es t p m
           (k.well.phases_fit t a.thread) a.own a.fits (k.turns t a.thread))
-          (λ v d h. turn_of_other s.kind es new t v _ d own (k.turns v h));
+          (λ v d h. turn_of_other s.kind es new t v _ d own (k.turns v h)));
       no_others =
           rw n
           (all_append (λ e. thread_of e < length s.phases) es new k.no_others

@@ -1,9 +1,8 @@
 -- What every move keeps, whatever the lock.
-use Rattle.std.proofs.Common.{Bool, List, None, Option, Some, false, if◌then◌else◌, length, arith}
-use Rattle.std.proofs.Common.{nat_lt, refl, set, true, ℕ, ◌<◌, ◌≡◌}
+use Rattle.std.proofs.Common.{Bool, List, None, Option, Some, false, if◌then◌else◌, length}
+use Rattle.std.proofs.Common.{nat_lt, refl, true, ℕ, ◌<◌, ◌≡◌}
 use Rattle.std.proofs.lemmas.Bool.{ltb-true}
 use Rattle.std.proofs.lemmas.List.{length-set}
-use Rattle.lk_locks.specs.Change.{Change}
 use Rattle.lk_locks.specs.State.{State, phase_at}
 use Rattle.lk_locks.specs.Steps.{belongs, change_of, move_change, next_state, refusal_in}
 use Rattle.lk_locks.specs.Steps.{refusal_of}
@@ -47,19 +46,20 @@ pub record Accepted (s : State) (t : ℕ) (m : Move) : Type 0 where
 pub well_kept : (s : State) (t : ℕ) (m : Move) → WellFormed s → Accepted s t m
     → WellFormed (next_state s t m)
 well_kept s t m w a =
-    let c : Change = change_of s t m in
-    let n : length (set s.phases t c.phase) ≡ length s.phases = length-set s.phases t c.phase in
+    let p : Phase = phase_at s.phases t in
+    let next : Phase = (change_of s t m).phase in
+    let n = length-set s.phases t next in
     record {
-      enough = rw n (rw (same_length s.kind s.bits s.words t (phase_at s.phases t) m) w.enough);
-      phases_fit = rw n (λ u k. each_phase
-          (λ u p. IsPhaseOf s.kind (length s.phases) p) s.phases t c.phase a.thread
-          (new_phase_fits s.kind (length s.phases) s.bits s.words t (phase_at s.phases t) m a.thread
+      enough = rw (n, same_length s.kind s.bits s.words t p m) w.enough;
+      phases_fit =
+          rw n
+          (each_phase (λ u p. IsPhaseOf s.kind (length s.phases) p) s.phases t next a.thread
+          (new_phase_fits s.kind (length s.phases) s.bits s.words t p m a.thread
           (w.phases_fit t a.thread) w.links_fit)
-          (λ v _ h. w.phases_fit v h) u (omega (arith, n)));
+          (λ v _ h. w.phases_fit v h));
       links_fit =
           rw n
-          (new_links_fit s.kind (length s.phases) s.bits s.words t
-          (phase_at s.phases t) m a.thread w.links_fit);
+          (new_links_fit s.kind (length s.phases) s.bits s.words t p m a.thread w.links_fit);
     }
 
 -- a move that is not refused is of a thread, and of a kind, that the lock has

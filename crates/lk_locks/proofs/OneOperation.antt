@@ -1,5 +1,5 @@
 -- Each step of a queue lock that is accepted is one operation, of the kind that the move names.
-use Rattle.std.proofs.Common.{arith, length, ◌<◌, ◌≤◌, List, None, Option, Some, ap, refl, sym, ℕ}
+use Rattle.std.proofs.Common.{arith, length, ◌<◌, List, None, Option, Some, ap, refl, sym, ℕ}
 use Rattle.std.proofs.Common.{◌∙◌, ◌≡◌, ◌==◌, if◌then◌else◌, false, option_map, true}
 use Rattle.lk_words.specs.Operations.{performed, word_of}
 use Rattle.lk_words.specs.declared.operation.Answer.{Answer}
@@ -21,9 +21,9 @@ use Rattle.lk_locks.specs.declared.kinds.Move.{Move}
 use Rattle.lk_locks.specs.declared.kinds.Move.TheVariants.{Call, Step}
 use Rattle.lk_locks.specs.declared.kinds.Phase.{Phase}
 use Rattle.lk_locks.specs.declared.kinds.Phase.TheVariants.{AwaitGrant, AwaitLink, AwaitTurn}
-use Rattle.lk_locks.specs.declared.kinds.Phase.TheVariants.{CasTail, ClearNext, Grant, LinkTo}
-use Rattle.lk_locks.specs.declared.kinds.Phase.TheVariants.{PassOn, ReadNext, ReadServing}
-use Rattle.lk_locks.specs.declared.kinds.Phase.TheVariants.{SetLocked, SwapTail, TakeTicket}
+use Rattle.lk_locks.specs.declared.kinds.Phase.TheVariants.{CasTail, ClearNext}
+use Rattle.lk_locks.specs.declared.kinds.Phase.TheVariants.{ReadNext, ReadServing}
+use Rattle.lk_locks.specs.declared.kinds.Phase.TheVariants.{SwapTail, TakeTicket}
 use Rattle.lk_locks.specs.declared.kinds.Refusal.TheVariants.{WrongStep}
 use Rattle.lk_locks.specs.declared.kinds.StepKind.{StepKind}
 use Rattle.lk_locks.specs.declared.kinds.StepKind.TheVariants.{Add, Cas, Read, Section, Swap, Write}
@@ -131,26 +131,16 @@ word_or (Some o) = word_of o
 within : (kind : LockKind) (n bits t : ℕ) (p : Phase) (o : Operation)
     → operation_of kind bits t p ≡ Some o → t < n → IsPhaseOf kind n p
     → word_of o < word_count kind n
-within Ticket n bits t TakeTicket o e h f = rw (ap word_or (sym e)) (omega arith)
-within Ticket n bits t (AwaitTurn x) o e h f = rw (ap word_or (sym e)) (omega arith)
-within Ticket n bits t (ReadServing x) o e h f = rw (ap word_or (sym e)) (omega arith)
-within Ticket n bits t (PassOn x) o e h f = rw (ap word_or (sym e)) (omega arith)
-within Mcs n bits t ClearNext o e h f = rw (ap word_or (sym e)) (omega arith)
-within Mcs n bits t SwapTail o e h f = rw (ap word_or (sym e)) (omega arith)
-within Mcs n bits t (SetLocked j) o e h f = rw (ap word_or (sym e)) (omega arith)
-within Mcs n bits t (LinkTo j) o e h f = rw (ap word_or (sym e)) (omega arith)
-within Mcs n bits t AwaitGrant o e h f = rw (ap word_or (sym e)) (omega arith)
-within Mcs n bits t ReadNext o e h f = rw (ap word_or (sym e)) (omega arith)
-within Mcs n bits t CasTail o e h f = rw (ap word_or (sym e)) (omega arith)
-within Mcs n bits t AwaitLink o e h f = rw (ap word_or (sym e)) (omega arith)
-within Mcs n bits t (Grant j) o e h f = rw (ap word_or (sym e)) (omega arith)
-within kind n bits t p o e h f = cc
+within Ticket n bits t TakeTicket o e h f = omega (arith, ap word_or e)
+within Mcs n bits t ClearNext o e h f = omega (arith, ap word_or e)
+within kind n bits t p o e h f = omega (arith, ap word_or e)
 
 -- the word of an operation is one of the lock's
 pub operation_within : (s : State) (t : ℕ) (o : Operation) → WellFormed s → t < length s.phases
     → operation_of s.kind s.bits t (phase_at s.phases t) ≡ Some o → word_of o < length s.words
 operation_within s t o w h e =
-    let below : word_of o < word_count s.kind (length s.phases) =
-    within s.kind (length s.phases) s.bits t (phase_at s.phases t) o e h (w.phases_fit t h) in
-    let enough : word_count s.kind (length s.phases) ≤ length s.words = w.enough in
-    omega arith
+    omega (
+      arith,
+      within s.kind (length s.phases) s.bits t (phase_at s.phases t) o e h (w.phases_fit t h),
+      w.enough,
+    )

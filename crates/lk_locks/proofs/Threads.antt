@@ -6,7 +6,7 @@ use Rattle.std.proofs.lemmas.Bool.{cases_lt, eq-eqb, eqb-false, ne_eqb, or_left,
 use Rattle.std.proofs.lemmas.Bool.{or_parts, or_right}
 use Rattle.std.proofs.lemmas.Bool.Decides.{eqb_tells}
 use Rattle.std.proofs.lemmas.List.{get_or-replicate, get_or-set_other, get_or-set_same, get_or_past}
-use Rattle.std.proofs.lemmas.List.{length-replicate, length-set}
+use Rattle.std.proofs.lemmas.List.{length-replicate}
 use Rattle.std.proofs.lemmas.List.Folds.{list_any-append}
 use Rattle.std.specs.List.{AllByRecursion, IsDistinct}
 use Rattle.lk_locks.specs.Sequential.{has}
@@ -85,12 +85,12 @@ at_other ps t u p h = get_or-set_other ps t u p Idle h
 
 -- what holds of the new phase and held of the others holds of all
 pub each_phase : (P : ℕ → Phase → Type 0) (ps : List Phase) (t : ℕ) (p : Phase) → t < length ps
-    → P t p → ((u : ℕ) → u ≢ t → u < length ps → P u (phase_at ps u)) → (u : ℕ)
-    → u < length (set ps t p) → P u (phase_at (set ps t p) u)
+    → P t p → ((u : ℕ) → u ≢ t → u < length ps → P u (phase_at ps u)) → (u : ℕ) → u < length ps
+    → P u (phase_at (set ps t p) u)
 each_phase P ps t p h new old u k =
     elim (eqb_tells u t) [
       | inl e ↦ rw e.1 (rw (at_same ps t p h) new)
-      | inr e ↦ rw (at_other ps t u p e.1) (old u e.1 (omega (arith, length-set ps t p)))
+      | inr e ↦ rw (at_other ps t u p e.1) (old u e.1 k)
     ]
 
 -- at the start each thread is idle
