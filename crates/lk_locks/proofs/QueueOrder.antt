@@ -1,6 +1,6 @@
 -- The holders of a queue lock are apart, and enter in the order of their requests.
 use Rattle.std.proofs.Common.{◌≡◌, ℕ, List, [], ◌∷◌, ◌++◌, drop, true, Option, None, Some, ap, sym}
-use Rattle.std.proofs.Common.{◌∙◌, append_assoc, inl, inr, ◌⊎◌}
+use Rattle.std.proofs.Common.{◌∙◌, append_assoc, inl, inr, ◌⊎◌, refl}
 use Rattle.std.proofs.lemmas.Bool.{eqb-true, eq-eqb}
 use Rattle.std.proofs.lemmas.List.{append-nil}
 use Rattle.lk_locks.specs.Sequential.{Sequential, nobody, is_head, after_entry}

@@ -10,7 +10,7 @@ use Rattle.lk_locks.specs.State.{phase_at}
 use Rattle.lk_locks.specs.invariants.mcs.{IsSuccessor, IsHead, IsRest, IsNotQueued}
 use Rattle.lk_locks.specs.invariants.mcs.{IsQueue}
 use Rattle.lk_locks.specs.invariants.mcs.{last_of, locked_of, next_of}
-use Rattle.lk_locks.specs.mcs.{locked}
+use Rattle.lk_locks.specs.mcs.{locked, next}
 use Rattle.lk_locks.proofs.Threads.{at_other, at_same, once_more, first_has}
 use Rattle.lk_locks.proofs.Threads.{members_more, more_other, more_same}
 use Rattle.lk_locks.specs.declared.kinds.Phase.{Phase}
@@ -128,7 +128,7 @@ mcs_first ws ps t in_lock has_tail no_next agreed = record {
   tail_is = get_or-set_same ws 0 (t + 1) 0 has_tail;
   links = (
     rw (at_same ps t McsInside in_lock) tt,
-    get_or-set_other _ _ _ _ _ (omega arith) ∙ no_next,
+    get_or-set_other ws 0 (next t) (t + 1) 0 (omega arith) ∙ no_next,
   );
   once = (refl, tt);
   members =
@@ -137,7 +137,7 @@ mcs_first ws ps t in_lock has_tail no_next agreed = record {
     | inl (test, _) ↦ cc
     | inr (_, other) ↦
         stays_outside ws (set ws 0 (t + 1)) ps t thread McsInside other
-        (get_or-set_other _ _ _ _ _ (omega arith)) (agreed.others thread refl)
+        (get_or-set_other ws 0 (next thread) (t + 1) 0 (omega arith)) (agreed.others thread refl)
   ];
 }
 
@@ -155,8 +155,8 @@ swapped ws ps (head ∷ rest) t in_lock has_tail not_queued no_next not_nil agre
     links_frame ws new_ws ps (set ps t p) (head ∷ rest)
     (λ member queued. record {
       phase = at_other ps t member p (λ same. cc);
-      next = get_or-set_other _ _ _ _ _ (omega arith);
-      locked = get_or-set_other _ _ _ _ _ (omega arith);
+      next = get_or-set_other ws 0 (next member) (t + 1) 0 (omega arith);
+      locked = get_or-set_other ws 0 (locked member) (t + 1) 0 (omega arith);
     })
     agreed.links in
     let (head_first, after_head) = links in
@@ -168,7 +168,7 @@ swapped ws ps (head ∷ rest) t in_lock has_tail not_queued no_next not_nil agre
         first_more new_ws head t rest (phase_at (set ps t p) head) head_first,
         later_more new_ws (set ps t p) head t rest after_head
             (at_same ps t p in_lock ∙ ap (λ last. SetLocked last) is_last)
-            (get_or-set_other _ _ _ _ _ (omega arith) ∙ no_next),
+            (get_or-set_other ws 0 (next t) (t + 1) 0 (omega arith) ∙ no_next),
       );
       once = once_more (head ∷ rest) t agreed.once not_queued;
       members =
@@ -176,7 +176,8 @@ swapped ws ps (head ∷ rest) t in_lock has_tail not_queued no_next not_nil agre
       others = λ thread absent. elim (eqb_tells thread t) [
         | inl (_, same) ↦ cc (more_same (head ∷ rest) t)
         | inr (_, other) ↦
-            stays_outside ws new_ws ps t thread p other (get_or-set_other _ _ _ _ _ (omega arith))
+            stays_outside ws new_ws ps t thread p other
+            (get_or-set_other ws 0 (next thread) (t + 1) 0 (omega arith))
             (agreed.others thread (sym (more_other (head ∷ rest) t thread other) ∙ absent))
       ];
     }
@@ -193,7 +194,7 @@ mcs_only ws ps t in_lock has_tail agreed = record {
     | inl (_, same) ↦ rw (same, at_same ps t Idle in_lock) tt
     | inr (test, other) ↦
         stays_outside ws (set ws 0 0) ps t thread Idle other
-        (get_or-set_other _ _ _ _ _ (omega arith)) (agreed.others thread (rw test refl))
+        (get_or-set_other ws 0 (next thread) 0 0 (omega arith)) (agreed.others thread (rw test refl))
   ];
 }
 
@@ -222,18 +223,18 @@ mcs_grant ws ps (second ∷ rest) t successor in_lock has_locked (grants_head, l
     granted ws t second (phase_at ps second) (linked ∙ ap (λ thread. thread + 1) is_second)
     second_after in
     record {
-      tail_is = get_or-set_other _ _ _ _ _ (omega arith) ∙ agreed.tail_is;
+      tail_is = get_or-set_other ws (locked successor) 0 0 0 (omega arith) ∙ agreed.tail_is;
       links = (
         rw (at_other ps t second Idle (λ same. cc (first_has second rest)) ∙ second_awaits)
             (rw (← is_second) (get_or-set_same ws (locked successor) 0 0 has_locked)),
         later_frame ws new_ws ps (set ps t Idle) second rest
             (get_or-set_other _ _ _ _ _ (omega arith))
             (λ member queued.
+            let in_queue : has (second ∷ rest) member ≡ true =
+            or_right (eqb member second) (has rest member) queued in
             let differs : member ≢ successor = λ same. cc in
             record {
-              phase =
-                  at_other ps t member Idle
-                  (λ same. cc (or_right (eqb member second) (has rest member) queued));
+              phase = at_other ps t member Idle (λ same. cc);
               next = get_or-set_other _ _ _ _ _ (omega arith);
               locked = get_or-set_other _ _ _ _ _ (omega arith);
             })

@@ -45,7 +45,7 @@ keeps bits ws ps q t ClearNext (Step kind) given = (
   tt,
   mcs_out given.agrees (set ws (next t) 0) t SwapTail given.thread
       (not_member given.agrees t given.phase_is (λ rest first. first) (λ before after. after))
-      (get_or-set_other _ _ _ _ _ (omega arith))
+      (get_or-set_other ws (next t) 0 0 0 (omega arith))
       (λ other differs. get_or-set_other _ _ _ _ _ (omega arith))
       (λ other. get_or-set_other _ _ _ _ _ (omega arith))
       (get_or-set_same ws (next t) 0 0 (omega (arith, given.enough))),
@@ -77,7 +77,7 @@ keeps bits ws ps q t (SetLocked predecessor) (Step kind) given =
         tt,
         mcs_later ws (set ws (locked t) 1) ps q.queue t predecessor (SetLocked predecessor)
             (LinkTo predecessor) given.phase_is given.thread in_rest
-            (get_or-set_other _ _ _ _ _ (omega arith)) (rw knows_one one_nil)
+            (get_or-set_other ws (locked t) 0 1 0 (omega arith)) (rw knows_one one_nil)
             (λ before (knows, no_next). (
               sym knows,
               (
@@ -97,7 +97,7 @@ keeps bits ws ps q t (LinkTo predecessor) (Step kind) given =
         tt,
         mcs_later ws (set ws (next predecessor) (t + 1)) ps q.queue t predecessor
             (LinkTo predecessor) AwaitGrant given.phase_is given.thread in_rest
-            (get_or-set_other _ _ _ _ _ (omega arith)) (rw knows_one one_nil)
+            (get_or-set_other ws (next predecessor) 0 (t + 1) 0 (omega arith)) (rw knows_one one_nil)
             (λ before (knows, no_next, locks). (
               sym knows,
               (

@@ -125,7 +125,7 @@ one_came : (bits : ℕ) (ws : List ℕ) (n : ℕ) → 3 ≤ length ws → Count 
     → Count bits (raised bits ws 0) (n + 1)
 one_came bits ws n three_words counted =
     let left_stays : slice_index (raised bits ws 0) 1 ≡ slice_index ws 1 =
-    get_or-set_other _ _ _ _ _ (omega arith) in
+    get_or-set_other ws 0 1 _ 0 (omega arith) in
     record {
       left = rw left_stays counted.left;
       came =
@@ -151,7 +151,7 @@ one_left bits ws n three_words counted =
 same_count : (bits : ℕ) (ws : List ℕ) (v n : ℕ) → Count bits ws n → Count bits (set ws 2 v) n
 same_count bits ws v n counted =
     let left_stays : slice_index (set ws 2 v) 1 ≡ slice_index ws 1 =
-    get_or-set_other _ _ _ _ _ (omega arith) in
+    get_or-set_other ws 2 1 v 0 (omega arith) in
     record {
       left = rw left_stays counted.left;
       came = get_or-set_other ws 2 0 v 0 (omega arith) ∙ rw left_stays counted.came;
@@ -226,7 +226,7 @@ keeps bits ws ps q t TryDowngrade (Step s) given =
     (λ written. rw (below_64 given, given.kind_is, written))
     (λ n fits counted.
     same_count bits (raised bits ws 0) 0 (n + 1) (one_came bits ws n given.enough counted))
-    (get_or-set_same (raised bits ws 0) 2 0 0 (omega (arith, given.enough, length-set ws 0 _)))
+    (get_or-set_same (raised bits ws 0) 2 0 0 (omega (arith, given.enough, length-set ws 0 (plus_one bits (slice_index ws 0)))))
 keeps bits ws ps q t p (Step s) given = cc
 
 -- at the start the words are clear and all threads idle

@@ -155,7 +155,7 @@ keeps bits ws ps q t TryDowngrade (Step s) given =
     (λ n fits counted.
     get_or-set_other (raised bits ws 0) 1 0 0 0 (omega arith)
     ∙ one_more bits ws n given.enough (omega (arith, given.agrees.narrow)) counted)
-    (get_or-set_same (raised bits ws 0) 1 0 0 (omega (arith, given.enough, length-set ws 0 _)))
+    (get_or-set_same (raised bits ws 0) 1 0 0 (omega (arith, given.enough, length-set ws 0 (plus_one bits (slice_index ws 0)))))
 keeps bits ws ps q t p (Step s) given = cc
 
 -- at the start the words are clear and all threads idle
