@@ -228,15 +228,15 @@ mcs_grant ws ps (second ∷ rest) t successor in_lock has_locked (grants_head, l
         rw (at_other ps t second Idle (λ same. cc (first_has second rest)) ∙ second_awaits)
             (rw (← is_second) (get_or-set_same ws (locked successor) 0 0 has_locked)),
         later_frame ws new_ws ps (set ps t Idle) second rest
-            (get_or-set_other _ _ _ _ _ (omega arith))
+            (get_or-set_other ws (locked successor) (next second) 0 0 (omega arith))
             (λ member queued.
             let in_queue : has (second ∷ rest) member ≡ true =
             or_right (eqb member second) (has rest member) queued in
             let differs : member ≢ successor = λ same. cc in
             record {
               phase = at_other ps t member Idle (λ same. cc);
-              next = get_or-set_other _ _ _ _ _ (omega arith);
-              locked = get_or-set_other _ _ _ _ _ (omega arith);
+              next = get_or-set_other ws (locked successor) (next member) 0 0 (omega arith);
+              locked = get_or-set_other ws (locked successor) (locked member) 0 0 (omega arith);
             })
             later,
       );
@@ -247,7 +247,7 @@ mcs_grant ws ps (second ∷ rest) t successor in_lock has_locked (grants_head, l
         | inl (_, same) ↦ rw (same, at_same ps t Idle in_lock) tt
         | inr (test, other) ↦
             stays_outside ws new_ws ps t thread Idle other
-            (get_or-set_other _ _ _ _ _ (omega arith))
+            (get_or-set_other ws (locked successor) (next thread) 0 0 (omega arith))
             (agreed.others thread (or_from (eqb thread t) (has (second ∷ rest) thread) test absent))
       ];
     }

@@ -46,8 +46,8 @@ keeps bits ws ps q t ClearNext (Step kind) given = (
   mcs_out given.agrees (set ws (next t) 0) t SwapTail given.thread
       (not_member given.agrees t given.phase_is (λ rest first. first) (λ before after. after))
       (get_or-set_other ws (next t) 0 0 0 (omega arith))
-      (λ other differs. get_or-set_other _ _ _ _ _ (omega arith))
-      (λ other. get_or-set_other _ _ _ _ _ (omega arith))
+      (λ other differs. get_or-set_other ws (next t) (next other) 0 0 (omega arith))
+      (λ other. get_or-set_other ws (next t) (locked other) 0 0 (omega arith))
       (get_or-set_same ws (next t) 0 0 (omega (arith, given.enough))),
 )
 keeps bits ws ps q t SwapTail (Step kind) given =
@@ -82,12 +82,12 @@ keeps bits ws ps q t (SetLocked predecessor) (Step kind) given =
               sym knows,
               (
                 knows,
-                get_or-set_other _ _ _ _ _ (omega arith) ∙ no_next,
+                get_or-set_other ws (locked t) (next before) 1 0 (omega arith) ∙ no_next,
                 get_or-set_same ws (locked t) 1 0 (omega (arith, given.enough)),
               ),
             ))
-            (λ other differs. get_or-set_other _ _ _ _ _ (omega arith))
-            (λ other differs. get_or-set_other _ _ _ _ _ (omega arith)) given.agrees,
+            (λ other differs. get_or-set_other ws (locked t) (next other) 1 0 (omega arith))
+            (λ other differs. get_or-set_other ws (locked t) (locked other) 1 0 (omega arith)) given.agrees,
       )
     ]
 keeps bits ws ps q t (LinkTo predecessor) (Step kind) given =
@@ -104,11 +104,11 @@ keeps bits ws ps q t (LinkTo predecessor) (Step kind) given =
                 rw (← knows)
                     (get_or-set_same ws (next predecessor) (t + 1) 0
                     (omega (arith, given.fits, given.enough))),
-                get_or-set_other _ _ _ _ _ (omega arith) ∙ locks,
+                get_or-set_other ws (next predecessor) (locked t) (t + 1) 0 (omega arith) ∙ locks,
               ),
             ))
-            (λ other differs. get_or-set_other _ _ _ _ _ (omega arith))
-            (λ other differs. get_or-set_other _ _ _ _ _ (omega arith)) given.agrees,
+            (λ other differs. get_or-set_other ws (next predecessor) (next other) (t + 1) 0 (omega arith))
+            (λ other differs. get_or-set_other ws (next predecessor) (locked other) (t + 1) 0 (omega arith)) given.agrees,
       )
     ]
 keeps bits ws ps q t AwaitGrant (Step kind) given = elim (eqb_tells (locked_of ws t) 0) [
