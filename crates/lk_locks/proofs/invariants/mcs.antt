@@ -1,10 +1,10 @@
 -- The MCS queue lock: each step adds the next entries of its call, and each move preserves that
 -- words and phases agree with the queue.
-use Rattle.std.proofs.Common.{List, ap, arith, inl, inr, refl, set, slice_index}
+use Rattle.std.proofs.Common.{List, ap, arith, inl, inr, refl, set, slice_index, rules, length, ◌≤◌}
 use Rattle.std.proofs.Common.{sym, ℕ, ◌*◌, ◌+◌, ◌-◌, ◌<◌, ◌∙◌, ◌≡◌, ◌^◌}
-use Rattle.std.proofs.lemmas.Bool.{eq-eqb}
+use Rattle.std.proofs.lemmas.Bool.{eq-eqb, cases_lt}
 use Rattle.std.proofs.lemmas.Bool.Decides.{eqb_tells}
-use Rattle.std.proofs.lemmas.List.{get_or-set_same, get_or-set_other}
+use Rattle.std.proofs.lemmas.List.{get_or-set_same, get_or-set_other, length-set, set_past}
 use Rattle.lk_locks.specs.Sequential.{nobody}
 use Rattle.lk_locks.specs.State.{start}
 use Rattle.lk_locks.specs.invariants.Locks.{AgreeAs}
@@ -26,8 +26,6 @@ use Rattle.lk_locks.specs.declared.kinds.Phase.TheVariants.{McsInside, ReadNext,
 use Rattle.lk_locks.specs.declared.kinds.Phase.TheVariants.{SwapTail}
 use Rattle.lk_locks.proofs.Requests.{allows_acquire, allows_release}
 use Rattle.lk_locks.specs.Locks.{family_of}
-use Rattle.lk_locks.proofs.invariants.McsSteps.{begins, call_fits, few_entries, goes_on}
-use Rattle.lk_locks.proofs.invariants.McsSteps.{keeps_length, links_fit, owed_is_own, step_fits}
 
 -- each move keeps the queue, and its entries may come
 keeps : Keeps Mcs
@@ -188,21 +186,32 @@ starts bits ws n few clear = record {
   others = λ t not_queued. rw (all_idle n t) tt;
 }
 
--- all that the other proofs use of the MCS lock
+-- a word that names a thread, or none, still does after a write of such a value to any word
+word_fits : (n : ℕ) (ws : List ℕ) (written value word : ℕ) → value ≤ n → slice_index ws word ≤ n
+    → slice_index (set ws written value) word ≤ n
+word_fits n ws written value word value_fits word_fitted = elim (eqb_tells word written) [
+  | inr (_, other) ↦ rw (get_or-set_other ws written word value 0 other) word_fitted
+  | inl (_, same) ↦ elim (cases_lt written (length ws)) [
+    | inl inside ↦ rw (same, get_or-set_same ws written value 0 inside) value_fits
+    | inr past ↦ rw (set_past ws written value past) word_fitted
+  ]
+]
+
+-- all that the other proofs use of the MCS lock; most of it is found from its table, by cases
 pub proof : LockProof Mcs
 proof = record {
-  goes_on = goes_on;
-  begins = begins;
-  owed_is_own = owed_is_own;
+  goes_on = λ bits t ws p. grind arith;
+  begins = λ n t p op fits own not_refused. grind arith;
+  owed_is_own = λ t p. search rules;
   idle_rest = λ t. refl;
-  few_entries = few_entries;
-  keeps_length = keeps_length;
+  few_entries = λ t p outcome. grind arith;
+  keeps_length = λ bits t ws p. grind (arith, length-set);
   idle_fits = λ n. tt;
-  call_fits = call_fits;
-  step_fits = step_fits;
+  call_fits = λ n p op fits. grind arith;
+  step_fits = λ n bits t ws p in_lock fits links. grind arith;
   clear_links =
       λ n ws clear. (omega (arith, clear 0), λ thread below. omega (arith, clear (1 + 2 * thread)));
-  links_fit = links_fit;
+  links_fit = λ n bits t ws p in_lock links. grind (arith, word_fits n);
   starts = starts;
   keeps = keeps;
 }

@@ -1,7 +1,7 @@
 -- The simple read-write lock: each section adds the next entries of its call, and each move
 -- preserves that the count and the flag agree with the holders.
-use Rattle.std.proofs.Common.{List, None, ap, arith, inl, inr, length, refl, rules, set}
-use Rattle.std.proofs.Common.{slice_index, sym, true, unwrap_or, ℕ, ◌%◌, ◌&&◌, ◌+◌, ◌-◌, ◌<◌, ◌==◌}
+use Rattle.std.proofs.Common.{List, ap, arith, inl, inr, length, refl, rules, set}
+use Rattle.std.proofs.Common.{slice_index, sym, ℕ, ◌%◌, ◌+◌, ◌-◌, ◌<◌}
 use Rattle.std.proofs.Common.{◌^◌, ◌∙◌, ◌≡◌, ◌≤◌}
 use Rattle.std.proofs.Math.Nat.{add-mod_right, mod-eq_of_lt}
 use Rattle.std.proofs.lemmas.Bool.Decides.{eqb_tells}
@@ -9,86 +9,18 @@ use Rattle.std.proofs.lemmas.List.{get_or-set_other, get_or-set_same, length-set
 use Rattle.lk_locks.specs.Change.{less_one, plus_one, raised}
 use Rattle.lk_locks.specs.Sequential.{nobody}
 use Rattle.lk_locks.specs.State.{start}
-use Rattle.lk_locks.specs.Locks.{after_call}
-use Rattle.lk_locks.specs.Steps.{has_op, refusal_in}
-use Rattle.lk_locks.specs.invariants.Locks.{AgreeAs, AreLinks, IsPhaseOf}
-use Rattle.lk_locks.specs.invariants.read_write.{owed}
+use Rattle.lk_locks.specs.invariants.Locks.{AgreeAs}
 use Rattle.lk_locks.specs.invariants.rw_simple.{Count}
-use Rattle.lk_locks.specs.rw_simple.{step}
-use Rattle.lk_locks.proofs.Cases.{AreOf, Begins, Fits, GoesOn, LockProof, Keeps}
-use Rattle.lk_locks.proofs.Cases.{KeepsLength, either_way, waits}
+use Rattle.lk_locks.proofs.Cases.{LockProof, Keeps}
+use Rattle.lk_locks.proofs.Cases.{waits}
 use Rattle.std.proofs.lemmas.List.{nil_from_length}
 use Rattle.lk_locks.proofs.invariants.HolderLists.{flag_none, no_holders}
 use Rattle.lk_locks.proofs.invariants.ReadWriteMoves.{below_64, calls, downgrades, joins, leaves}
 use Rattle.lk_locks.proofs.invariants.ReadWriteMoves.{unwrites, writes}
-use Rattle.lk_locks.proofs.invariants.read_write.{few_entries}
-use Rattle.lk_locks.specs.declared.kinds.Family.TheVariants.{ReadWrite}
 use Rattle.lk_locks.specs.declared.kinds.LockKind.TheVariants.{RwSimple}
 use Rattle.lk_locks.specs.declared.kinds.Move.TheVariants.{Call, Step}
-use Rattle.lk_locks.specs.declared.kinds.Op.{Op}
-use Rattle.lk_locks.specs.declared.kinds.Op.TheVariants.{Downgrade, ReadLock, ReadUnlock, WriteLock}
-use Rattle.lk_locks.specs.declared.kinds.Op.TheVariants.{WriteUnlock}
-use Rattle.lk_locks.specs.declared.kinds.Phase.{Phase}
-use Rattle.lk_locks.specs.declared.kinds.Phase.TheVariants.{Idle, LeaveRead, LeaveWrite, Reading}
+use Rattle.lk_locks.specs.declared.kinds.Phase.TheVariants.{Idle, LeaveRead, LeaveWrite}
 use Rattle.lk_locks.specs.declared.kinds.Phase.TheVariants.{TryDowngrade, TryRead, TryWrite}
-use Rattle.lk_locks.specs.declared.kinds.Phase.TheVariants.{Writing}
-
--- each section adds the next entries of the pending call
-goes_on : (bits t : ℕ) (ws : List ℕ) (p : Phase) → GoesOn RwSimple t p (step bits ws p)
-goes_on bits t ws TryRead =
-    either_way (GoesOn RwSimple t TryRead) (slice_index ws 1 == 0) _ _ refl refl
-goes_on bits t ws TryWrite =
-    either_way (GoesOn RwSimple t TryWrite) (slice_index ws 0 == 0 && slice_index ws 1 == 0) _ _
-    refl refl
-goes_on bits t ws p = refl
-
--- a call begins when the one before it is finished
-begins : (n t : ℕ) (p : Phase) (op : Op) → IsPhaseOf RwSimple n p → has_op ReadWrite op ≡ true
-    → refusal_in RwSimple p (Call op) ≡ None
-    → Begins RwSimple t p op
-begins n t Idle ReadLock fits own not_refused = (refl, refl)
-begins n t Idle WriteLock fits own not_refused = (refl, refl)
-begins n t Reading ReadUnlock fits own not_refused = (refl, refl)
-begins n t Writing WriteUnlock fits own not_refused = (refl, refl)
-begins n t Writing Downgrade fits own not_refused = (refl, refl)
-begins n t p op fits own not_refused = cc
-
--- what is left of a call is of its thread
-owed_is_own : (t : ℕ) (p : Phase) → AreOf t (owed ReadWrite t p)
-owed_is_own t p = search rules
-
--- no section changes how many words there are
-keeps_length : (bits t : ℕ) (ws : List ℕ) (p : Phase) → KeepsLength ws (step bits ws p)
-keeps_length bits t ws TryRead =
-    either_way (KeepsLength ws) (slice_index ws 1 == 0) _ _ (length-set _ _ _) refl
-keeps_length bits t ws LeaveRead = length-set _ _ _
-keeps_length bits t ws TryWrite =
-    either_way (KeepsLength ws) (slice_index ws 0 == 0 && slice_index ws 1 == 0) _ _
-    (length-set _ _ _) refl
-keeps_length bits t ws LeaveWrite = length-set _ _ _
-keeps_length bits t ws TryDowngrade = length-set _ _ _ ∙ length-set _ _ _
-keeps_length bits t ws p = refl
-
--- the new phase is one of the lock's
-step_fits : (n bits t : ℕ) (ws : List ℕ) (p : Phase) → t < n → IsPhaseOf RwSimple n p
-    → AreLinks RwSimple n ws → Fits RwSimple n (step bits ws p)
-step_fits n bits t ws TryRead in_lock fits links =
-    either_way (Fits RwSimple n) (slice_index ws 1 == 0) _ _ refl refl
-step_fits n bits t ws LeaveRead in_lock fits links = refl
-step_fits n bits t ws TryWrite in_lock fits links =
-    either_way (Fits RwSimple n) (slice_index ws 0 == 0 && slice_index ws 1 == 0) _ _ refl refl
-step_fits n bits t ws LeaveWrite in_lock fits links = refl
-step_fits n bits t ws p in_lock fits links = fits
-
--- a call puts its thread into a phase of the simple read-write lock
-call_fits : (n : ℕ) (p : Phase) (op : Op) → IsPhaseOf RwSimple n p
-    → IsPhaseOf RwSimple n (unwrap_or (after_call RwSimple p op) p)
-call_fits n Idle ReadLock fits = refl
-call_fits n Idle WriteLock fits = refl
-call_fits n Reading ReadUnlock fits = refl
-call_fits n Writing WriteUnlock fits = refl
-call_fits n Writing Downgrade fits = refl
-call_fits n p op fits = fits
 
 -- one more, and then one less, is the same count if the word does not wrap
 less : (bits count : ℕ) → count + 1 < 2 ^ bits → less_one bits (count + 1) ≡ count
@@ -168,18 +100,18 @@ starts bits ws n threads_fit clear = record {
   holders = no_holders RwSimple n;
 }
 
--- all that the other proofs use of the simple read-write lock
+-- all that the other proofs use of the simple read-write lock; most of it is found from its table, by cases
 pub proof : LockProof RwSimple
 proof = record {
-  goes_on = goes_on;
-  begins = begins;
-  owed_is_own = owed_is_own;
+  goes_on = λ bits t ws p. grind arith;
+  begins = λ n t p op fits own not_refused. grind arith;
+  owed_is_own = λ t p. search rules;
   idle_rest = λ t. refl;
-  few_entries = few_entries ReadWrite;
-  keeps_length = keeps_length;
+  few_entries = λ t p outcome. grind arith;
+  keeps_length = λ bits t ws p. grind (arith, length-set);
   idle_fits = λ n. refl;
-  call_fits = call_fits;
-  step_fits = step_fits;
+  call_fits = λ n p op fits. grind arith;
+  step_fits = λ n bits t ws p in_lock fits links. grind arith;
   clear_links = λ n ws clear. tt;
   links_fit = λ n bits t ws p in_lock links. tt;
   starts = starts;
