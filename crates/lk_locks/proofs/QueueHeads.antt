@@ -1,7 +1,7 @@
 -- The head of a queue of threads, and the one who holds.
-use Rattle.std.proofs.Common.{◌≡◌, ◌≢◌, ℕ, List, [], ◌∷◌, ◌++◌, drop, true, false}
-use Rattle.std.proofs.Common.{Option, None, Some, refl, ap, sym, ◌∙◌}
-use Rattle.std.proofs.lemmas.Bool.{eqb-true, eq-eqb, ne_eqb}
+use Rattle.std.proofs.Common.{◌≡◌, ◌≢◌, ℕ, List, [], ◌∷◌, ◌++◌, drop, true, false, arith}
+use Rattle.std.proofs.Common.{Option, None, Some, refl}
+use Rattle.std.proofs.lemmas.Bool.{eq-eqb}
 use Rattle.lk_locks.specs.Sequential.{has, is_head}
 use Rattle.lk_locks.specs.invariants.Threads.{EachOnce, is_this}
 
@@ -12,27 +12,20 @@ head_member (head ∷ rest) t at_head = rw at_head refl
 
 -- a queue has one head
 head_one : (q : List ℕ) (t other : ℕ) → is_head q t ≡ true → is_head q other ≡ true → t ≡ other
-head_one [] t other at_head other_at_head = cc
-head_one (head ∷ rest) t other at_head other_at_head =
-    eqb-true t head at_head ∙ sym (eqb-true other head other_at_head)
+head_one q t other at_head other_at_head = grind arith
 
 -- a head that leaves is no longer in the queue, since each request is in it once
 pub head_gone : (q : List ℕ) (t : ℕ) → is_head q t ≡ true → EachOnce q → has (drop 1 q) t ≡ false
-head_gone [] t at_head once = cc
-head_gone (head ∷ rest) t at_head (head_once, rest_once) =
-    ap (has rest) (eqb-true t head at_head) ∙ head_once
+head_gone q t at_head once = grind arith
 
 -- if the head leaves, the others stay in the queue
 pub others_stay : (q : List ℕ) (t other : ℕ) → is_head q t ≡ true → other ≢ t
     → has (drop 1 q) other ≡ has q other
-others_stay [] t other at_head differs = cc
-others_stay (head ∷ rest) t other at_head differs =
-    rw (ne_eqb other head (λ same. differs (same ∙ sym (eqb-true t head at_head)))) refl
+others_stay q t other at_head differs = grind arith
 
 -- without its head, a queue still has each thread at most once
 pub once_rest : (q : List ℕ) → EachOnce q → EachOnce (drop 1 q)
-once_rest [] once = tt
-once_rest (head ∷ rest) (head_once, rest_once) = rest_once
+once_rest q once = grind arith
 
 -- the head stays head if a thread is appended
 pub head_more : (q : List ℕ) (t head : ℕ) → is_head q head ≡ true

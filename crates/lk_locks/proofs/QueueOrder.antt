@@ -1,7 +1,7 @@
 -- The holders of a queue lock are apart, and enter in the order of their requests.
 use Rattle.std.proofs.Common.{◌≡◌, ℕ, List, [], ◌∷◌, ◌++◌, drop, true, Option, None, Some, ap, sym}
-use Rattle.std.proofs.Common.{◌∙◌, append_assoc, inl, inr, ◌⊎◌, refl}
-use Rattle.std.proofs.lemmas.Bool.{eqb-true, eq-eqb}
+use Rattle.std.proofs.Common.{◌∙◌, append_assoc, inl, inr, ◌⊎◌, refl, arith}
+use Rattle.std.proofs.lemmas.Bool.{eq-eqb}
 use Rattle.std.proofs.lemmas.List.{append-nil}
 use Rattle.lk_locks.specs.Sequential.{Sequential, nobody, is_head, after_entry}
 use Rattle.lk_locks.specs.Legal.{AreEnabled, OfEveryLegal}
@@ -53,8 +53,7 @@ holders_are_apart kind n es legal t other before middle after is =
 
 -- a queue is its head and the rest
 head_split : (q : List ℕ) (t : ℕ) → is_head q t ≡ true → t ∷ drop 1 q ≡ q
-head_split [] t at_head = cc
-head_split (head ∷ rest) t at_head = ap (λ first. first ∷ rest) (eqb-true t head at_head)
+head_split q t at_head = grind arith
 
 -- the holder, those that enter and some others are, in order, the queue and those that join it
 abbrev AreServed : Option ℕ → List ℕ → List Entry → Type 0

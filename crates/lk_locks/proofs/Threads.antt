@@ -1,8 +1,8 @@
 -- Lists of threads.
 use Rattle.std.proofs.Common.{Bool, List, [], arith, eqb, false, inl, inr, length, refl, set, sym}
 use Rattle.std.proofs.Common.{replicate, true, ℕ, ◌++◌, ◌<◌, ◌∙◌, ◌∷◌, ◌≡◌, ◌≢◌, ◌⊎◌, drop, Option}
-use Rattle.std.proofs.Common.{None, Some, ap}
-use Rattle.std.proofs.lemmas.Bool.{cases_lt, eq-eqb, eqb-false, ne_eqb, or_left, eqb-true}
+use Rattle.std.proofs.Common.{Some}
+use Rattle.std.proofs.lemmas.Bool.{cases_lt, eqb-false, ne_eqb}
 use Rattle.std.proofs.lemmas.Bool.{or_parts, or_right}
 use Rattle.std.proofs.lemmas.Bool.Decides.{eqb_tells}
 use Rattle.std.proofs.lemmas.List.{get_or-replicate, get_or-set_other, get_or-set_same, get_or_past}
@@ -23,17 +23,15 @@ true_or_false false = inr refl
 
 -- whom the test finds to have a place has it
 pub this_is : (place : Option ℕ) (t : ℕ) → is_this place t ≡ true → place ≡ Some t
-this_is None t found = cc
-this_is (Some other) t found = ap (λ thread. Some thread) (sym (eqb-true t other found))
+this_is place t found = grind arith
 
 -- the first of a list is in it
 pub first_has : (t : ℕ) (rest : List ℕ) → has (t ∷ rest) t ≡ true
-first_has t rest = or_left (eqb t t) (has rest t) (eq-eqb t t refl)
+first_has t rest = grind arith
 
 -- who is not in a list is not after its first
 pub rest_false : (q : List ℕ) (t : ℕ) → has q t ≡ false → has (drop 1 q) t ≡ false
-rest_false [] t absent = refl
-rest_false (first ∷ rest) t absent = (or_parts (eqb t first) (has rest t) absent).1
+rest_false q t absent = grind arith
 
 -- if a thread is appended, the others are in the list exactly if they were
 pub more_other : (q : List ℕ) (t other : ℕ) → other ≢ t → has (q ++ t ∷ []) other ≡ has q other

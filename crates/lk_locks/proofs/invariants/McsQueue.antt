@@ -14,7 +14,7 @@ use Rattle.lk_locks.specs.mcs.{locked, next}
 use Rattle.lk_locks.proofs.Threads.{at_other, at_same, once_more, first_has}
 use Rattle.lk_locks.proofs.Threads.{members_more, more_other, more_same}
 use Rattle.lk_locks.specs.declared.kinds.Phase.{Phase}
-use Rattle.lk_locks.specs.declared.kinds.Phase.TheVariants.{AwaitGrant, Grant, Idle, LinkTo}
+use Rattle.lk_locks.specs.declared.kinds.Phase.TheVariants.{AwaitGrant, Grant, Idle}
 use Rattle.lk_locks.specs.declared.kinds.Phase.TheVariants.{McsInside, SetLocked}
 use Rattle.lk_locks.proofs.invariants.McsLinks.{IsHeadOf, has_predecessor}
 use Rattle.lk_locks.proofs.invariants.McsLinks.{first_more, last_more, later_change, later_frame}
@@ -201,12 +201,7 @@ mcs_only ws ps t in_lock has_tail agreed = record {
 -- whom its predecessor's link names waits to be granted
 pub granted : (ws : List ℕ) (before t : ℕ) (p : Phase) → next_of ws before ≡ t + 1
     → IsSuccessor ws before t p → p ≡ AwaitGrant
-granted ws before t (SetLocked known) linked (knows, no_next) =
-    absurd (omega (arith, linked, no_next))
-granted ws before t (LinkTo known) linked (knows, no_next, locks) =
-    absurd (omega (arith, linked, no_next))
-granted ws before t AwaitGrant linked after = refl
-granted ws before t p linked after = absurd after
+granted ws before t p linked after = grind arith
 
 -- a grant takes the head off the queue, and its successor becomes the head
 pub mcs_grant : (ws : List ℕ) (ps : List Phase) (rest : List ℕ) (t successor : ℕ)
@@ -255,11 +250,7 @@ mcs_grant ws ps (second ∷ rest) t successor in_lock has_locked (grants_head, l
 -- if its predecessor's link is not nil, a thread is the one that the link names
 pub linked_is : (ws : List ℕ) (before t : ℕ) (p : Phase) → next_of ws before ≢ 0
     → IsSuccessor ws before t p → next_of ws before - 1 ≡ t
-linked_is ws before t (SetLocked known) has_next (knows, no_next) = absurd (has_next no_next)
-linked_is ws before t (LinkTo known) has_next (knows, no_next, locks) =
-    absurd (has_next no_next)
-linked_is ws before t AwaitGrant has_next (linked, locks) = omega (arith, linked)
-linked_is ws before t p has_next after = absurd after
+linked_is ws before t p has_next after = grind arith
 
 -- once the head has read its link, the link names the second in the queue, and the head may grant
 pub may_grant : (ws : List ℕ) (ps : List Phase) (t : ℕ) (q : List ℕ) → IsRest ws ps t q

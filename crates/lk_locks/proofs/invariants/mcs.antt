@@ -5,6 +5,7 @@ use Rattle.std.proofs.Common.{sym, ℕ, ◌*◌, ◌+◌, ◌-◌, ◌<◌, ◌�
 use Rattle.std.proofs.lemmas.Bool.{eq-eqb, cases_lt}
 use Rattle.std.proofs.lemmas.Bool.Decides.{eqb_tells}
 use Rattle.std.proofs.lemmas.List.{get_or-set_same, get_or-set_other, length-set, set_past}
+use Rattle.std.proofs.lemmas.Grind.{common_steps}
 use Rattle.lk_locks.specs.Sequential.{nobody}
 use Rattle.lk_locks.specs.State.{start}
 use Rattle.lk_locks.specs.invariants.Locks.{AgreeAs}
@@ -200,15 +201,20 @@ word_fits n ws written value word value_fits word_fitted = elim (eqb_tells word 
 -- all that the other proofs use of the MCS lock; most of it is found from its table, by cases
 pub proof : LockProof Mcs
 proof = record {
-  goes_on = λ bits t ws p. grind arith;
-  begins = λ n t p op fits own not_refused. grind arith;
+  goes_on = λ bits t ws p. first_of (grind arith, search rules, grind (arith, common_steps));
+  begins =
+      λ n t p op fits own not_refused.
+      first_of (grind arith, search rules, grind (arith, common_steps));
   owed_is_own = λ t p. search rules;
   idle_rest = λ t. refl;
-  few_entries = λ t p outcome. grind arith;
-  keeps_length = λ bits t ws p. grind (arith, length-set);
+  few_entries = λ t p outcome. first_of (grind arith, search rules, grind (arith, common_steps));
+  keeps_length =
+      λ bits t ws p. first_of (grind (arith, length-set), search (rules, length-set));
   idle_fits = λ n. tt;
-  call_fits = λ n p op fits. grind arith;
-  step_fits = λ n bits t ws p in_lock fits links. grind arith;
+  call_fits = λ n p op fits. first_of (grind arith, search rules, grind (arith, common_steps));
+  step_fits =
+      λ n bits t ws p in_lock fits links.
+      first_of (grind arith, search rules, grind (arith, common_steps));
   clear_links =
       λ n ws clear. (omega (arith, clear 0), λ thread below. omega (arith, clear (1 + 2 * thread)));
   links_fit = λ n bits t ws p in_lock links. grind (arith, word_fits n);
