@@ -1,10 +1,9 @@
 -- The head of a queue of threads, and the one who holds.
-use Rattle.std.proofs.Common.{◌≡◌, ◌≢◌, ℕ, List, [], ◌∷◌, ◌++◌, drop, true, false, arith, rules}
+use Rattle.std.proofs.Common.{◌≡◌, ◌≢◌, ℕ, List, [], ◌∷◌, ◌++◌, drop, true, false, arith}
 use Rattle.std.proofs.Common.{Option, None, Some, refl}
 use Rattle.std.proofs.lemmas.Bool.{eq-eqb}
 use Rattle.lk_locks.specs.Sequential.{has, is_head}
 use Rattle.lk_locks.specs.invariants.Threads.{EachOnce, is_this}
-use Rattle.std.proofs.lemmas.Bool.Decides.{nat_tests}
 
 -- the head is in the queue
 pub head_member : (q : List ℕ) (t : ℕ) → is_head q t ≡ true → has q t ≡ true
@@ -13,20 +12,20 @@ head_member (head ∷ rest) t at_head = rw at_head refl
 
 -- a queue has one head
 head_one : (q : List ℕ) (t other : ℕ) → is_head q t ≡ true → is_head q other ≡ true → t ≡ other
-head_one q t other at_head other_at_head = grind (arith, nat_tests)
+head_one q t other at_head other_at_head = grind arith
 
 -- a head that leaves is no longer in the queue, since each request is in it once
 pub head_gone : (q : List ℕ) (t : ℕ) → is_head q t ≡ true → EachOnce q → has (drop 1 q) t ≡ false
-head_gone q t at_head once = grind (arith, nat_tests)
+head_gone q t at_head once = grind arith
 
 -- if the head leaves, the others stay in the queue
 pub others_stay : (q : List ℕ) (t other : ℕ) → is_head q t ≡ true → other ≢ t
     → has (drop 1 q) other ≡ has q other
-others_stay q t other at_head differs = grind (arith, nat_tests)
+others_stay q t other at_head differs = grind arith
 
 -- without its head, a queue still has each thread at most once
 pub once_rest : (q : List ℕ) → EachOnce q → EachOnce (drop 1 q)
-once_rest q once = first_of (grind arith, search rules)
+once_rest q once = grind arith
 
 -- the head stays head if a thread is appended
 pub head_more : (q : List ℕ) (t head : ℕ) → is_head q head ≡ true

@@ -15,7 +15,6 @@ use Rattle.lk_locks.specs.declared.kinds.Entry.{Entry}
 use Rattle.lk_locks.specs.declared.kinds.Entry.TheVariants.{Acted, Returned}
 use Rattle.lk_locks.proofs.QueueLaws.{HoldsAlong, holders_take_turns, in_order}
 use Rattle.lk_locks.proofs.QueueHeads.{HeadHolds}
-use Rattle.std.proofs.lemmas.Bool.Decides.{nat_tests}
 
 -- holders are apart
 
@@ -54,7 +53,7 @@ holders_are_apart kind n es legal t other before middle after is =
 
 -- a queue is its head and the rest
 head_split : (q : List ℕ) (t : ℕ) → is_head q t ≡ true → t ∷ drop 1 q ≡ q
-head_split q t at_head = grind (arith, nat_tests)
+head_split q t at_head = grind arith
 
 -- the holder, those that enter and some others are, in order, the queue and those that join it
 abbrev AreServed : Option ℕ → List ℕ → List Entry → Type 0

@@ -1,10 +1,10 @@
 -- Lists of threads.
 use Rattle.std.proofs.Common.{Bool, List, [], arith, eqb, false, inl, inr, length, refl, set, sym}
 use Rattle.std.proofs.Common.{replicate, true, ℕ, ◌++◌, ◌<◌, ◌∙◌, ◌∷◌, ◌≡◌, ◌≢◌, ◌⊎◌, drop, Option}
-use Rattle.std.proofs.Common.{Some, rules}
+use Rattle.std.proofs.Common.{Some}
 use Rattle.std.proofs.lemmas.Bool.{cases_lt, eqb-false, ne_eqb}
 use Rattle.std.proofs.lemmas.Bool.{or_parts, or_right}
-use Rattle.std.proofs.lemmas.Bool.Decides.{eqb_tells, nat_tests}
+use Rattle.std.proofs.lemmas.Bool.Decides.{eqb_tells}
 use Rattle.std.proofs.lemmas.List.{get_or-replicate, get_or-set_other, get_or-set_same, get_or_past}
 use Rattle.std.proofs.lemmas.List.{length-replicate}
 use Rattle.std.proofs.lemmas.List.Folds.{list_any-append}
@@ -23,15 +23,15 @@ true_or_false false = inr refl
 
 -- whom the test finds to have a place has it
 pub this_is : (place : Option ℕ) (t : ℕ) → is_this place t ≡ true → place ≡ Some t
-this_is place t found = grind (arith, nat_tests)
+this_is place t found = grind arith
 
 -- the first of a list is in it
 pub first_has : (t : ℕ) (rest : List ℕ) → has (t ∷ rest) t ≡ true
-first_has t rest = grind (arith, nat_tests)
+first_has t rest = grind arith
 
 -- who is not in a list is not after its first
 pub rest_false : (q : List ℕ) (t : ℕ) → has q t ≡ false → has (drop 1 q) t ≡ false
-rest_false q t absent = first_of (grind arith, search rules)
+rest_false q t absent = grind arith
 
 -- if a thread is appended, the others are in the list exactly if they were
 pub more_other : (q : List ℕ) (t other : ℕ) → other ≢ t → has (q ++ t ∷ []) other ≡ has q other
