@@ -5,7 +5,6 @@ use Rattle.std.proofs.Common.{sym, ℕ, ◌*◌, ◌+◌, ◌-◌, ◌<◌, ◌�
 use Rattle.std.proofs.lemmas.Bool.{eq-eqb, cases_lt}
 use Rattle.std.proofs.lemmas.Bool.Decides.{eqb_tells}
 use Rattle.std.proofs.lemmas.List.{get_or-set_same, get_or-set_other, length-set, set_past}
-use Rattle.std.proofs.lemmas.Grind.{common_steps}
 use Rattle.lk_locks.specs.Sequential.{nobody}
 use Rattle.lk_locks.specs.State.{start}
 use Rattle.lk_locks.specs.invariants.Locks.{AgreeAs}
@@ -113,11 +112,11 @@ keeps bits ws ps q t (LinkTo predecessor) (Step kind) given =
 keeps bits ws ps q t AwaitGrant (Step kind) given = elim (eqb_tells (locked_of ws t) 0) [
   | inr (test, _) ↦ rw test (waits given)
   | inl (test, granted) ↦ rw test (
-    elim (place_of given.agrees t given.phase_is (λ outside. outside)) [
-      | inl at_head ↦ ((at_head.head, tt), head_moves McsInside at_head given.thread tt given.agrees)
-      | inr (in_rest, before, (linked, locks)) ↦ absurd (omega (arith, locks, granted))
-    ]
-  )
+      elim (place_of given.agrees t given.phase_is (λ outside. outside)) [
+        | inl at_head ↦ ((at_head.head, tt), head_moves McsInside at_head given.thread tt given.agrees)
+        | inr (in_rest, before, (linked, locks)) ↦ absurd (omega (arith, locks, granted))
+      ]
+      )
 ]
 keeps bits ws ps q t ReadNext (Step kind) given =
     let at_head =
@@ -201,20 +200,15 @@ word_fits n ws written value word value_fits word_fitted = elim (eqb_tells word 
 -- all that the other proofs use of the MCS lock; most of it is found from its table, by cases
 pub proof : LockProof Mcs
 proof = record {
-  goes_on = λ bits t ws p. first_of (grind arith, search rules, grind (arith, common_steps));
-  begins =
-      λ n t p op fits own not_refused.
-      first_of (grind arith, search rules, grind (arith, common_steps));
+  goes_on = λ bits t ws p. search rules;
+  begins = λ n t p op fits own not_refused. search rules;
   owed_is_own = λ t p. search rules;
   idle_rest = λ t. refl;
-  few_entries = λ t p outcome. first_of (grind arith, search rules, grind (arith, common_steps));
-  keeps_length =
-      λ bits t ws p. first_of (grind (arith, length-set), search (rules, length-set));
+  few_entries = λ t p outcome. search rules;
+  keeps_length = λ bits t ws p. search (rules, length-set);
   idle_fits = λ n. tt;
-  call_fits = λ n p op fits. first_of (grind arith, search rules, grind (arith, common_steps));
-  step_fits =
-      λ n bits t ws p in_lock fits links.
-      first_of (grind arith, search rules, grind (arith, common_steps));
+  call_fits = λ n p op fits. search rules;
+  step_fits = λ n bits t ws p in_lock fits links. search rules;
   clear_links =
       λ n ws clear. (omega (arith, clear 0), λ thread below. omega (arith, clear (1 + 2 * thread)));
   links_fit = λ n bits t ws p in_lock links. grind (arith, word_fits n);

@@ -17,7 +17,6 @@ use Rattle.lk_locks.specs.invariants.rw_fifo.{AgreesWith, Count}
 use Rattle.lk_locks.proofs.Cases.{LockProof, Keeps}
 use Rattle.lk_locks.proofs.Cases.{waits}
 use Rattle.std.proofs.lemmas.List.{nil_from_length}
-use Rattle.std.proofs.lemmas.Grind.{common_steps}
 use Rattle.lk_locks.proofs.Words.{no_round, plus_one-lt, plus_one_plus}
 use Rattle.lk_locks.proofs.Threads.{this_is}
 use Rattle.lk_locks.proofs.invariants.HolderLists.{flag_none, flag_some}
@@ -171,20 +170,15 @@ starts bits ws n threads_fit clear = record {
 -- all that the other proofs use of the FIFO read-write lock; most of it is found from its table, by cases
 pub proof : LockProof RwFifo
 proof = record {
-  goes_on = λ bits t ws p. first_of (grind arith, search rules, grind (arith, common_steps));
-  begins =
-      λ n t p op fits own not_refused.
-      first_of (grind arith, search rules, grind (arith, common_steps));
+  goes_on = λ bits t ws p. search rules;
+  begins = λ n t p op fits own not_refused. search rules;
   owed_is_own = λ t p. search rules;
   idle_rest = λ t. refl;
-  few_entries = λ t p outcome. first_of (grind arith, search rules, grind (arith, common_steps));
-  keeps_length =
-      λ bits t ws p. first_of (grind (arith, length-set), search (rules, length-set));
+  few_entries = λ t p outcome. search rules;
+  keeps_length = λ bits t ws p. search (rules, length-set);
   idle_fits = λ n. refl;
-  call_fits = λ n p op fits. first_of (grind arith, search rules, grind (arith, common_steps));
-  step_fits =
-      λ n bits t ws p in_lock fits links.
-      first_of (grind arith, search rules, grind (arith, common_steps));
+  call_fits = λ n p op fits. search rules;
+  step_fits = λ n bits t ws p in_lock fits links. search rules;
   clear_links = λ n ws clear. tt;
   links_fit = λ n bits t ws p in_lock links. tt;
   starts = starts;

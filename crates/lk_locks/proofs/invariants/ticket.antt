@@ -94,15 +94,15 @@ starts bits ws n few clear = record {
 -- all that the other proofs use of the ticket lock; most of it is found from its table, by cases
 pub proof : LockProof Ticket
 proof = record {
-  goes_on = λ bits t ws p. grind arith;
-  begins = λ n t p op fits own not_refused. grind arith;
+  goes_on = λ bits t ws p. search rules;
+  begins = λ n t p op fits own not_refused. search rules;
   owed_is_own = λ t p. search rules;
   idle_rest = λ t. refl;
-  few_entries = λ t p outcome. first_of (grind arith, search rules);
-  keeps_length = λ bits t ws p. grind (arith, length-set);
+  few_entries = λ t p outcome. search rules;
+  keeps_length = λ bits t ws p. search (rules, length-set);
   idle_fits = λ n. refl;
-  call_fits = λ n p op fits. grind arith;
-  step_fits = λ n bits t ws p in_lock fits links. grind arith;
+  call_fits = λ n p op fits. search rules;
+  step_fits = λ n bits t ws p in_lock fits links. search rules;
   clear_links = λ n ws clear. tt;
   links_fit = λ n bits t ws p in_lock links. tt;
   starts = starts;
