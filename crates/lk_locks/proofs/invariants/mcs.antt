@@ -5,6 +5,7 @@ use Rattle.std.proofs.Common.{sym, ℕ, ◌*◌, ◌+◌, ◌-◌, ◌<◌, ◌�
 use Rattle.std.proofs.lemmas.Bool.{eq-eqb, cases_lt}
 use Rattle.std.proofs.lemmas.Bool.Decides.{eqb_tells}
 use Rattle.std.proofs.lemmas.List.{get_or-set_same, get_or-set_other, length-set, set_past}
+use Rattle.std.proofs.lemmas.Grind.{common_steps}
 use Rattle.lk_locks.specs.Sequential.{nobody}
 use Rattle.lk_locks.specs.State.{start}
 use Rattle.lk_locks.specs.invariants.Locks.{AgreeAs}
@@ -200,7 +201,7 @@ word_fits n ws written value word value_fits word_fitted = elim (eqb_tells word 
 -- all that the other proofs use of the MCS lock; most of it is found from its table, by cases
 pub proof : LockProof Mcs
 proof = record {
-  goes_on = λ bits t ws p. search rules;
+  goes_on = λ bits t ws p. grind (arith, common_steps);
   begins = λ n t p op fits own not_refused. search rules;
   owed_is_own = λ t p. search rules;
   idle_rest = λ t. refl;

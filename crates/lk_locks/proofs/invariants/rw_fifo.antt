@@ -17,6 +17,7 @@ use Rattle.lk_locks.specs.invariants.rw_fifo.{AgreesWith, Count}
 use Rattle.lk_locks.proofs.Cases.{LockProof, Keeps}
 use Rattle.lk_locks.proofs.Cases.{waits}
 use Rattle.std.proofs.lemmas.List.{nil_from_length}
+use Rattle.std.proofs.lemmas.Grind.{common_steps}
 use Rattle.lk_locks.proofs.Words.{no_round, plus_one-lt, plus_one_plus}
 use Rattle.lk_locks.proofs.Threads.{this_is}
 use Rattle.lk_locks.proofs.invariants.HolderLists.{flag_none, flag_some}
@@ -170,7 +171,7 @@ starts bits ws n threads_fit clear = record {
 -- all that the other proofs use of the FIFO read-write lock; most of it is found from its table, by cases
 pub proof : LockProof RwFifo
 proof = record {
-  goes_on = λ bits t ws p. search rules;
+  goes_on = λ bits t ws p. grind (arith, common_steps);
   begins = λ n t p op fits own not_refused. search rules;
   owed_is_own = λ t p. search rules;
   idle_rest = λ t. refl;
