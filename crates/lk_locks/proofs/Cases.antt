@@ -63,23 +63,27 @@ pub record IsTaken (kind : LockKind) (bits : ℕ) (ws : List ℕ) (ps : List Pha
   pub not_refused : refusal_in kind p m ≡ None
   pub agrees : AgreeAs kind (record { kind = kind; bits = bits; words = ws; phases = ps }) q
 
--- What a move of thread t leaves, with the entries that it adds: they may come, and the sequential
--- object goes along.
-pub record IsAgreed (kind : LockKind) (agree : Sequential → Type 0) (q : Sequential)
-    (es : List Entry) : Type 0 where
-  pub allowed : AreEnabled q es
-  pub kind_is : (after_entries q es).kind ≡ kind
-  pub agrees : agree (after_entries q es)
+-- What a move leaves, with the entries that it adds: they may come, and the lock agrees with what
+-- they leave of the sequential object.
+abbrev pub IsAgreed : (Sequential → Type 0) → Sequential → List Entry → Type 0
+IsAgreed agree q es = AreEnabled q es × agree (after_entries q es)
+
+-- each move of the lock keeps the agreement, and its entries may come
+abbrev pub Keeps : LockKind → Type 0
+Keeps kind =
+    (bits : ℕ) (ws : List ℕ) (ps : List Phase) (q : Sequential) (t : ℕ) (p : Phase) (m : Move)
+    → IsTaken kind bits ws ps q t p m
+    → let change : Change = move_change kind bits ws t p m in
+    let next : State =
+    record { kind = kind; bits = bits; words = change.words; phases = set ps t change.phase } in
+    IsAgreed (AgreeAs kind next) q (move_entries kind t p m change.outcome)
 
 -- a thread that waits changes nothing
 pub waits : {kind : LockKind} {bits : ℕ} {ws : List ℕ} {ps : List Phase} {q : Sequential} {t : ℕ}
-    {p : Phase} {m : Move} (agree : List Phase → Sequential → Type 0)
-    → IsTaken kind bits ws ps q t p m → agree ps q → IsAgreed kind (agree (set ps t p)) q []
-waits agree given agreed = record {
-  allowed = tt;
-  kind_is = given.kind_is;
-  agrees = rw (sym given.phase_is) (rw set-get_or agreed);
-}
+    {p : Phase} {m : Move} → IsTaken kind bits ws ps q t p m
+    → IsAgreed
+    (AgreeAs kind (record { kind = kind; bits = bits; words = ws; phases = set ps t p })) q []
+waits given = (tt, rw (sym given.phase_is) (rw set-get_or given.agrees))
 
 -- What has to be proved of a lock. `EachLock` has it of each.
 pub record LockProof (kind : LockKind) : Type 0 where
@@ -112,13 +116,4 @@ pub record LockProof (kind : LockKind) : Type 0 where
   pub starts : (bits : ℕ) (ws : List ℕ) (n : ℕ) → n < 2 ^ bits
       → ((i : ℕ) → slice_index ws i ≡ 0) → AgreeAs kind (start kind bits ws n) (nobody kind)
   -- each move keeps that, and its entries may come
-  pub keeps : (bits : ℕ) (ws : List ℕ) (ps : List Phase) (q : Sequential) (t : ℕ) (p : Phase)
-      (m : Move) → IsTaken kind bits ws ps q t p m
-      → let change : Change = move_change kind bits ws t p m in
-      let next : State = record {
-        kind = kind;
-        bits = bits;
-        words = change.words;
-        phases = set ps t change.phase;
-      } in
-      IsAgreed kind (AgreeAs kind next) q (move_entries kind t p m change.outcome)
+  pub keeps : Keeps kind

@@ -1,125 +1,49 @@
 -- The FIFO read-write lock: each section adds the next entries of its call, and each move preserves
 -- that the counts and the flag agree with the holders.
-use Rattle.std.proofs.Common.{List, None, Some, [], ap, arith, eqb, inl, inr, length, refl, rules}
-use Rattle.std.proofs.Common.{set, slice_index, sym, true, unwrap_or, ℕ, ◌%◌, ◌+◌, ◌<◌, ◌==◌, ◌^◌}
+use Rattle.std.proofs.Common.{List, Some, [], ap, arith, inl, inr, length, refl, rules}
+use Rattle.std.proofs.Common.{set, slice_index, sym, true, ℕ, ◌%◌, ◌+◌, ◌<◌, ◌^◌}
 use Rattle.std.proofs.Common.{◌∙◌, ◌≡◌, ◌≤◌}
 use Rattle.std.proofs.Math.Nat.{mod-add-mod, mod-eq_of_lt}
 use Rattle.std.proofs.lemmas.Bool.Decides.{eqb_tells}
 use Rattle.std.proofs.lemmas.List.{get_or-set_other, get_or-set_same, length-set, length-replicate}
 use Rattle.std.proofs.lemmas.Nat.{pow_pos}
-use Rattle.lk_locks.specs.Change.{Change, plus_one, raised}
-use Rattle.lk_locks.specs.Entries.{move_entries}
-use Rattle.lk_locks.specs.Sequential.{nobody, Sequential, after_entry, is_allowed}
+use Rattle.std.proofs.lemmas.Bool.{eq-eqb, ne_eqb}
+use Rattle.lk_locks.specs.Change.{plus_one, raised}
+use Rattle.lk_locks.specs.Sequential.{nobody, Sequential, is_allowed}
 use Rattle.lk_locks.specs.State.{start}
-use Rattle.lk_locks.specs.Locks.{after_call}
-use Rattle.lk_locks.specs.Steps.{has_op, move_change, refusal_in}
-use Rattle.lk_locks.specs.invariants.Threads.{is_this}
-use Rattle.lk_locks.specs.invariants.Locks.{AgreeAs, AreLinks, IsPhaseOf}
-use Rattle.lk_locks.specs.invariants.read_write.{is_announced, is_reading, owed}
+use Rattle.lk_locks.specs.invariants.Locks.{AgreeAs}
+use Rattle.lk_locks.specs.invariants.read_write.{is_announced, is_reading}
 use Rattle.lk_locks.specs.invariants.rw_fifo.{AgreesWith, Count}
-use Rattle.lk_locks.specs.rw_fifo.{step}
-use Rattle.lk_locks.proofs.Cases.{AreOf, Begins, Fits, GoesOn, IsAgreed, LockProof, IsTaken}
-use Rattle.lk_locks.proofs.Cases.{KeepsLength, either_way, waits}
-use Rattle.lk_locks.proofs.Requests.{eqb-same}
+use Rattle.lk_locks.proofs.Cases.{LockProof, Keeps}
+use Rattle.lk_locks.proofs.Cases.{waits}
+use Rattle.std.proofs.lemmas.List.{nil_from_length}
+use Rattle.std.proofs.lemmas.Grind.{common_steps}
 use Rattle.lk_locks.proofs.Words.{no_round, plus_one-lt, plus_one_plus}
-use Rattle.lk_locks.proofs.invariants.HolderLists.{empty_of_length, flag_none, flag_some}
-use Rattle.lk_locks.proofs.invariants.HolderLists.{holders_announce, no_holders, no_writer_beside}
-use Rattle.lk_locks.proofs.invariants.HolderLists.{not_same, readers_few, this_is}
+use Rattle.lk_locks.proofs.Threads.{this_is}
+use Rattle.lk_locks.proofs.invariants.HolderLists.{flag_none, flag_some}
+use Rattle.lk_locks.proofs.invariants.HolderLists.{no_holders, no_writer_beside}
+use Rattle.lk_locks.proofs.invariants.HolderLists.{readers_few}
 use Rattle.lk_locks.proofs.invariants.ReadWriteMoves.{below_64, calls, downgrades, joins, leaves}
-use Rattle.lk_locks.proofs.invariants.ReadWriteMoves.{unwrites, writes}
-use Rattle.lk_locks.proofs.invariants.read_write.{few_entries}
-use Rattle.lk_locks.specs.declared.kinds.Entry.TheVariants.{Acted, Announced}
-use Rattle.lk_locks.specs.declared.kinds.Family.TheVariants.{FifoReadWrite}
+use Rattle.lk_locks.proofs.invariants.ReadWriteMoves.{unwrites, writes, announces}
+use Rattle.lk_locks.specs.declared.kinds.Entry.TheVariants.{Announced}
 use Rattle.lk_locks.specs.declared.kinds.LockKind.TheVariants.{RwFifo}
-use Rattle.lk_locks.specs.declared.kinds.Move.{Move}
 use Rattle.lk_locks.specs.declared.kinds.Move.TheVariants.{Call, Step}
-use Rattle.lk_locks.specs.declared.kinds.Op.{Op}
-use Rattle.lk_locks.specs.declared.kinds.Op.TheVariants.{Downgrade, ReadLock, ReadUnlock, WriteLock}
-use Rattle.lk_locks.specs.declared.kinds.Op.TheVariants.{WriteUnlock}
 use Rattle.lk_locks.specs.declared.kinds.Phase.{Phase}
 use Rattle.lk_locks.specs.declared.kinds.Phase.TheVariants.{AwaitReaders, Idle, LeaveRead}
-use Rattle.lk_locks.specs.declared.kinds.Phase.TheVariants.{LeaveWrite, Reading, TryDowngrade}
-use Rattle.lk_locks.specs.declared.kinds.Phase.TheVariants.{TryRead, TryWrite, Writing}
-
--- each section adds the next entries of the pending call
-goes_on : (bits t : ℕ) (ws : List ℕ) (p : Phase) → GoesOn RwFifo t p (step bits ws p)
-goes_on bits t ws TryRead =
-    either_way (GoesOn RwFifo t TryRead) (slice_index ws 2 == 0) _ _ refl refl
-goes_on bits t ws TryWrite =
-    either_way (GoesOn RwFifo t TryWrite) (slice_index ws 2 == 0) _ _
-    (either_way (GoesOn RwFifo t TryWrite) (slice_index ws 0 == slice_index ws 1) _ _ refl refl)
-    refl
-goes_on bits t ws AwaitReaders =
-    either_way (GoesOn RwFifo t AwaitReaders) (slice_index ws 0 == slice_index ws 1) _ _ refl refl
-goes_on bits t ws p = refl
-
--- a call begins when the one before it is finished
-begins : (n t : ℕ) (p : Phase) (op : Op) → IsPhaseOf RwFifo n p → has_op FifoReadWrite op ≡ true
-    → refusal_in RwFifo p (Call op) ≡ None
-    → Begins RwFifo t p op
-begins n t Idle ReadLock fits own not_refused = (refl, refl)
-begins n t Idle WriteLock fits own not_refused = (refl, refl)
-begins n t Reading ReadUnlock fits own not_refused = (refl, refl)
-begins n t Writing WriteUnlock fits own not_refused = (refl, refl)
-begins n t Writing Downgrade fits own not_refused = (refl, refl)
-begins n t p op fits own not_refused = cc
-
--- what is left of a call is of its thread
-owed_is_own : (t : ℕ) (p : Phase) → AreOf t (owed FifoReadWrite t p)
-owed_is_own t p = search rules
-
--- no section changes how many words there are
-keeps_length : (bits t : ℕ) (ws : List ℕ) (p : Phase) → KeepsLength ws (step bits ws p)
-keeps_length bits t ws TryRead =
-    either_way (KeepsLength ws) (slice_index ws 2 == 0) _ _ (length-set _ _ _) refl
-keeps_length bits t ws LeaveRead = length-set _ _ _
-keeps_length bits t ws TryWrite =
-    either_way (KeepsLength ws) (slice_index ws 2 == 0) _ _
-    (either_way (KeepsLength ws) (slice_index ws 0 == slice_index ws 1) _ _ (length-set _ _ _)
-    (length-set _ _ _))
-    refl
-keeps_length bits t ws AwaitReaders =
-    either_way (KeepsLength ws) (slice_index ws 0 == slice_index ws 1) _ _ refl refl
-keeps_length bits t ws LeaveWrite = length-set _ _ _
-keeps_length bits t ws TryDowngrade = length-set _ _ _ ∙ length-set _ _ _
-keeps_length bits t ws p = refl
-
--- the new phase is one of the lock's
-step_fits : (n bits t : ℕ) (ws : List ℕ) (p : Phase) → t < n → IsPhaseOf RwFifo n p
-    → AreLinks RwFifo n ws → Fits RwFifo n (step bits ws p)
-step_fits n bits t ws TryRead in_lock fits links =
-    either_way (Fits RwFifo n) (slice_index ws 2 == 0) _ _ refl refl
-step_fits n bits t ws LeaveRead in_lock fits links = refl
-step_fits n bits t ws TryWrite in_lock fits links =
-    either_way (Fits RwFifo n) (slice_index ws 2 == 0) _ _
-    (either_way (Fits RwFifo n) (slice_index ws 0 == slice_index ws 1) _ _ refl refl) refl
-step_fits n bits t ws AwaitReaders in_lock fits links =
-    either_way (Fits RwFifo n) (slice_index ws 0 == slice_index ws 1) _ _ refl refl
-step_fits n bits t ws LeaveWrite in_lock fits links = refl
-step_fits n bits t ws p in_lock fits links = fits
-
--- a call puts its thread into a phase of the FIFO read-write lock
-call_fits : (n : ℕ) (p : Phase) (op : Op) → IsPhaseOf RwFifo n p
-    → IsPhaseOf RwFifo n (unwrap_or (after_call RwFifo p op) p)
-call_fits n Idle ReadLock fits = refl
-call_fits n Idle WriteLock fits = refl
-call_fits n Reading ReadUnlock fits = refl
-call_fits n Writing WriteUnlock fits = refl
-call_fits n Writing Downgrade fits = refl
-call_fits n p op fits = fits
+use Rattle.lk_locks.specs.declared.kinds.Phase.TheVariants.{LeaveWrite, TryDowngrade}
+use Rattle.lk_locks.specs.declared.kinds.Phase.TheVariants.{TryRead, TryWrite}
 
 -- if as many readers left as came, nobody reads
 none_read : (bits : ℕ) (ws : List ℕ) (ps : List Phase) (q : Sequential)
     → AgreesWith bits ws ps q → slice_index ws 0 ≡ slice_index ws 1 → q.readers ≡ []
 none_read bits ws ps q agreed counts_equal =
-    let no_more_readers : length q.readers ≤ length ps = readers_few ps q agreed.holders in
-    let threads_fit : length ps < 2 ^ bits = agreed.narrow in
-    let counted : Count bits ws (length q.readers) = agreed.count in
-    empty_of_length q.readers (elim (eqb_tells (length q.readers) 0) [
+    let few : length q.readers < 2 ^ bits =
+    omega (arith, readers_few agreed.holders, agreed.narrow) in
+    nil_from_length q.readers (elim (eqb_tells (length q.readers) 0) [
       | inl (_, no_readers) ↦ no_readers
       | inr (_, some_readers) ↦
-          absurd (no_round (2 ^ bits) (slice_index ws 1) (length q.readers) counted.left
-          (omega (arith, some_readers)) (omega arith) (sym counted.came ∙ counts_equal))
+          absurd (no_round (2 ^ bits) (slice_index ws 1) (length q.readers) agreed.count.left
+          (omega arith) few (sym agreed.count.came ∙ counts_equal))
     ])
 
 -- one reader more came
@@ -127,7 +51,7 @@ one_came : (bits : ℕ) (ws : List ℕ) (n : ℕ) → 3 ≤ length ws → Count 
     → Count bits (raised bits ws 0) (n + 1)
 one_came bits ws n three_words counted =
     let left_stays : slice_index (raised bits ws 0) 1 ≡ slice_index ws 1 =
-    get_or-set_other ws 0 1 _ 0 (λ (equal : 1 ≡ 0). omega (arith, equal)) in
+    get_or-set_other ws 0 1 _ 0 (omega arith) in
     record {
       left = rw left_stays counted.left;
       came =
@@ -145,139 +69,91 @@ one_left bits ws n three_words counted =
     record {
       left = rw left_is (plus_one-lt bits (slice_index ws 1));
       came =
-          get_or-set_other ws 1 0 _ 0 (λ (equal : 0 ≡ 1). omega (arith, equal)) ∙ counted.came
-          ∙ sym (plus_one_plus bits (slice_index ws 1) n)
-          ∙ ap (λ gone. (gone + n) % 2 ^ bits) (sym left_is);
+          get_or-set_other ws 1 0 _ 0 (omega arith)
+          ∙ cc (counted.came, left_is, plus_one_plus bits (slice_index ws 1) n);
     }
 
 -- the flag is another word than the counts
 same_count : (bits : ℕ) (ws : List ℕ) (v n : ℕ) → Count bits ws n → Count bits (set ws 2 v) n
 same_count bits ws v n counted =
     let left_stays : slice_index (set ws 2 v) 1 ≡ slice_index ws 1 =
-    get_or-set_other ws 2 1 v 0 (λ (equal : 1 ≡ 2). omega (arith, equal)) in
+    get_or-set_other ws 2 1 v 0 (omega arith) in
     record {
       left = rw left_stays counted.left;
-      came =
-          get_or-set_other ws 2 0 v 0 (λ (equal : 0 ≡ 2). omega (arith, equal)) ∙ counted.came
-          ∙ ap (λ gone. (gone + n) % 2 ^ bits) (sym left_stays);
+      came = get_or-set_other ws 2 0 v 0 (omega arith) ∙ rw left_stays counted.came;
     }
 
 -- each move keeps the words and the holders in agreement, and its entries may come
-keeps : (bits : ℕ) (ws : List ℕ) (ps : List Phase) (q : Sequential) (t : ℕ) (p : Phase)
-    (m : Move) → IsTaken RwFifo bits ws ps q t p m
-    → let change : Change =
-    move_change RwFifo bits ws t p m in IsAgreed RwFifo (λ object. AgreesWith bits change.words
-    (set ps t change.phase) object) q (move_entries RwFifo t p m change.outcome)
-keeps bits ws ps q t p (Call op) given = calls p op given given.agrees
-keeps bits ws ps q t TryRead (Step s) given =
-    let three_words : 3 ≤ length ws = given.enough in
-    let agreed : AgreesWith bits ws ps q = given.agrees in
-    elim (eqb_tells (slice_index ws 2) 0) [
-      | inl (flag_test, flag_clear) ↦
-          rw flag_test
-          (joins given agreed flag_clear
-          (λ unwritten unannounced unread. rw (
-            below_64 given,
-            given.kind_is,
-            unwritten,
-            unannounced,
-            unread,
-          ) refl)
-          (λ n fits counted. one_came bits ws n three_words counted)
-          (get_or-set_other ws 0 2 _ 0 (λ (equal : 2 ≡ 0). omega (arith, equal))))
-      | inr (flag_test, _) ↦ rw flag_test (waits (AgreesWith bits ws) given agreed)
-    ]
+keeps : Keeps RwFifo
+keeps bits ws ps q t p (Call op) given = calls given.agrees t given.thread p op given.phase_is
+keeps bits ws ps q t TryRead (Step s) given = elim (eqb_tells (slice_index ws 2) 0) [
+  | inr (flag_test, _) ↦ rw flag_test (waits given)
+  | inl (flag_test, flag_clear) ↦
+      rw flag_test
+      (joins given.agrees t given.thread given.phase_is flag_clear
+      (λ unwritten unannounced unread.
+      rw (below_64 given, given.kind_is, unwritten, unannounced, unread))
+      (λ n fits counted. one_came bits ws n given.enough counted)
+      (get_or-set_other ws 0 2 _ 0 (omega arith)))
+]
 keeps bits ws ps q t LeaveRead (Step s) given =
-    let three_words : 3 ≤ length ws = given.enough in
-    let agreed : AgreesWith bits ws ps q = given.agrees in
-    leaves given agreed
-    (λ reads. rw (below_64 given, given.kind_is, reads) refl)
-    (λ n fits counted. one_left bits ws n three_words counted)
-    (get_or-set_other ws 1 2 _ 0 (λ (equal : 2 ≡ 1). omega (arith, equal)))
-keeps bits ws ps q t TryWrite (Step s) given =
-    let three_words : 3 ≤ length ws = given.enough in
-    let agreed : AgreesWith bits ws ps q = given.agrees in
-    elim (eqb_tells (slice_index ws 2) 0) [
-      | inr (flag_test, _) ↦ rw flag_test (waits (AgreesWith bits ws) given agreed)
-      | inl (flag_test, flag_clear) ↦
-          let (unwritten, unannounced) =
-          flag_none q.writer q.announced (sym agreed.flag_is ∙ flag_clear) in
-          let may_announce : is_allowed q (Announced t) ≡ true =
-          rw (
-            below_64 given,
-            given.kind_is,
-            unwritten,
-            unannounced,
-            agreed.holders.reading t ∙ ap is_reading given.phase_is,
-          ) refl in
-          let flag_set : slice_index (set ws 2 1) 2 ≡ 1 =
-          get_or-set_same ws 2 1 0 (omega arith) in
-          elim (eqb_tells (slice_index ws 0) (slice_index ws 1)) [
-            | inr (counts_test, _) ↦ rw (flag_test, counts_test) (record {
-              allowed = (may_announce, tt);
-              kind_is = given.kind_is;
-              agrees = record {
-                narrow = rw (length-set ps t AwaitReaders) agreed.narrow;
-                count = same_count bits ws 1 (length q.readers) agreed.count;
-                flag_is = flag_set ∙ sym (flag_some q.writer t);
-                holders =
-                    holders_announce ps q t given.thread given.phase_is unwritten unannounced
-                    agreed.holders;
-              };
-            })
-            | inl (counts_test, counts_equal) ↦
-                let unread : q.readers ≡ [] = none_read bits ws ps q agreed counts_equal in
-                let may_enter : is_allowed (after_entry q (Announced t)) (Acted t WriteLock)
-                ≡ true =
-                rw (below_64 given, given.kind_is, unread, eqb-same t) refl in
-                rw (flag_test, counts_test) (record {
-                  allowed = (may_announce, (may_enter, (tt, tt)));
-                  kind_is = given.kind_is;
-                  agrees =
-                      writes given agreed unread unwritten
-                      (λ u other. rw unannounced refl)
-                      (λ n counted. same_count bits ws 1 n counted) flag_set;
-                })
-          ]
-    ]
+    leaves given.agrees t given.thread given.phase_is
+    (λ reads. rw (below_64 given, given.kind_is, reads))
+    (λ n fits counted. one_left bits ws n given.enough counted)
+    (get_or-set_other ws 1 2 _ 0 (omega arith))
+keeps bits ws ps q t TryWrite (Step s) given = elim (eqb_tells (slice_index ws 2) 0) [
+  | inr (flag_test, _) ↦ rw flag_test (waits given)
+  | inl (flag_test, flag_clear) ↦
+      let (unwritten, unannounced) =
+      flag_none q.writer q.announced (sym given.agrees.flag_is ∙ flag_clear) in
+      let unread = given.agrees.holders.reading t ∙ ap is_reading given.phase_is in
+      let may_announce : is_allowed q (Announced t) ≡ true =
+      rw (below_64 given, given.kind_is, unwritten, unannounced, unread) refl in
+      let flag_set : slice_index (set ws 2 1) 2 ≡ 1 =
+      get_or-set_same ws 2 1 0 (omega (arith, given.enough)) in
+      elim (eqb_tells (slice_index ws 0) (slice_index ws 1)) [
+        | inr (counts_test, _) ↦ rw (flag_test, counts_test) (
+          (may_announce, tt),
+          announces given.agrees t given.thread given.phase_is unwritten unannounced
+              (λ n counted. same_count bits ws 1 n counted) flag_set,
+        )
+        | inl (counts_test, counts_equal) ↦
+            let none = none_read bits ws ps q given.agrees counts_equal in
+            rw (flag_test, counts_test) (
+              (may_announce, (rw (below_64 given, given.kind_is, none, eq-eqb t t refl), (tt, tt))),
+              writes given.agrees t given.thread none unwritten (λ u other. rw unannounced refl)
+                  (λ n counted. same_count bits ws 1 n counted) flag_set,
+            )
+      ]
+]
 keeps bits ws ps q t AwaitReaders (Step s) given =
-    let agreed : AgreesWith bits ws ps q = given.agrees in
     elim (eqb_tells (slice_index ws 0) (slice_index ws 1)) [
-      | inr (counts_test, _) ↦ rw counts_test (waits (AgreesWith bits ws) given agreed)
+      | inr (counts_test, _) ↦ rw counts_test (waits given)
       | inl (counts_test, counts_equal) ↦
-          let announces : is_this q.announced t ≡ true =
-          agreed.holders.awaiting t ∙ ap is_announced given.phase_is in
-          let announced_thread : q.announced ≡ Some t = this_is q.announced t announces in
-          let unread : q.readers ≡ [] = none_read bits ws ps q agreed counts_equal in
-          let may_act : is_allowed q (Acted t WriteLock) ≡ true =
-          rw (below_64 given, given.kind_is, announces, unread) refl in
-          rw counts_test (record {
-            allowed = (may_act, (tt, tt));
-            kind_is = given.kind_is;
-            agrees =
-                writes given agreed unread
-                (no_writer_beside q.writer q.readers q.announced t agreed.holders.alone announces)
-                (λ u other. rw announced_thread (not_same u t other)) (λ n counted. counted)
-                (agreed.flag_is ∙ rw announced_thread (flag_some q.writer t));
-          })
+          let announced = given.agrees.holders.awaiting t ∙ ap is_announced given.phase_is in
+          let is_it : q.announced ≡ Some t = this_is q.announced t announced in
+          let none = none_read bits ws ps q given.agrees counts_equal in
+          rw counts_test (
+            (rw (below_64 given, given.kind_is, announced, none), (tt, tt)),
+            writes given.agrees t given.thread none
+                (no_writer_beside q.writer q.readers q.announced t given.agrees.holders.alone
+                announced)
+                (λ u other. rw is_it (ne_eqb u t other)) (λ n counted. counted)
+                (given.agrees.flag_is ∙ rw is_it (flag_some q.writer t)),
+          )
     ]
 keeps bits ws ps q t LeaveWrite (Step s) given =
-    let three_words : 3 ≤ length ws = given.enough in
-    let agreed : AgreesWith bits ws ps q = given.agrees in
-    unwrites given agreed
-    (λ written. rw (below_64 given, given.kind_is, written) refl)
-    (λ n counted. same_count bits ws 0 n counted) (get_or-set_same ws 2 0 0 (omega arith))
+    unwrites given.agrees t given.thread given.phase_is
+    (λ written. rw (below_64 given, given.kind_is, written))
+    (λ n counted. same_count bits ws 0 n counted)
+    (get_or-set_same ws 2 0 0 (omega (arith, given.enough)))
 keeps bits ws ps q t TryDowngrade (Step s) given =
-    let three_words : 3 ≤ length ws = given.enough in
-    let agreed : AgreesWith bits ws ps q = given.agrees in
-    let as_many_words : length (raised bits ws 0) ≡ length ws = length-set ws 0 _ in
-    downgrades given agreed
-    (λ written. rw (below_64 given, given.kind_is, written) refl)
+    downgrades given.agrees t given.thread given.phase_is
+    (λ written. rw (below_64 given, given.kind_is, written))
     (λ n fits counted.
-    same_count bits (raised bits ws 0) 0 (n + 1) (one_came bits ws n three_words counted))
-    (get_or-set_same (raised bits ws 0) 2 0 0 (omega arith))
-keeps bits ws ps q t p (Step s) given =
-    let fits = given.fits in let own = given.own in let not_refused = given.not_refused in cc
+    same_count bits (raised bits ws 0) 0 (n + 1) (one_came bits ws n given.enough counted))
+    (get_or-set_same (raised bits ws 0) 2 0 0 (omega (arith, given.enough, length-set ws 0 (plus_one bits (slice_index ws 0)))))
+keeps bits ws ps q t p (Step s) given = cc
 
 -- at the start the words are clear and all threads idle
 starts : (bits : ℕ) (ws : List ℕ) (n : ℕ) → n < 2 ^ bits → ((i : ℕ) → slice_index ws i ≡ 0)
@@ -286,26 +162,24 @@ starts bits ws n threads_fit clear = record {
   narrow = rw (length-replicate n Idle) threads_fit;
   count = record {
     left = rw (clear 1) (pow_pos bits);
-    came =
-        clear 0
-        ∙ sym (ap (λ gone. (gone + 0) % 2 ^ bits) (clear 1) ∙ mod-eq_of_lt (pow_pos bits));
+    came = cc (clear 0, clear 1, mod-eq_of_lt (pow_pos bits));
   };
   flag_is = clear 2;
   holders = no_holders RwFifo n;
 }
 
--- all that the other proofs use of the FIFO read-write lock
+-- all that the other proofs use of the FIFO read-write lock; most of it is found from its table, by cases
 pub proof : LockProof RwFifo
 proof = record {
-  goes_on = goes_on;
-  begins = begins;
-  owed_is_own = owed_is_own;
+  goes_on = λ bits t ws p. grind (arith, common_steps);
+  begins = λ n t p op fits own not_refused. search rules;
+  owed_is_own = λ t p. search rules;
   idle_rest = λ t. refl;
-  few_entries = few_entries FifoReadWrite;
-  keeps_length = keeps_length;
+  few_entries = λ t p outcome. search rules;
+  keeps_length = λ bits t ws p. search (rules, length-set);
   idle_fits = λ n. refl;
-  call_fits = call_fits;
-  step_fits = step_fits;
+  call_fits = λ n p op fits. search rules;
+  step_fits = λ n bits t ws p in_lock fits links. search rules;
   clear_links = λ n ws clear. tt;
   links_fit = λ n bits t ws p in_lock links. tt;
   starts = starts;
