@@ -1,11 +1,19 @@
--- The place is that of `stop_of`, of which the law is proved.
-use Rattle.std.proofs.Common.{IsNone, IsSome, Option, ◌↔◌, ℕ, subst, sym}
-use Rattle.lk_trace.proofs.Readable.{lines_are_readable}
-use Rattle.lk_trace.specs.Lines.{trace_line_of}
-use Rattle.lk_trace.specs.declared.due.Due.{Due}
+-- It stops nowhere exactly if it is read.
+use Rattle.std.proofs.Common.{Result, ap, is_some, not}
+use Rattle.std.specs.Result.{result_ok}
+use Rattle.lk_trace.proofs.Stops.{opposite}
+use Rattle.lk_trace.specs.Lines.{Remaining, trace_line_of}
+use Rattle.lk_trace.specs.declared.line.TraceLine.{TraceLine}
 use Rattle.lk_trace.proofs.unreadable.unreadable_line.Goals as goal
 
-pub returns-clause-none : goal.returns-clause-none
-returns-clause-none c =
-    subst (λ (r : Option (ℕ × Due)). IsNone r ↔ IsSome (trace_line_of c.args.line.now))
-    (sym c.stop_of.ensures) (lines_are_readable c.args.line.now)
+pub returns-in-Ok-clause-none : goal.returns-in-Ok-clause-none
+unfolding trace_line_of
+returns-in-Ok-clause-none c =
+    opposite _ _
+    (ap (λ (r : Result TraceLine Remaining). not (is_some (result_ok r))) c.in-Ok.ensures)
+
+pub returns-in-Err-clause-none : goal.returns-in-Err-clause-none
+unfolding trace_line_of
+returns-in-Err-clause-none c =
+    opposite _ _
+    (ap (λ (r : Result TraceLine Remaining). not (is_some (result_ok r))) c.in-Err.ensures)

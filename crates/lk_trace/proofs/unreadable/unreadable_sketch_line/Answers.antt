@@ -1,12 +1,17 @@
--- The place is that of `stop_of`, of which the law is proved.
-use Rattle.std.proofs.Common.{IsNone, IsTrue, Option, ◌↔◌, ℕ, subst, sym}
-use Rattle.lk_trace.proofs.OpenLines.{open_lines_are_readable}
-use Rattle.lk_trace.specs.Unreadable.{is_open_line}
-use Rattle.lk_trace.specs.declared.due.Due.{Due}
+-- It stops nowhere exactly if it is one of a sketch.
+use Rattle.std.proofs.Common.{◌∙◌, Option, ap, is_some}
+use Rattle.lk_trace.proofs.Stops.{open_lines_stop, opposite}
+use Rattle.lk_trace.specs.Lines.{Remaining}
 use Rattle.lk_trace.proofs.unreadable.unreadable_sketch_line.Goals as goal
 
-pub returns-clause-none : goal.returns-clause-none
-returns-clause-none c =
+pub returns-in-Some-clause-none : goal.returns-in-Some-clause-none
+returns-in-Some-clause-none c =
     λ within thread word.
-    subst (λ (r : Option (ℕ × Due)). IsNone r ↔ IsTrue (is_open_line thread word c.args.line.now))
-    (sym c.stop_of.ensures) (open_lines_are_readable c.args.line.now within thread word)
+    opposite _ _ (ap (λ (r : Option Remaining). is_some r) c.in-Some.ensures
+    ∙ open_lines_stop c.args.line.now within thread word)
+
+pub returns-in-None-clause-none : goal.returns-in-None-clause-none
+returns-in-None-clause-none c =
+    λ within thread word.
+    opposite _ _ (ap (λ (r : Option Remaining). is_some r) c.in-None.ensures
+    ∙ open_lines_stop c.args.line.now within thread word)
