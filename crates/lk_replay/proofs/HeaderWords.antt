@@ -1,10 +1,9 @@
 -- What is expected in a line, word by word. It is a header exactly if nothing else is expected.
 use Rattle.std.proofs.Common.{◌↔◌, ℕ, ◌+◌, List, [], ◌∷◌, Option, Some, None, cond, ◌&&◌, is_some}
 use Rattle.std.proofs.Common.{IsNone, IsSome, Bool, true, false, Ok, Err, nat_lt, ◌^◌, codes}
-use Rattle.std.proofs.Common.{refl, length, subst, sym}
+use Rattle.std.proofs.Common.{refl, length}
 use Rattle.std.specs.Str.{bytes_eq}
 use Rattle.lk_locks.specs.declared.kinds.LockKind.{LockKind}
-use Rattle.lk_replay.proofs.Expectations.{place_from, place_is}
 use Rattle.lk_replay.specs.Faults.{WordsTooNarrow}
 use Rattle.lk_replay.specs.Header.{Header, Shape, Size, header_of, header_of_shape, shape_of_words}
 use Rattle.lk_replay.specs.Header.{with_bits, with_size, with_threads}
@@ -68,7 +67,7 @@ by_rest number true false (Some kind) size rest a b d same = (λ h. absurd (cc),
 by_rest number true false None size rest a b d same = (λ h. absurd (cc), λ h. absurd h)
 by_rest number false threads kind size rest a b d same = (λ h. absurd (cc), λ h. absurd h)
 
-words_are : (number : ℕ) (words : List (List ℕ)) → IsNone (place_from 1 Lock words)
+words_are : (number : ℕ) (words : List (List ℕ)) → IsNone (unreadable_from 1 Lock words)
     ↔ IsHeader (header_of_shape number (shape_of_words words))
 words_are number [] = (λ h. absurd (cc), λ h. absurd h)
 words_are number (lock ∷ []) = neither _ (some_by (bytes_eq lock (codes "lock")) _ _ refl)
@@ -104,6 +103,4 @@ words_are number (lock ∷ name ∷ threads ∷ count ∷ bits ∷ width ∷ mor
 pub headers_are_readable : (line : List ℕ) (number : ℕ)
     → IsNone (unreadable_from 1 Lock (words_of line)) ↔ IsHeader (header_of number line)
 unfolding header_of
-headers_are_readable line number =
-    subst (λ (o : Option (ℕ × Expected)). IsNone o ↔ IsHeader (header_of number line))
-    (sym (place_is 1 Lock (words_of line))) (words_are number (words_of line))
+headers_are_readable line number = words_are number (words_of line)
