@@ -1,6 +1,6 @@
 -- What is expected in a line, word by word. It is a move exactly if nothing else is expected.
 use Rattle.std.proofs.Common.{◌≡◌, ◌↔◌, ℕ, ◌+◌, List, [], ◌∷◌, Option, Some, None, cond, length}
-use Rattle.std.proofs.Common.{is_some, IsNone, IsSome, Bool, true, false, ap, refl, ◌∙◌}
+use Rattle.std.proofs.Common.{is_some, IsNone, IsSome, Bool, true, false, ap, arith, refl, ◌∙◌}
 use Rattle.lk_locks.specs.declared.kinds.Move.{Move}
 use Rattle.lk_replay.specs.Lines.{words_of}
 use Rattle.std.specs.Option.{option_map_or, option_zip}
@@ -32,33 +32,19 @@ walks column expected line word words after cut is =
 
 -- ---- the words of a move
 
-abbrev no_move : Option (ℕ × Move)
-no_move = None
-
-one_word : (n : Option ℕ) (a b : ℕ × Expected)
-    → IsNone (cond (is_some n) (Some b) (Some a)) ↔ IsSome no_move
-one_word (Some n) a b = (λ h. absurd (cc), λ h. absurd (cc))
-one_word None a b = (λ h. absurd (cc), λ h. absurd (cc))
+-- a line that stops is nothing
+pub neither : {A P : Type 0} (stop : Option A) → IsSome stop → (P → ⊥) → IsNone stop ↔ P
+neither stop some no = (λ none. absurd (cc), λ p. absurd (no p))
 
 two_words : (n : Option ℕ) (m : Option Move) (a b : ℕ × Expected)
     → IsNone (cond (is_some n) (cond (is_some m) None (Some b)) (Some a)) ↔ IsSome (option_zip n m)
 two_words (Some n) (Some m) a b = (λ h. refl, λ h. refl)
-two_words (Some n) None a b = (λ h. absurd (cc), λ h. absurd (cc))
-two_words None m a b = (λ h. absurd (cc), λ h. absurd (cc))
-
-more_words : (n : Option ℕ) (m : Option Move) (a b d : ℕ × Expected)
-    → IsNone (cond (is_some n) (cond (is_some m) (Some d) (Some b)) (Some a)) ↔ IsSome no_move
-more_words (Some n) (Some m) a b d = (λ h. absurd (cc), λ h. absurd (cc))
-more_words (Some n) None a b d = (λ h. absurd (cc), λ h. absurd (cc))
-more_words None m a b d = (λ h. absurd (cc), λ h. absurd (cc))
+two_words n m a b = (λ h. absurd (cc), λ h. absurd (cc))
 
 words_are : (words : List (List ℕ))
     → IsNone (unreadable_from 1 Thread words) ↔ IsSome (move_of_words words)
-words_are [] = (λ h. absurd (cc), λ h. absurd (cc))
-words_are (thread ∷ []) = one_word (number_of 0 255 thread) _ _
 words_are (thread ∷ word ∷ []) = two_words (number_of 0 255 thread) (move_named word) _ _
-words_are (thread ∷ word ∷ more ∷ words) =
-    more_words (number_of 0 255 thread) (move_named word) _ _ _
+words_are words = neither _ (grind (arith)) (λ h. cc)
 
 pub moves_are_readable : (line : List ℕ)
     → IsNone (unreadable_from 1 Thread (words_of line)) ↔ IsSome (move_of line)

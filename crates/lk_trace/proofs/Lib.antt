@@ -1,4 +1,3 @@
-mod Own
 mod HeaderFaults
 mod Naming
 pub mod Agreeing

@@ -1,7 +1,7 @@
 -- Definitions. A line of a trace, and a line of a log: a move, and what its thread saw. Or where it
 -- stops being one, and what could be there. This project's own.
 use Rattle.std.specs.Prelude.{ℕ, List, [], ◌∷◌, Option, Some, None, Bool, true, false, Result, Ok}
-use Rattle.std.specs.Prelude.{Err, if◌then◌else◌, nat_lt, codes, length, option_map}
+use Rattle.std.specs.Prelude.{Err, if◌then◌else◌, nat_lt, codes, length, ok_or, unwrap_or}
 use Rattle.std.specs.Option.{option_map_or}
 use Rattle.std.specs.Result.{result_ok}
 use Rattle.std.specs.Str.{bytes_eq}
@@ -42,25 +42,28 @@ abbrev pub ◌>>=◌ : {A B : Type 0} → Result A Remaining → (A → Result B
 (Ok part) >>= next = next part
 (Err stop) >>= next = Err stop
 
-abbrev pub or_stop : {A : Type 0} → Option A → Remaining → Result A Remaining
-or_stop (Some part) stop = Ok part
-or_stop None stop = Err stop
-
 -- the next word, if this reads it, and what is due after it
 abbrev pub word_in : {A : Type 0} → (List ℕ → Option A) → Due → Remaining → Read A
 word_in reads next (word ∷ rest, due) =
-    or_stop (reads word) (word ∷ rest, due) >>= λ part. Ok (part, (rest, next))
+    ok_or (reads word) (word ∷ rest, due) >>= λ part. Ok (part, (rest, next))
 word_in reads next ([], due) = Err ([], due)
 
--- `of J`, or else the thread's own record
-abbrev pub owner_of : ℕ → StepKind → Remaining → Read ℕ
-owner_of thread kind (of ∷ rest, due) =
-    if bytes_eq of (codes "of") then word_in (number_of 0 255) (Found kind) (rest, Owner kind)
-    else Ok (thread, (of ∷ rest, due))
-owner_of thread kind ([], due) = Ok (thread, ([], due))
+-- a tag and the word after it, if the tag comes next: what is due at that word, and after it
+abbrev pub tagged : {A : Type 0} → List ℕ → (List ℕ → Option A) → Due → Due → Remaining
+    → Read (Option A)
+tagged tag reads value next (word ∷ rest, due) =
+    if bytes_eq word tag
+    then word_in reads next (rest, value) >>= λ part. Ok (Some part.0, part.1)
+    else Ok (None, (word ∷ rest, due))
+tagged tag reads value next ([], due) = Ok (None, ([], due))
 
-abbrev pub in_record : (ℕ → WordName) → Read ℕ → Read (Option WordName)
-in_record word read = read >>= λ owner. Ok (Some (word owner.0), owner.1)
+-- whose record it is, if that is said: `of J`
+abbrev pub owner_of : StepKind → Remaining → Read (Option ℕ)
+owner_of kind = tagged (codes "of") (number_of 0 255) (Owner kind) (Found kind)
+
+-- or else the thread's own
+abbrev pub in_record : ℕ → (ℕ → WordName) → Read (Option ℕ) → Read (Option WordName)
+in_record thread word read = read >>= λ owner. Ok (Some (word (unwrap_or owner.0 thread)), owner.1)
 
 -- the word that a step was on, or none at the line's end
 abbrev pub place_in : ℕ → StepKind → Remaining → Read (Option WordName)
@@ -69,17 +72,10 @@ place_in thread kind (name ∷ rest, due) =
     else (if bytes_eq name (codes "now_serving") then Ok (Some NowServing, (rest, Found kind))
     else (if bytes_eq name (codes "tail") then Ok (Some Tail, (rest, Found kind))
     else (if bytes_eq name (codes "next")
-    then in_record Next (owner_of thread kind (rest, Of kind))
+    then in_record thread Next (owner_of kind (rest, Of kind))
     else (if bytes_eq name (codes "locked")
-    then in_record Locked (owner_of thread kind (rest, Of kind)) else Err (name ∷ rest, due)))))
+    then in_record thread Locked (owner_of kind (rest, Of kind)) else Err (name ∷ rest, due)))))
 place_in thread kind ([], due) = Ok (None, ([], due))
-
--- a tag and its number, if the tag comes next
-abbrev pub tagged : List ℕ → Due → Due → Remaining → Read (Option ℕ)
-tagged tag value next (word ∷ rest, due) =
-    if bytes_eq word tag then word_in (λ w. option_map Some (whole_number w)) next (rest, value)
-    else Ok (None, (word ∷ rest, due))
-tagged tag value next ([], due) = Ok (None, ([], due))
 
 abbrev pub wrote : List ℕ → Option Bool
 wrote word =
@@ -98,14 +94,14 @@ ended part (word ∷ rest) = Err (word ∷ rest, OfSchedule End)
 -- whether a compare-and-swap wrote, if that is said, and nothing else
 abbrev pub result_of : StepKind → Remaining → Result (Option Bool) Remaining
 result_of kind (word ∷ rest, due) =
-    or_stop (result_alone kind word) (word ∷ rest, due) >>= λ said. ended (Some said) rest
+    ok_or (result_alone kind word) (word ∷ rest, due) >>= λ said. ended (Some said) rest
 result_of kind ([], due) = Ok None
 
 -- what a step found and left in its word, and whether it wrote
 abbrev pub values_in : StepKind → Remaining → Result (Option ℕ × Option ℕ × Option Bool) Remaining
 values_in kind at = do
-  found ← tagged (codes "found") (FoundValue kind) (Left kind) at
-  left ← tagged (codes "left") (LeftValue kind) (ResultDue kind) found.1
+  found ← tagged (codes "found") whole_number (FoundValue kind) (Left kind) at
+  left ← tagged (codes "left") whole_number (LeftValue kind) (ResultDue kind) found.1
   wrote ← result_of kind left.1
   Ok (found.0, left.0, wrote)
 
@@ -124,7 +120,7 @@ values_of thread kind at = with_place kind (place_in thread kind at)
 -- the outcome of a section, if that is said, and nothing else
 abbrev pub outcome_of : Option ℕ → Remaining → Result Seen Remaining
 outcome_of count (word ∷ rest, due) =
-    or_stop (outcome_named word) (word ∷ rest, due)
+    ok_or (outcome_named word) (word ∷ rest, due)
     >>= λ outcome. ended (InSection count (Some outcome)) rest
 outcome_of count ([], due) = Ok (InSection count None)
 
@@ -144,15 +140,12 @@ seen_of thread (Some word) (Call op) words = Err (words, OfSchedule End)
 seen_of thread (Some word) (Step Section) words = Err (words, OfSchedule End)
 seen_of thread (Some word) (Step kind) words = values_on kind word (words, Found kind)
 
-abbrev pub line_with : ℕ → Move → Seen → TraceLine
-line_with thread action seen = record { thread = thread; action = action; seen = seen }
-
 -- a move of this thread
 abbrev pub move_with : ℕ → Option WordName → Remaining → Result TraceLine Remaining
 move_with thread on (word ∷ rest, due) = do
-  action ← or_stop (move_named word) (word ∷ rest, due)
+  action ← ok_or (move_named word) (word ∷ rest, due)
   seen ← seen_of thread on action rest
-  Ok (line_with thread action seen)
+  Ok (record { thread = thread; action = action; seen = seen })
 move_with thread on ([], due) = Err ([], due)
 
 abbrev pub line_of_words : Words → Result TraceLine Remaining

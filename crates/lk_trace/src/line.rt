@@ -1,7 +1,8 @@
 //! A line of a trace or of a log, read: a move, and what its thread saw. Or where the line stops
 //! being one, and what could be there: docs/TRACE.md has the grammar.
 
-ghost use Rattle.std.specs.Prelude.{◌≡◌, [], ◌∷◌, IfSome, MatchOption};
+ghost use Rattle.std.specs.Prelude.{◌≡◌, [], ◌∷◌, IfOk, IfSome, MatchOption};
+ghost use Rattle.lk_replay.specs.Digits.{whole_number};
 ghost use Rattle.lk_replay.specs.Lines.{words_of};
 ghost use Rattle.lk_replay.specs.Vocabulary.{number_of};
 ghost use Rattle.lk_trace.specs.Lines.{line_of_words, move_with, outcome_of, owner_of, part_of};
@@ -72,23 +73,22 @@ fn thread_in(rest: Rest<'_>, next: Due) -> Part<'_, u8>
     let Some((word, after)) = first_word(rest.0) else {
         return Err(rest);
     };
-    match number_of(word, 0, 255) {
-        Some(thread) => Ok((thread, (after, next))),
-        None => Err(rest),
-    }
+    let thread = number_of(word, 0, 255).ok_or(rest)?;
+    Ok((thread, (after, next)))
 }
 
-// Whose record it is: `of J`, or else the thread's own.
-fn owner_of(rest: Rest<'_>, thread: u8, kind: StepKind) -> Part<'_, u8>
-    ensures { part_of result ≡ owner_of thread kind (remaining rest.entry) }
+// Whose record it is, if that is said: `of J`.
+fn owner_of(rest: Rest<'_>, kind: StepKind) -> Part<'_, Option<u8>>
+    ensures { part_of result ≡ owner_of kind (remaining rest.entry) }
 {
     let Some((of, after)) = first_word(rest.0) else {
-        return Ok((thread, rest));
+        return Ok((None, rest));
     };
     if of != b"of".as_slice() {
-        return Ok((thread, rest));
+        return Ok((None, rest));
     }
-    thread_in((after, Due::Owner(kind)), Due::Found(kind))
+    let (owner, rest) = thread_in((after, Due::Owner(kind)), Due::Found(kind))?;
+    Ok((Some(owner), rest))
 }
 
 // The word that a step of this thread was on, by its name. None if the line ends here.
@@ -111,7 +111,8 @@ fn place_in(rest: Rest<'_>, thread: u8, kind: StepKind) -> Part<'_, Option<WordN
     if !is_next && name != b"locked".as_slice() {
         return Err(rest);
     }
-    let (owner, rest) = owner_of((after, Due::Of(kind)), thread, kind)?;
+    let (owner, rest) = owner_of((after, Due::Of(kind)), kind)?;
+    let owner = owner.unwrap_or(thread);
     if is_next {
         Ok((Some(WordName::Next(owner)), rest))
     } else {
@@ -122,7 +123,7 @@ fn place_in(rest: Rest<'_>, thread: u8, kind: StepKind) -> Part<'_, Option<WordN
 // The number after this word, if this word is the next one. `value` is due after the word, and
 // `next` after the number.
 fn tagged<'a>(rest: Rest<'a>, tag: &[u8], value: Due, next: Due) -> Part<'a, Option<u64>>
-    ensures { part_of result ≡ tagged tag.now value next (remaining rest.entry) }
+    ensures { part_of result ≡ tagged tag.now whole_number value next (remaining rest.entry) }
 {
     let Some((word, after)) = first_word(rest.0) else {
         return Ok((None, rest));
@@ -133,10 +134,8 @@ fn tagged<'a>(rest: Rest<'a>, tag: &[u8], value: Due, next: Due) -> Part<'a, Opt
     let Some((number, end)) = first_word(after) else {
         return Err((after, value));
     };
-    match whole_number(number) {
-        Some(number) => Ok((Some(number), (end, next))),
-        None => Err((after, value)),
-    }
+    let number = whole_number(number).ok_or((after, value))?;
+    Ok((Some(number), (end, next)))
 }
 
 // Whether a compare-and-swap wrote. No other step says so.
@@ -161,9 +160,7 @@ fn result_of(rest: Rest<'_>, kind: StepKind) -> Whole<'_, Option<bool>>
     let Some((word, after)) = first_word(rest.0) else {
         return Ok(None);
     };
-    let Some(wrote) = result_alone(kind, word) else {
-        return Err(rest);
-    };
+    let wrote = result_alone(kind, word).ok_or(rest)?;
     match first_word(after) {
         Some(_) => Err((after, END)),
         None => Ok(Some(wrote)),
@@ -206,9 +203,7 @@ fn outcome_of(rest: Rest<'_>, count: Option<u64>) -> Whole<'_, Seen>
             outcome: None,
         });
     };
-    let Some(outcome) = outcome_named(word) else {
-        return Err(rest);
-    };
+    let outcome = outcome_named(word).ok_or(rest)?;
     match first_word(after) {
         Some(_) => Err((after, END)),
         None => Ok(Seen::InSection {
@@ -250,14 +245,13 @@ fn seen_of(text: Option<&[u8]>, thread: u8, on: Option<WordName>, action: Move) 
 
 // The move of this thread that the words are.
 pub(crate) fn move_with(rest: Rest<'_>, thread: u8, on: Option<WordName>) -> Whole<'_, TraceLine>
-    ensures { whole_of result ≡ move_with thread on (remaining rest.entry) }
+    ensures line { whole_of result ≡ move_with thread on (remaining rest.entry) }
+    ensures own { IfOk result (λ line. line.thread ≡ thread) }
 {
     let Some((word, after)) = first_word(rest.0) else {
         return Err(rest);
     };
-    let Some(action) = move_named(word) else {
-        return Err(rest);
-    };
+    let action = move_named(word).ok_or(rest)?;
     let seen = seen_of(after, thread, on, action)?;
     Ok(TraceLine {
         thread,
@@ -284,10 +278,7 @@ pub fn read_line(line: &[u8]) -> Option<TraceLine>
     if line.len() > MOST_OF_A_LINE {
         return None;
     }
-    match line_in(line) {
-        Ok(line) => Some(line),
-        Err(_) => None,
-    }
+    line_in(line).ok()
 }
 
 /// The move that a line of this thread's log is: a line of a trace without the thread's number.
@@ -299,8 +290,5 @@ pub fn read_log_line(line: &[u8], thread: u8) -> Option<TraceLine>
     if line.len() > MOST_OF_A_LINE {
         return None;
     }
-    match move_with((Some(line), Due::OfSchedule(Expected::Action)), thread, None) {
-        Ok(line) => Some(line),
-        Err(_) => None,
-    }
+    move_with((Some(line), Due::OfSchedule(Expected::Action)), thread, None).ok()
 }

@@ -36,10 +36,7 @@ fn filled(line: &[u8], thread: u8, on: Option<WordName>) -> Option<TraceLine>
         return None;
     }
     let (_, text) = first_word(Some(line))?;
-    match move_with((text, Due::OpenMove), thread, on) {
-        Ok(line) => Some(line),
-        Err(_) => None,
-    }
+    move_with((text, Due::OpenMove), thread, on).ok()
 }
 
 /// The line of a trace that a line of a sketch of at most 96 bytes is, as a move of this thread.

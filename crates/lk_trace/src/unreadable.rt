@@ -34,10 +34,8 @@ pub fn unreadable_line(line: &[u8]) -> Option<(usize, Due)>
     ensures place { result ≡ trace_place_of line.now }
     ensures none { IsNone result ↔ IsSome (trace_line_of line.now) }
 {
-    match line_in(line) {
-        Ok(_) => None,
-        Err(stop) => Some(place_of(line, stop)),
-    }
+    let stop = line_in(line).err()?;
+    Some(place_of(line, stop))
 }
 
 // What is due in a sketch where in a trace this is.
@@ -73,13 +71,9 @@ fn sketch_stop(line: &[u8]) -> Option<Rest<'_>>
         return Some((None, Due::AnyThread));
     };
     let rest = (text, Due::OpenMove);
-    match move_with(rest, 0, None) {
-        Ok(_) => None,
-        Err(named) => match move_with(rest, 0, Some(WordName::Tail)) {
-            Ok(_) => None,
-            Err(unnamed) => Some(later(named, unnamed)),
-        },
-    }
+    let named = move_with(rest, 0, None).err()?;
+    let unnamed = move_with(rest, 0, Some(WordName::Tail)).err()?;
+    Some(later(named, unnamed))
 }
 
 /// The column, from 1, at which a line stops being one of a sketch, and what could be there.
@@ -88,8 +82,6 @@ pub fn unreadable_sketch_line(line: &[u8]) -> Option<(usize, Due)>
     ensures none { length line.now ≤ 96 → (thread : ℕ) → (word : WordName)
         → (IsNone result ↔ IsTrue (is_open_line thread word line.now)) }
 {
-    match sketch_stop(line) {
-        Some(stop) => Some(place_of(line, stop)),
-        None => None,
-    }
+    let stop = sketch_stop(line)?;
+    Some(place_of(line, stop))
 }
