@@ -34,7 +34,7 @@ walks column expected line word words after cut is =
 
 -- a line that stops is nothing
 pub neither : {A P : Type 0} (stop : Option A) → IsSome stop → (P → ⊥) → IsNone stop ↔ P
-neither stop some no = (λ none. absurd (cc), λ p. absurd (no p))
+neither stop some never = (λ none. absurd (cc), λ p. absurd (never p))
 
 two_words : (n : Option ℕ) (m : Option Move) (a b : ℕ × Expected)
     → IsNone (cond (is_some n) (cond (is_some m) None (Some b)) (Some a)) ↔ IsSome (option_zip n m)
