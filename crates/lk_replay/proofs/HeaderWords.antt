@@ -57,7 +57,7 @@ by_rest : (number : ℕ) (lock threads : Bool) (kind : Option LockKind) (size : 
     → IsNone (cond lock (cond (is_some kind) (cond threads rest (Some d)) (Some b)) (Some a))
     ↔ IsHeader (header_of_shape number (cond (lock && threads) (with_size kind size) None))
 by_rest number true true (Some kind) size rest a b d same = same kind
-by_rest number lock threads kind size rest a b d same = neither _ refl (λ h. h)
+by_rest number lock threads kind size rest a b d same = neither _ (grind (arith)) (λ h. h)
 
 words_are : (number : ℕ) (words : List (List ℕ)) → IsNone (unreadable_from 1 Lock words)
     ↔ IsHeader (header_of_shape number (shape_of_words words))

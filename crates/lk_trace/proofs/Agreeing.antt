@@ -63,7 +63,7 @@ part_agrees agrees other P (Some v) decides = (
 same_name : (a b : WordName) → same_word a b ≡ true → a ≡ b
 same_name (Next i) (Next j) same = ap Next (eqb-true i j same)
 same_name (Locked i) (Locked j) same = ap Locked (eqb-true i j same)
-same_name a b same = cc
+same_name a b same = grind (arith)
 
 its_name : (a : WordName) → same_word a a ≡ true
 its_name (Next i) = eq-eqb i i refl
