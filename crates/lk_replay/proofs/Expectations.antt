@@ -32,10 +32,6 @@ walks column expected line word words after cut is =
 
 -- ---- the words of a move
 
--- a line that stops is nothing
-pub neither : {A P : Type 0} (stop : Option A) → IsSome stop → (P → ⊥) → IsNone stop ↔ P
-neither stop some never = (λ none. absurd (cc), λ p. absurd (never p))
-
 two_words : (n : Option ℕ) (m : Option Move) (a b : ℕ × Expected)
     → IsNone (cond (is_some n) (cond (is_some m) None (Some b)) (Some a)) ↔ IsSome (option_zip n m)
 two_words (Some n) (Some m) a b = (λ h. refl, λ h. refl)
@@ -44,7 +40,7 @@ two_words n m a b = (λ h. absurd (cc), λ h. absurd (cc))
 words_are : (words : List (List ℕ))
     → IsNone (unreadable_from 1 Thread words) ↔ IsSome (move_of_words words)
 words_are (thread ∷ word ∷ []) = two_words (number_of 0 255 thread) (move_named word) _ _
-words_are words = neither _ (grind (arith)) (λ h. cc)
+words_are words = (λ h. absurd (grind (arith)), λ h. absurd (cc))
 
 pub moves_are_readable : (line : List ℕ)
     → IsNone (unreadable_from 1 Thread (words_of line)) ↔ IsSome (move_of line)

@@ -4,7 +4,6 @@ use Rattle.std.proofs.Common.{IsNone, IsSome, Bool, true, false, Ok, Err, nat_lt
 use Rattle.std.proofs.Common.{arith, refl}
 use Rattle.std.specs.Str.{bytes_eq}
 use Rattle.lk_locks.specs.declared.kinds.LockKind.{LockKind}
-use Rattle.lk_replay.proofs.Expectations.{neither}
 use Rattle.lk_replay.specs.Faults.{WordsTooNarrow}
 use Rattle.lk_replay.specs.Header.{Header, Shape, Size, header_of, header_of_shape, shape_of_words}
 use Rattle.lk_replay.specs.Header.{size_of_words, with_bits, with_size, with_threads}
@@ -38,7 +37,7 @@ by_bits : (number : ℕ) (kind : LockKind) (count : List ℕ) (bits : Bool) (wid
 by_bits number kind count true (Some width) a b d =
     by_threads number (record { kind = kind; size = record { count = count; bits = width } })
     (number_of 1 64 count) a
-by_bits number kind count bits width a b d = neither _ (grind (arith)) (λ h. h)
+by_bits number kind count bits width a b d = (λ h. absurd (grind (arith)), λ h. absurd h)
 
 size_is : (number column : ℕ) (kind : LockKind) (size : List (List ℕ))
     → IsNone (unreadable_from column Count size)
@@ -48,7 +47,7 @@ size_is number column kind (count ∷ []) =
     (number_of 1 64 count) _
 size_is number column kind (count ∷ bits ∷ width ∷ []) =
     by_bits number kind count (bytes_eq bits (codes "bits")) (number_of 2 64 width) _ _ _
-size_is number column kind size = neither _ (grind (arith)) (λ h. h)
+size_is number column kind size = (λ h. absurd (grind (arith)), λ h. absurd h)
 
 -- what comes after the first three words decides, if these are as they have to be
 by_rest : (number : ℕ) (lock threads : Bool) (kind : Option LockKind) (size : Option Size)
@@ -57,14 +56,14 @@ by_rest : (number : ℕ) (lock threads : Bool) (kind : Option LockKind) (size : 
     → IsNone (cond lock (cond (is_some kind) (cond threads rest (Some d)) (Some b)) (Some a))
     ↔ IsHeader (header_of_shape number (cond (lock && threads) (with_size kind size) None))
 by_rest number true true (Some kind) size rest a b d same = same kind
-by_rest number lock threads kind size rest a b d same = neither _ (grind (arith)) (λ h. h)
+by_rest number lock threads kind size rest a b d same = (λ h. absurd (grind (arith)), λ h. absurd h)
 
 words_are : (number : ℕ) (words : List (List ℕ)) → IsNone (unreadable_from 1 Lock words)
     ↔ IsHeader (header_of_shape number (shape_of_words words))
 words_are number (lock ∷ name ∷ threads ∷ size) =
     by_rest number (bytes_eq lock (codes "lock")) (bytes_eq threads (codes "threads"))
     (lock_named name) (size_of_words size) _ _ _ _ (λ kind. size_is number _ kind size)
-words_are number words = neither _ (grind (arith)) (λ h. h)
+words_are number words = (λ h. absurd (grind (arith)), λ h. absurd h)
 
 pub headers_are_readable : (line : List ℕ) (number : ℕ)
     → IsNone (unreadable_from 1 Lock (words_of line)) ↔ IsHeader (header_of number line)
