@@ -53,7 +53,7 @@ abbrev pub tagged : {A : Type 0} → List ℕ → (List ℕ → Option A) → Du
     → Read (Option A)
 tagged tag reads value next (word ∷ rest, due) =
     if bytes_eq word tag
-    then word_in reads next (rest, value) >>= λ part. Ok (Some part.0, part.1)
+    then word_in reads next (rest, value) >>= (λ part. Ok (Some part.0, part.1))
     else Ok (None, (word ∷ rest, due))
 tagged tag reads value next ([], due) = Ok (None, ([], due))
 

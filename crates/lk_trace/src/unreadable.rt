@@ -12,6 +12,7 @@ use crate::line::{Rest, first_word, line_in, move_with};
 use crate::{Due, WordName, doer_of};
 
 // How many bytes are left, with the space before them.
+#[tactic(auto, using(crate::proofs::Widths::width_words))]
 fn width_of(text: Option<&[u8]>) -> usize
     ensures { result ≡ width (words_left text.entry) }
 {
@@ -30,6 +31,7 @@ fn place_of(line: &[u8], rest: Rest<'_>) -> (usize, Due)
 
 /// The column, from 1, at which a line stops being a move of a trace, and what could be there. A
 /// move may have any length here.
+#[tactic(auto, unfolding(crate::specs::Lines::trace_line_of))]
 pub fn unreadable_line(line: &[u8]) -> Option<(usize, Due)>
     ensures place { result ≡ trace_place_of line.now }
     ensures none { IsNone result ↔ IsSome (trace_line_of line.now) }
