@@ -290,5 +290,6 @@ pub fn read_log_line(line: &[u8], thread: u8) -> Option<TraceLine>
     if line.len() > MOST_OF_A_LINE {
         return None;
     }
-    move_with((Some(line), Due::OfSchedule(Expected::Action)), thread, None).ok()
+    let first = (Some(line), Due::OfSchedule(Expected::Action));
+    move_with(first, thread, None).ok()
 }
