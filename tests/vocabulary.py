@@ -5,7 +5,7 @@
 
 The words of locks, calls, steps and outcomes are in crates/lk_replay/src/vocabulary.rt, those for
 the places of a lock in crates/lk_trace/src/names.rt, and the parts that may follow a place in
-due_texts.rt beside it. The names of refusals, faults and differences are those of their variants.
+due.rt beside it. The names of refusals, faults and differences are those of their variants.
 The texts of faults and differences are beside these, and those of refusals in
 crates/lk_locks/src/refusals.rt. What is written in another language, in a sentence, or where bytes
 are compared has all this once more, and nothing is generated. A table's words have the order of
@@ -52,7 +52,7 @@ RECORDING = "record/lockreplay_record"
 RUST = "record/rust/src"
 COMPLETIONS = "packaging/completions/locktrace"
 TRACE = "crates/lk_trace/src"
-DUE = f"{TRACE}/due_texts.rt"
+DUE = f"{TRACE}/due.rt"
 FILES = "crates/lk_trace_files/src"
 C = "crates/lk_trace_c/src/numbers.rt"
 PAGE = "page/src"
@@ -89,7 +89,6 @@ LISTS = (
          ITEM),
     # words of the locks, and the parts after them
     List(f"{TRACE}/line.rt", *ALL, "places of values results", repeated, BYTES),
-    List(f"{TRACE}/due.rt", *ALL, "places of values", repeated, BYTES),
     List(f"{TRACE}/names.rt", *ALL, "of", repeated, r'"\w+ (\w+) \{thread\}"'),
     List(DUE, r"OPEN: \[&str; \d+\] = \[", r"\];", "places values results", in_order),
     List(f"{FILES}/texts.rt", r"impl Shown", r"\n// ", "records values results", word=r'" (\w+)'),

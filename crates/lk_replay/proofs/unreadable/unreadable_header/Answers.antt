@@ -1,4 +1,4 @@
--- The place is that of `stop_of`, of which the law is proved.
+-- The place is that of `unreadable_from`, of which the law is proved.
 use Rattle.std.proofs.Common.{IsNone, Option, ◌↔◌, ℕ, subst, sym}
 use Rattle.lk_replay.proofs.HeaderWords.{headers_are_readable}
 use Rattle.lk_replay.specs.Header.{header_of}
@@ -9,4 +9,4 @@ use Rattle.lk_replay.proofs.unreadable.unreadable_header.Goals as goal
 pub returns-clause-none : goal.returns-clause-none
 returns-clause-none c number =
     subst (λ (r : Option (ℕ × Expected)). IsNone r ↔ IsHeader (header_of number c.args.line.now))
-    (sym c.stop_of.ensures) (headers_are_readable c.args.line.now number)
+    (sym c.unreadable_from.ensures) (headers_are_readable c.args.line.now number)

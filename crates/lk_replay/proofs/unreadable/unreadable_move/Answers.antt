@@ -1,4 +1,4 @@
--- The place is that of `stop_of`, of which the law is proved.
+-- The place is that of `unreadable_from`, of which the law is proved.
 use Rattle.std.proofs.Common.{IsNone, IsSome, Option, ◌↔◌, ℕ, subst, sym}
 use Rattle.lk_replay.proofs.Expectations.{moves_are_readable}
 use Rattle.lk_replay.specs.Schedule.{move_of}
@@ -8,4 +8,4 @@ use Rattle.lk_replay.proofs.unreadable.unreadable_move.Goals as goal
 pub returns-clause-none : goal.returns-clause-none
 returns-clause-none c =
     subst (λ (r : Option (ℕ × Expected)). IsNone r ↔ IsSome (move_of c.args.line.now))
-    (sym c.stop_of.ensures) (moves_are_readable c.args.line.now)
+    (sym c.unreadable_from.ensures) (moves_are_readable c.args.line.now)
