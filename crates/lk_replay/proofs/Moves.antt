@@ -6,7 +6,7 @@ use Rattle.lk_replay.specs.declared.schedule.Line.{Line}
 use Rattle.lk_locks.specs.declared.kinds.Move.{Move}
 use Rattle.lk_replay.specs.Faults.{Fault}
 use Rattle.lk_replay.specs.Reads.{WantsMemory}
-use Rattle.lk_replay.specs.Schedule.{moves_from, moves_after, with_line, move_of}
+use Rattle.lk_replay.specs.Schedule.{moves_from, moves_after, move_of}
 use Rattle.lk_replay.proofs.Skipped.{moves_skip}
 use Rattle.lk_replay.specs.Lines.{SkipsTo, is_skipped}
 
