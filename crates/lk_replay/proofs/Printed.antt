@@ -1,7 +1,7 @@
 -- The lines that are printed as the moves are played are those of the report.
 use Rattle.std.proofs.Common.{◌≡◌, ℕ, ◌+◌, ◌<◌, ◌≤◌, ◌^◌, replicate, List, [], ◌∷◌, ◌++◌}
 use Rattle.std.proofs.Common.{length, codes, Option, None, Some, refl, sym, ap, ◌∙◌, arith}
-use Rattle.std.proofs.Common.{append_assoc, append-nil, length-append}
+use Rattle.std.proofs.Common.{append_assoc, length-append}
 use Rattle.std.specs.List.{join_with_byte, slice_split}
 use Rattle.std.specs.Option.{option_map}
 use Rattle.std.proofs.lemmas.List.Splits.{join_with_byte-slice_split}
@@ -69,10 +69,6 @@ tracked_start p few narrow =
           (λ i low. get_or-replicate n i 0 0 (omega (arith, size, low))),
     )
 
-pub tracked_new : (p : Plan) (f : Following) (s : State) → f ≡ following p.kind [] → s ≡ start_of p
-    → IsTracked (start_of p) (nobody p.kind) → IsTracked s f.sequential
-tracked_new p f s follows starts tracked = rw (follows, starts) tracked
-
 stops : (r : Option Refusal) (number : ℕ) (m : Made) (rest : Replay)
     → length (refused_or r number (with_move m rest)).made ≡ 0
     → (refused_or r number (with_move m rest)).refused ≡ option_map {U = ℕ × Refusal}
@@ -93,20 +89,6 @@ pub last_is : (s : State) (i count : ℕ) (ls : List Line) (refused : Option (�
 last_is s i count ls refused none counted is =
     ap (last_line i) (is ∙ sym (none_left s ls none))
     ∙ ap (λ (k : ℕ). last_line k (replay_from s ls).refused) (omega (arith, none, counted))
-
--- the next line, and then the rest
-pub next_parts : (whole done lines line rest last same : List ℕ) → lines ≡ line ++ rest
-    → same ≡ last → done ++ (lines ++ last) ≡ whole
-    → done ++ (line ++ (rest ++ same)) ≡ whole
-next_parts whole done lines line rest last same is kept parts =
-    rw kept (sym (ap (λ (ys : List ℕ). done ++ ys) (ap (λ (ys : List ℕ). ys ++ last) is
-    ∙ append_assoc line rest last)) ∙ parts)
-
--- no line is left but the last
-pub last_part : (whole done lines last : List ℕ) → lines ≡ [] → done ++ (lines ++ last) ≡ whole
-    → done ++ (last ++ []) ≡ whole
-last_part whole done lines last none parts = ap (λ (ys : List ℕ). done ++ ys) (append-nil last
-    ∙ sym (ap (λ (ys : List ℕ). ys ++ last) none)) ∙ parts
 
 -- ---- how the report ends
 
@@ -146,13 +128,10 @@ ending_after_line : (line text : List ℕ) → 0 < length text → ending_of ((l
     ≡ ending_of text
 unfolding ending_of lines_of
 ending_after_line line text some =
-    ap (λ (xs : List ℕ). ending_of_line (last_of (without_empty_end (slice_split is_line_feed xs))))
-    (append_assoc line (10 ∷ []) text)
-    ∙ ap (λ (ps : List (List ℕ)). ending_of_line (last_of (without_empty_end ps)))
-    (split_append is_line_feed line 10 text refl)
-    ∙ ap ending_of_line (last_of_others (slice_split is_line_feed line)
+    rw (append_assoc line (10 ∷ []) text, split_append is_line_feed line 10 text refl)
+    (ap ending_of_line (last_of_others (slice_split is_line_feed line)
     (slice_split is_line_feed text) (has_piece is_line_feed text)
-    (one_piece text (slice_split is_line_feed text) some refl))
+    (one_piece text (slice_split is_line_feed text) some refl)))
 
 pub ending_after_lines : (f : Following) (count : ℕ) (ms : List Made) (text : List ℕ)
     → 0 < length text → ending_of (lines_from f count ms ++ text) ≡ ending_of text
@@ -174,12 +153,3 @@ ending_after_lines f count (m ∷ ms) text some =
 pub last_some : (count : ℕ) (refused : Option (ℕ × Refusal)) → 0 < length (last_line count refused)
 last_some count None = omega arith
 last_some count (Some refused) = omega arith
-
--- ---- the words of a line
-
--- each word with the spaces around it
-pub words_joined : (count thread word outcome : List ℕ)
-    → (((count ++ codes " ") ++ thread) ++ (codes " " ++ word ++ codes " "))
-    ++ (outcome ++ codes " hold ")
-    ≡ count ++ codes " " ++ thread ++ codes " " ++ word ++ codes " " ++ outcome ++ codes " hold "
-words_joined count thread word outcome = simp append_assoc
