@@ -1,7 +1,7 @@
 -- Each line goes on its way, and then the last one.
 use Rattle.std.proofs.Common.{[], ◌∙◌, ap, arith, length, refl}
-use Rattle.lk_replay.proofs.Passed.{cut_short, cut_waiting, goes_on, last_left, passes_none, printed}
-use Rattle.lk_replay.proofs.Passed.{told}
+use Rattle.lk_replay.proofs.Passed.{cut_short, cut_waiting, goes_on, last_left, passes_none}
+use Rattle.lk_replay.proofs.Passed.{printed, told}
 use Rattle.lk_replay.proofs.engine.print.Goals as goal
 
 pub loop-buffer-init : goal.loop-buffer-init
