@@ -1,5 +1,5 @@
 -- Lines that are skipped change nothing of what is read.
-use Rattle.std.proofs.Common.{◌≡◌, ℕ, ◌+◌, ◌<◌, List, [], ◌∷◌, ◌++◌, length, true, ◌&&◌, ◌==◌, refl}
+use Rattle.std.proofs.Common.{◌≡◌, ℕ, ◌+◌, ◌<◌, List, [], ◌∷◌, ◌++◌, length, true, ◌==◌, refl}
 use Rattle.std.proofs.Common.{sym, ap, subst, ◌∙◌, arith, append_assoc, length-append, Result}
 use Rattle.std.specs.List.{list_all}
 use Rattle.std.proofs.lemmas.List.Folds.{list_all-append}
@@ -25,8 +25,7 @@ skips_more number next lines others rest line s first is = record {
   skipped = s.skipped ++ line ∷ [];
   parts = s.parts ∙ ap (λ os. s.skipped ++ os) first
       ∙ sym (append_assoc s.skipped (line ∷ []) rest);
-  all = list_all-append is_skipped s.skipped (line ∷ [])
-      ∙ ap (λ t. t && list_all is_skipped (line ∷ [])) s.all ∙ ap (λ t. t && true) is;
+  all = rw (list_all-append is_skipped s.skipped (line ∷ []), s.all, is) refl;
   counted = omega (arith, s.counted, length-append s.skipped (line ∷ []));
 }
 
