@@ -1,5 +1,6 @@
 -- What comes after them moves to their place.
-use Rattle.std.proofs.Common.{◌++◌, ◌∙◌, ◌+◌, length, length-take-le, List, ℕ, ap, arith, take, drop}
+use Rattle.std.proofs.Common.{◌++◌, ◌∙◌, ◌+◌, length, length-take-le, List, ℕ, ap, arith, take}
+use Rattle.std.proofs.Common.{drop}
 use Rattle.lk_replay.proofs.Texts.{removed}
 use Rattle.lk_replay.proofs.report.text.Text.remove.Goals as goal
 
