@@ -15,19 +15,9 @@ use Rattle.lockreplay.proofs.PlainLines.{plain_digit}
 is_number : (workers : ℕ) → workers ≤ 9
     → (digits_value 10 (without_leading_plus (digit workers)) ≡ workers)
     × (without_leading_plus (digit workers) ≡ digit workers) × (digit_value (48 + workers) < 10)
-is_number zero most = (refl, refl, omega arith)
-is_number (suc zero) most = (refl, refl, omega arith)
-is_number (suc (suc zero)) most = (refl, refl, omega arith)
-is_number (suc (suc (suc zero))) most = (refl, refl, omega arith)
-is_number (suc (suc (suc (suc zero)))) most = (refl, refl, omega arith)
-is_number (suc (suc (suc (suc (suc zero))))) most = (refl, refl, omega arith)
-is_number (suc (suc (suc (suc (suc (suc zero)))))) most = (refl, refl, omega arith)
-is_number (suc (suc (suc (suc (suc (suc (suc zero))))))) most = (refl, refl, omega arith)
-is_number (suc (suc (suc (suc (suc (suc (suc (suc zero)))))))) most = (refl, refl, omega arith)
-is_number (suc (suc (suc (suc (suc (suc (suc (suc (suc zero))))))))) most =
-    (refl, refl, omega arith)
 is_number (suc (suc (suc (suc (suc (suc (suc (suc (suc (suc k)))))))))) most =
     absurd (omega (arith, most))
+is_number workers most = (refl, refl, omega arith)
 
 is_numeral : (workers : ℕ) → workers ≤ 9 → IsNumeral 10 (without_leading_plus (digit workers))
 is_numeral workers most =
