@@ -1,6 +1,6 @@
 -- What the getters read of the rows that a plain batch line gives.
 use Rattle.std.proofs.Common.{◌≡◌, ◌∙◌, ℕ, ◌+◌, ◌<◌, ◌≤◌, List, Option, Some, None, Result}
-use Rattle.std.proofs.Common.{option_map, codes, refl, ap, arith, zero, suc}
+use Rattle.std.proofs.Common.{option_map, codes, refl, ap, arith, suc}
 use Rattle.std.specs.Prelude.{unwrap_or, IsSomeAnd, ◌==◌}
 use Rattle.std.proofs.lemmas.Bool.{not-true}
 use Rattle.std.proofs.lemmas.Option.{none-some, same_Some}
