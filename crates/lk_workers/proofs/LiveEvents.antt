@@ -27,15 +27,13 @@ use Rattle.lk_workers.proofs.LockStates.{between}
 pub looks : (found t : ℕ) (b : Bool) → (found == t) ≡ b
     → look_event t found
     ≡ event found (thread_in (if b then Inside else Waiting) t) (if b then Entered else Waits)
-looks found t true e =
-    ap (λ c. if c then event found (TicketInside t) Entered else event found (AwaitTurn t) Waits) e
-looks found t false e =
-    ap (λ c. if c then event found (TicketInside t) Entered else event found (AwaitTurn t) Waits) e
+looks found t true e = rw e refl
+looks found t false e = rw e refl
 
 there : {A : Type 0} (l : List A) (i : ℕ) (a : A) → get_elem? l i ≡ some a → i < length l
 there [] i a e = absurd (some-ne-none a (sym e))
 there (x ∷ xs) zero a e = omega arith
-there (x ∷ xs) (suc i) a e = let r = there xs i a e in omega arith
+there (x ∷ xs) (suc i) a e = omega (arith, there xs i a e)
 
 -- a step on one word by one seat is an event that leaves the same in the word and in the seat's
 -- phase
