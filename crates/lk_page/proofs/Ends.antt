@@ -1,16 +1,11 @@
 -- What is written at the end is what the text says.
-use Rattle.std.proofs.Common.{◌≡◌, ℕ, List, [], ◌++◌, length, take, drop, Option, Some}
-use Rattle.std.proofs.Common.{Result, Ok, Err, refl, ap, ◌∙◌}
+use Rattle.std.proofs.Common.{◌≡◌, ℕ, List, [], ◌++◌, length, take, drop, Option}
+use Rattle.std.proofs.Common.{Result, Ok, refl, ap, ◌∙◌}
 use Rattle.lk_locks.specs.Tracked.{Tracked, tracked, holding_in, waiting_in}
 use Rattle.lk_locks.specs.declared.kinds.Refusal.{Refusal}
 use Rattle.lk_replay.specs.Faults.{Fault}
-use Rattle.lk_replay.specs.Reads.{Fails}
-use Rattle.lk_replay.specs.Reading.{IsOfText}
 use Rattle.lk_replay.specs.Replay.{start_of, replay_from}
 use Rattle.lk_replay.specs.Schedule.{Plan}
-use Rattle.lk_replay.specs.declared.schedule.ReadFault.{ReadFault}
-use Rattle.lk_replay.specs.declared.schedule.ReadFault.TheVariants as read
-use Rattle.lk_page.specs.Codes.{as_fault}
 use Rattle.lk_page.specs.Layout.{bytes_of_state, state_bytes}
 use Rattle.lk_page.specs.Told.{Moment, beginning, after_lines}
 use Rattle.lk_page.specs.Written.{IsTold, answer_of}
@@ -46,8 +41,3 @@ plays p read most answer moves first k count refused records_old records_new sta
       state_is = w ∙ ap (λ (x : List ℕ). x ++ drop 2304 state_old)
           (b ∙ same_state p most moves k count refused records_old records_new g m);
     })
-
-names_fault : (fault : ReadFault) (told : Result Plan Fault) → Fails fault told → IsOfText fault
-    → (f : Fault) × (told ≡ Err f) × (as_fault fault ≡ Some f)
-names_fault read.OutOfMemory told e t = absurd t
-names_fault fault told e t = (_, e, refl)

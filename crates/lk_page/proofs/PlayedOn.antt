@@ -1,10 +1,10 @@
 -- One move more of those that are asked for, or none.
-use Rattle.std.proofs.Common.{◌≡◌, ℕ, ◌+◌, ◌*◌, List, [], ◌∷◌, ◌++◌, None, Some, refl, ap}
+use Rattle.std.proofs.Common.{◌≡◌, ℕ, ◌+◌, ◌*◌, List, ◌∷◌, ◌++◌, None, Some, refl, ap}
 use Rattle.std.proofs.Common.{subst, ◌∙◌, arith}
 use Rattle.lk_locks.specs.State.{State}
 use Rattle.lk_locks.specs.Steps.{refusal_of}
 use Rattle.lk_locks.specs.Entries.{entries_of}
-use Rattle.lk_locks.specs.Tracked.{Tracked, tracked, after_tracked}
+use Rattle.lk_locks.specs.Tracked.{Tracked, after_tracked}
 use Rattle.lk_locks.specs.declared.kinds.Refusal.{Refusal}
 use Rattle.lk_replay.specs.declared.schedule.Line.{Line}
 use Rattle.lk_page.specs.Told.{Moment, IsRecord, after_line}
@@ -13,17 +13,6 @@ use Rattle.lk_page.specs.Written.{AreRecords, placed}
 use Rattle.lk_page.specs.Playing.{moment, HavePlayed, ArePlaying}
 use Rattle.lk_page.specs.declared.told.Record.{Record}
 use Rattle.lk_page.proofs.Tracks.{tracked_on}
-
-pub playing_starts : (s : State) (ms : List Line) (old : List ℕ) (k : Tracked) → k ≡ tracked s []
-    → ArePlaying s ms old k ms 0 old
-playing_starts s ms old k e = rw e (record {
-  entries = [];
-  tracks = refl;
-  made = omega arith;
-  stopped = refl;
-  after = refl;
-  records = λ new h. h;
-})
 
 one_record : (m : Moment) (l : Line) (ls : List Line) (count : ℕ) (old now new : List ℕ)
     (r : Record)
@@ -68,17 +57,4 @@ playing_stops s ms old k next l rest count now x p a e =
       stopped = rw a at p.stopped;
       after = same ∙ p.tracks ∙ rw (← end) refl;
       records = p.records now (rw a refl);
-    }
-
--- no move is left of them
-pub playing_ends : (s : State) (ms : List Line) (old : List ℕ) (k : Tracked) (rest : List Line)
-    (count : ℕ) (now : List ℕ)
-    → ArePlaying s ms old k rest count now → rest ≡ [] → HavePlayed s ms old k count None now
-playing_ends s ms old k rest count now p none =
-    let end = rw none at p.after in
-    record {
-      made = omega (arith, rw none at p.made);
-      stopped = rw none at p.stopped;
-      after = p.tracks ∙ rw (← end) refl;
-      records = p.records now (rw none refl);
     }

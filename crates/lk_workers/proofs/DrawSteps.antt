@@ -6,7 +6,6 @@ use mathlib.Core.Option.{none, some}
 use lib.ListN.{get_elem?}
 use Rattle.std.proofs.lemmas.List.{set-get_or}
 use Rattle.atomic_table.specs.Table.{State, Me, step, keeps, Allows, Splits, Joins, Final, Seen}
-use Rattle.atomic_table.specs.Table.{opening}
 use Rattle.atomic_table.proofs.Lists.{set_again}
 use Rattle.lk_workers.specs.declared.draws.Hand.{Hand}
 use Rattle.lk_workers.specs.Counting.{indicator, occurrences, once_below, IsEachBelow}
@@ -16,10 +15,6 @@ use Rattle.lk_workers.proofs.Sums.{sum_over-cut, sum_over-two}
 use Rattle.lk_workers.proofs.Sums.{sum_over-set, sum_over-append, at_most_sum, sum_over-both}
 use Rattle.lk_workers.proofs.Sums.{alone_at, word_at}
 use Rattle.lk_workers.proofs.Below.{below_suc, below_of, all_below, each_below}
-
-pub opens : (draws : ℕ) → draws ≤ 2 ^ 40 → Drawn draws (opening (0 ∷ []) [] (hand [] draws draws))
-opens draws few =
-    record { one_word = refl; once = λ x. refl; many = refl; all = omega arith; few = few }
 
 -- each number of a seat's list is below the word
 pub below_word : (all : ℕ) (s : State (Unit {0}) Hand) (id : ℕ) (v : Hand) → Drawn all s

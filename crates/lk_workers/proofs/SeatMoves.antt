@@ -1,11 +1,11 @@
 -- Each step of the running ticket lock keeps its rule.
-use Rattle.std.proofs.Common.{◌≡◌, ◌≢◌, ℕ, zero, suc, ◌+◌, ◌%◌, ◌^◌, ◌<◌, ◌≤◌, ◌==◌, Bool, true}
+use Rattle.std.proofs.Common.{◌≡◌, ◌≢◌, ℕ, ◌+◌, ◌%◌, ◌^◌, ◌<◌, ◌≤◌, ◌==◌, Bool, true}
 use Rattle.std.proofs.Common.{false, List, [], ◌∷◌, ◌++◌, length, if◌then◌else◌, set, sym, refl, ap}
 use Rattle.std.proofs.Common.{◌∙◌, subst, arith, length-set, ⊎_elim}
-use mathlib.Core.Option.{none, some, some-ne-none}
+use mathlib.Core.Option.{none, some}
 use lib.ListN.{get_elem?}
 use Rattle.std.proofs.lemmas.List.{set-get_or}
-use Rattle.atomic_table.specs.Table.{Step, step, keeps, stepped, Allows, opening}
+use Rattle.atomic_table.specs.Table.{Step, step, keeps, stepped, Allows}
 use Rattle.atomic_table.proofs.Lists.{at_set, set_again}
 use Rattle.lk_workers.specs.declared.live.LivePhase.{LivePhase}
 use Rattle.lk_workers.specs.declared.live.LivePhase.TheVariants.{Idle, Waiting, Inside, Leaving}
@@ -90,25 +90,6 @@ change : (f : SeatState → ℕ) (vs : List (List SeatState)) (id : ℕ) (r q : 
     → get_elem? vs id ≡ some (r ∷ [])
     → sum_over_seats f (set vs id (q ∷ [])) + f r ≡ sum_over_seats f vs + f q
 change f vs id r q at = omega (arith, sum_over-set (sum_over f) vs id (r ∷ []) (q ∷ []) at)
-
-pub opens : (takes : ℕ) → takes ≤ 2 ^ 40
-    → Running takes (opening (0 ∷ 0 ∷ []) [] (seat_state Idle 0 takes 0 0 0 [] ∷ []))
-opens takes few = record {
-  two_words = refl;
-  served = omega arith;
-  tickets = λ x. refl;
-  seats =
-      views_set (ViewFits 0) ((seat_state Idle 0 takes 0 0 0 [] ∷ []) ∷ []) 0
-      (seat_state Idle 0 takes 0 0 0 [] ∷ []) (((tt, omega arith), tt), omega arith)
-      (λ j u other e. only j u other e);
-  taken = refl;
-  left = omega arith;
-}
-  where
-    only : (j : ℕ) (u : List SeatState) → j ≢ 0
-        → get_elem? ((seat_state Idle 0 takes 0 0 0 [] ∷ []) ∷ []) j ≡ some u → ViewFits 0 u
-    only zero u other e = absurd (other refl)
-    only (suc j) u other e = absurd (some-ne-none u (sym e))
 
 module _ (takes slots id : ℕ) (me : Sees) (r : SeatState) (is : me.0 ≡ r ∷ []) where
   pub take : r.phase ≡ Idle → 0 < r.left
