@@ -1,10 +1,10 @@
 -- The last line of a text, and how a report ends by it.
 use Rattle.std.proofs.Common.{◌≡◌, ℕ, ◌+◌, ◌%◌, ◌<◌, ◌^◌, List, [], ◌∷◌, ◌++◌, length, Bool, true}
-use Rattle.std.proofs.Common.{refl, sym, ap, ◌∙◌, arith, inl, inr, not, ◌==◌, codes, decimal}
+use Rattle.std.proofs.Common.{refl, sym, ap, ◌∙◌, arith, inl, inr, not, codes, decimal}
 use Rattle.std.specs.List.{onto_first, slice_split}
 use Rattle.std.proofs.lemmas.List.Folds.{list_all-append}
 use Rattle.std.proofs.lemmas.List.Splits.{slice_split-cons_yes}
-use Rattle.std.proofs.lemmas.Bool.{cases_Bool, eqb-true, ne_eqb}
+use Rattle.std.proofs.lemmas.Bool.{cases_Bool, ne_eqb}
 use Rattle.std.proofs.lemmas.Fmt.{decimal_by_steps}
 use Rattle.lk_locks.specs.declared.kinds.Refusal.{Refusal}
 use Rattle.lk_locks.specs.declared.kinds.Refusal.TheVariants.{WrongStep}
@@ -36,13 +36,6 @@ split_append p (x ∷ xs) y ys here = elim (cases_Bool (p x)) [
 pub last_of_none : (lines : List (List ℕ)) → last_of ([] ∷ lines) ≡ last_of lines
 last_of_none [] = refl
 last_of_none (line ∷ lines) = refl
-
--- the last line, when no text is left
-pub only_line : (line rest last : List ℕ) → (length rest == 0) ≡ true
-    → last_of (line ∷ lines_of rest) ≡ last → line ≡ last
-unfolding lines_of
-only_line line [] last none is = is
-only_line line (b ∷ bs) last none is = absurd (omega (arith, eqb-true (length (b ∷ bs)) 0 none))
 
 -- ---- the ending of a line that has no line feed in it
 

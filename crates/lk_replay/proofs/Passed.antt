@@ -1,11 +1,10 @@
 -- Bytes that go to an output one after another, some of which wait.
 use Rattle.std.proofs.Common.{◌≡◌, ℕ, ◌+◌, List, [], ◌++◌, length, Option, Result, Ok, Err}
-use Rattle.std.proofs.Common.{OnOk, OnErr, refl, sym, ap, ◌∙◌, subst, arith, append_assoc}
+use Rattle.std.proofs.Common.{OnErr, refl, sym, ap, ◌∙◌, subst, arith, append_assoc}
 use Rattle.std.proofs.Common.{append-nil}
 use Rattle.std.proofs.KnownBytes.{Appends-nil, Appends-trans}
 use Rattle.std.proofs.Math.Seq.{take-append-add}
 use Rattle.std.proofs.lemmas.List.{length-append, take-append-le}
-use Rattle.std.proofs.lemmas.Result.{on_err_weaker, on_ok_weaker}
 use Rattle.std.specs.Io.KnownBytes.{Appends}
 use Rattle.lk_replay.specs.declared.devices.RunFault.{RunFault}
 use Rattle.lk_replay.specs.Devices.{AppendsPrefix, Passes}
@@ -69,25 +68,6 @@ prefix_after waited a between b old mid new (sent, appended, first) (n, within, 
 pub told : {T : Type 0} (r : Result T RunFault) (P : Type 0) → P → OnErr r P
 told (Ok _) P fact = tt
 told (Err _) P fact = fact
-
--- what holds of an error, if there is one
-pub of_error : (r : Result (Unit {0}) RunFault) (e : RunFault) (P : Type 0) → OnErr r P → r ≡ Err e
-    → P
-of_error r e P fact is = subst (λ r. OnErr r P) is fact
-
-pub passes_then : (r : Result (Unit {0}) RunFault) (waited a between b waits : List ℕ)
-    (old mid new : Option (List ℕ))
-    → Passes waited old a between mid → OnOk r (Passes between mid b waits new)
-    → OnOk r (Passes waited old (a ++ b) waits new)
-passes_then r waited a between b waits old mid new first =
-    on_ok_weaker r (passes_on waited a between b waits old mid new first)
-
-pub prefix_then : (r : Result (Unit {0}) RunFault) (waited a between b : List ℕ)
-    (old mid new : Option (List ℕ))
-    → Passes waited old a between mid → OnErr r (AppendsPrefix mid new (between ++ b))
-    → OnErr r (AppendsPrefix old new (waited ++ (a ++ b)))
-prefix_then r waited a between b old mid new first =
-    on_err_weaker r (prefix_after waited a between b old mid new first)
 
 -- ---- of a whole batch
 
