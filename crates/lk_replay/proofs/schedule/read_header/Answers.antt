@@ -1,5 +1,5 @@
 -- The first line that is not skipped is the header.
-use Rattle.std.proofs.Common.{◌+◌, ap, refl, sym}
+use Rattle.std.proofs.Common.{◌+◌, refl}
 use Rattle.std.proofs.lemmas.Result.{err_from_is_err_and}
 use Rattle.lk_replay.specs.Header.{header_of}
 use Rattle.lk_replay.specs.Schedule.{moves_from, with_header}
