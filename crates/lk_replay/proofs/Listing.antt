@@ -102,7 +102,7 @@ pub reader_listed : (xs text : List ℕ) (t at : ℕ) → IsAscending xs
     → at ≡ length (later_numbers (below xs t)) → IsPutIn xs text t at
 reader_listed xs text t at a fit h is place =
     let up = later_numbers (below xs t) in
-    let number = 44 ∷ decimal t in
+    let number : List ℕ = 44 ∷ decimal t in
     let p = text_parts xs t a h in
     record {
       within = omega (arith, place, ap length (is ∙ p.left), length-append up p.rest);
@@ -134,7 +134,7 @@ pub reader_gone : (xs text : List ℕ) (t at gone : ℕ) → IsAscending xs → 
     → gone ≡ length (decimal t) + 1 → IsTakenOut xs text t at gone
 reader_gone xs text t at gone a h is place wide =
     let up = later_numbers (below xs t) in
-    let number = 44 ∷ decimal t in
+    let number : List ℕ = 44 ∷ decimal t in
     let p = text_parts xs t a h in
     let end : length (up ++ number) ≡ at + gone =
     omega (arith, place, wide, length-append up number) in

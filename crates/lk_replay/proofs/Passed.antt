@@ -21,7 +21,7 @@ passes_none waited c = ([], Appends-nil c, sym (append-nil waited))
 -- what waited went out
 pub passes_sent : (waited bytes : List ℕ) (old new : Option (List ℕ)) → bytes ≡ waited
     → Appends old new bytes → Passes waited old [] [] new
-passes_sent waited bytes old new are appended = (bytes, appended, ap (λ l. l ++ []) are)
+passes_sent waited bytes old new are appended = (bytes, appended, ap (λ (l : List ℕ). l ++ []) are)
 
 -- if nothing waited, the bytes went out
 pub passes_through : (bytes : List ℕ) (old new : Option (List ℕ)) → Appends old new bytes

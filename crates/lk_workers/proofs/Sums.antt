@@ -79,8 +79,8 @@ module _ {A : Type 0} (f : A → ℕ) where
       → (i : ℕ) × (a : A) × (get_elem? l i ≡ some a) × (1 ≤ f a)
   some_one [] h = absurd (omega arith)
   some_one (x ∷ xs) h = elim (cases_lt 0 (f x)) [
-    | inl some ↦ (zero, x, refl, some)
-    | inr none ↦ let (i, a, at, most) = some_one xs (omega arith) in (suc i, a, at, most)
+    | inl here ↦ (zero, x, refl, here)
+    | inr later ↦ let (i, a, at, least) = some_one xs (omega arith) in (suc i, a, at, least)
   ]
 
 -- the word at a place
