@@ -42,7 +42,8 @@ module _ (F : ℕ → List ℕ) where
   stays (j ∷ ks) os k b e =
       stays ks (set os j (Some (F j))) k (let l = length-set os j (Some (F j)) in omega arith)
       (dite (ℕ_discrete k j)
-      (λ is. get_or-set_at os j k (Some (F j)) None is (omega arith) ∙ ap (λ i. Some (F i)) (sym is))
+      (λ is.
+      get_or-set_at os j k (Some (F j)) None is (omega arith) ∙ ap (λ i. Some (F i)) (sym is))
       (λ no. get_or-set_other os j k (Some (F j)) None no ∙ e))
 
   pub hit : (ks : List ℕ) (os : List (Option (List ℕ))) (k : ℕ) → k < length os
