@@ -129,7 +129,7 @@ unfolding report_text
 every_report_is_as_promised bytes p is =
     let fits = IfOk-at_ok (λ (x : Plan). Fits x.threads x.bits) is (plan_fits bytes) in
     let n = word_count p.kind p.threads in
-    let size = length-replicate n 0 in
+    let size = length-replicate {A = ℕ} n 0 in
     record {
       text = ap plan_text is;
       history = history_of p;

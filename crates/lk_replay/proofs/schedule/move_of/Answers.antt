@@ -1,5 +1,5 @@
 -- A move is a number and a word.
-use Rattle.std.proofs.Common.{sym, ◌∙◌}
+use Rattle.std.proofs.Common.{refl, sym, ◌∙◌}
 use Rattle.lk_replay.proofs.Pieces.{move_read, whole_line}
 use Rattle.lk_replay.proofs.schedule.move_of.Goals as goal
 
@@ -7,10 +7,34 @@ pub returns-in_err-number : goal.returns-in_err-number
 returns-in_err-number c = c.from_residual.ensures ∙ sym (whole_line _ c.in_err-number.ensures)
 
 pub returns-in_err-thread : goal.returns-in_err-thread
-returns-in_err-thread c = cc (move_read _ _ c.in_ok-number.word.now c.in_ok-number.ensures)
+returns-in_err-thread c =
+    rw (
+      c.from_residual-in_err-thread.ensures,
+      move_read _ _ c.in_ok-number.word.now c.in_ok-number.ensures,
+      ← c.number_of.ensures.number,
+      c.in_err-thread.was,
+    )
+    refl
 
 pub returns-in_err-action : goal.returns-in_err-action
-returns-in_err-action c = cc (move_read _ _ c.in_ok-number.word.now c.in_ok-number.ensures)
+returns-in_err-action c =
+    rw (
+      c.from_residual-in_err-action.ensures,
+      move_read _ _ c.in_ok-number.word.now c.in_ok-number.ensures,
+      ← c.number_of.ensures.number,
+      c.in_ok-thread.was,
+      ← c.move_named.ensures,
+      c.in_err-action.was,
+    )
+    refl
 
 pub returns : goal.returns
-returns c = cc (move_read _ _ c.in_ok-number.word.now c.in_ok-number.ensures)
+returns c =
+    rw (
+      move_read _ _ c.in_ok-number.word.now c.in_ok-number.ensures,
+      ← c.number_of.ensures.number,
+      c.in_ok-thread.was,
+      ← c.move_named.ensures,
+      c.in_ok-action.was,
+    )
+    refl

@@ -1,30 +1,45 @@
 -- The next line that is not skipped is read as `moves_from` reads it.
-use Rattle.std.proofs.Common.{eq-eqb}
+use Rattle.std.proofs.Common.{eq-eqb, refl}
 use Rattle.std.proofs.lemmas.Bool.{ne_eqb}
 use Rattle.lk_replay.proofs.Moves.{line_read}
 use Rattle.lk_replay.proofs.Skipped.{moves_skip}
 use Rattle.lk_replay.proofs.schedule.next_move.Goals as goal
 
 pub returns-in_default-clause-read : goal.returns-in_default-clause-read
-returns-in_default-clause-read c = cc (moves_skip _ c.args.taken _ _ _ c.in_default.ensures.end)
+returns-in_default-clause-read c =
+    let none = c.in_default.ensures in
+    rw (moves_skip _ c.args.taken _ _ _ none.end, none.none) refl
 
 pub returns-in_default-move_of-clause-fault : goal.returns-in_default-move_of-clause-fault
 returns-in_default-move_of-clause-fault c =
-    let line = c.in-Some.ensures in cc (line_read _ c.args.taken _ _ _ _ line.found line.read)
+    let line = c.in-Some.ensures in
+    rw (
+      line_read _ c.args.taken _ _ _ _ line.found line.read,
+      ← c.move_of.ensures,
+      c.in_default-move_of.is,
+    )
+    refl
 
 pub returns-then-taken-eq-MOST_MOVES-clause-fault :
     goal.returns-then-taken-eq-MOST_MOVES-clause-fault
 returns-then-taken-eq-MOST_MOVES-clause-fault c =
     let line = c.in-Some.ensures in
-    cc (
+    rw (
       line_read _ c.args.taken _ _ _ _ line.found line.read,
+      ← c.move_of.ensures,
+      c.in-Some-move_of.is,
       eq-eqb _ _ c.if-taken-eq-MOST_MOVES.true,
     )
+    refl
 
 pub returns-clause-read : goal.returns-clause-read
 returns-clause-read c =
     let line = c.in-Some.ensures in
-    cc (
+    rw (
       line_read _ c.args.taken _ _ _ _ line.found line.read,
+      ← c.move_of.ensures,
+      c.in-Some-move_of.is,
       ne_eqb _ _ c.if-taken-eq-MOST_MOVES.false,
+      line.counted,
     )
+    refl

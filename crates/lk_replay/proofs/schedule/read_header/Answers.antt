@@ -9,7 +9,8 @@ use Rattle.lk_replay.proofs.schedule.read_header.Goals as goal
 
 pub returns-in_default-clause-fault : goal.returns-in_default-clause-fault
 returns-in_default-clause-fault c =
-    cc (no_header c.args.text.now _ _ c.if-text-gt-MOST_BYTES.false
+    rw c.number.ensures
+    (no_header c.args.text.now _ _ c.if-text-gt-MOST_BYTES.false
     (skips_same _ _ c.new-lines.ensures _ _ _ c.in_default.ensures.end refl)
     c.in_default.ensures.none)
 
@@ -30,10 +31,12 @@ returns-in_err-header-clause-fault c =
 
 pub returns-clause-read : goal.returns-clause-read
 returns-clause-read c =
-    cc (
+    rw (
       header_here c.args.text.now c.in-Some.line.now c.next_line.new.self.lines c.in-Some.number
           c.if-text-gt-MOST_BYTES.false
           (skips_same _ _ c.new-lines.ensures _ _ _ c.in-Some.ensures.found refl)
           c.in-Some.ensures.read,
       c.in_ok-header.ensures.read,
+      c.in-Some.ensures.counted,
     )
+    refl

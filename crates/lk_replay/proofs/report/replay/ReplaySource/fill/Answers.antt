@@ -16,11 +16,14 @@ loop-place-preserved c =
     let size : length (put_mid at (length place - at) place now) ≡ length place =
     same_len_mid at (length place - at) place now wide in
     record {
-      lines = cc (
-        written_after place now (post_of at (length place - at) place) at more
-            c.loop-place.invariant.within c.in-Some.ensures.fits,
-        append_assoc (take at place) (take more now) c.next.new.self.lines,
-      );
+      lines =
+          rw (
+            written_after place now (post_of at (length place - at) place) at more
+                c.loop-place.invariant.within c.in-Some.ensures.fits,
+            append_assoc (take at place) (take more now) c.next.new.self.lines,
+            ← c.in-Some.ensures.lines,
+          )
+          c.loop-place.invariant.lines;
       within = omega (arith, size, wide, part, c.in-Some.ensures.fits);
       room = omega (arith, size, c.loop-place.invariant.room);
       less = omega (arith, c.in-Some.ensures.left, c.loop-place.invariant.less);
