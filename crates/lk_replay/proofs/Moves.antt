@@ -22,12 +22,12 @@ more n (Err fault) = Err fault
 
 -- the next line that is not skipped is read
 pub line_read : (from taken number : ℕ) (lines : List (List ℕ)) (line : List ℕ)
-    (others : List (List ℕ)) → SkipsTo from lines number (line ∷ others) → is_skipped line ≡ false
+    (others : List (List ℕ)) (move : Option (ℕ × Move)) → SkipsTo from lines number (line ∷ others)
+    → is_skipped line ≡ false → move_of line ≡ move
     → moves_from from taken lines
-    ≡ moves_after (move_of line) number (taken == 65536)
-    (moves_from (number + 1) (taken + 1) others)
-line_read from taken number lines line others skips read =
-    moves_skip from taken number lines (line ∷ others) skips ∙ cond-false _ _ _ read
+    ≡ moves_after move number (taken == 65536) (moves_from (number + 1) (taken + 1) others)
+line_read from taken number lines line others move skips read is =
+    rw (← is) (moves_skip from taken number lines (line ∷ others) skips ∙ cond-false _ _ _ read)
 
 wanted : (skipped full : Bool) (move : Option (ℕ × Move)) (number : ℕ)
     (rest others : Result (List Line) Fault) → WantsMemory rest → WantsMemory others

@@ -97,11 +97,11 @@ goes_on whole rest between text more waits old mid new way is passes = record {
 }
 
 -- a line waits after what waited
-pub printed : (whole lines last between line waits rest same : List ℕ)
-    (old mid : Option (List ℕ)) → IsUnderWay whole (lines ++ last) between old mid
-    → waits ≡ between ++ line → lines ≡ line ++ rest → same ≡ last
+pub printed : (whole lines last between waits rest same : List ℕ) (old mid : Option (List ℕ))
+    → IsUnderWay whole (lines ++ last) between old mid
+    → (line : List ℕ) × (waits ≡ between ++ line) × (lines ≡ line ++ rest) → same ≡ last
     → IsUnderWay whole (rest ++ same) waits old mid
-printed whole lines last between line waits rest same old mid way grown is kept =
+printed whole lines last between waits rest same old mid way (line, grown, is) kept =
     rw (grown, kept)
     (goes_on whole (lines ++ last) between line (rest ++ last) (between ++ line) old mid mid way
     (ap (λ l. l ++ last) is ∙ append_assoc line rest last) (passes_kept between line mid))

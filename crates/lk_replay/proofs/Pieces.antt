@@ -56,8 +56,9 @@ words_read number word (piece ∷ next ∷ pieces) cut =
     sym (no_move (number_of 0 255 number) (move_named word) word piece next pieces refl cut)
 
 -- a line that is cut once at least is a thread's number and a word
-pub move_read : (line number word : List ℕ)
+pub move_read : (line number word : List ℕ) (n : Option ℕ) (m : Option Move)
     → slice_split is_space line ≡ number ∷ slice_split is_space word
-    → move_of line ≡ option_zip (number_of 0 255 number) (move_named word)
+    → number_of 0 255 number ≡ n → move_named word ≡ m → move_of line ≡ option_zip n m
 unfolding move_of
-move_read line number word cut = ap move_of_words cut ∙ words_read number word _ refl
+move_read line number word n m cut here named =
+    rw (← here, ← named) (ap move_of_words cut ∙ words_read number word _ refl)

@@ -15,7 +15,7 @@ use Rattle.lk_locks.specs.Steps.{refusal_of}
 use Rattle.lk_locks.specs.declared.kinds.Entry.{Entry}
 use Rattle.lk_locks.specs.declared.kinds.LockKind.{LockKind}
 use Rattle.lk_locks.specs.declared.kinds.Refusal.{Refusal}
-use Rattle.lk_replay.proofs.Changes.{followed_more, text_of}
+use Rattle.lk_locks.proofs.Histories.{after_append, holder_append}
 use Rattle.lk_replay.proofs.Cuts.{before_pieces, has_piece}
 use Rattle.lk_replay.proofs.LastLines.{split_append}
 use Rattle.lk_replay.specs.Ending.{ending_of, ending_of_line, last_of}
@@ -30,11 +30,17 @@ use Rattle.lk_replay.specs.Report.{replay_text, state_text}
 use Rattle.lk_replay.specs.Schedule.{Plan}
 use Rattle.lk_replay.specs.declared.schedule.Line.{Line}
 
+-- what is followed of a history that grows
+followed_more : (kind : LockKind) (es new : List Entry)
+    → followed_by (following kind es) new ≡ following kind (es ++ new)
+followed_more kind es new = rw (after_append (nobody kind) es new, holder_append None es new) refl
+
 -- the lines, and then the last line
 lines_are : (kind : LockKind) (count : ℕ) (es : List Entry) (ms : List Made)
     (refused : Option (ℕ × Refusal))
     → lines_from (following kind es) count ms ++ last_line (count + length ms) refused
     ≡ lines_text kind count es ms refused
+unfolding state_text
 lines_are kind count es [] refused = ap (λ (k : ℕ). last_line k refused) (omega arith)
 lines_are kind count es (m ∷ ms) refused =
     let new : List Entry = es ++ m.entries in
@@ -43,8 +49,6 @@ lines_are kind count es (m ∷ ms) refused =
     let last : List ℕ = last_line (count + length (m ∷ ms)) refused in
     ap (λ (f : Following). ((move_text (count + 1) m.accepted ++ followed_text f)
     ++ lines_from f (count + 1) ms) ++ last) (followed_more kind es m.entries)
-    ∙ ap (λ (ys : List ℕ). ((move_text (count + 1) m.accepted ++ ys) ++ rest) ++ last)
-    (text_of kind new)
     ∙ append_assoc line rest last
     ∙ ap (λ (k : ℕ). line ++ (rest ++ last_line k refused)) (omega arith)
     ∙ ap (λ (ys : List ℕ). line ++ ys) (lines_are kind (count + 1) new ms refused)

@@ -13,27 +13,24 @@ loop-buffer-init g c = record {
 
 pub loop-buffer-preserved : goal.loop-buffer-preserved
 loop-buffer-preserved g c =
-    let (line, waits, is) = c.print.ensures.lines in
-    let last = c.print.ensures.last in
-    let way = printed _ _ _ _ line _ _ _ _ _ c.loop-buffer.invariant.way waits is last in
+    let print = c.print.ensures in
+    let way = printed _ _ _ _ _ _ _ _ _ c.loop-buffer.invariant.way print.lines print.last in
     record {
       way = goes_on _ _ _ [] _ _ _ _ _ way refl c.in_ok-make_room.ensures.passed;
-      kept = last ∙ c.loop-buffer.invariant.kept;
+      kept = print.last ∙ c.loop-buffer.invariant.kept;
       room = c.in_ok-make_room.ensures.room;
     }
 
 pub returns-in_err-make_room-clause-prefix : goal.returns-in_err-make_room-clause-prefix
 returns-in_err-make_room-clause-prefix g c =
-    let (line, waits, is) = c.print.ensures.lines in
-    let last = c.print.ensures.last in
-    let way = printed _ _ _ _ line _ _ _ _ _ c.loop-buffer.invariant.way waits is last in
+    let print = c.print.ensures in
+    let way = printed _ _ _ _ _ _ _ _ _ c.loop-buffer.invariant.way print.lines print.last in
     told _ _ (cut_waiting _ _ _ _ _ _ way c.in_err-make_room.ensures.prefix)
 
 pub returns-in_err-push-clause-prefix : goal.returns-in_err-push-clause-prefix
 returns-in_err-push-clause-prefix g c =
-    let (line, waits, is) = c.print.ensures.lines in
-    let last = c.print.ensures.last in
-    let way = printed _ _ _ _ line _ _ _ _ _ c.loop-buffer.invariant.way waits is last in
+    let print = c.print.ensures in
+    let way = printed _ _ _ _ _ _ _ _ _ c.loop-buffer.invariant.way print.lines print.last in
     let text =
     last_left _ _ _ c.loop-buffer-test.ensures.left.0
     (c.as_slice.ensures ∙ c.closing-closing.ensures) in
@@ -41,9 +38,8 @@ returns-in_err-push-clause-prefix g c =
 
 pub returns-in_err-send_whole-clause-prefix : goal.returns-in_err-send_whole-clause-prefix
 returns-in_err-send_whole-clause-prefix g c =
-    let (line, waits, is) = c.print.ensures.lines in
-    let last = c.print.ensures.last in
-    let way = printed _ _ _ _ line _ _ _ _ _ c.loop-buffer.invariant.way waits is last in
+    let print = c.print.ensures in
+    let way = printed _ _ _ _ _ _ _ _ _ c.loop-buffer.invariant.way print.lines print.last in
     let text =
     last_left _ _ _ c.loop-buffer-test.ensures.left.0
     (c.as_slice.ensures ∙ c.closing-closing.ensures) in

@@ -8,33 +8,19 @@ returns-in_err-number c = c.from_residual.ensures ∙ sym (whole_line _ c.in_err
 
 pub returns-in_err-thread : goal.returns-in_err-thread
 returns-in_err-thread c =
-    rw (
-      c.from_residual-in_err-thread.ensures,
-      move_read _ _ c.in_ok-number.word.now c.in_ok-number.ensures,
-      ← c.number_of.ensures.number,
-      c.in_err-thread.was,
-    )
-    refl
+    c.from_residual-in_err-thread.ensures
+    ∙ sym (move_read _ _ c.in_ok-number.word.now _ _ c.in_ok-number.ensures
+    (sym c.number_of.ensures.number ∙ c.in_err-thread.was) refl)
 
 pub returns-in_err-action : goal.returns-in_err-action
 returns-in_err-action c =
-    rw (
-      c.from_residual-in_err-action.ensures,
-      move_read _ _ c.in_ok-number.word.now c.in_ok-number.ensures,
-      ← c.number_of.ensures.number,
-      c.in_ok-thread.was,
-      ← c.move_named.ensures,
-      c.in_err-action.was,
-    )
-    refl
+    c.from_residual-in_err-action.ensures
+    ∙ sym (move_read _ _ _ _ _ c.in_ok-number.ensures
+    (sym c.number_of.ensures.number ∙ c.in_ok-thread.was)
+    (sym c.move_named.ensures ∙ c.in_err-action.was))
 
 pub returns : goal.returns
 returns c =
-    rw (
-      move_read _ _ c.in_ok-number.word.now c.in_ok-number.ensures,
-      ← c.number_of.ensures.number,
-      c.in_ok-thread.was,
-      ← c.move_named.ensures,
-      c.in_ok-action.was,
-    )
-    refl
+    sym (move_read _ _ _ _ _ c.in_ok-number.ensures
+    (sym c.number_of.ensures.number ∙ c.in_ok-thread.was)
+    (sym c.move_named.ensures ∙ c.in_ok-action.was))
