@@ -6,7 +6,6 @@ use mathlib.Core.Option.{none, some}
 use lib.ListN.{get_elem?}
 use Rattle.std.proofs.lemmas.List.{set-get_or}
 use Rattle.atomic_table.specs.Table.{State, Me, step, keeps, Allows, Splits, Joins, Final, Seen}
-use Rattle.atomic_table.specs.Table.{opening}
 use Rattle.atomic_table.proofs.Lists.{set_again}
 use Rattle.lk_workers.specs.declared.draws.Hand.{Hand}
 use Rattle.lk_workers.specs.Counting.{indicator, occurrences, once_below, IsEachBelow}
@@ -17,18 +16,12 @@ use Rattle.lk_workers.proofs.Sums.{sum_over-set, sum_over-append, at_most_sum, s
 use Rattle.lk_workers.proofs.Sums.{alone_at, word_at}
 use Rattle.lk_workers.proofs.Below.{below_suc, below_of, all_below, each_below}
 
-pub opens : (draws : ℕ) → draws ≤ 2 ^ 40 → Drawn draws (opening (0 ∷ []) [] (hand [] draws draws))
-opens draws few =
-    record { one_word = refl; once = λ x. refl; many = refl; all = omega arith; few = few }
-
 -- each number of a seat's list is below the word
 pub below_word : (all : ℕ) (s : State (Unit {0}) Hand) (id : ℕ) (v : Hand) → Drawn all s
     → get_elem? s.views id ≡ some v → All (λ x. x < get_or s.words 0 0) v.drawn
 below_word all s id v r at = all_below (get_or s.words 0 0) v.drawn
-    (λ x t. below_of x (get_or s.words 0 0) (
-    let a = at_most_sum (λ (u : Hand). occurrences x u.drawn) s.views id v at in
-    let b = r.once x in
-    omega arith))
+    (λ x t. below_of x (get_or s.words 0 0)
+    (omega (arith, at_most_sum (λ (u : Hand). occurrences x u.drawn) s.views id v at, r.once x)))
 
 pub draws : (all slots id : ℕ) (me : Me (Unit {0}) Hand) → 0 < me.0.left
     → Allows (Drawn all) slots id me 0 (λ n. (n + 1) % 2 ^ 64)
@@ -59,14 +52,12 @@ draws all slots id me some_left s r _ at _ =
             let d = length-append v.drawn (n ∷ []) in
             let e = r.many in
             omega arith);
-        all = (let c = sum_over-set (λ (u : Hand). u.left) s.views id v w at in omega arith);
+        all = omega (arith, sum_over-set (λ (u : Hand). u.left) s.views id v w at);
         few = few;
       },
       (
         refl,
-        (let a = at_most_sum (λ (u : Hand). length u.drawn) s.views id v at in
-            let b = r.many in
-            omega arith),
+        omega (arith, at_most_sum (λ (u : Hand). length u.drawn) s.views id v at, r.many),
         below_word all s id v r at,
       ),
     )
@@ -83,10 +74,9 @@ splits all id v a low s r at =
           ∙ r.once x;
       many =
           sum_over-cut (λ (u : Hand). length u.drawn) s.views id v l n at (omega arith) ∙ r.many;
-      all = (
+      all =
           let c = sum_over-cut (λ (u : Hand). u.left) s.views id v l n at (omega arith) in
-          let e = r.all in
-          omega arith);
+          omega (arith, r.all);
       few = r.few;
     }
 
@@ -106,11 +96,9 @@ joins all id v other w s r at two there =
           let f : Hand → ℕ = λ u. length u.drawn in
           let g = length-append v.drawn w.drawn in
           sum_over-two f s.views id other v w b o at there (omega arith) ∙ r.many);
-      all = (
+      all =
           let f : Hand → ℕ = λ u. u.left in
-          let c = sum_over-two f s.views id other v w b o at there (omega arith) in
-          let e = r.all in
-          omega arith);
+          omega (arith, sum_over-two f s.views id other v w b o at there (omega arith), r.all);
       few = r.few;
     }
 

@@ -1,7 +1,7 @@
 -- Reports put into their places, and taken out of them.
 use Rattle.std.proofs.Common.{◌≡◌, ℕ, ◌<◌, ◌≤◌, List, [], ◌∷◌, length, map, set, get_or, replicate}
 use Rattle.std.proofs.Common.{drop, filter, All, ltb, ltb-true, Some, None, option_map, sym, refl}
-use Rattle.std.proofs.Common.{ap, ap₂, ◌∙◌, subst, arith, get_or-set_same, get_or-set_other}
+use Rattle.std.proofs.Common.{ap, ap₂, ◌∙◌, subst, arith, get_or-set_other}
 use Rattle.std.proofs.Common.{ext_get_or, length-set}
 use Rattle.std.specs.Prelude.{Option}
 use Rattle.std.specs.List.{flat_map}
@@ -12,6 +12,7 @@ use lib.Seq.{map-set}
 use lib.ListN.{length-map}
 use Rattle.lk_workers.specs.Counting.{occurrences, indicator}
 use Rattle.std.proofs.lemmas.List.Elements.{All-head, All-map, All-tail, filter_passes}
+use Rattle.std.proofs.lemmas.Grind.{get_or-set_at}
 use Rattle.std.proofs.lemmas.List.{get_or-map, length-replicate}
 use Rattle.std.proofs.lemmas.Simd.{map-map, splat_is_map}
 use Rattle.lk_replay.specs.Report.{report_text}
@@ -40,8 +41,9 @@ module _ (F : ℕ → List ℕ) where
   stays [] os k b e = e
   stays (j ∷ ks) os k b e =
       stays ks (set os j (Some (F j))) k (let l = length-set os j (Some (F j)) in omega arith)
-      (dite (ℕ_discrete k j) (λ is. ap (λ i. get_or (set os j (Some (F j))) i None) is
-      ∙ get_or-set_same os j (Some (F j)) None (omega arith) ∙ ap (λ i. Some (F i)) (sym is))
+      (dite (ℕ_discrete k j)
+      (λ is.
+      get_or-set_at os j k (Some (F j)) None is (omega arith) ∙ ap (λ i. Some (F i)) (sym is))
       (λ no. get_or-set_other os j k (Some (F j)) None no ∙ e))
 
   pub hit : (ks : List ℕ) (os : List (Option (List ℕ))) (k : ℕ) → k < length os
@@ -50,8 +52,7 @@ module _ (F : ℕ → List ℕ) where
   hit (j ∷ ks) os k b t = dite (ℕ_discrete k j)
       (λ is.
       stays ks (set os j (Some (F j))) k (let l = length-set os j (Some (F j)) in omega arith)
-      (ap (λ i. get_or (set os j (Some (F j))) i None) is
-      ∙ get_or-set_same os j (Some (F j)) None (omega arith) ∙ ap (λ i. Some (F i)) (sym is)))
+      (get_or-set_at os j k (Some (F j)) None is (omega arith) ∙ ap (λ i. Some (F i)) (sym is)))
       (λ no. hit ks (set os j (Some (F j))) k (let l = length-set os j (Some (F j)) in omega arith)
       (let z : indicator k j ≡ 0 = grind arith in omega arith))
 

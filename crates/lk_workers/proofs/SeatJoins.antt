@@ -1,14 +1,14 @@
 -- Splits and joins of seats keep the rule of the running ticket lock, and what it says of the last
 -- state.
 use Rattle.std.proofs.Common.{◌≡◌, ℕ, ◌+◌, ◌≤◌, max, List, [], ◌∷◌, ◌++◌, get_or, set}
-use Rattle.std.proofs.Common.{sym, refl, ap, ◌∙◌, subst, arith, ⊎_elim, lt_of_not-le}
-use native.Mathlib.Decide.{dec_le}
+use Rattle.std.proofs.Common.{sym, refl, ap, ◌∙◌, subst, arith, ⊎_elim, inl, inr}
+use Rattle.std.proofs.lemmas.Bool.{cases_lt}
 use mathlib.Core.Option.{some}
 use lib.ListN.{get_elem?}
 use Rattle.atomic_table.specs.Table.{Splits, Joins, Final, Seen}
 use Rattle.atomic_table.proofs.Lists.{at_set, at_snoc}
 use Rattle.lk_workers.specs.declared.live.LivePhase.{LivePhase}
-use Rattle.lk_workers.specs.declared.live.LivePhase.TheVariants.{Idle, Waiting, Inside, Leaving}
+use Rattle.lk_workers.specs.declared.live.LivePhase.TheVariants.{Idle, Waiting}
 use Rattle.lk_workers.specs.declared.live.rule.SeatState.{SeatState}
 use Rattle.lk_workers.specs.Counting.{sum_over, once_below}
 use Rattle.lk_workers.specs.Seats.{next_of, serving_of, ticket_indicator, ticket_indicator_in}
@@ -34,15 +34,12 @@ two_lists takes id v l b hs ts ls fits s h at =
     built takes (record { words = s.words; homes = s.homes; views = set vs id l ++ b ∷ [] })
     (next_of s) m h.two_words refl refl h.served
     (λ x. let c = sum_over-cut (sum_over (ticket_indicator x)) vs id v l b at (hs x) in
-    let t = h.tickets x in
-    omega arith)
+    omega (arith, h.tickets x))
     (λ j u e. ⊎_elim
     (λ x. views_set (ViewFits m) vs id l both.0 (λ j u _ e. h.seats j u e) j u x)
     (λ (x : b ≡ u). subst (ViewFits m) x both.1) (at_snoc (set vs id l) b u j e))
     (sum_over-cut (sum_over (λ u. u.taken)) vs id v l b at ts ∙ h.taken)
-    (let c = sum_over-cut (sum_over (λ u. u.left)) vs id v l b at ls in
-    let t = h.left in
-    omega arith)
+    (omega (arith, sum_over-cut (sum_over (λ u. u.left)) vs id v l b at ls, h.left))
 
 pub splits : (takes id a : ℕ) (v : List SeatState) (r : SeatState) → v ≡ r ∷ [] → a ≤ r.left
     → Splits (Running takes) id v (cut_left a v) (cut_right a v)
@@ -76,8 +73,7 @@ one_list takes id other r q b hs ts ls fits s h at two there =
     (next_of s) m h.two_words refl refl h.served
     (λ x. let c = sum_over-two (sum_over (ticket_indicator x)) vs id other (r ∷ []) (q ∷ []) b []
     at there (omega (arith, hs x)) in
-    let t = h.tickets x in
-    omega arith)
+    omega (arith, h.tickets x))
     (views_set (ViewFits m) bs other [] (tt, omega arith) (λ j u _ e. views_set (ViewFits m) vs id b
     (fits m mine.0.0 its.0.0) (λ j u _ e. h.seats j u e) j u e))
     (sum_over-two (sum_over (λ u. u.taken)) vs id other (r ∷ []) (q ∷ []) b [] at there
@@ -85,8 +81,7 @@ one_list takes id other r q b hs ts ls fits s h at two there =
     ∙ h.taken)
     (let c = sum_over-two (sum_over (λ u. u.left)) vs id other (r ∷ []) (q ∷ []) b [] at there
     (omega arith) in
-    let t = h.left in
-    omega arith)
+    omega (arith, h.left))
 
 max_le : (a b m : ℕ) → a ≤ m → b ≤ m → max a b ≤ m
 max_le a b m h k = omega arith
@@ -118,8 +113,7 @@ none_taken : (x m : ℕ) (p : LivePhase) (t taken : ℕ) → FitsPhase m p t tak
     → ticket_indicator_in x p t ≡ 0
 none_taken x m Idle t taken f z = refl
 none_taken x m Waiting t taken f z = absurd (omega arith)
-none_taken x m Inside t taken f z = let g = f.1 in absurd (omega arith)
-none_taken x m Leaving t taken f z = let g = f.1 in absurd (omega arith)
+none_taken x m p t taken f z = absurd (omega (arith, f.1))
 
 none_of_ticket : (x m : ℕ) (u : List SeatState) → Each (Fits m) u → sum_over (λ p. p.taken) u ≡ 0
     → sum_over (ticket_indicator x) u ≡ 0
@@ -139,8 +133,7 @@ closes takes id v r words slots n m is idle h w0 w1 =
     let k = h.1.0 in
     let at : get_elem? s.views id ≡ some (r ∷ []) = h.1.1 ∙ ap some is in
     let en : next_of s ≡ n = ap (λ (ws : List ℕ). get_or ws 0 0) h.2 ∙ word_at words 0 n w0 in
-    let em : serving_of s ≡ m =
-    ap (λ (ws : List ℕ). get_or ws 1 0) h.2 ∙ word_at words 1 m w1 in
+    let em : serving_of s ≡ m = ap (λ (ws : List ℕ). get_or ws 1 0) h.2 ∙ word_at words 1 m w1 in
     let low = k.served in
     let t = k.taken in
     let mine = at_most_sum (sum_over (λ u. u.taken)) s.views id (r ∷ []) at in (
@@ -158,8 +151,7 @@ closes takes id v r words slots n m is idle h w0 w1 =
     )
   where
     ends : (x y m n : ℕ) → x ≡ m → y ≡ n → x ≤ y → once_below x y ≡ 0 → m ≡ n
-    ends x y m n e f low z = go (dec_le y x)
-      where
-        go : Dec (y ≤ x) → m ≡ n
-        go (yes d) = omega arith
-        go (no d) = let o = once_there x y (lt_of_not-le d) in absurd (omega arith)
+    ends x y m n e f low z = elim (cases_lt x y) [
+      | inl less ↦ absurd (omega (arith, once_there x y less))
+      | inr more ↦ omega arith
+    ]
