@@ -2,7 +2,7 @@
 //! order of the files.
 
 ghost use Rattle.lk_trace_files.specs.Verdicts.{AreOfTexts};
-ghost use Rattle.std.specs.Prelude.{◌≡◌, ◌+◌, ◌++◌, ◌∷◌, [], IfOk, OnOk, length};
+ghost use Rattle.std.specs.Prelude.{◌≡◌, ◌+◌, ◌++◌, ◌∷◌, [], IfOk, OnOk, length, vec_len};
 
 use crate::check::{Ending, Report, check_input, unread};
 use crate::failures::Failure;
@@ -93,7 +93,8 @@ pub fn check_side_by_side<R: Threads + Sync, I: Read + Send + Drop>(
     alloc: Global,
     inputs: Vec<I>,
 ) -> Result<Vec<Result<Report, AllocError>>, AllocError>
-    ensures { IfOk result (λ reports. AreOfTexts I.remaining inputs.items reports.items) }
+    ensures one_each { IfOk result (λ reports. vec_len reports ≡ vec_len inputs) }
+    ensures each { IfOk result (λ reports. AreOfTexts I.remaining inputs.items reports.items) }
 {
     map_vec(rt, inputs, &|input: I| check_input(alloc, input, |_| {}))
 }
