@@ -2,9 +2,10 @@
 //! text says of its end, in comments that a recorder writes after the last move.
 
 ghost use Rattle.std.specs.Prelude.{◌≡◌, List, Some};
-ghost use Rattle.lk_trace_files.specs.Fates.{after_comment, after_line, hangs, new_fates};
-ghost use Rattle.lk_trace_files.specs.Fates.{said_before, said_of};
+ghost use Rattle.lk_trace_files.specs.Fates.{after_comment, after_line, hangs, is_hung, is_over};
+ghost use Rattle.lk_trace_files.specs.Fates.{new_fates, said_before, said_of};
 ghost use Rattle.lk_trace_files.specs.declared.course.Fate.{Fate as OfThread};
+ghost use Rattle.std.specs.List.{list_all, list_any};
 
 use crate::trail::Trail;
 use lk_locks::Outcome;
@@ -23,6 +24,22 @@ pub enum Fate {
     Ended,
     /// Its last move was a failed poll, and the text says that it has not ended.
     Hangs,
+}
+
+// Whether each of these threads has ended or hangs.
+fn are_over(fates: &[Fate]) -> bool
+    ensures { result ≡ list_all is_over fates.now }
+{
+    fates
+        .iter()
+        .all(|fate| matches!(fate, Fate::Ended | Fate::Hangs))
+}
+
+// Whether one of these threads hangs.
+fn one_hangs(fates: &[Fate]) -> bool
+    ensures { result ≡ list_any is_hung fates.now }
+{
+    fates.iter().any(|fate| matches!(fate, Fate::Hangs))
 }
 
 // The most bytes of a comment that says something of a thread.
@@ -126,10 +143,6 @@ impl Course {
         ensures { result ≡ hangs threads self.now }
     {
         let fates = &self.fates[..threads as usize];
-        let over = fates
-            .iter()
-            .all(|fate| matches!(fate, Fate::Ended | Fate::Hangs));
-        let one = fates.iter().any(|fate| matches!(fate, Fate::Hangs));
-        over && one
+        are_over(fates) && one_hangs(fates)
     }
 }
