@@ -1,5 +1,5 @@
 -- The lines of a log's input are read one after another, up to its end or a line that is none.
-use Rattle.std.proofs.Common.{◌≡◌, ℕ, List, [], Option, None, Some, IfSome, Result, Ok, Err}
+use Rattle.std.proofs.Common.{◌≡◌, ℕ, List, Option, None, Some, IfSome, Result, Ok, Err}
 use Rattle.std.proofs.Common.{MatchResult, IfOk, Bool, ap₂, sym, subst, subst₂, ◌∙◌}
 use Rattle.std.specs.Io.KnownBytes.{IsAtEnd, Keeps}
 use Rattle.lk_order.specs.Logs.{IsFaultOf, Reading, ThreadLog, line_read, log_read}

@@ -1,6 +1,6 @@
 -- The logs of a run that were taken, and what is wrong with a log beside them.
 use Rattle.std.proofs.Common.{◌≡◌, ◌⊎◌, ◌<◌, ◌∷◌, ◌∙◌, ℕ, zero, suc, List, [], length, replicate, set}
-use Rattle.std.proofs.Common.{Option, None, Some, IsSome, IsSomeAnd, IfSome, Bool, false, true, ap}
+use Rattle.std.proofs.Common.{Option, None, Some, IsSome, IsSomeAnd, IfSome, false, true, ap}
 use Rattle.std.proofs.Common.{sym, subst, refl, inl, inr, arith, flat_map, get_or, option_to_list}
 use Rattle.std.proofs.Common.{slice_get, MatchResult, Ok, Result}
 use Rattle.std.proofs.lemmas.Option.{none-some, same_Some, slice_get_past}
@@ -161,8 +161,12 @@ run_of places (Some lock) each some has =
     let stands = each 0 here.0 here.1 in
     let are = first_some places lock.threads has (λ t log at.
     let s : Stands (Some lock) t log = each t log at in
-    omega (arith, s.is_own.few, s.thread_is,
-    ap (λ (h : Header). h.threads) (same_Some lock log.header s.lock_is))) in
+    omega (
+      arith,
+      s.is_own.few,
+      s.thread_is,
+      ap (λ (h : Header). h.threads) (same_Some lock log.header s.lock_is),
+    )) in
     let logs : List ThreadLog = flat_map option_to_list places in
     subst (λ (o : Option ThreadLog). IsSomeAnd o (λ first. IsRunOf first.header logs))
     (sym (are.1 0 ∙ here.1)) (record {

@@ -1,6 +1,6 @@
 -- Definitions. What the logs of a run are, as texts, if no order is looked for. This project's own.
 use Rattle.std.specs.Prelude.{◌≡◌, ◌≢◌, ◌⊎◌, ◌<◌, ⊤, ℕ, List, [], Option, None, IfSome}
-use Rattle.std.specs.Prelude.{Result, Ok, Err}
+use Rattle.std.specs.Prelude.{Ok, Err}
 use Rattle.lk_order.specs.Logs.{IsFaultOf, Reading, ThreadLog, line_read, log_read}
 use Rattle.lk_order.specs.declared.log.reader.LogFault.{LogFault}
 use Rattle.lk_trace_files.specs.Lines.{IsFirstLine, kept}

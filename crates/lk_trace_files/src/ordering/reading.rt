@@ -31,11 +31,7 @@ pub struct Taken<'a> {
 type LogRead = (Log, Option<u64>, bool);
 
 // The log that was read, with what the first line says of its run, and the last of its thread.
-fn whole(
-    reader: LogReader,
-    run: Option<u64>,
-    last: Option<(u8, bool)>,
-) -> Result<LogRead, LogFault>
+fn whole(reader: LogReader, run: Option<u64>, last: Option<(u8, bool)>) -> Result<LogRead, LogFault>
     ensures { MatchResult result (λ read. log_read reader.log ≡ Ok read.0)
         (λ fault. log_read reader.log ≡ Err fault) }
 {

@@ -21,8 +21,12 @@ loop-name-init g c = record {
       _ _ c.into_iter-late.ensures.rest
       (all_checked g.R.File.Read.remaining g.R.Reader.Read.remaining c.in_ok-inputs.inputs.items
       c.in_ok-check_side_by_side.field-0.items
-      (omega (arith, c.in_ok-check_side_by_side.field-0.ok, c.in_ok-inputs.inputs.ok,
-      c.in_ok-check_side_by_side.ensures.one_each))
+      (omega (
+        arith,
+        c.in_ok-check_side_by_side.field-0.ok,
+        c.in_ok-inputs.inputs.ok,
+        c.in_ok-check_side_by_side.ensures.one_each,
+      ))
       c.in_ok-check_side_by_side.ensures.each);
 }
 
@@ -33,8 +37,12 @@ loop-name-preserved g c =
     c.loop-name.invariant.early in
     record {
       one_each =
-          omega (arith, c.loop-name.invariant.one_each, ap length c.in_ok-put.ensures,
-          length-append c.loop-name.reports.endings.items (c.match-next.report.ending ∷ []));
+          omega (
+            arith,
+            c.loop-name.invariant.one_each,
+            ap length c.in_ok-put.ensures,
+            length-append c.loop-name.reports.endings.items (c.match-next.report.ending ∷ []),
+          );
       each = λ all.
           one_more (EndsInput g.R.File.Read.remaining g.R.Reader.Read.remaining) _ _ _
           c.in_ok-put.ensures (c.loop-name.invariant.each all)

@@ -1,11 +1,10 @@
 -- Neither end is there.
-use Rattle.std.proofs.Common.{◌≡◌, ◌-◌, ◌∙◌, ℕ, List, None, codes, drop, false, length, nat_eq, sym}
+use Rattle.std.proofs.Common.{◌≡◌, ◌-◌, ◌∙◌, ℕ, List, codes, drop, false, length, nat_eq, sym}
 use Rattle.std.proofs.Common.{subst}
 use Rattle.std.specs.List.{ends_with}
 use Rattle.std.proofs.lemmas.Bool.{cond-false}
 use Rattle.std.proofs.lemmas.Cmp.{nat_list_eq_equiv}
 use lib.Pointwise.{pointwise}
-use Rattle.lk_trace_files.specs.Fates.{said_before}
 use Rattle.lk_trace_files.proofs.course.said_before.Goals as goal
 
 no_end : (front end word : List ℕ) → end ≡ word

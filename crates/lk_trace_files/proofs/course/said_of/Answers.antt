@@ -1,5 +1,5 @@
 -- The words before and after the thread's number and what is said of it.
-use Rattle.std.proofs.Common.{◌≡◌, ◌≤◌, ◌+◌, ◌-◌, ◌∙◌, ℕ, List, Bool, Option, ap, codes, drop}
+use Rattle.std.proofs.Common.{◌≡◌, ◌≤◌, ◌-◌, ◌∙◌, ℕ, List, ap, codes, drop}
 use Rattle.std.proofs.Common.{le-ltb, length, nat_eq, nat_lt, subst, sym, take, true}
 use Rattle.std.specs.List.{ends_with, starts_with}
 use Rattle.std.proofs.lemmas.Bool.{cond-false, cond-true}
