@@ -49,11 +49,13 @@ const MOST_OF_A_COMMENT: usize = 96;
 fn said_before(front: &[u8]) -> Option<(u8, bool)>
     ensures { result ≡ said_before front.now }
 {
-    if let Some(number) = front.strip_suffix(b" has".as_slice()) {
-        return Some((number_of(number, 0, 63)?, true));
+    match front.strip_suffix(b" has".as_slice()) {
+        Some(number) => Some((number_of(number, 0, 63)?, true)),
+        None => {
+            let number = front.strip_suffix(b" has not".as_slice())?;
+            Some((number_of(number, 0, 63)?, false))
+        }
     }
-    let number = front.strip_suffix(b" has not".as_slice())?;
-    Some((number_of(number, 0, 63)?, false))
 }
 
 /// Which thread a comment says to have ended, or not to have.

@@ -56,11 +56,8 @@ fn put_move(
     line: TraceLine,
     made: Made,
 ) -> Result<(), AllocError> {
-    let (thread, word, came) = (
-        line.thread,
-        move_text(line.action),
-        outcome_text(made.outcome),
-    );
+    let (thread, word) = (line.thread, move_text(line.action));
+    let came = outcome_text(made.outcome);
     write!(text, "{thread} {word}: {came}")?;
     if let Some(effect) = made.effect {
         put_values(text, lock, effect)?;

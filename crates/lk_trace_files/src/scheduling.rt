@@ -18,25 +18,20 @@ fn put_line(
 ) -> Result<Option<TextFault>, AllocError> {
     if is_skipped(line) {
         text.push('\n')?;
-        return Ok(None);
-    }
-    if !*begun {
+    } else if !*begun {
         if let Err(fault) = read_header(line) {
             return Ok(Some(fault));
         }
         *begun = true;
         let header = str::from_utf8(line).unwrap_or("");
         writeln!(text, "{header}")?;
-        return Ok(None);
+    } else if let Some(read) = read_line(line) {
+        let (thread, word) = (read.thread, move_text(read.action));
+        writeln!(text, "{thread} {word}")?;
+    } else {
+        return Ok(Some(TextFault::BadLine));
     }
-    match read_line(line) {
-        Some(read) => {
-            let (thread, word) = (read.thread, move_text(read.action));
-            writeln!(text, "{thread} {word}")?;
-            Ok(None)
-        }
-        None => Ok(Some(TextFault::BadLine)),
-    }
+    Ok(None)
 }
 
 /// Writes the schedule of a trace, up to a line that is not a trace's. Comments become empty lines,

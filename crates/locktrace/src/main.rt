@@ -8,7 +8,7 @@ mod command_line;
 mod folders;
 mod searches;
 
-use command_line::{Color, Job, ParseFault, parse_words};
+use command_line::{Job, ParseFault, parse_words};
 use folders::files_named;
 use lk_search_files::{count_space, cover_traces, find_run, write_tour};
 use lk_trace_files::{
@@ -129,12 +129,8 @@ where
     R::File: Send,
 {
     match job {
-        Job::Check { mut job, color } => {
-            job.colored = match color {
-                Color::Auto => output.is_terminal(),
-                Color::Always => true,
-                Color::Never => false,
-            };
+        Job::Check { mut job, colored } => {
+            job.colored = colored.unwrap_or_else(|| output.is_terminal());
             job.files = files_named(rt, alloc, &job.files)?;
             let told = told && !job.quiet;
             Ok(worst(&check_files(rt, alloc, &job, told, output)?))

@@ -1,7 +1,7 @@
 //! The words of the commands that search a lock's space, and the jobs that they ask for.
 
-use crate::command_line::{ParseFault, copied, names_in, option_arg, usage};
-use clap::{Arg, ArgAction, ArgMatches, Command, value_parser};
+use crate::command_line::{ParseFault, copied, names_in, option_arg, usage, value_arg};
+use clap::{ArgAction, ArgMatches, Command, value_parser};
 use lk_search_files::{Asked, CoverJob, Format, Source, SpaceFormat, is_kind};
 use std::alloc::{AllocError, Global};
 
@@ -33,21 +33,22 @@ pub enum SearchJob {
 
 fn with_bounds<'a>(alloc: Global, command: Command<'a>) -> Result<Command<'a>, AllocError> {
     let help = "How many times each thread takes the lock at most; 1 if it is not given";
-    let rounds = option_arg(alloc, "rounds", "R", help)
-        .value_parser(value_parser!(u8).range(1..=255));
+    let rounds = option_arg(alloc, "rounds", "R", help).value_parser(value_parser!(u8).range(
+        1..=255,
+    ));
     let help = "How many bits a word has; 64 if it is not given";
     let bits = option_arg(alloc, "bits", "B", help);
     let help = "How many states are searched at most; 1,000,000 if it is not given";
-    let limit = option_arg(alloc, "limit", "N", help)
-        .value_parser(value_parser!(u64).range(1..=MOST_STATES));
+    let limit = option_arg(alloc, "limit", "N", help).value_parser(value_parser!(u64).range(
+        1..=MOST_STATES,
+    ));
     command.arg(rounds)?.arg(bits)?.arg(limit)
 }
 
 /// The command `find`.
 pub fn find_command<'a>(alloc: Global) -> Result<Command<'a>, AllocError> {
-    let words = Arg::new(alloc, "words")
-        .value_name("LOCK THREADS LINE")
-        .help("A lock, its threads and the lines of a sketch; or the file of a sketch, or -")
+    let help = "A lock, its threads and the lines of a sketch; or the file of a sketch, or -";
+    let words = value_arg(alloc, "words", "LOCK THREADS LINE", help)
         .required(true)
         .num_args(1..)
         .action(ArgAction::Append);
@@ -58,16 +59,10 @@ pub fn find_command<'a>(alloc: Global) -> Result<Command<'a>, AllocError> {
 }
 
 fn with_lock<'a>(alloc: Global, command: Command<'a>) -> Result<Command<'a>, AllocError> {
-    let lock = Arg::new(alloc, "lock")
-        .value_name("LOCK")
-        .help("ticket, mcs, rw-simple or rw-fifo")
-        .required(true)
-        .action(ArgAction::Set);
-    let threads = Arg::new(alloc, "threads")
-        .value_name("THREADS")
-        .help("How many threads it has, from 1 to 64")
-        .required(true)
-        .action(ArgAction::Set);
+    let help = "ticket, mcs, rw-simple or rw-fifo";
+    let lock = value_arg(alloc, "lock", "LOCK", help).required(true);
+    let help = "How many threads it has, from 1 to 64";
+    let threads = value_arg(alloc, "threads", "THREADS", help).required(true);
     command.arg(lock)?.arg(threads)
 }
 
@@ -82,12 +77,10 @@ pub fn space_command<'a>(alloc: Global) -> Result<Command<'a>, AllocError> {
 
 /// The command `tour`.
 pub fn tour_command<'a>(alloc: Global) -> Result<Command<'a>, AllocError> {
-    let folder = Arg::new(alloc, "folder")
+    let help = "Where the schedules are written; those of an earlier tour are removed";
+    let folder = value_arg(alloc, "folder", "DIR", help)
         .short('o')
-        .value_name("DIR")
-        .help("Where the schedules are written; those of an earlier tour are removed")
-        .required(true)
-        .action(ArgAction::Set);
+        .required(true);
     let command = Command::new(alloc, "tour").about(
         "Writes schedules that together take every transition of a lock",
     );
@@ -98,9 +91,8 @@ pub fn tour_command<'a>(alloc: Global) -> Result<Command<'a>, AllocError> {
 pub fn cover_command<'a>(alloc: Global) -> Result<Command<'a>, AllocError> {
     let help = "Fails if one of these kinds is missing; all is each one of the traces' locks";
     let required = option_arg(alloc, "require", "NAME,NAME", help);
-    let files = Arg::new(alloc, "files")
-        .value_name("TRACE")
-        .help("Traces or schedules; - is standard input, also if none is named")
+    let help = "Traces or schedules; - is standard input, also if none is named";
+    let files = value_arg(alloc, "files", "TRACE", help)
         .num_args(0..)
         .action(ArgAction::Append);
     Command::new(alloc, "cover")

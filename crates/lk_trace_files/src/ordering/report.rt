@@ -44,11 +44,8 @@ impl OrderReport {
 
     // Writes it as TAP with one point.
     fn put_tap(&self, text: &mut String, ending: Ending, folder: &str) -> Result<(), AllocError> {
-        let sign = if ending == Ending::Accepted {
-            "ok"
-        } else {
-            "not ok"
-        };
+        let is_ok = ending == Ending::Accepted;
+        let sign = if is_ok { "ok" } else { "not ok" };
         writeln!(text, "TAP version 14\n1..1\n{sign} 1 - {folder}")?;
         put_comments(text, &self.messages)?;
         put_comments(text, &self.warnings)?;
