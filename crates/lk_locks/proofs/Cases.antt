@@ -11,15 +11,8 @@ use Rattle.lk_locks.specs.Sequential.{Sequential, nobody, thread_of}
 use Rattle.lk_locks.specs.State.{State, phase_at, start}
 use Rattle.lk_locks.specs.Steps.{belongs, has_op, move_change, refusal_in}
 use Rattle.lk_locks.specs.invariants.Locks.{AgreeAs, AreLinks, IsPhaseOf, owed_of}
-use Rattle.lk_locks.specs.declared.kinds.Entry.{Entry}
+use Rattle.lk_locks.specs.Types.{Entry, LockKind, Move, Call, Op, Outcome, Phase, Idle}
 use Rattle.lk_locks.specs.declared.kinds.Entry.TheVariants.{Called}
-use Rattle.lk_locks.specs.declared.kinds.LockKind.{LockKind}
-use Rattle.lk_locks.specs.declared.kinds.Move.{Move}
-use Rattle.lk_locks.specs.declared.kinds.Move.TheVariants.{Call}
-use Rattle.lk_locks.specs.declared.kinds.Op.{Op}
-use Rattle.lk_locks.specs.declared.kinds.Outcome.{Outcome}
-use Rattle.lk_locks.specs.declared.kinds.Phase.{Phase}
-use Rattle.lk_locks.specs.declared.kinds.Phase.TheVariants.{Idle}
 
 -- what holds of both outcomes of a test holds of the step that makes the test
 pub either_way : {A : Type 0} (Holds : A → Type 0) (test : Bool) (if_true if_false : A)

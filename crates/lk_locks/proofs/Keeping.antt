@@ -20,11 +20,7 @@ use Rattle.lk_locks.proofs.Moves.{Accepted, accepted_of, well_kept}
 use Rattle.lk_locks.proofs.Histories.{holder_append, after_append, allowed_append, all_append}
 use Rattle.lk_locks.proofs.Histories.{all_prefix, all_map, turn_of_step, turn_of_call, same_kind}
 use Rattle.lk_locks.proofs.Histories.{turn_of_other}
-use Rattle.lk_locks.specs.declared.kinds.LockKind.{LockKind}
-use Rattle.lk_locks.specs.declared.kinds.Phase.{Phase}
-use Rattle.lk_locks.specs.declared.kinds.Move.{Move}
-use Rattle.lk_locks.specs.declared.kinds.Move.TheVariants.{Call, Step}
-use Rattle.lk_locks.specs.declared.kinds.Entry.{Entry}
+use Rattle.lk_locks.specs.Types.{LockKind, Phase, Move, Call, Step, Entry}
 
 -- a move adds entries of its own thread alone
 pub entries_are_own : (kind : LockKind) (bits : ℕ) (ws : List ℕ) (t : ℕ) (p : Phase) (m : Move)

@@ -13,10 +13,7 @@ use Rattle.lk_locks.specs.invariants.WellFormed.{IsMachine, WellFormed}
 use Rattle.lk_locks.proofs.EachLock.{proof_of}
 use Rattle.lk_locks.proofs.Moves.{Accepted, well_kept, accepted_of}
 use Rattle.lk_locks.proofs.Threads.{all_idle}
-use Rattle.lk_locks.specs.declared.kinds.LockKind.{LockKind}
-use Rattle.lk_locks.specs.declared.kinds.Phase.{Phase}
-use Rattle.lk_locks.specs.declared.kinds.Phase.TheVariants.{Idle}
-use Rattle.lk_locks.specs.declared.kinds.Move.{Move}
+use Rattle.lk_locks.specs.Types.{LockKind, Phase, Idle, Move}
 
 -- a machine's state by its fields: of 64 phases, those of its threads
 abbrev seen : LockKind → ℕ → ℕ → List ℕ → List Phase → State

@@ -10,12 +10,8 @@ use Rattle.lk_locks.specs.invariants.Locks.{AreLinks, IsPhaseOf}
 use Rattle.lk_locks.specs.invariants.WellFormed.{WellFormed}
 use Rattle.lk_locks.proofs.EachLock.{proof_of}
 use Rattle.lk_locks.proofs.Threads.{each_phase}
-use Rattle.lk_locks.specs.declared.kinds.LockKind.{LockKind}
-use Rattle.lk_locks.specs.declared.kinds.Move.{Move}
-use Rattle.lk_locks.specs.declared.kinds.Move.TheVariants.{Call, Step}
-use Rattle.lk_locks.specs.declared.kinds.Phase.{Phase}
-use Rattle.lk_locks.specs.declared.kinds.Refusal.{Refusal}
-use Rattle.lk_locks.specs.declared.kinds.Refusal.TheVariants.{NoSuchThread, WrongLock}
+use Rattle.lk_locks.specs.Types.{LockKind, Move, Call, Step, Phase, Refusal, NoSuchThread}
+use Rattle.lk_locks.specs.Types.{WrongLock}
 
 -- a move keeps the number of words
 pub same_length : (kind : LockKind) (bits : ℕ) (ws : List ℕ) (t : ℕ) (p : Phase) (m : Move)

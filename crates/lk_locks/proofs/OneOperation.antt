@@ -13,16 +13,8 @@ use Rattle.lk_locks.specs.State.{State, phase_at}
 use Rattle.lk_locks.specs.Steps.{next_state, refusal_at, refusal_in, refusal_of, same_step}
 use Rattle.lk_locks.specs.mcs
 use Rattle.lk_locks.specs.ticket
-use Rattle.lk_locks.specs.declared.kinds.Family.TheVariants.{Queue}
-use Rattle.lk_locks.specs.declared.kinds.LockKind.{LockKind}
-use Rattle.lk_locks.specs.declared.kinds.LockKind.TheVariants.{Mcs, RwFifo, RwSimple, Ticket}
-use Rattle.lk_locks.specs.declared.kinds.Move.{Move}
-use Rattle.lk_locks.specs.declared.kinds.Move.TheVariants.{Call, Step}
-use Rattle.lk_locks.specs.declared.kinds.Phase.{Phase}
-use Rattle.lk_locks.specs.declared.kinds.Phase.TheVariants.{ClearNext}
-use Rattle.lk_locks.specs.declared.kinds.Phase.TheVariants.{TakeTicket}
-use Rattle.lk_locks.specs.declared.kinds.Refusal.TheVariants.{WrongStep}
-use Rattle.lk_locks.specs.declared.kinds.StepKind.{StepKind}
+use Rattle.lk_locks.specs.Types.{Queue, LockKind, Mcs, RwFifo, RwSimple, Ticket, Move, Call, Step}
+use Rattle.lk_locks.specs.Types.{Phase, ClearNext, TakeTicket, WrongStep, StepKind}
 use Rattle.lk_locks.proofs.Moves.{accepted_of}
 
 abbrev Keeps : List ℕ → Change → Type 0

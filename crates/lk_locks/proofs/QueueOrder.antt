@@ -10,9 +10,7 @@ use Rattle.lk_locks.specs.Exclusion.{IsHeldInTurn, HasOneHolder}
 use Rattle.lk_locks.specs.Order.{IsInOrder, requested, entered}
 use Rattle.lk_locks.proofs.Places.{HasOne, any_of}
 use Rattle.lk_locks.proofs.Histories.{holder_append}
-use Rattle.lk_locks.specs.declared.kinds.Op.TheVariants.{Acquire, Release}
-use Rattle.lk_locks.specs.declared.kinds.Entry.{Entry}
-use Rattle.lk_locks.specs.declared.kinds.Entry.TheVariants.{Acted, Returned}
+use Rattle.lk_locks.specs.Types.{Acquire, Release, Entry, Acted, Returned}
 use Rattle.lk_locks.proofs.QueueLaws.{HoldsAlong, holders_take_turns, in_order}
 use Rattle.lk_locks.proofs.QueueHeads.{HeadHolds}
 

@@ -6,11 +6,8 @@ use Rattle.lk_locks.specs.Change.{Change}
 use Rattle.lk_locks.specs.read_write.{Tells, first_words, step, word_count}
 use Rattle.lk_locks.specs.rw_fifo
 use Rattle.lk_locks.specs.rw_simple
-use Rattle.lk_locks.specs.declared.kinds.Family.{Family}
-use Rattle.lk_locks.specs.declared.kinds.Family.TheVariants.{FifoReadWrite}
-use Rattle.lk_locks.specs.declared.kinds.Phase.{Phase}
-use Rattle.lk_locks.specs.declared.kinds.Phase.TheVariants.{AwaitReaders, TryRead, TryWrite}
-use Rattle.lk_locks.specs.declared.kinds.SectionEffect.{SectionEffect}
+use Rattle.lk_locks.specs.Types.{Family, FifoReadWrite, Phase, AwaitReaders, TryRead, TryWrite}
+use Rattle.lk_locks.specs.Types.{SectionEffect}
 
 -- what holds of both outcomes of a test holds of two steps that make the same test
 either_both : {A : Type 0} (P : A → A → Type 0) (b : Bool) (x y z w : A) → P x z → P y w

@@ -10,8 +10,7 @@ use Rattle.lk_locks.specs.invariants.Locks.{owed_of}
 use Rattle.lk_locks.proofs.EachLock.{proof_of}
 use Rattle.lk_locks.proofs.Machines.{all_clear, well_new}
 use Rattle.lk_locks.proofs.Threads.{all_idle}
-use Rattle.lk_locks.specs.declared.kinds.LockKind.{LockKind}
-use Rattle.lk_locks.specs.declared.kinds.Phase.TheVariants.{Idle}
+use Rattle.lk_locks.specs.Types.{LockKind, Idle}
 
 -- a new lock has the empty history
 pub kept_start : (kind : LockKind) (bits : ℕ) (ws : List ℕ) (n : ℕ) → n ≤ 64 → n < 2 ^ bits

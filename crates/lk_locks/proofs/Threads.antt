@@ -12,8 +12,7 @@ use Rattle.std.specs.List.{AllByRecursion, IsDistinct}
 use Rattle.lk_locks.specs.Sequential.{has}
 use Rattle.lk_locks.specs.State.{phase_at}
 use Rattle.lk_locks.specs.invariants.Threads.{EachOnce, is_this}
-use Rattle.lk_locks.specs.declared.kinds.Phase.{Phase}
-use Rattle.lk_locks.specs.declared.kinds.Phase.TheVariants.{Idle}
+use Rattle.lk_locks.specs.Types.{Phase, Idle}
 use Rattle.std.proofs.Math.Bool.{or-false}
 
 -- a test is true or false

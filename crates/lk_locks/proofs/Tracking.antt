@@ -9,10 +9,7 @@ use Rattle.lk_locks.specs.Legal.{AreEnabled, after_entries}
 use Rattle.lk_locks.specs.invariants.Tracking.{IsTracked}
 use Rattle.lk_locks.proofs.Moves.{accepted_of}
 use Rattle.lk_locks.proofs.Keeping.{agreed, keeps}
-use Rattle.lk_locks.specs.declared.kinds.Move.{Move}
-use Rattle.lk_locks.specs.declared.kinds.Move.TheVariants.{Call}
-use Rattle.lk_locks.specs.declared.kinds.Op.{Op}
-use Rattle.lk_locks.specs.declared.kinds.Entry.{Entry}
+use Rattle.lk_locks.specs.Types.{Move, Call, Op, Entry}
 
 -- the entries of an accepted move may come next in the history
 pub entries_may_come : (s : State) (q : Sequential) (t : ℕ) (m : Move) → IsTracked s q

@@ -13,9 +13,7 @@ use Rattle.lk_locks.specs.invariants.mcs.{last_of, locked_of, next_of}
 use Rattle.lk_locks.specs.mcs.{locked, next}
 use Rattle.lk_locks.proofs.Threads.{at_other, at_same, once_more, first_has}
 use Rattle.lk_locks.proofs.Threads.{members_more, more_other, more_same}
-use Rattle.lk_locks.specs.declared.kinds.Phase.{Phase}
-use Rattle.lk_locks.specs.declared.kinds.Phase.TheVariants.{AwaitGrant, Grant, Idle}
-use Rattle.lk_locks.specs.declared.kinds.Phase.TheVariants.{McsInside, SetLocked}
+use Rattle.lk_locks.specs.Types.{Phase, AwaitGrant, Grant, Idle, McsInside, SetLocked}
 use Rattle.lk_locks.proofs.invariants.McsLinks.{IsHeadOf, has_predecessor}
 use Rattle.lk_locks.proofs.invariants.McsLinks.{first_more, last_more, later_change, later_frame}
 use Rattle.lk_locks.proofs.invariants.McsLinks.{later_more, first_frame, stays_outside}

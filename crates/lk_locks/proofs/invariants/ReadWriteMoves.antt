@@ -17,16 +17,11 @@ use Rattle.lk_locks.proofs.invariants.HolderLists.{holders_join, holders_leave, 
 use Rattle.lk_locks.proofs.invariants.HolderLists.{holders_write, length_joined, length_left}
 use Rattle.lk_locks.proofs.invariants.HolderLists.{no_writer, none_announced, readers_few}
 use Rattle.lk_locks.proofs.invariants.HolderLists.{readers_fit, flag_some, holders_announce}
-use Rattle.lk_locks.specs.declared.kinds.Entry.TheVariants.{Acted, Called, Announced}
-use Rattle.lk_locks.specs.declared.kinds.LockKind.{LockKind}
-use Rattle.lk_locks.specs.declared.kinds.Move.{Move}
-use Rattle.lk_locks.specs.declared.kinds.Op.{Op}
-use Rattle.lk_locks.specs.declared.kinds.Op.TheVariants.{Downgrade, ReadLock, ReadUnlock, WriteLock}
-use Rattle.lk_locks.specs.declared.kinds.Op.TheVariants.{WriteUnlock}
-use Rattle.lk_locks.specs.declared.kinds.Phase.{Phase}
-use Rattle.lk_locks.specs.declared.kinds.Phase.TheVariants.{Idle, LeaveRead, LeaveWrite, Reading}
-use Rattle.lk_locks.specs.declared.kinds.Phase.TheVariants.{TryDowngrade, TryRead, TryWrite}
-use Rattle.lk_locks.specs.declared.kinds.Phase.TheVariants.{Writing, AwaitReaders}
+use Rattle.lk_locks.specs.declared.kinds.Entry.TheVariants.{Called}
+use Rattle.lk_locks.specs.Types.{Acted, Announced, LockKind, Move, Op, Downgrade, ReadLock}
+use Rattle.lk_locks.specs.Types.{ReadUnlock, WriteLock, WriteUnlock, Phase, Idle, LeaveRead}
+use Rattle.lk_locks.specs.Types.{LeaveWrite, Reading, TryDowngrade, TryRead, TryWrite, Writing}
+use Rattle.lk_locks.specs.Types.{AwaitReaders}
 
 -- a thread of the lock has a number below 64
 pub below_64 : {kind : LockKind} {bits : ℕ} {ws : List ℕ} {ps : List Phase} {q : Sequential}

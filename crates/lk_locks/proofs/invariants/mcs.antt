@@ -18,13 +18,9 @@ use Rattle.lk_locks.proofs.invariants.McsLinks.{head_by_phase}
 use Rattle.lk_locks.proofs.invariants.McsLinks.{not_alone, not_member}
 use Rattle.lk_locks.proofs.invariants.McsQueue.{head_moves, mcs_first, mcs_grant, mcs_only}
 use Rattle.lk_locks.proofs.invariants.McsQueue.{mcs_later, mcs_out, swapped, may_grant}
-use Rattle.lk_locks.specs.declared.kinds.LockKind.TheVariants.{Mcs}
-use Rattle.lk_locks.specs.declared.kinds.Move.TheVariants.{Call, Step}
-use Rattle.lk_locks.specs.declared.kinds.Op.TheVariants.{Acquire, Release}
-use Rattle.lk_locks.specs.declared.kinds.Phase.TheVariants.{AwaitGrant, AwaitLink, CasTail}
-use Rattle.lk_locks.specs.declared.kinds.Phase.TheVariants.{ClearNext, Grant, Idle, LinkTo}
-use Rattle.lk_locks.specs.declared.kinds.Phase.TheVariants.{McsInside, ReadNext, SetLocked}
-use Rattle.lk_locks.specs.declared.kinds.Phase.TheVariants.{SwapTail}
+use Rattle.lk_locks.specs.Types.{Mcs, Call, Step, Acquire, Release, AwaitGrant, AwaitLink, CasTail}
+use Rattle.lk_locks.specs.Types.{ClearNext, Grant, Idle, LinkTo, McsInside, ReadNext, SetLocked}
+use Rattle.lk_locks.specs.Types.{SwapTail}
 use Rattle.lk_locks.proofs.Requests.{allows_acquire, allows_release}
 use Rattle.lk_locks.specs.Locks.{family_of}
 

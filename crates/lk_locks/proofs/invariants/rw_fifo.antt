@@ -25,13 +25,8 @@ use Rattle.lk_locks.proofs.invariants.HolderLists.{no_holders, no_writer_beside}
 use Rattle.lk_locks.proofs.invariants.HolderLists.{readers_few}
 use Rattle.lk_locks.proofs.invariants.ReadWriteMoves.{below_64, calls, downgrades, joins, leaves}
 use Rattle.lk_locks.proofs.invariants.ReadWriteMoves.{unwrites, writes, announces}
-use Rattle.lk_locks.specs.declared.kinds.Entry.TheVariants.{Announced}
-use Rattle.lk_locks.specs.declared.kinds.LockKind.TheVariants.{RwFifo}
-use Rattle.lk_locks.specs.declared.kinds.Move.TheVariants.{Call, Step}
-use Rattle.lk_locks.specs.declared.kinds.Phase.{Phase}
-use Rattle.lk_locks.specs.declared.kinds.Phase.TheVariants.{AwaitReaders, Idle, LeaveRead}
-use Rattle.lk_locks.specs.declared.kinds.Phase.TheVariants.{LeaveWrite, TryDowngrade}
-use Rattle.lk_locks.specs.declared.kinds.Phase.TheVariants.{TryRead, TryWrite}
+use Rattle.lk_locks.specs.Types.{Announced, RwFifo, Call, Step, Phase, AwaitReaders, Idle}
+use Rattle.lk_locks.specs.Types.{LeaveRead, LeaveWrite, TryDowngrade, TryRead, TryWrite}
 
 -- if as many readers left as came, nobody reads
 none_read : (bits : ℕ) (ws : List ℕ) (ps : List Phase) (q : Sequential)

@@ -17,10 +17,8 @@ use Rattle.std.proofs.lemmas.List.{nil_from_length}
 use Rattle.lk_locks.proofs.invariants.HolderLists.{flag_none, no_holders}
 use Rattle.lk_locks.proofs.invariants.ReadWriteMoves.{below_64, calls, downgrades, joins, leaves}
 use Rattle.lk_locks.proofs.invariants.ReadWriteMoves.{unwrites, writes}
-use Rattle.lk_locks.specs.declared.kinds.LockKind.TheVariants.{RwSimple}
-use Rattle.lk_locks.specs.declared.kinds.Move.TheVariants.{Call, Step}
-use Rattle.lk_locks.specs.declared.kinds.Phase.TheVariants.{Idle, LeaveRead, LeaveWrite}
-use Rattle.lk_locks.specs.declared.kinds.Phase.TheVariants.{TryDowngrade, TryRead, TryWrite}
+use Rattle.lk_locks.specs.Types.{RwSimple, Call, Step, Idle, LeaveRead, LeaveWrite, TryDowngrade}
+use Rattle.lk_locks.specs.Types.{TryRead, TryWrite}
 
 -- one more, and then one less, is the same count if the word does not wrap
 less : (bits count : ℕ) → count + 1 < 2 ^ bits → less_one bits (count + 1) ≡ count

@@ -17,11 +17,8 @@ use Rattle.lk_locks.proofs.Cases.{waits}
 use Rattle.lk_locks.proofs.Threads.{all_idle, rest_false}
 use Rattle.lk_locks.proofs.invariants.TicketQueue.{inside_is_head, no_member, queue_frame}
 use Rattle.lk_locks.proofs.invariants.TicketQueue.{queue_pass, queue_take, served_is_head}
-use Rattle.lk_locks.specs.declared.kinds.LockKind.TheVariants.{Ticket}
-use Rattle.lk_locks.specs.declared.kinds.Move.TheVariants.{Call, Step}
-use Rattle.lk_locks.specs.declared.kinds.Op.TheVariants.{Acquire, Release}
-use Rattle.lk_locks.specs.declared.kinds.Phase.TheVariants.{AwaitTurn, Idle, PassOn, ReadServing}
-use Rattle.lk_locks.specs.declared.kinds.Phase.TheVariants.{TakeTicket, TicketInside}
+use Rattle.lk_locks.specs.Types.{Ticket, Call, Step, Acquire, Release, AwaitTurn, Idle, PassOn}
+use Rattle.lk_locks.specs.Types.{ReadServing, TakeTicket, TicketInside}
 use Rattle.lk_locks.proofs.Requests.{allows_acquire, allows_release}
 
 -- each move keeps the queue, and its entries may come

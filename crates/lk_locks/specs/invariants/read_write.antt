@@ -6,14 +6,9 @@ use Rattle.lk_locks.specs.Acts.{acts, announcement}
 use Rattle.lk_locks.specs.State.{phase_at}
 use Rattle.lk_locks.specs.Sequential.{Sequential, has}
 use Rattle.lk_locks.specs.invariants.Threads.{EachOnce, is_this}
-use Rattle.lk_locks.specs.declared.kinds.Entry.{Entry}
-use Rattle.lk_locks.specs.declared.kinds.Family.{Family}
-use Rattle.lk_locks.specs.declared.kinds.Op.TheVariants.{ReadLock, ReadUnlock, WriteLock}
-use Rattle.lk_locks.specs.declared.kinds.Op.TheVariants.{WriteUnlock, Downgrade}
-use Rattle.lk_locks.specs.declared.kinds.Phase.{Phase}
-use Rattle.lk_locks.specs.declared.kinds.Phase.TheVariants.{TryRead, Reading, LeaveRead}
-use Rattle.lk_locks.specs.declared.kinds.Phase.TheVariants.{TryWrite, AwaitReaders, Writing}
-use Rattle.lk_locks.specs.declared.kinds.Phase.TheVariants.{LeaveWrite, TryDowngrade}
+use Rattle.lk_locks.specs.Types.{Entry, Family, ReadLock, ReadUnlock, WriteLock, WriteUnlock}
+use Rattle.lk_locks.specs.Types.{Downgrade, Phase, TryRead, Reading, LeaveRead, TryWrite}
+use Rattle.lk_locks.specs.Types.{AwaitReaders, Writing, LeaveWrite, TryDowngrade}
 
 -- what the pending call of thread i has still to add to the history
 abbrev pub owed : Family → ℕ → Phase → List Entry

@@ -4,10 +4,8 @@ use Rattle.std.specs.Prelude.{◌≡◌, ℕ, List, slice_index, Bool, true, fal
 use Rattle.lk_locks.specs.Sequential.{Sequential}
 use Rattle.lk_locks.specs.rw_simple.{readers, flag}
 use Rattle.lk_locks.specs.invariants.read_write.{AgreeAsCounted}
-use Rattle.lk_locks.specs.declared.kinds.Phase.{Phase}
-use Rattle.lk_locks.specs.declared.kinds.Phase.TheVariants.{Idle, TryRead, Reading, LeaveRead}
-use Rattle.lk_locks.specs.declared.kinds.Phase.TheVariants.{TryWrite, Writing, LeaveWrite}
-use Rattle.lk_locks.specs.declared.kinds.Phase.TheVariants.{TryDowngrade}
+use Rattle.lk_locks.specs.Types.{Phase, Idle, TryRead, Reading, LeaveRead, TryWrite, Writing}
+use Rattle.lk_locks.specs.Types.{LeaveWrite, TryDowngrade}
 
 abbrev pub is_phase : Phase → Bool
 is_phase Idle = true
