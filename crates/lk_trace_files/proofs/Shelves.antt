@@ -1,8 +1,8 @@
 -- The logs of a run that were taken, and what is wrong with a log beside them.
-use Rattle.std.proofs.Common.{◌≡◌, ◌⊎◌, ◌<◌, ◌∷◌, ◌∙◌, ℕ, zero, suc, List, [], length, replicate, set}
+use Rattle.std.proofs.Common.{◌≡◌, ◌⊎◌, ◌<◌, ◌∷◌, ◌∙◌, ℕ, zero, suc, List, [], length}
 use Rattle.std.proofs.Common.{Option, None, Some, IsSome, IsSomeAnd, IfSome, false, true, ap}
 use Rattle.std.proofs.Common.{sym, subst, refl, inl, inr, arith, flat_map, get_or, option_to_list}
-use Rattle.std.proofs.Common.{slice_get, MatchResult, Ok, Result}
+use Rattle.std.proofs.Common.{slice_get, MatchResult, Ok, Result, replicate, set}
 use Rattle.std.proofs.lemmas.Option.{none-some, same_Some, slice_get_past}
 use Rattle.std.proofs.lemmas.Result.{MatchResult-at_ok}
 use Rattle.lk_order.specs.Logs.{ThreadLog}
