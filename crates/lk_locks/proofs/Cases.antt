@@ -1,5 +1,5 @@
--- What has to be proved of each step of a lock, and how a choice inside a step is taken apart.
-use Rattle.std.proofs.Common.{Bool, List, [], false, if◌then◌else◌, length, set, slice_index, true}
+-- What has to be proved of each step of a lock.
+use Rattle.std.proofs.Common.{List, [], length, set, slice_index, true}
 use Rattle.std.proofs.Common.{unwrap_or, ℕ, ◌++◌, ◌∷◌, ◌≡◌, ◌<◌, ◌≤◌, ◌^◌, None, sym}
 use Rattle.std.proofs.lemmas.List.{set-get_or}
 use Rattle.std.specs.List.{AllByRecursion}
@@ -13,12 +13,6 @@ use Rattle.lk_locks.specs.Steps.{belongs, has_op, move_change, refusal_in}
 use Rattle.lk_locks.specs.invariants.Locks.{AgreeAs, AreLinks, IsPhaseOf, owed_of}
 use Rattle.lk_locks.specs.Types.{Entry, LockKind, Move, Call, Op, Outcome, Phase, Idle}
 use Rattle.lk_locks.specs.declared.kinds.Entry.TheVariants.{Called}
-
--- what holds of both outcomes of a test holds of the step that makes the test
-pub either_way : {A : Type 0} (Holds : A → Type 0) (test : Bool) (if_true if_false : A)
-    → Holds if_true → Holds if_false → Holds (if test then if_true else if_false)
-either_way Holds true if_true if_false of_true of_false = of_true
-either_way Holds false if_true if_false of_true of_false = of_false
 
 -- a step of a thread in this phase adds the next entries of its pending call
 abbrev pub GoesOn : LockKind → ℕ → Phase → Change → Type 0

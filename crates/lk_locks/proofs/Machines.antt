@@ -42,7 +42,10 @@ machine_kept n s t m machine accepted = record {
 pub all_clear : (ws : List ℕ) → ((i : ℕ) → i < length ws → slice_index ws i ≡ 0) → (i : ℕ)
     → slice_index ws i ≡ 0
 all_clear ws clear i =
-    elim (cases_lt i (length ws)) [ inl within ↦ clear i within | inr past ↦ get_or_past ws i 0 past ]
+    elim (cases_lt i (length ws)) [
+      | inl within ↦ clear i within
+      | inr past ↦ get_or_past ws i 0 past
+    ]
 
 -- a new machine with clear words is well formed
 pub well_new : (kind : LockKind) (bits n : ℕ) (ws : List ℕ) → word_count kind n ≤ length ws

@@ -192,7 +192,8 @@ mcs_only ws ps t in_lock has_tail agreed = record {
     | inl (_, same) ↦ rw (same, at_same ps t Idle in_lock) tt
     | inr (test, other) ↦
         stays_outside ws (set ws 0 0) ps t thread Idle other
-        (get_or-set_other ws 0 (next thread) 0 0 (omega arith)) (agreed.others thread (rw test refl))
+        (get_or-set_other ws 0 (next thread) 0 0 (omega arith))
+        (agreed.others thread (rw test refl))
   ];
 }
 

@@ -70,12 +70,14 @@ module _ {Count : ℕ → Type 0} {flag bits : ℕ} {ps : List Phase} {q : Seque
       → ((n : ℕ) → n < length ps → Count n → More (n + 1)) → next ≡ flag
       → IsAgreed (AgreeAsCounted More next bits (set ps t Reading)) q (acts t ReadLock)
   joins {More} was flag_clear may_act one_more flag_stays =
-      let (unwritten, unannounced) = flag_none q.writer q.announced (sym agreed.flag_is ∙ flag_clear) in
+      let (unwritten, unannounced) =
+      flag_none q.writer q.announced (sym agreed.flag_is ∙ flag_clear) in
       let unread = agreed.holders.reading t ∙ ap is_reading was in (
         (may_act unwritten unannounced unread, (tt, tt)),
         counted More Reading (after_entry q (Acted t ReadLock))
             (rw (length_joined q.readers t)
-            (one_more (length q.readers) (readers_fit agreed.holders t in_lock unread) agreed.count))
+            (one_more (length q.readers) (readers_fit agreed.holders t in_lock unread)
+            agreed.count))
             (flag_stays ∙ agreed.flag_is) (holders_join agreed.holders t in_lock was unwritten),
       )
 
@@ -125,7 +127,8 @@ module _ {Count : ℕ → Type 0} {flag bits : ℕ} {ps : List Phase} {q : Seque
       let written = agreed.holders.writing t ∙ ap is_writing was in (
         (may_act written, (tt, tt)),
         counted Same Idle (after_entry q (Acted t WriteUnlock)) (same _ agreed.count)
-            (rw (none_announced q.writer q.readers q.announced t agreed.holders.alone written) cleared)
+            (rw (none_announced q.writer q.readers q.announced t agreed.holders.alone written)
+            cleared)
             (holders_unwrite agreed.holders t in_lock was written),
       )
 
@@ -140,7 +143,9 @@ module _ {Count : ℕ → Type 0} {flag bits : ℕ} {ps : List Phase} {q : Seque
         (may_act written, (tt, tt)),
         counted More Reading (after_entry q (Acted t Downgrade))
             (rw (length_joined q.readers t)
-            (one_more (length q.readers) (readers_fit agreed.holders t in_lock unread) agreed.count))
-            (rw (none_announced q.writer q.readers q.announced t agreed.holders.alone written) cleared)
+            (one_more (length q.readers) (readers_fit agreed.holders t in_lock unread)
+            agreed.count))
+            (rw (none_announced q.writer q.readers q.announced t agreed.holders.alone written)
+            cleared)
             (holders_downgrade agreed.holders t in_lock was written),
       )

@@ -82,7 +82,8 @@ keeps bits ws ps q t (SetLocked predecessor) (Step kind) given =
               ),
             ))
             (λ other differs. get_or-set_other ws (locked t) (next other) 1 0 (omega arith))
-            (λ other differs. get_or-set_other ws (locked t) (locked other) 1 0 (omega arith)) given.agrees,
+            (λ other differs. get_or-set_other ws (locked t) (locked other) 1 0 (omega arith))
+            given.agrees,
       )
     ]
 keeps bits ws ps q t (LinkTo predecessor) (Step kind) given =
@@ -92,7 +93,8 @@ keeps bits ws ps q t (LinkTo predecessor) (Step kind) given =
         tt,
         mcs_later ws (set ws (next predecessor) (t + 1)) ps q.queue t predecessor
             (LinkTo predecessor) AwaitGrant given.phase_is given.thread in_rest
-            (get_or-set_other ws (next predecessor) 0 (t + 1) 0 (omega arith)) (rw knows_one one_nil)
+            (get_or-set_other ws (next predecessor) 0 (t + 1) 0 (omega arith))
+            (rw knows_one one_nil)
             (λ before (knows, no_next, locks). (
               sym knows,
               (
@@ -102,15 +104,21 @@ keeps bits ws ps q t (LinkTo predecessor) (Step kind) given =
                 get_or-set_other ws (next predecessor) (locked t) (t + 1) 0 (omega arith) ∙ locks,
               ),
             ))
-            (λ other differs. get_or-set_other ws (next predecessor) (next other) (t + 1) 0 (omega arith))
-            (λ other differs. get_or-set_other ws (next predecessor) (locked other) (t + 1) 0 (omega arith)) given.agrees,
+            (λ other differs.
+            get_or-set_other ws (next predecessor) (next other) (t + 1) 0 (omega arith))
+            (λ other differs.
+            get_or-set_other ws (next predecessor) (locked other) (t + 1) 0 (omega arith))
+            given.agrees,
       )
     ]
 keeps bits ws ps q t AwaitGrant (Step kind) given = elim (eqb_tells (locked_of ws t) 0) [
   | inr (test, _) ↦ rw test (waits given)
   | inl (test, granted) ↦ rw test (
       elim (place_of given.agrees t given.phase_is (λ outside. outside)) [
-        | inl at_head ↦ ((at_head.head, tt), head_moves McsInside at_head given.thread tt given.agrees)
+        | inl at_head ↦ (
+          (at_head.head, tt),
+          head_moves McsInside at_head given.thread tt given.agrees,
+        )
         | inr (in_rest, before, (linked, locks)) ↦ absurd (omega (arith, locks, granted))
       ]
       )

@@ -147,7 +147,8 @@ keeps bits ws ps q t TryDowngrade (Step s) given =
     (λ written. rw (below_64 given, given.kind_is, written))
     (λ n fits counted.
     same_count bits (raised bits ws 0) 0 (n + 1) (one_came bits ws n given.enough counted))
-    (get_or-set_same (raised bits ws 0) 2 0 0 (omega (arith, given.enough, length-set ws 0 (plus_one bits (slice_index ws 0)))))
+    (get_or-set_same (raised bits ws 0) 2 0 0
+    (omega (arith, given.enough, length-set ws 0 (plus_one bits (slice_index ws 0)))))
 keeps bits ws ps q t p (Step s) given = cc
 
 -- at the start the words are clear and all threads idle
@@ -163,7 +164,8 @@ starts bits ws n threads_fit clear = record {
   holders = no_holders RwFifo n;
 }
 
--- all that the other proofs use of the FIFO read-write lock; most of it is found from its table, by cases
+-- all that the other proofs use of the FIFO read-write lock; most of it is found from its table,
+-- by cases
 pub proof : LockProof RwFifo
 proof = record {
   goes_on = λ bits t ws p. grind (arith, common_steps);

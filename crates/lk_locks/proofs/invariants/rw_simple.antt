@@ -85,7 +85,8 @@ keeps bits ws ps q t TryDowngrade (Step s) given =
     (λ n fits counted.
     get_or-set_other (raised bits ws 0) 1 0 0 0 (omega arith)
     ∙ one_more bits ws n given.enough (omega (arith, given.agrees.narrow)) counted)
-    (get_or-set_same (raised bits ws 0) 1 0 0 (omega (arith, given.enough, length-set ws 0 (plus_one bits (slice_index ws 0)))))
+    (get_or-set_same (raised bits ws 0) 1 0 0
+    (omega (arith, given.enough, length-set ws 0 (plus_one bits (slice_index ws 0)))))
 keeps bits ws ps q t p (Step s) given = cc
 
 -- at the start the words are clear and all threads idle
@@ -98,7 +99,8 @@ starts bits ws n threads_fit clear = record {
   holders = no_holders RwSimple n;
 }
 
--- all that the other proofs use of the simple read-write lock; most of it is found from its table, by cases
+-- all that the other proofs use of the simple read-write lock; most of it is found from its
+-- table, by cases
 pub proof : LockProof RwSimple
 proof = record {
   goes_on = λ bits t ws p. search rules;
