@@ -1,8 +1,8 @@
 -- A line of a sketch stops nowhere exactly if it is one. Whose move it is, and on which word, is
 -- all the same.
-use Rattle.std.proofs.Common.{◌≡◌, ◌≤◌, ◌↔◌, ℕ, List, [], ◌∷◌, Option, Some, None, Result, Ok, Err}
-use Rattle.std.proofs.Common.{Bool, true, false, not, cond, ◌||◌, ◌&&◌, is_ok, is_some, IsNone}
-use Rattle.std.proofs.Common.{IsTrue, arith, bytes_eq, codes, length, nat_lt, refl}
+use Rattle.std.proofs.Common.{◌≡◌, ◌≤◌, ℕ, List, [], ◌∷◌, Option, Some, None, Result, Ok, Err}
+use Rattle.std.proofs.Common.{Bool, true, false, not, cond, ◌||◌, ◌&&◌, is_ok, is_some, arith}
+use Rattle.std.proofs.Common.{bytes_eq, codes, length, nat_lt, refl}
 use Rattle.std.specs.Option.{ok_or}
 use Rattle.std.specs.Result.{result_ok}
 use Rattle.lk_locks.specs.declared.kinds.Move.{Move}
@@ -16,7 +16,6 @@ use Rattle.lk_trace.specs.Lines.{seen_of, values_in, values_of, with_place}
 use Rattle.lk_trace.specs.Open.{doer_named, doer_of, filled_line, filled_line_on, move_after}
 use Rattle.lk_trace.specs.Unreadable.{both_stop, is_open_line, sketch_stop}
 use Rattle.lk_trace.specs.declared.due.Due.TheVariants.{AnyThread, Found, Of, OpenMove, Place}
-use Rattle.lk_trace.specs.declared.line.Seen.{Seen}
 use Rattle.lk_trace.specs.declared.line.TraceLine.{TraceLine}
 use Rattle.lk_trace.specs.declared.names.WordName.{WordName}
 use Rattle.lk_trace.specs.declared.names.WordName.TheVariants.{Tail, Next, Locked}
