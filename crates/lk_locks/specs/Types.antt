@@ -1,4 +1,4 @@
--- The types of the code that definitions and proofs are about, by one name each.
+-- Definitions. The types of the code that definitions and proofs of this crate are about, by name.
 pub use Rattle.lk_locks.specs.declared.kinds.Act.{Act}
 pub use Rattle.lk_locks.specs.declared.kinds.Entry.{Entry}
 pub use Rattle.lk_locks.specs.declared.kinds.Entry.TheVariants.{Acted, Announced, Returned}

@@ -45,8 +45,8 @@ doubt_at o t = doubt_if o.lock (next_line o t)
 abbrev pub count_at : Ordered → ℕ → ℕ
 count_at o t = count_if (next_line o t)
 
--- of the first k threads none has a next step that is more certainly wrong than thread t's; of those
--- that are as doubtful, its section has the lowest count, and of these t is the first
+-- Of the first k threads none has a next step that is more certainly wrong than thread t's. Of
+-- those that are as doubtful, its section has the lowest count, and of these t is the first.
 pub record IsWorst (o : Ordered) (k t : ℕ) : Type 0 where
   pub least : (other : ℕ) → other < k → doubt_at o t ≤ doubt_at o other
   pub lowest : (other : ℕ) → other < k → doubt_at o other ≡ doubt_at o t
