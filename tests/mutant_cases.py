@@ -6,6 +6,7 @@
 The output of checks is that of `rt check` and `rt ci`, shortened. No crate is checked. Each mutant
 and twin of the crates has to change the text as it is now.
 """
+import shutil
 import sys
 import tempfile
 import time
@@ -16,6 +17,7 @@ from pathlib import Path
 from mutant_checks import Lab, unproved_below, verdict_on
 from mutant_edits import BadEdit, Edit
 from mutants import TRIES, Lanes, group_of, proved_in
+from mutants_kept import PARTS, SCRIPTS, Kept
 from rattle_functions import functions_of
 from rattle_words import TOP
 from tally import Tally
@@ -198,6 +200,30 @@ def try_edits(tally):
                 tally.check(str(path.relative_to(TOP)), changes(path, files), True)
 
 
+def try_kept(tally):
+    """What was tried is known as long as nothing changes on which it rests."""
+    with tempfile.TemporaryDirectory() as folder:
+        top, crate = Path(folder, "top"), Path("crates", "lk_words")
+        for part in (*PARTS, "mutants"):
+            shutil.copytree(TOP / crate / part, top / crate / part)
+        (top / "tests").mkdir()
+        for script in SCRIPTS:
+            for path in (TOP / "tests").glob(script):
+                shutil.copy(path, top / "tests")
+        one, other = map(Edit, sorted((top / crate / "mutants").glob("*.edit"))[:2])
+        kept = Kept("lk_words", top, Path(folder, "kept"))
+        tally.check("not tried", one in kept, False)
+        kept.add(one)
+        again = Kept("lk_words", top, Path(folder, "kept"))
+        tally.check("tried", [one in again, other in again], [True, False])
+        source = top / crate / "src" / "lib.rt"
+        source.write_text(source.read_text() + "\n")
+        changed = Kept("lk_words", top, Path(folder, "kept"))
+        tally.check("tried before a change", one in changed, False)
+        one.path.write_text(one.path.read_text() + "\n")
+        tally.check("tried before it changed", one in again, False)
+
+
 def try_open_proofs(tally):
     """All proofs but those of some functions, and of those that have one proof together, are left
     open, and no other time."""
@@ -231,6 +257,7 @@ def main():
     tally.check("lanes", order_of("lk_locks", "lk_trace_files", "lk_replay"),
                 ["lk_trace_files", "lk_replay", "lk_locks"])
     try_groups(tally)
+    try_kept(tally)
     try_open_proofs(tally)
     try_edits(tally)
     return tally.end()

@@ -1,7 +1,9 @@
 #!/usr/bin/env python3
 """Tries mutants, which have to be refused, and their right twins, which have to be proved.
 
-    mutants.py [--lanes N] [--beside LOG] [CRATE | CRATE/MISTAKE]...     all crates if none is named
+    mutants.py [--lanes N] [--beside LOG] [--anew] [CRATE | CRATE/MISTAKE]...
+
+All crates are tried if none is named.
 
 A mutant, `crates/NAME/mutants/MISTAKE.edit`, is a change of one function by which it has that
 mistake. A twin, `crates/NAME/twins/MISTAKE.edit`, is the same change with a right value. So the
@@ -16,7 +18,9 @@ what is no function, as a constant, is tried alone, and the function that its ed
 notice it. A change of a contract is tried alone too, since callers read it.
 
 Crates are tried side by side, one check of each at a time, over what earlier checks kept in `out`;
-with --beside, each when `rt ci`, whose output LOG is, has proved what is below it.
+with --beside, each when `rt ci`, whose output LOG is, has proved what is below it. What an earlier
+run on this machine tried is not tried again while nothing has changed on which it rests
+(mutants_kept.py), unless --anew is given.
 
 Prints each one that fares as it must not, then a table, then `N passed, M failed`.
 """
@@ -27,7 +31,7 @@ import re
 import sys
 import tempfile
 import time
-from collections import defaultdict
+from collections import Counter, defaultdict
 from concurrent.futures import ThreadPoolExecutor
 from contextlib import contextmanager
 from pathlib import Path
@@ -35,6 +39,7 @@ from threading import Condition
 
 from mutant_checks import Lab, NotChecked, unproved_below, verdict_on
 from mutant_edits import BadEdit, Edit
+from mutants_kept import Kept
 from rattle_words import TOP, libraries_below
 from wanted import LARGE
 
@@ -70,19 +75,23 @@ class Lanes:
 class Crate:
     """The mutants and twins of one crate, and how they fare."""
 
-    def __init__(self, name, edits, lanes):
+    def __init__(self, name, edits, lanes, is_anew):
         self.name, self.edits, self.lanes, self.faults = name, edits, lanes, []
+        self.kept = Kept(name)
+        self.new = [edit for edit in edits if is_anew or edit not in self.kept]
         self.tries = dict.fromkeys(edits, 0)
         self.apart = defaultdict(set)  # functions, by one of which nothing was clear beside them
-        self.well = {True: 0, False: 0}
+        self.well = Counter(edit.is_twin for edit in edits if edit not in self.new)
         self.checks, self.seconds = 0, 0.0
 
     def run(self, log):
+        if not self.new:
+            return
         wait_for(libraries_below(self.name), log)
         with tempfile.TemporaryDirectory(prefix=f"mutants-{self.name}-", dir=LARGE) as room:
             lab = Lab(self.name, Path(room))
             for is_twin in (False, True):
-                self.try_all(lab, [edit for edit in self.edits if edit.is_twin is is_twin])
+                self.try_all(lab, [edit for edit in self.new if edit.is_twin is is_twin])
 
     def try_all(self, lab, waiting):
         """Tries edits in groups; those that are left unclear wait for another group."""
@@ -153,6 +162,7 @@ class Crate:
             word = "refused"  # the twin, which has the same shape, is proved
         if word == ("proved" if edit.is_twin else "refused"):
             self.well[edit.is_twin] += 1
+            self.kept.add(edit)
             return True
         if is_last or word == "shape":
             self.fault(edit, f"{word} {line[:160]}")
@@ -226,15 +236,16 @@ def has_mutant(crate, name):
 
 
 def table(crates):
-    """How many were tried and fared as they must, a line a crate."""
-    yield f"{'crate':16}{'mutants':>9}{'refused':>9}{'twins':>7}{'proved':>8}{'checks':>8}{'s':>7}"
+    """How many fared as they must, and how many were tried in this run, a line a crate."""
+    yield (f"{'crate':16}{'mutants':>9}{'refused':>9}{'twins':>7}{'proved':>8}{'tried':>7}"
+           f"{'checks':>8}{'s':>7}")
     for crate in crates:
         twins = sum(edit.is_twin for edit in crate.edits)
         yield (f"{crate.name:16}{len(crate.edits) - twins:9}{crate.well[False]:9}{twins:7}"
-               f"{crate.well[True]:8}{crate.checks:8}{crate.seconds:7.0f}")
+               f"{crate.well[True]:8}{len(crate.new):7}{crate.checks:8}{crate.seconds:7.0f}")
 
 
-def main(words, lanes, log):
+def main(words, lanes, log, is_anew):
     edits, bad = edits_of(words)
     for path, why in bad:
         print(f"FAILED {path.relative_to(TOP)}: {why}")
@@ -242,7 +253,7 @@ def main(words, lanes, log):
     for name in sorted(named):
         print(f"FAILED {name}: it has no such mutant")
     lanes = Lanes(lanes)
-    crates = [Crate(name, [edit for edit in edits if edit.crate == name], lanes)
+    crates = [Crate(name, [edit for edit in edits if edit.crate == name], lanes, is_anew)
               for name in sorted({edit.crate for edit in edits})]
     with ThreadPoolExecutor(max(len(crates), 1)) as pool:
         list(pool.map(lambda it: it.run(log), crates))
@@ -257,6 +268,7 @@ if __name__ == "__main__":
     parser.add_argument("--lanes", type=int, default=len(os.sched_getaffinity(0)),
                         help="checks that run side by side")
     parser.add_argument("--beside", type=Path, metavar="LOG", help="the output of `rt ci` so far")
+    parser.add_argument("--anew", action="store_true", help="tries what earlier runs tried too")
     parser.add_argument("words", nargs="*", metavar="CRATE | CRATE/MISTAKE")
     given = parser.parse_args()
-    sys.exit(main(given.words, given.lanes, given.beside))
+    sys.exit(main(given.words, given.lanes, given.beside, given.anew))

@@ -22,7 +22,7 @@ import time
 from pathlib import Path
 
 from tally import Tally
-from worked_rows import hand_over
+from worked_rows import crowd, hand_over, most_moves
 
 INPUT = b"lockreplay: cannot read standard input\n"
 OUTPUT = b"lockreplay: cannot write\n"
@@ -37,34 +37,12 @@ REFUSED = b"lock ticket threads 2\n0 release\n"
 REFUSED_REPORT = b"refused line 2 NotHolder\n"
 
 # A thread that spins to the limit of moves, after one that never enters.
-SPINS = 65_532
-SPINNING = b"lock ticket threads 2\n0 acquire\n0 add\n1 acquire\n1 add\n" + b"1 read\n" * SPINS
-SPINNING_REPORT = (
-    b"1 0 acquire called hold - queue -\n"
-    b"2 0 add moved hold - queue 0\n"
-    b"3 1 acquire called hold - queue 0\n"
-    b"4 1 add moved hold - queue 0,1\n"
-    + b"".join(b"%d 1 read waits hold - queue 0,1\n" % k for k in range(5, SPINS + 5))
-    + b"end 65536\n"
-)
+SPINS = most_moves()
+SPINNING, SPINNING_REPORT = SPINS.text, SPINS.report
 
-# The longest report but for the numerals: 64 threads in the queue, and the last of them spins.
-CROWD = b",".join(b"%d" % thread for thread in range(64))
-CROWDED = (
-    b"lock ticket threads 64\n"
-    + b"".join(b"%d acquire\n%d add\n" % (thread, thread) for thread in range(64))
-    + b"63 read\n" * (65_536 - 128)
-)
-CROWDED_REPORT = (
-    b"".join(
-        b"%d %d acquire called hold - queue %s\n%d %d add moved hold - queue %s\n"
-        % (2 * k + 1, k, b",".join(CROWD.split(b",")[:k]) or b"-",
-           2 * k + 2, k, b",".join(CROWD.split(b",")[:k + 1]))
-        for k in range(64)
-    )
-    + b"".join(b"%d 63 read waits hold - queue %s\n" % (k, CROWD) for k in range(129, 65_537))
-    + b"end 65536\n"
-)
+# The longest report but for the numerals.
+CROWD = crowd()
+CROWDED, CROWDED_REPORT = CROWD.text, CROWD.report
 
 PATIENCE = 100  # seconds
 

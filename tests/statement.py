@@ -36,8 +36,8 @@ class Definitions:
         self.types = {}
         name = None
         for line in lines:
-            if line.startswith("use "):
-                self.add_import(line)
+            if line.startswith(("use ", "pub use ")):
+                self.add_import(line.removeprefix("pub "))
             elif line.strip() and not line.lstrip().startswith("--") and not (
                     line.startswith("pub mod")):
                 opens = DEFINITION.match(line)
@@ -58,6 +58,10 @@ class Definitions:
             self.modules[module.split(".")[-1]] = module
         else:
             self.names.update((name.strip(), module) for name in names.split(","))
+
+    def passed_on(self, name):
+        """The type of the code, if it is one that this file names."""
+        return [self.types[name]] if name in self.types else []
 
     def named_in(self, definition):
         """Each (file, name) that the definition's text may speak of."""
@@ -87,6 +91,9 @@ class Types:
             if line == "}":
                 name = None
 
+    def passed_on(self, name):
+        return []
+
     def named_in(self, definition):
         for first, _ in NAME.findall("\n".join(self.lines[definition])):
             if first in self.lines:
@@ -109,7 +116,11 @@ def reached(files, root):
     seen, waiting = set(), [root]
     while waiting:
         module, name = waiting.pop()
-        if (module, name) in seen or name not in files[module].lines:
+        if name not in files[module].lines:
+            # `Types` passes on the types of the code
+            waiting.extend(files[module].passed_on(name))
+            continue
+        if (module, name) in seen:
             continue
         seen.add((module, name))
         waiting.extend(files[module].named_in(name))

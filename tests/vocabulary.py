@@ -5,7 +5,7 @@
 
 The words of locks, calls, steps and outcomes are in crates/lk_replay/src/vocabulary.rt, those for
 the places of a lock in crates/lk_trace/src/names.rt, and the parts that may follow a place in
-due_texts.rt beside it. The names of refusals, faults and differences are those of their variants.
+due.rt beside it. The names of refusals, faults and differences are those of their variants.
 The texts of faults and differences are beside these, and those of refusals in
 crates/lk_locks/src/refusals.rt. What is written in another language, in a sentence, or where bytes
 are compared has all this once more, and nothing is generated. A table's words have the order of
@@ -52,7 +52,7 @@ RECORDING = "record/lockreplay_record"
 RUST = "record/rust/src"
 COMPLETIONS = "packaging/completions/locktrace"
 TRACE = "crates/lk_trace/src"
-DUE = f"{TRACE}/due_texts.rt"
+DUE = f"{TRACE}/due.rt"
 FILES = "crates/lk_trace_files/src"
 C = "crates/lk_trace_c/src/numbers.rt"
 PAGE = "page/src"
@@ -89,11 +89,10 @@ LISTS = (
          ITEM),
     # words of the locks, and the parts after them
     List(f"{TRACE}/line.rt", *ALL, "places of values results", repeated, BYTES),
-    List(f"{TRACE}/due.rt", *ALL, "places of values", repeated, BYTES),
     List(f"{TRACE}/names.rt", *ALL, "of", repeated, r'"\w+ (\w+) \{thread\}"'),
     List(DUE, r"OPEN: \[&str; \d+\] = \[", r"\];", "places values results", in_order),
     List(f"{FILES}/texts.rt", r"impl Shown", r"\n// ", "records values results", word=r'" (\w+)'),
-    List(f"{FILES}/facts.rt", r"WroteOther \{ wrote \} =>", r"\};", "results", repeated),
+    List(f"{FILES}/fields.rt", r"WroteOther \{ wrote \} =>", r"\};", "results", repeated),
     List(f"{FILES}/ordering/telling.rt", r"fn missing_in", r"\n\}\n", "values results",
          among, r"'(\w+)'"),
     List(f"{RECORDING}/run.h", r"enum \{ (?=LR_PLACE)", r"\};", "places", in_order, ENUM),
@@ -123,8 +122,6 @@ LISTS = (
          word=r'b"(?:fault )?([A-Z]\w+)'),
     List(f"{TRACE}/difference.rt", r"fn name\(", r"\n\}\n", "differences"),
     List(f"{TRACE}/trace.rt", r"fn name\(", r"\n\}\n", "trace_faults"),
-    List(f"{FILES}/texts.rt", r"WroteOther \{ wrote: \w+ \}", r"\)", "wrote",
-         word=r'\{step\} (.*)"'),
     List(C, r"\b1 =>", r"\b8 =>", "refusals", in_order, r"Refusal::(\w+)"),
     List(C, r"(?=\b8 =>)", r"\b16 =>", "differences", in_order, r'"(\w+): '),
     List(C, r"(?=\b16 =>)", r"_ =>", "trace_faults", in_order, r'"(\w+): '),
@@ -154,7 +151,7 @@ COUNTS = {
     "locks": 4, "calls": 7, "steps": 6, "operations": 5, "outcomes": 4, "called": 1,
     "places": 5, "counters": 2, "tail": 1, "records": 2, "monitors": 4, "of": 1, "values": 2,
     "results": 2, "refusals": 7, "faults": 7, "memory": 1, "trace_faults": 5,
-    "trace_fault_texts": 4, "differences": 6, "wrote": 2,
+    "trace_fault_texts": 4, "differences": 6,
 }
 SHELLS = ((f"{COMPLETIONS}.bash", 1), (f"{COMPLETIONS}.zsh", 3), (f"{COMPLETIONS}.fish", 1))
 
@@ -218,13 +215,11 @@ def of_faults():
         "memory": faults.keys() & {"OutOfMemory"}, "trace_faults": of_a_trace,
         "differences": [name for name in differences if name != "Refused"],
     }
-    wrote = re.findall(r'^ +"(.*)"$', read(f"{TRACE}/difference.rt"), re.MULTILINE)
     return {
         **{kind: {name: name for name in of_kind} for kind, of_kind in names.items()},
         # a program says of a file `no header`, and the library of a text `there is no header`
         "trace_fault_texts": {name: f"{name}: {text}".removesuffix(" ({name})")
                               for name, text in of_a_trace.items() if name != "NoHeader"},
-        "wrote": dict(enumerate(wrote)),
     }
 
 

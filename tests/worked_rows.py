@@ -118,6 +118,20 @@ def most_moves():
                "\n".join(report + ["end 65536", ""]).encode())
 
 
+def crowd():
+    """64 threads in the queue of a ticket lock, of which the last polls to the limit of moves."""
+    text, report, queue = ["lock ticket threads 64"], [], "-"
+    for thread in range(64):
+        number = 2 * thread + 1
+        report.append(f"{number} {thread} acquire called hold - queue {queue}")
+        queue = ",".join(map(str, range(thread + 1)))
+        report.append(f"{number + 1} {thread} add moved hold - queue {queue}")
+        text += [f"{thread} acquire", f"{thread} add"]
+    report += [f"{number} 63 read waits hold - queue {queue}" for number in range(129, 65_537)]
+    return Row("crowd", [("\n".join(text + [""]).encode(), 1), (b"63 read\n", 65_536 - 128)],
+               "\n".join(report + ["end 65536", ""]).encode())
+
+
 def rows():
     """Every row."""
     whole = [*pairs(EXAMPLES), *pairs(ROWS)]

@@ -20,9 +20,12 @@ import sys
 import tempfile
 import threading
 
-from process import CROWDED, CROWDED_REPORT, OUTPUT
 from tally import Tally
+from worked_rows import crowd
 
+OUTPUT = b"lockreplay: cannot write\n"
+CROWD = crowd()
+CROWDED, CROWDED_REPORT = CROWD.text, CROWD.report
 WAITING = 65_536  # bytes
 MOST = 1 << 20    # bytes of one message
 PATIENCE = 60     # seconds

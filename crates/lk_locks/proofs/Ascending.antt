@@ -6,16 +6,15 @@ use Rattle.std.proofs.Common.{ℕ}
 use Rattle.std.specs.List.{AllByRecursion}
 use Rattle.std.specs.List.Sorted.{IsNonDecreasingBy, IsPartitionPoint}
 use Rattle.std.proofs.lemmas.Bool.{eqb-true, le-ltb, leb-false, leb-true, lt-ltb, ltb-false}
-use Rattle.std.proofs.lemmas.Bool.{ltb-true}
+use Rattle.std.proofs.lemmas.Bool.{ltb-true, cases_Bool, or_parts}
 use Rattle.std.proofs.lemmas.Bool.Decides.{nat_tests}
 use Rattle.lk_locks.specs.Sequential.{has, IsAscending, joined, left_by}
-use Rattle.lk_locks.proofs.Threads.{true_or_false, neither}
 
 -- what holds of all in the list and of one who joins holds of all after that
 pub all_joined : (Holds : ℕ → Type 0) (ts : List ℕ) (t : ℕ) → Holds t → AllByRecursion Holds ts
     → AllByRecursion Holds (joined ts t)
 all_joined Holds [] t holds all = (holds, tt)
-all_joined Holds (first ∷ ts) t holds (here, rest) = elim (true_or_false (nat_lt t first)) [
+all_joined Holds (first ∷ ts) t holds (here, rest) = elim (cases_Bool (nat_lt t first)) [
   | inl smaller ↦ rw smaller (holds, (here, rest))
   | inr not_smaller ↦ rw not_smaller (here, all_joined Holds ts t holds rest)
 ]
@@ -24,7 +23,7 @@ all_joined Holds (first ∷ ts) t holds (here, rest) = elim (true_or_false (nat_
 pub all_left : (Holds : ℕ → Type 0) (ts : List ℕ) (t : ℕ) → AllByRecursion Holds ts
     → AllByRecursion Holds (left_by ts t)
 all_left Holds [] t all = tt
-all_left Holds (first ∷ ts) t (here, rest) = elim (true_or_false (eqb t first)) [
+all_left Holds (first ∷ ts) t (here, rest) = elim (cases_Bool (eqb t first)) [
   | inl leaves ↦ rw leaves rest
   | inr stays ↦ rw stays (here, all_left Holds ts t rest)
 ]
@@ -40,12 +39,12 @@ all_above t u (v ∷ ts) smaller (above, rest) =
 pub ascending_joined : (ts : List ℕ) (t : ℕ) → IsAscending ts → has ts t ≡ false
     → IsAscending (joined ts t)
 ascending_joined [] t ascending absent = (tt, tt)
-ascending_joined (first ∷ ts) t (above, ascending) absent = elim (true_or_false (nat_lt t first)) [
+ascending_joined (first ∷ ts) t (above, ascending) absent = elim (cases_Bool (nat_lt t first)) [
   | inl smaller ↦
       let is_below : t < first = ltb-true t first smaller in
       rw smaller ((is_below, all_above t first ts is_below above), (above, ascending))
   | inr not_smaller ↦
-      let (differ, absent_after) = neither (eqb t first) (has ts t) absent in
+      let (differ, absent_after) = or_parts (eqb t first) (has ts t) absent in
       let is_above : first < t = grind (arith, nat_tests, not_smaller, differ) in
       rw not_smaller (
         all_joined (λ u. first < u) ts t is_above above,
@@ -56,7 +55,7 @@ ascending_joined (first ∷ ts) t (above, ascending) absent = elim (true_or_fals
 -- the readers stay in ascending order if one leaves
 pub ascending_left : (ts : List ℕ) (t : ℕ) → IsAscending ts → IsAscending (left_by ts t)
 ascending_left [] t ascending = tt
-ascending_left (first ∷ ts) t (above, ascending) = elim (true_or_false (eqb t first)) [
+ascending_left (first ∷ ts) t (above, ascending) = elim (cases_Bool (eqb t first)) [
   | inl leaves ↦ rw leaves ascending
   | inr stays ↦ rw stays (all_left (λ u. first < u) ts t above, ascending_left ts t ascending)
 ]
@@ -65,10 +64,9 @@ ascending_left (first ∷ ts) t (above, ascending) = elim (true_or_false (eqb t 
 pub below_member : (ts : List ℕ) (t u : ℕ) → AllByRecursion (λ v. t < v) ts → has ts u ≡ true
     → t < u
 below_member [] t u all member = absurd (cc)
-below_member (v ∷ ts) t u (here, rest) member = elim (true_or_false (eqb u v)) [
+below_member (v ∷ ts) t u (here, rest) member = elim (cases_Bool (eqb u v)) [
   | inl same ↦ omega (arith, eqb-true u v same, here)
-  | inr differ ↦ below_member ts t u rest (let found : has (v ∷ ts) u ≡ true = member in
-      rw differ at found)
+  | inr differ ↦ below_member ts t u rest (cc)
 ]
 
 below_at : (ts : List ℕ) (t i d : ℕ) → AllByRecursion (λ v. t < v) ts → i < length ts
@@ -106,23 +104,21 @@ pub found : (ts : List ℕ) (t i : ℕ) → IsAscending ts → has ts t ≡ true
     → IsPartitionPoint (λ u. ltb u t ≡ true) (λ u. ltb u t ≡ false) ts i
     → (i < length ts) × (remove ts i ≡ left_by ts t)
 found [] t i ascending member within point = absurd (cc)
-found (u ∷ ts) t zero (above, ascending) member within point = elim (true_or_false (eqb t u)) [
+found (u ∷ ts) t zero (above, ascending) member within point = elim (cases_Bool (eqb t u)) [
   | inl same ↦ (omega arith, rw same refl)
   | inr differ ↦
-      let here : has (u ∷ ts) t ≡ true = member in
       absurd (omega (
         arith,
         ltb-false u t (point.1 0 0 (omega arith) (omega arith)),
-        below_member ts u t above (rw differ at here),
+        below_member ts u t above (cc),
       ))
 ]
 found (u ∷ ts) t (suc i) (above, ascending) member within point =
     let low : u < t = ltb-true u t (point.0 0 0 (omega arith) (omega arith)) in
-    elim (true_or_false (eqb t u)) [
+    elim (cases_Bool (eqb t u)) [
       | inl same ↦ absurd (omega (arith, low, eqb-true t u same))
       | inr differ ↦
-          let here : has (u ∷ ts) t ≡ true = member in
-          let rest = found ts t i ascending (rw differ at here) (omega (arith, within)) (
+          let rest = found ts t i ascending (cc) (omega (arith, within)) (
             λ k d low high. point.0 (suc k) d (omega arith) (omega (arith, high)),
             λ k d low high. point.1 (suc k) d (omega (arith, low)) (omega (arith, high)),
           ) in (omega (arith, rest.0), rw differ (ap (λ us. u ∷ us) rest.1))

@@ -1,5 +1,5 @@
--- What has to be proved of each step of a lock, and how a choice inside a step is taken apart.
-use Rattle.std.proofs.Common.{Bool, List, [], false, if◌then◌else◌, length, set, slice_index, true}
+-- What has to be proved of each step of a lock.
+use Rattle.std.proofs.Common.{List, [], length, set, slice_index, true}
 use Rattle.std.proofs.Common.{unwrap_or, ℕ, ◌++◌, ◌∷◌, ◌≡◌, ◌<◌, ◌≤◌, ◌^◌, None, sym}
 use Rattle.std.proofs.lemmas.List.{set-get_or}
 use Rattle.std.specs.List.{AllByRecursion}
@@ -11,21 +11,8 @@ use Rattle.lk_locks.specs.Sequential.{Sequential, nobody, thread_of}
 use Rattle.lk_locks.specs.State.{State, phase_at, start}
 use Rattle.lk_locks.specs.Steps.{belongs, has_op, move_change, refusal_in}
 use Rattle.lk_locks.specs.invariants.Locks.{AgreeAs, AreLinks, IsPhaseOf, owed_of}
-use Rattle.lk_locks.specs.declared.kinds.Entry.{Entry}
+use Rattle.lk_locks.specs.Types.{Entry, LockKind, Move, Call, Op, Outcome, Phase, Idle}
 use Rattle.lk_locks.specs.declared.kinds.Entry.TheVariants.{Called}
-use Rattle.lk_locks.specs.declared.kinds.LockKind.{LockKind}
-use Rattle.lk_locks.specs.declared.kinds.Move.{Move}
-use Rattle.lk_locks.specs.declared.kinds.Move.TheVariants.{Call}
-use Rattle.lk_locks.specs.declared.kinds.Op.{Op}
-use Rattle.lk_locks.specs.declared.kinds.Outcome.{Outcome}
-use Rattle.lk_locks.specs.declared.kinds.Phase.{Phase}
-use Rattle.lk_locks.specs.declared.kinds.Phase.TheVariants.{Idle}
-
--- what holds of both outcomes of a test holds of the step that makes the test
-pub either_way : {A : Type 0} (Holds : A → Type 0) (test : Bool) (if_true if_false : A)
-    → Holds if_true → Holds if_false → Holds (if test then if_true else if_false)
-either_way Holds true if_true if_false of_true of_false = of_true
-either_way Holds false if_true if_false of_true of_false = of_false
 
 -- a step of a thread in this phase adds the next entries of its pending call
 abbrev pub GoesOn : LockKind → ℕ → Phase → Change → Type 0
@@ -63,23 +50,27 @@ pub record IsTaken (kind : LockKind) (bits : ℕ) (ws : List ℕ) (ps : List Pha
   pub not_refused : refusal_in kind p m ≡ None
   pub agrees : AgreeAs kind (record { kind = kind; bits = bits; words = ws; phases = ps }) q
 
--- What a move of thread t leaves, with the entries that it adds: they may come, and the sequential
--- object goes along.
-pub record IsAgreed (kind : LockKind) (agree : Sequential → Type 0) (q : Sequential)
-    (es : List Entry) : Type 0 where
-  pub allowed : AreEnabled q es
-  pub kind_is : (after_entries q es).kind ≡ kind
-  pub agrees : agree (after_entries q es)
+-- What a move leaves, with the entries that it adds: they may come, and the lock agrees with what
+-- they leave of the sequential object.
+abbrev pub IsAgreed : (Sequential → Type 0) → Sequential → List Entry → Type 0
+IsAgreed agree q es = AreEnabled q es × agree (after_entries q es)
+
+-- each move of the lock keeps the agreement, and its entries may come
+abbrev pub Keeps : LockKind → Type 0
+Keeps kind =
+    (bits : ℕ) (ws : List ℕ) (ps : List Phase) (q : Sequential) (t : ℕ) (p : Phase) (m : Move)
+    → IsTaken kind bits ws ps q t p m
+    → let change : Change = move_change kind bits ws t p m in
+    let next : State =
+    record { kind = kind; bits = bits; words = change.words; phases = set ps t change.phase } in
+    IsAgreed (AgreeAs kind next) q (move_entries kind t p m change.outcome)
 
 -- a thread that waits changes nothing
-pub waits : (kind : LockKind) (agree : List Phase → Sequential → Type 0) (ps : List Phase)
-    (q : Sequential) (t : ℕ) (p : Phase) → phase_at ps t ≡ p → q.kind ≡ kind → agree ps q
-    → IsAgreed kind (agree (set ps t p)) q []
-waits kind agree ps q t p was of_kind agreed = record {
-  allowed = tt;
-  kind_is = of_kind;
-  agrees = rw (sym was) (rw set-get_or agreed);
-}
+pub waits : {kind : LockKind} {bits : ℕ} {ws : List ℕ} {ps : List Phase} {q : Sequential} {t : ℕ}
+    {p : Phase} {m : Move} → IsTaken kind bits ws ps q t p m
+    → IsAgreed
+    (AgreeAs kind (record { kind = kind; bits = bits; words = ws; phases = set ps t p })) q []
+waits given = (tt, rw (sym given.phase_is) (rw set-get_or given.agrees))
 
 -- What has to be proved of a lock. `EachLock` has it of each.
 pub record LockProof (kind : LockKind) : Type 0 where
@@ -112,13 +103,4 @@ pub record LockProof (kind : LockKind) : Type 0 where
   pub starts : (bits : ℕ) (ws : List ℕ) (n : ℕ) → n < 2 ^ bits
       → ((i : ℕ) → slice_index ws i ≡ 0) → AgreeAs kind (start kind bits ws n) (nobody kind)
   -- each move keeps that, and its entries may come
-  pub keeps : (bits : ℕ) (ws : List ℕ) (ps : List Phase) (q : Sequential) (t : ℕ) (p : Phase)
-      (m : Move) → IsTaken kind bits ws ps q t p m
-      → let change : Change = move_change kind bits ws t p m in
-      let next : State = record {
-        kind = kind;
-        bits = bits;
-        words = change.words;
-        phases = set ps t change.phase;
-      } in
-      IsAgreed kind (AgreeAs kind next) q (move_entries kind t p m change.outcome)
+  pub keeps : Keeps kind

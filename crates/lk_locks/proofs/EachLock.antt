@@ -4,8 +4,7 @@ use Rattle.lk_locks.proofs.invariants.mcs
 use Rattle.lk_locks.proofs.invariants.rw_fifo
 use Rattle.lk_locks.proofs.invariants.rw_simple
 use Rattle.lk_locks.proofs.invariants.ticket
-use Rattle.lk_locks.specs.declared.kinds.LockKind.{LockKind}
-use Rattle.lk_locks.specs.declared.kinds.LockKind.TheVariants.{Ticket, Mcs, RwSimple, RwFifo}
+use Rattle.lk_locks.specs.Types.{LockKind, Ticket, Mcs, RwSimple, RwFifo}
 
 -- each of the four locks is proved by a module of its own
 pub proof_of : (kind : LockKind) → LockProof kind

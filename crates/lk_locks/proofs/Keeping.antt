@@ -1,5 +1,5 @@
 -- Each accepted move keeps what is known of a lock and its history.
-use Rattle.std.proofs.Common.{◌≡◌, ℕ, ◌<◌, List, ◌++◌, length, set, true, None, refl, ap, sym, ◌∙◌}
+use Rattle.std.proofs.Common.{◌≡◌, ℕ, ◌<◌, List, ◌++◌, length, true, None, refl, ap, sym, ◌∙◌}
 use Rattle.std.proofs.lemmas.List.{length-set}
 use Rattle.lk_locks.specs.State.{State, phase_at}
 use Rattle.lk_locks.specs.Change.{Change}
@@ -7,7 +7,7 @@ use Rattle.lk_locks.specs.Steps.{move_change, change_of, next_state, refusal_in,
 use Rattle.lk_locks.specs.Steps.{belongs}
 use Rattle.lk_locks.specs.Entries.{move_entries, entries_of}
 use Rattle.lk_locks.specs.Sequential.{Sequential, thread_of}
-use Rattle.lk_locks.specs.Legal.{AreEnabled, after_entries, Legal}
+use Rattle.lk_locks.specs.Legal.{after_entries, Legal}
 use Rattle.lk_locks.specs.invariants.Locks.{AgreeAs, IsPhaseOf, owed_of}
 use Rattle.lk_locks.specs.invariants.Owed.{IsInTurn}
 use Rattle.lk_locks.specs.Holding.{holder_after}
@@ -16,15 +16,11 @@ use Rattle.lk_locks.specs.invariants.Kept.{Kept, IsRecorded}
 use Rattle.lk_locks.proofs.Cases.{AreOf, IsAgreed}
 use Rattle.lk_locks.proofs.Threads.{each_phase}
 use Rattle.lk_locks.proofs.EachLock.{proof_of}
-use Rattle.lk_locks.proofs.Moves.{Accepted, accepted_of, well_kept, agreed}
+use Rattle.lk_locks.proofs.Moves.{Accepted, accepted_of, well_kept}
 use Rattle.lk_locks.proofs.Histories.{holder_append, after_append, allowed_append, all_append}
-use Rattle.lk_locks.proofs.Histories.{all_prefix, all_map, turn_of_step, turn_of_call}
+use Rattle.lk_locks.proofs.Histories.{all_prefix, all_map, turn_of_step, turn_of_call, same_kind}
 use Rattle.lk_locks.proofs.Histories.{turn_of_other}
-use Rattle.lk_locks.specs.declared.kinds.LockKind.{LockKind}
-use Rattle.lk_locks.specs.declared.kinds.Phase.{Phase}
-use Rattle.lk_locks.specs.declared.kinds.Move.{Move}
-use Rattle.lk_locks.specs.declared.kinds.Move.TheVariants.{Call, Step}
-use Rattle.lk_locks.specs.declared.kinds.Entry.{Entry}
+use Rattle.lk_locks.specs.Types.{LockKind, Phase, Move, Call, Step, Entry}
 
 -- a move adds entries of its own thread alone
 pub entries_are_own : (kind : LockKind) (bits : ℕ) (ws : List ℕ) (t : ℕ) (p : Phase) (m : Move)
@@ -50,40 +46,51 @@ turn_kept kind n bits ws es t p (Step k) f b r i =
     turn_of_step kind es _ t p _ (entries_are_own kind bits ws t p (Step k))
     ((proof_of kind).goes_on bits t ws p) i
 
+-- the entries of an accepted move may come, and lock and sequential lock agree after it
+pub agreed : (s : State) (q : Sequential) (es : List Entry) (t : ℕ) (m : Move) → Kept s q es
+    → Accepted s t m → IsAgreed (AgreeAs s.kind (next_state s t m)) q (entries_of s t m)
+agreed s q es t m k a =
+    (proof_of s.kind).keeps s.bits s.words s.phases q t (phase_at s.phases t) m (record {
+      kind_is = k.kind;
+      thread = a.thread;
+      few = k.few;
+      enough = k.well.enough;
+      phase_is = refl;
+      fits = k.well.phases_fit t a.thread;
+      own = a.own;
+      not_refused = a.fits;
+      agrees = k.agree;
+    })
+
 -- after an accepted move the lock, its sequential lock and its history still belong together
 pub keeps : (s : State) (q : Sequential) (es : List Entry) (t : ℕ) (m : Move) → Kept s q es
     → Accepted s t m
     → Kept (next_state s t m) (after_entries q (entries_of s t m)) (es ++ entries_of s t m)
 keeps s q es t m k a =
-    let c : Change = change_of s t m in
-    let new : List Entry = entries_of s t m in
     let p : Phase = phase_at s.phases t in
-    let n : length (set s.phases t c.phase) ≡ length s.phases = length-set s.phases t c.phase in
-    let of : AreOf t new = entries_are_own s.kind s.bits s.words t p m in
-    let g : IsAgreed s.kind (AgreeAs s.kind (next_state s t m)) q new =
-    agreed s.kind s.bits s.words s.phases q t m k.well k.few k.kind a k.agree in
+    let new : List Entry = entries_of s t m in
+    let next : Phase = (change_of s t m).phase in
+    let n = length-set s.phases t next in
+    let own = entries_are_own s.kind s.bits s.words t p m in
+    let (allowed, agree) = agreed s q es t m k a in
     record {
       well = well_kept s t m k.well a;
       few = rw n k.few;
-      kind = g.kind_is;
+      kind = same_kind q new ∙ k.kind;
       now = after_append _ es new ∙ ap (λ x. after_entries x new) k.now;
-      allowed = allowed_append _ es new k.allowed (rw k.now g.allowed);
-      turns = λ u h. each_phase (λ v r. IsInTurn s.kind (es ++ new) v r) s.phases t c.phase a.thread
+      allowed = allowed_append _ es new k.allowed (rw k.now allowed);
+      turns =
+          rw n
+          (each_phase (λ v r. IsInTurn s.kind (es ++ new) v r) s.phases t next a.thread
           (turn_kept s.kind (length s.phases) s.bits s.words es t p m
           (k.well.phases_fit t a.thread) a.own a.fits (k.turns t a.thread))
-          (λ v d h. turn_of_other s.kind es new t v _ d of (k.turns v h)) u h;
+          (λ v d h. turn_of_other s.kind es new t v _ d own (k.turns v h)));
       no_others =
           rw n
           (all_append (λ e. thread_of e < length s.phases) es new k.no_others
-          (all_map _ (λ e. thread_of e < length s.phases) (λ e h. rw h a.thread) new of));
-      agree = g.agrees;
+          (all_map _ (λ e. thread_of e < length s.phases) (λ e h. rw h a.thread) new own));
+      agree = agree;
     }
-
--- the entries of an accepted move may come
-pub may_come : (s : State) (q : Sequential) (es : List Entry) (t : ℕ) (m : Move) → Kept s q es
-    → Accepted s t m → AreEnabled q (entries_of s t m)
-may_come s q es t m k a =
-    (agreed s.kind s.bits s.words s.phases q t m k.well k.few k.kind a k.agree).allowed
 
 -- a history that is kept is legal
 pub legal_of : (s : State) (q : Sequential) (es : List Entry) → Kept s q es
@@ -91,8 +98,7 @@ pub legal_of : (s : State) (q : Sequential) (es : List Entry) → Kept s q es
 legal_of s q es k = record {
   allowed = k.allowed;
   well_formed =
-      λ t h. let i : IsInTurn s.kind es t (phase_at s.phases t) =
-      k.turns t h in (i.0, owed_of s.kind t (phase_at s.phases t), i.1);
+      λ t h. let (ops, goes) = k.turns t h in (ops, owed_of s.kind t (phase_at s.phases t), goes);
   no_others = k.no_others;
 }
 

@@ -1,7 +1,7 @@
 -- A machine after a move, by its fields.
 use Rattle.std.proofs.Common.{◌≡◌, ℕ, ◌<◌, ◌≤◌, List, length, set, take, replicate, ◌^◌}
-use Rattle.std.proofs.Common.{inl, inr, None, refl, sym, ◌∙◌, subst, arith, slice_index}
-use Rattle.std.proofs.lemmas.List.{length-set, take-replicate, length-replicate, get_or-replicate}
+use Rattle.std.proofs.Common.{inl, inr, None, refl, sym, ◌∙◌, arith, slice_index}
+use Rattle.std.proofs.lemmas.List.{length-set, take-replicate, length-replicate}
 use Rattle.std.proofs.lemmas.List.{get_or_past}
 use Rattle.std.proofs.lemmas.Bool.{cases_lt}
 use Rattle.std.proofs.Math.Seq.{take-set-lt}
@@ -12,10 +12,8 @@ use Rattle.lk_locks.specs.Steps.{move_change, change_of, next_state, refusal_of,
 use Rattle.lk_locks.specs.invariants.WellFormed.{IsMachine, WellFormed}
 use Rattle.lk_locks.proofs.EachLock.{proof_of}
 use Rattle.lk_locks.proofs.Moves.{Accepted, well_kept, accepted_of}
-use Rattle.lk_locks.specs.declared.kinds.LockKind.{LockKind}
-use Rattle.lk_locks.specs.declared.kinds.Phase.{Phase}
-use Rattle.lk_locks.specs.declared.kinds.Phase.TheVariants.{Idle}
-use Rattle.lk_locks.specs.declared.kinds.Move.{Move}
+use Rattle.lk_locks.proofs.Threads.{all_idle}
+use Rattle.lk_locks.specs.Types.{LockKind, Phase, Idle, Move}
 
 -- a machine's state by its fields: of 64 phases, those of its threads
 abbrev seen : LockKind → ℕ → ℕ → List ℕ → List Phase → State
@@ -40,32 +38,22 @@ machine_kept n s t m machine accepted = record {
   well = well_kept s t m machine.well accepted;
 }
 
+-- past the end of clear words a read finds 0 too
+pub all_clear : (ws : List ℕ) → ((i : ℕ) → i < length ws → slice_index ws i ≡ 0) → (i : ℕ)
+    → slice_index ws i ≡ 0
+all_clear ws clear i =
+    elim (cases_lt i (length ws)) [
+      | inl within ↦ clear i within
+      | inr past ↦ get_or_past ws i 0 past
+    ]
+
 -- a new machine with clear words is well formed
 pub well_new : (kind : LockKind) (bits n : ℕ) (ws : List ℕ) → word_count kind n ≤ length ws
     → ((i : ℕ) → i < length ws → slice_index ws i ≡ 0) → WellFormed (start kind bits ws n)
 well_new kind bits n ws enough clear = record {
   enough = rw (length-replicate n Idle) enough;
-  phases_fit =
-      λ t in_lock. rw (get_or-replicate n t Idle Idle
-      (let as_many : length (replicate n Idle) ≡ n = length-replicate n Idle in omega arith))
-      ((proof_of kind).idle_fits (length (replicate n Idle)));
-  links_fit =
-      (proof_of kind).clear_links _ ws
-      (λ i. elim (cases_lt i (length ws)) [
-        | inl in_words ↦ clear i in_words
-        | inr past ↦ get_or_past ws i 0 past
-      ]);
-}
-
--- a new lock with clear words is a machine
-pub machine_new : (kind : LockKind) (bits n : ℕ) (ws : List ℕ) → n ≤ 64 → n < 2 ^ bits
-    → word_count kind n ≤ length ws → ((i : ℕ) → i < length ws → slice_index ws i ≡ 0)
-    → IsMachine n (start kind bits ws n)
-machine_new kind bits n ws few narrow enough clear = record {
-  few = few;
-  narrow = narrow;
-  count = length-replicate n Idle;
-  well = well_new kind bits n ws enough clear;
+  phases_fit = λ t in_lock. rw (all_idle n t) ((proof_of kind).idle_fits _);
+  links_fit = (proof_of kind).clear_links _ ws (all_clear ws clear);
 }
 
 -- these words and this phase are the state after the move, and that is a machine
@@ -75,34 +63,21 @@ Applied kind bits n words ps t next now m =
     × (seen kind bits n words (set ps t next) ≡ after_move now t m)
 
 -- the words and the phase that a move leaves are the next state's
-applied_here : (kind : LockKind) (bits n : ℕ) (ws words : List ℕ) (ps : List Phase) (t : ℕ)
-    (p next : Phase) (m : Move) → refusal_of (seen kind bits n ws ps) t m ≡ None
-    → p ≡ phase_at (take n ps) t → words ≡ (move_change kind bits ws t p m).words
-    → next ≡ (move_change kind bits ws t p m).phase → IsMachine n (seen kind bits n ws ps)
-    → Applied kind bits n words ps t next (seen kind bits n ws ps) m
-applied_here kind bits n ws words ps t p next m no_refusal was words_are phase_is machine =
-    let s : State = seen kind bits n ws ps in
-    let accepted : Accepted s t m = accepted_of s t m no_refusal in
-    let in_lock : t < n = let in_phases : t < length (take n ps) = accepted.thread in
-    let count : length (take n ps) ≡ n = machine.count in omega arith in
-    let same : seen kind bits n words (set ps t next) ≡ next_state s t m =
-    seen_next kind bits n ws words ps t next m in_lock (rw was at words_are) (rw was at phase_is) in
-    (rw same (machine_kept n s t m machine accepted), same ∙ sym (rw no_refusal refl))
-
--- the same, if the state is known under another name
 pub applied : (kind : LockKind) (bits n : ℕ) (ws words : List ℕ) (ps : List Phase) (t : ℕ)
     (p next : Phase) (m : Move) (now : State) → seen kind bits n ws ps ≡ now
     → refusal_of now t m ≡ None → p ≡ phase_at now.phases t
     → words ≡ (move_change kind bits ws t p m).words → next ≡ (move_change kind bits ws t p m).phase
     → IsMachine n (seen kind bits n ws ps) → Applied kind bits n words ps t next now m
 applied kind bits n ws words ps t p next m now seen_now no_refusal was words_are phase_is machine =
-    subst
-    (λ (state : State). refusal_of state t m ≡ None → p ≡ phase_at state.phases t
-    → Applied kind bits n words ps t next state m)
-    seen_now
-    (λ no_refusal was. applied_here kind bits n ws words ps t p next m no_refusal was words_are
-    phase_is machine)
-    no_refusal was
+    let s : State = seen kind bits n ws ps in
+    let not_refused : refusal_of s t m ≡ None = rw (← seen_now) at no_refusal in
+    let is : p ≡ phase_at (take n ps) t = rw (← seen_now) at was in
+    let accepted = accepted_of s t m not_refused in
+    let in_lock : t < n = omega (arith, accepted.thread, machine.count) in
+    let same =
+    seen_next kind bits n ws words ps t next m in_lock (rw is at words_are) (rw is at phase_is) in
+    rw (← seen_now)
+    (rw same (machine_kept n s t m machine accepted), same ∙ sym (rw not_refused refl))
 
 -- a machine whose phases are all idle is a new lock
 pub seen_start : (kind : LockKind) (bits n : ℕ) (ws : List ℕ) → n ≤ 64
@@ -114,7 +89,12 @@ pub new_machine : (kind : LockKind) (bits n : ℕ) (ws : List ℕ) → n ≤ 64 
     → word_count kind n ≤ length ws → ((i : ℕ) → i < length ws → slice_index ws i ≡ 0)
     → IsMachine n (seen kind bits n ws (replicate 64 Idle))
 new_machine kind bits n ws few narrow enough clear =
-    rw (seen_start kind bits n ws few) (machine_new kind bits n ws few narrow enough clear)
+    rw (seen_start kind bits n ws few) (record {
+      few = few;
+      narrow = narrow;
+      count = length-replicate n Idle;
+      well = well_new kind bits n ws enough clear;
+    })
 
 -- an accepted move leads to the next state
 pub accepted_next : (s now : State) (t : ℕ) (m : Move) → refusal_of now t m ≡ None

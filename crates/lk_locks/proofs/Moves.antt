@@ -1,25 +1,17 @@
 -- What every move keeps, whatever the lock.
-use Rattle.std.proofs.Common.{Bool, List, None, Option, Some, false, if◌then◌else◌, length, arith}
-use Rattle.std.proofs.Common.{nat_lt, refl, set, true, ℕ, ◌<◌, ◌≡◌, ◌≤◌}
+use Rattle.std.proofs.Common.{Bool, List, None, Option, Some, false, if◌then◌else◌, length}
+use Rattle.std.proofs.Common.{nat_lt, refl, true, ℕ, ◌<◌, ◌≡◌}
 use Rattle.std.proofs.lemmas.Bool.{ltb-true}
 use Rattle.std.proofs.lemmas.List.{length-set}
-use Rattle.lk_locks.specs.Change.{Change}
-use Rattle.lk_locks.specs.Entries.{entries_of}
-use Rattle.lk_locks.specs.Sequential.{Sequential}
 use Rattle.lk_locks.specs.State.{State, phase_at}
 use Rattle.lk_locks.specs.Steps.{belongs, change_of, move_change, next_state, refusal_in}
 use Rattle.lk_locks.specs.Steps.{refusal_of}
-use Rattle.lk_locks.specs.invariants.Locks.{AgreeAs, AreLinks, IsPhaseOf}
+use Rattle.lk_locks.specs.invariants.Locks.{AreLinks, IsPhaseOf}
 use Rattle.lk_locks.specs.invariants.WellFormed.{WellFormed}
-use Rattle.lk_locks.proofs.Cases.{IsAgreed, IsTaken}
 use Rattle.lk_locks.proofs.EachLock.{proof_of}
 use Rattle.lk_locks.proofs.Threads.{each_phase}
-use Rattle.lk_locks.specs.declared.kinds.LockKind.{LockKind}
-use Rattle.lk_locks.specs.declared.kinds.Move.{Move}
-use Rattle.lk_locks.specs.declared.kinds.Move.TheVariants.{Call, Step}
-use Rattle.lk_locks.specs.declared.kinds.Phase.{Phase}
-use Rattle.lk_locks.specs.declared.kinds.Refusal.{Refusal}
-use Rattle.lk_locks.specs.declared.kinds.Refusal.TheVariants.{NoSuchThread, WrongLock}
+use Rattle.lk_locks.specs.Types.{LockKind, Move, Call, Step, Phase, Refusal, NoSuchThread}
+use Rattle.lk_locks.specs.Types.{WrongLock}
 
 -- a move keeps the number of words
 pub same_length : (kind : LockKind) (bits : ℕ) (ws : List ℕ) (t : ℕ) (p : Phase) (m : Move)
@@ -50,19 +42,20 @@ pub record Accepted (s : State) (t : ℕ) (m : Move) : Type 0 where
 pub well_kept : (s : State) (t : ℕ) (m : Move) → WellFormed s → Accepted s t m
     → WellFormed (next_state s t m)
 well_kept s t m w a =
-    let c : Change = change_of s t m in
-    let n : length (set s.phases t c.phase) ≡ length s.phases = length-set s.phases t c.phase in
+    let p : Phase = phase_at s.phases t in
+    let next : Phase = (change_of s t m).phase in
+    let n = length-set s.phases t next in
     record {
-      enough = rw n (rw (same_length s.kind s.bits s.words t (phase_at s.phases t) m) w.enough);
-      phases_fit = rw n (λ u k. each_phase
-          (λ u p. IsPhaseOf s.kind (length s.phases) p) s.phases t c.phase a.thread
-          (new_phase_fits s.kind (length s.phases) s.bits s.words t (phase_at s.phases t) m a.thread
+      enough = rw (n, same_length s.kind s.bits s.words t p m) w.enough;
+      phases_fit =
+          rw n
+          (each_phase (λ u p. IsPhaseOf s.kind (length s.phases) p) s.phases t next a.thread
+          (new_phase_fits s.kind (length s.phases) s.bits s.words t p m a.thread
           (w.phases_fit t a.thread) w.links_fit)
-          (λ v _ h. w.phases_fit v h) u (omega (arith, n)));
+          (λ v _ h. w.phases_fit v h));
       links_fit =
           rw n
-          (new_links_fit s.kind (length s.phases) s.bits s.words t
-          (phase_at s.phases t) m a.thread w.links_fit);
+          (new_links_fit s.kind (length s.phases) s.bits s.words t p m a.thread w.links_fit);
     }
 
 -- a move that is not refused is of a thread, and of a kind, that the lock has
@@ -76,28 +69,5 @@ gate false b r h = cc
 -- a move that is not refused is accepted
 pub accepted_of : (s : State) (t : ℕ) (m : Move) → refusal_of s t m ≡ None → Accepted s t m
 accepted_of s t m h =
-    let g =
-    gate (nat_lt t (length s.phases)) (belongs s.kind m) (refusal_in s.kind
-    (phase_at s.phases t) m) h in
-    record { thread = ltb-true t (length s.phases) g.0; own = g.1; fits = g.2 }
-
--- an accepted move's acts may come, and lock and sequential lock agree after it
-pub agreed : (kind : LockKind) (bits : ℕ) (ws : List ℕ) (ps : List Phase) (q : Sequential) (t : ℕ)
-    (m : Move)
-    → let s : State = record { kind = kind; bits = bits; words = ws; phases = ps } in WellFormed s
-    → length ps ≤ 64 → q.kind ≡ kind → Accepted s t m → AgreeAs kind s q
-    → IsAgreed kind (AgreeAs kind (next_state s t m)) q (entries_of s t m)
-agreed kind bits ws ps q t m w n k a g =
-    let p : Phase = phase_at ps t in
-    let given : IsTaken kind bits ws ps q t p m = record {
-      kind_is = k;
-      thread = a.thread;
-      few = n;
-      enough = w.enough;
-      phase_is = refl;
-      fits = w.phases_fit t a.thread;
-      own = a.own;
-      not_refused = a.fits;
-      agrees = g;
-    } in
-    (proof_of kind).keeps bits ws ps q t p m given
+    let (in_lock, own, fits) = gate (nat_lt t (length s.phases)) (belongs s.kind m) _ h in
+    record { thread = ltb-true t (length s.phases) in_lock; own = own; fits = fits }

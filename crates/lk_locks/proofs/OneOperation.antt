@@ -1,9 +1,8 @@
 -- Each step of a queue lock that is accepted is one operation, of the kind that the move names.
-use Rattle.std.proofs.Common.{arith, length, ◌<◌, ◌≤◌, List, None, Option, Some, ap, refl, sym, ℕ}
-use Rattle.std.proofs.Common.{◌∙◌, ◌≡◌, ◌==◌, if◌then◌else◌, false, option_map, true}
+use Rattle.std.proofs.Common.{arith, length, ◌<◌, List, None, Option, Some, ap, refl, sym, ℕ}
+use Rattle.std.proofs.Common.{◌∙◌, ◌≡◌, if◌then◌else◌, option_map}
 use Rattle.lk_words.specs.Operations.{performed, word_of}
 use Rattle.lk_words.specs.declared.operation.Answer.{Answer}
-use Rattle.lk_words.specs.declared.operation.Answer.TheVariants.{Found, Swapped}
 use Rattle.lk_words.specs.declared.operation.Operation.{Operation}
 use Rattle.lk_locks.specs.Change.{Change, kind_of, step_by}
 use Rattle.lk_locks.specs.OneOperation.{IsMade, IsOneOperation}
@@ -14,20 +13,8 @@ use Rattle.lk_locks.specs.State.{State, phase_at}
 use Rattle.lk_locks.specs.Steps.{next_state, refusal_at, refusal_in, refusal_of, same_step}
 use Rattle.lk_locks.specs.mcs
 use Rattle.lk_locks.specs.ticket
-use Rattle.lk_locks.specs.declared.kinds.Family.TheVariants.{Queue}
-use Rattle.lk_locks.specs.declared.kinds.LockKind.{LockKind}
-use Rattle.lk_locks.specs.declared.kinds.LockKind.TheVariants.{Mcs, RwFifo, RwSimple, Ticket}
-use Rattle.lk_locks.specs.declared.kinds.Move.{Move}
-use Rattle.lk_locks.specs.declared.kinds.Move.TheVariants.{Call, Step}
-use Rattle.lk_locks.specs.declared.kinds.Phase.{Phase}
-use Rattle.lk_locks.specs.declared.kinds.Phase.TheVariants.{AwaitGrant, AwaitLink, AwaitTurn}
-use Rattle.lk_locks.specs.declared.kinds.Phase.TheVariants.{CasTail, ClearNext, Grant, LinkTo}
-use Rattle.lk_locks.specs.declared.kinds.Phase.TheVariants.{PassOn, ReadNext, ReadServing}
-use Rattle.lk_locks.specs.declared.kinds.Phase.TheVariants.{SetLocked, SwapTail, TakeTicket}
-use Rattle.lk_locks.specs.declared.kinds.Refusal.TheVariants.{WrongStep}
-use Rattle.lk_locks.specs.declared.kinds.StepKind.{StepKind}
-use Rattle.lk_locks.specs.declared.kinds.StepKind.TheVariants.{Add, Cas, Read, Section, Swap, Write}
-use Rattle.lk_locks.proofs.Cases.{either_way}
+use Rattle.lk_locks.specs.Types.{Queue, LockKind, Mcs, RwFifo, RwSimple, Ticket, Move, Call, Step}
+use Rattle.lk_locks.specs.Types.{Phase, ClearNext, TakeTicket, WrongStep, StepKind}
 use Rattle.lk_locks.proofs.Moves.{accepted_of}
 
 abbrev Keeps : List ℕ → Change → Type 0
@@ -35,30 +22,15 @@ Keeps ws c = c.words ≡ ws
 
 -- what a ticket step does after its operation changes no word
 ticket_keeps : (p : Phase) (ws : List ℕ) (a : Answer) → Keeps ws (ticket.after p ws a)
-ticket_keeps (AwaitTurn t) ws (Found v) = either_way (Keeps ws) (v == t) _ _ refl refl
-ticket_keeps TakeTicket ws (Found v) = refl
-ticket_keeps (ReadServing t) ws (Found v) = refl
-ticket_keeps p ws a = refl
+ticket_keeps p ws a = grind arith
 
 -- what an MCS step does after its operation changes no word
 mcs_keeps : (p : Phase) (ws : List ℕ) (a : Answer) → Keeps ws (mcs.after p ws a)
-mcs_keeps SwapTail ws (Found v) = either_way (Keeps ws) (v == 0) _ _ refl refl
-mcs_keeps AwaitGrant ws (Found v) = either_way (Keeps ws) (v == 0) _ _ refl refl
-mcs_keeps ReadNext ws (Found v) = either_way (Keeps ws) (v == 0) _ _ refl refl
-mcs_keeps AwaitLink ws (Found v) = either_way (Keeps ws) (v == 0) _ _ refl refl
-mcs_keeps CasTail ws (Swapped true) = refl
-mcs_keeps CasTail ws (Swapped false) = refl
-mcs_keeps p ws a = refl
+mcs_keeps p ws a = grind arith
 
 -- a step that is not refused is of the kind that the lock expects
 same : (a b : StepKind) → (if same_step a b then None else Some (WrongStep a)) ≡ None → a ≡ b
-same Read Read r = refl
-same Write Write r = refl
-same Swap Swap r = refl
-same Cas Cas r = refl
-same Add Add r = refl
-same Section Section r = refl
-same a b r = cc
+same a b r = grind arith
 
 -- a step that makes one operation changes the words as this operation does
 by_one : (after : Phase → List ℕ → Answer → Change)
@@ -73,14 +45,12 @@ by_one after keeps kind bits ws p k (Some o) r =
 -- the kind of a ticket step does not depend on how wide the words are
 ticket_kind : (bits : ℕ) (p : Phase)
     → option_map kind_of (ticket.operation 64 p) ≡ option_map kind_of (ticket.operation bits p)
-ticket_kind bits TakeTicket = refl
-ticket_kind bits p = refl
+ticket_kind bits p = grind arith
 
 -- the kind of an MCS step does not depend on whose step it is
 mcs_kind : (t : ℕ) (p : Phase)
     → option_map kind_of (mcs.operation 0 p) ≡ option_map kind_of (mcs.operation t p)
-mcs_kind t ClearNext = refl
-mcs_kind t p = refl
+mcs_kind t p = grind arith
 
 -- each accepted step of a lock makes the operation that its table names
 made : (kind : LockKind) (bits : ℕ) (ws : List ℕ) (t : ℕ) (p : Phase) (k : StepKind)
@@ -131,26 +101,16 @@ word_or (Some o) = word_of o
 within : (kind : LockKind) (n bits t : ℕ) (p : Phase) (o : Operation)
     → operation_of kind bits t p ≡ Some o → t < n → IsPhaseOf kind n p
     → word_of o < word_count kind n
-within Ticket n bits t TakeTicket o e h f = rw (ap word_or (sym e)) (omega arith)
-within Ticket n bits t (AwaitTurn x) o e h f = rw (ap word_or (sym e)) (omega arith)
-within Ticket n bits t (ReadServing x) o e h f = rw (ap word_or (sym e)) (omega arith)
-within Ticket n bits t (PassOn x) o e h f = rw (ap word_or (sym e)) (omega arith)
-within Mcs n bits t ClearNext o e h f = rw (ap word_or (sym e)) (omega arith)
-within Mcs n bits t SwapTail o e h f = rw (ap word_or (sym e)) (omega arith)
-within Mcs n bits t (SetLocked j) o e h f = rw (ap word_or (sym e)) (omega arith)
-within Mcs n bits t (LinkTo j) o e h f = rw (ap word_or (sym e)) (omega arith)
-within Mcs n bits t AwaitGrant o e h f = rw (ap word_or (sym e)) (omega arith)
-within Mcs n bits t ReadNext o e h f = rw (ap word_or (sym e)) (omega arith)
-within Mcs n bits t CasTail o e h f = rw (ap word_or (sym e)) (omega arith)
-within Mcs n bits t AwaitLink o e h f = rw (ap word_or (sym e)) (omega arith)
-within Mcs n bits t (Grant j) o e h f = rw (ap word_or (sym e)) (omega arith)
-within kind n bits t p o e h f = cc
+within Ticket n bits t TakeTicket o e h f = omega (arith, ap word_or e)
+within Mcs n bits t ClearNext o e h f = omega (arith, ap word_or e)
+within kind n bits t p o e h f = omega (arith, ap word_or e)
 
 -- the word of an operation is one of the lock's
 pub operation_within : (s : State) (t : ℕ) (o : Operation) → WellFormed s → t < length s.phases
     → operation_of s.kind s.bits t (phase_at s.phases t) ≡ Some o → word_of o < length s.words
 operation_within s t o w h e =
-    let below : word_of o < word_count s.kind (length s.phases) =
-    within s.kind (length s.phases) s.bits t (phase_at s.phases t) o e h (w.phases_fit t h) in
-    let enough : word_count s.kind (length s.phases) ≤ length s.words = w.enough in
-    omega arith
+    omega (
+      arith,
+      within s.kind (length s.phases) s.bits t (phase_at s.phases t) o e h (w.phases_fit t h),
+      w.enough,
+    )

@@ -2,7 +2,7 @@
 use Rattle.std.proofs.Common.{zero, suc, ◌<◌, List, [], ◌∷◌, length, refl, sym, arith, inl, inr}
 use Rattle.std.proofs.Common.{◌⊎◌, subst}
 use Rattle.std.specs.List.{Any}
-use Rattle.lk_locks.specs.declared.kinds.Entry.{Entry}
+use Rattle.lk_locks.specs.Types.{Entry}
 
 abbrev pub HasOne : (Entry → Type 0) → List Entry → Type 0
 HasOne P [] = ⊥

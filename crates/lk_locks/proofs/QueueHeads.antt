@@ -1,26 +1,9 @@
 -- The head of a queue of threads, and the one who holds.
-use Rattle.std.proofs.Common.{◌≡◌, ◌≢◌, ℕ, List, [], ◌∷◌, ◌++◌, drop, Bool, true, false, ◌||◌}
-use Rattle.std.proofs.Common.{Option, None, Some, refl, ap, sym, ◌∙◌, inl, inr}
-use Rattle.std.proofs.lemmas.Bool.{eqb-true, false≢true}
-use Rattle.std.proofs.lemmas.Bool.Decides.{eqb_tells}
+use Rattle.std.proofs.Common.{◌≡◌, ◌≢◌, ℕ, List, [], ◌∷◌, ◌++◌, drop, true, false, arith}
+use Rattle.std.proofs.Common.{Option, None, Some, refl}
+use Rattle.std.proofs.lemmas.Bool.{eq-eqb}
 use Rattle.lk_locks.specs.Sequential.{has, is_head}
 use Rattle.lk_locks.specs.invariants.Threads.{EachOnce, is_this}
-use Rattle.lk_locks.proofs.Requests.{eqb-same}
-use Rattle.lk_locks.proofs.Threads.{has_more, or_right}
-
--- whom the test finds to hold is the holder
-pub this_is : (holder : Option ℕ) (t : ℕ) → is_this holder t ≡ true → holder ≡ Some t
-this_is None t holds = cc
-this_is (Some holder) t holds = ap (λ thread. Some thread) (sym (eqb-true t holder holds))
-
--- the holder passes the test for holding
-pub this_same : (t : ℕ) → is_this (Some t) t ≡ true
-this_same t = eqb-same t
-
--- another than the holder does not pass it
-pub this_other : (t other : ℕ) → other ≢ t → is_this (Some t) other ≡ false
-this_other t other differs =
-    elim (eqb_tells other t) [ inl (_, same) ↦ absurd (differs same) | inr (test, _) ↦ test ]
 
 -- the head is in the queue
 pub head_member : (q : List ℕ) (t : ℕ) → is_head q t ≡ true → has q t ≡ true
@@ -28,44 +11,21 @@ head_member [] t at_head = cc
 head_member (head ∷ rest) t at_head = rw at_head refl
 
 -- a queue has one head
-pub head_one : (q : List ℕ) (t other : ℕ) → is_head q t ≡ true → is_head q other ≡ true → t ≡ other
-head_one [] t other at_head other_at_head = cc
-head_one (head ∷ rest) t other at_head other_at_head =
-    eqb-true t head at_head ∙ sym (eqb-true other head other_at_head)
+head_one : (q : List ℕ) (t other : ℕ) → is_head q t ≡ true → is_head q other ≡ true → t ≡ other
+head_one q t other at_head other_at_head = grind arith
 
 -- a head that leaves is no longer in the queue, since each request is in it once
 pub head_gone : (q : List ℕ) (t : ℕ) → is_head q t ≡ true → EachOnce q → has (drop 1 q) t ≡ false
-head_gone [] t at_head once = cc
-head_gone (head ∷ rest) t at_head (head_once, rest_once) =
-    ap (has rest) (eqb-true t head at_head) ∙ head_once
+head_gone q t at_head once = grind arith
 
 -- if the head leaves, the others stay in the queue
 pub others_stay : (q : List ℕ) (t other : ℕ) → is_head q t ≡ true → other ≢ t
     → has (drop 1 q) other ≡ has q other
-others_stay [] t other at_head differs = cc
-others_stay (head ∷ rest) t other at_head differs = elim (eqb_tells other head) [
-  | inl (_, same) ↦ absurd (differs (same ∙ sym (eqb-true t head at_head)))
-  | inr (test, _) ↦ rw test refl
-]
+others_stay q t other at_head differs = grind arith
 
 -- without its head, a queue still has each thread at most once
 pub once_rest : (q : List ℕ) → EachOnce q → EachOnce (drop 1 q)
-once_rest [] once = tt
-once_rest (head ∷ rest) (head_once, rest_once) = rest_once
-
--- a test or a false one is the test
-pub or_none : (test : Bool) → (test || false) ≡ test
-or_none true = refl
-or_none false = refl
-
--- if a thread is appended, the others are in the queue exactly if they were
-pub more_other : (q : List ℕ) (t other : ℕ) → other ≢ t → has (q ++ t ∷ []) other ≡ has q other
-more_other q t other differs =
-    has_more q t other ∙ rw (this_other t other differs) (or_none (has q other))
-
--- a thread that is appended is in the queue
-pub more_same : (q : List ℕ) (t : ℕ) → has (q ++ t ∷ []) t ≡ true
-more_same q t = has_more q t t ∙ rw (eqb-same t) (or_right (has q t) refl)
+once_rest q once = grind arith
 
 -- the head stays head if a thread is appended
 pub head_more : (q : List ℕ) (t head : ℕ) → is_head q head ≡ true
@@ -82,9 +42,5 @@ pub nobody_holds : (holder : Option ℕ) (q : List ℕ) (t : ℕ) → HeadHolds 
     → is_head q t ≡ true → is_this holder t ≡ false → holder ≡ None
 nobody_holds None q t head_holds at_head not_holder = refl
 nobody_holds (Some holder) q t head_holds at_head not_holder =
-    absurd
-    (false≢true
-    (sym not_holder
-    ∙ (let same : t ≡ holder =
-    head_one q t holder at_head (head_holds holder (this_same holder)) in
-    rw same (this_same holder))))
+    let holds = eq-eqb holder holder refl in
+    cc (head_one q t holder at_head (head_holds holder holds))

@@ -1,7 +1,7 @@
 -- The holders of a queue lock are apart, and enter in the order of their requests.
 use Rattle.std.proofs.Common.{◌≡◌, ℕ, List, [], ◌∷◌, ◌++◌, drop, true, Option, None, Some, ap, sym}
-use Rattle.std.proofs.Common.{◌∙◌, append_assoc, inl, inr, ◌⊎◌}
-use Rattle.std.proofs.lemmas.Bool.{eqb-true}
+use Rattle.std.proofs.Common.{◌∙◌, append_assoc, inl, inr, ◌⊎◌, refl, arith}
+use Rattle.std.proofs.lemmas.Bool.{eq-eqb}
 use Rattle.std.proofs.lemmas.List.{append-nil}
 use Rattle.lk_locks.specs.Sequential.{Sequential, nobody, is_head, after_entry}
 use Rattle.lk_locks.specs.Legal.{AreEnabled, OfEveryLegal}
@@ -10,11 +10,9 @@ use Rattle.lk_locks.specs.Exclusion.{IsHeldInTurn, HasOneHolder}
 use Rattle.lk_locks.specs.Order.{IsInOrder, requested, entered}
 use Rattle.lk_locks.proofs.Places.{HasOne, any_of}
 use Rattle.lk_locks.proofs.Histories.{holder_append}
-use Rattle.lk_locks.specs.declared.kinds.Op.TheVariants.{Acquire, Release}
-use Rattle.lk_locks.specs.declared.kinds.Entry.{Entry}
-use Rattle.lk_locks.specs.declared.kinds.Entry.TheVariants.{Called, Announced, Acted, Returned}
+use Rattle.lk_locks.specs.Types.{Acquire, Release, Entry, Acted, Returned}
 use Rattle.lk_locks.proofs.QueueLaws.{HoldsAlong, holders_take_turns, in_order}
-use Rattle.lk_locks.proofs.QueueHeads.{HeadHolds, this_same}
+use Rattle.lk_locks.proofs.QueueHeads.{HeadHolds}
 
 -- holders are apart
 
@@ -30,11 +28,8 @@ held_later holder (e ∷ before) after (may, in_turn) =
 unless_released : (t : ℕ) (middle more : List Entry) → IsHeldInTurn (Some t) (middle ++ more)
     → HasOne (λ e. e ≡ Acted t Release) middle ⊎ IsHeldInTurn (Some t) more
 unless_released t [] more in_turn = inr in_turn
-unless_released t (Returned other Acquire ∷ es) more (nobody_held, in_turn) =
-    let held_and_free : Some t ≡ None = nobody_held in cc
-unless_released t (Acted other Release ∷ es) more (other_held, in_turn) =
-    let two_holders : Some t ≡ Some other = other_held in
-    let same : other ≡ t = cc in inl (inl (ap (λ thread. Acted thread Release) same))
+unless_released t (Returned other Acquire ∷ es) more (nobody_held, in_turn) = cc
+unless_released t (Acted other Release ∷ es) more (other_held, in_turn) = inl (inl (cc))
 unless_released t (e ∷ es) more (may, in_turn) =
     elim (unless_released t es more in_turn) [
       | inl released ↦ inl (inr released)
@@ -44,24 +39,19 @@ unless_released t (e ∷ es) more (may, in_turn) =
 -- the law: between two entries into a queue lock, the first holder has released it
 pub holders_are_apart : OfEveryLegal (λ kind. HasOneHolder)
 holders_are_apart kind n es legal t other before middle after is =
-    let all : IsHeldInTurn None (before ++ Returned t Acquire
-    ∷ (middle ++ Returned other Acquire ∷ after)) =
-    rw append_assoc at (rw is at (holders_take_turns kind n es legal)) in
-    let late : IsHeldInTurn (holder_after None before) (Returned t Acquire
-    ∷ (middle ++ Returned other Acquire ∷ after)) =
-    held_later None before _ all in
-    let (nobody_held, since) = late in
+    let all = rw append_assoc at (rw is at (holders_take_turns kind n es legal)) in
+    let (nobody_held, since) =
+    held_later None before (Returned t Acquire ∷ (middle ++ Returned other Acquire ∷ after)) all in
     elim (unless_released t middle (Returned other Acquire ∷ after) since) [
       | inl released ↦ any_of _ middle released
-      | inr (nobody_holds, in_turn) ↦ let held_and_free : Some t ≡ None = nobody_holds in cc
+      | inr (nobody_holds, in_turn) ↦ cc
     ]
 
 -- the order of entry
 
 -- a queue is its head and the rest
 head_split : (q : List ℕ) (t : ℕ) → is_head q t ≡ true → t ∷ drop 1 q ≡ q
-head_split [] t at_head = cc
-head_split (head ∷ rest) t at_head = ap (λ first. first ∷ rest) (eqb-true t head at_head)
+head_split q t at_head = grind arith
 
 -- the holder, those that enter and some others are, in order, the queue and those that join it
 abbrev AreServed : Option ℕ → List ℕ → List Entry → Type 0
@@ -72,41 +62,28 @@ AreServed holder queue es =
 served_now : (holder : Option ℕ) (queue : List ℕ) → HeadHolds holder queue
     → AreServed holder queue []
 served_now None queue head_holds = (queue, sym (append-nil queue))
-served_now (Some t) queue head_holds =
-    (drop 1 queue, head_split queue t (head_holds t (this_same t)) ∙ sym (append-nil queue))
+served_now (Some t) queue head_holds = (
+  drop 1 queue,
+  head_split queue t (head_holds t (eq-eqb t t refl)) ∙ sym (append-nil queue),
+)
 
 -- the threads enter in the order in which they joined the queue
 served : (es : List Entry) (q : Sequential) (holder : Option ℕ) → AreEnabled q es
     → HoldsAlong holder q es → AreServed holder q.queue es
 served [] q holder enabled head_holds = served_now holder q.queue head_holds
 served (Acted t Acquire ∷ es) q holder (may_act, enabled) (head_holds, may_hold, along) =
-    let later : AreServed holder (q.queue ++ t ∷ []) es =
-    served es (after_entry q (Acted t Acquire)) holder enabled along in
-    let (rest, is) = later in
+    let (rest, is) = served es (after_entry q (Acted t Acquire)) holder enabled along in
     (rest, is ∙ append_assoc q.queue (t ∷ []) (requested es))
-served (Acted t Release ∷ es) q holder (may_act, enabled) (head_holds, may_hold, along) =
-    let held : holder ≡ Some t = may_hold in
-    let later : AreServed None (drop 1 q.queue) es =
-    served es (after_entry q (Acted t Release)) None enabled along in
-    let (rest, is) = later in
-    let split : t ∷ drop 1 q.queue ≡ q.queue =
-    head_split q.queue t (head_holds t (rw held (this_same t))) in (
+served (Acted t Release ∷ es) q holder (may_act, enabled) (head_holds, held, along) =
+    let (rest, is) = served es (after_entry q (Acted t Release)) None enabled along in
+    let split = head_split q.queue t (head_holds t (rw held (eq-eqb t t refl))) in (
       rest,
       rw held (ap (λ threads. t ∷ threads) is ∙ ap (λ threads. threads ++ requested es) split),
     )
-served (Returned t Acquire ∷ es) q holder (may_act, enabled) (head_holds, may_hold, along) =
-    let free : holder ≡ None = may_hold in
-    let later : AreServed (Some t) q.queue es = served es q (Some t) enabled along in
-    let (rest, is) = later in
-    (rest, rw free is)
-served (Called t op ∷ es) q holder (may_act, enabled) (head_holds, may_hold, along) =
-    served es q holder enabled along
-served (Announced t ∷ es) q holder (may_act, enabled) (head_holds, may_hold, along) =
-    served es (after_entry q (Announced t)) holder enabled along
-served (Acted t op ∷ es) q holder (may_act, enabled) (head_holds, may_hold, along) =
-    served es (after_entry q (Acted t op)) holder enabled along
-served (Returned t op ∷ es) q holder (may_act, enabled) (head_holds, may_hold, along) =
-    served es q holder enabled along
+served (Returned t Acquire ∷ es) q holder (may_act, enabled) (head_holds, free, along) =
+    let (rest, is) = served es q (Some t) enabled along in (rest, rw free is)
+served (e ∷ es) q holder (may_act, enabled) (head_holds, may_hold, along) =
+    served es (after_entry q e) holder enabled along
 
 -- the law: a queue lock is entered in the order of its acquires
 pub enters_in_order : OfEveryLegal (λ kind. IsInOrder)

@@ -6,11 +6,8 @@ use Rattle.lk_locks.specs.Change.{Change}
 use Rattle.lk_locks.specs.read_write.{Tells, first_words, step, word_count}
 use Rattle.lk_locks.specs.rw_fifo
 use Rattle.lk_locks.specs.rw_simple
-use Rattle.lk_locks.specs.declared.kinds.Family.{Family}
-use Rattle.lk_locks.specs.declared.kinds.Family.TheVariants.{FifoReadWrite}
-use Rattle.lk_locks.specs.declared.kinds.Phase.{Phase}
-use Rattle.lk_locks.specs.declared.kinds.Phase.TheVariants.{AwaitReaders, TryRead, TryWrite}
-use Rattle.lk_locks.specs.declared.kinds.SectionEffect.{SectionEffect}
+use Rattle.lk_locks.specs.Types.{Family, FifoReadWrite, Phase, AwaitReaders, TryRead, TryWrite}
+use Rattle.lk_locks.specs.Types.{SectionEffect}
 
 -- what holds of both outcomes of a test holds of two steps that make the same test
 either_both : {A : Type 0} (P : A → A → Type 0) (b : Bool) (x y z w : A) → P x z → P y w
@@ -34,12 +31,6 @@ pub record AsOnCopy (back : List ℕ → List ℕ → List ℕ) (family : Family
   pub phase : copy.phase ≡ whole.phase
   pub outcome : copy.outcome ≡ whole.outcome
 
--- two changes with the same words, phase and outcome are the same change
-same : (back : List ℕ → List ℕ → List ℕ) (family : Family) (ws : List ℕ) (c d : Change)
-    → back ws c.words ≡ d.words → c.words ≡ first_words family d.words → c.phase ≡ d.phase
-    → c.outcome ≡ d.outcome → AsOnCopy back family ws c d
-same back family ws c d w l p o = record { words = w; left = l; phase = p; outcome = o }
-
 -- a section of the simple lock does on a copy of two words what it does on the lock's
 pub simple : (family : Family) (bits : ℕ) (ws : List ℕ) (p : Phase) → word_count family ≤ length ws
     → (family ≡ FifoReadWrite → ⊥)
@@ -48,12 +39,11 @@ pub simple : (family : Family) (bits : ℕ) (ws : List ℕ) (p : Phase) → word
     (step family bits ws p)
 simple FifoReadWrite bits ws p h other = absurd (other refl)
 simple family bits (a ∷ b ∷ ws) TryRead h other =
-    either_both (AsOnCopy two_back family (a ∷ b ∷ ws)) (b == 0) _ _ _ _
-    (same _ _ _ _ _ refl refl refl refl) (same _ _ _ _ _ refl refl refl refl)
+    either_both (AsOnCopy two_back family (a ∷ b ∷ ws)) (b == 0) _ _ _ _ (search) (search)
 simple family bits (a ∷ b ∷ ws) TryWrite h other =
     either_both (AsOnCopy two_back family (a ∷ b ∷ ws)) (a == 0 && b == 0) _ _ _ _
-    (same _ _ _ _ _ refl refl refl refl) (same _ _ _ _ _ refl refl refl refl)
-simple family bits (a ∷ b ∷ ws) p h other = same _ _ _ _ _ refl refl refl refl
+    (search) (search)
+simple family bits (a ∷ b ∷ ws) p h other = search
 simple family bits ws p h other = absurd (omega arith)
 
 -- a section of the FIFO lock does on a copy of three words what it does on the lock's
@@ -63,16 +53,15 @@ pub fifo : (bits : ℕ) (ws : List ℕ) (p : Phase) → 3 ≤ length ws
     (rw_fifo.step bits ws p)
 fifo bits (a ∷ b ∷ c ∷ ws) TryRead h =
     either_both (AsOnCopy three_back FifoReadWrite (a ∷ b ∷ c ∷ ws)) (c == 0) _ _ _ _
-    (same _ _ _ _ _ refl refl refl refl) (same _ _ _ _ _ refl refl refl refl)
+    (search) (search)
 fifo bits (a ∷ b ∷ c ∷ ws) TryWrite h =
     either_both (AsOnCopy three_back FifoReadWrite (a ∷ b ∷ c ∷ ws)) (c == 0) _ _ _ _
     (either_both (AsOnCopy three_back FifoReadWrite (a ∷ b ∷ c ∷ ws)) (a == b) _ _ _ _
-    (same _ _ _ _ _ refl refl refl refl) (same _ _ _ _ _ refl refl refl refl))
-    (same _ _ _ _ _ refl refl refl refl)
+    (search) (search)) (search)
 fifo bits (a ∷ b ∷ c ∷ ws) AwaitReaders h =
     either_both (AsOnCopy three_back FifoReadWrite (a ∷ b ∷ c ∷ ws)) (a == b) _ _ _ _
-    (same _ _ _ _ _ refl refl refl refl) (same _ _ _ _ _ refl refl refl refl)
-fifo bits (a ∷ b ∷ c ∷ ws) p h = same _ _ _ _ _ refl refl refl refl
+    (search) (search)
+fifo bits (a ∷ b ∷ c ∷ ws) p h = search
 fifo bits ws p h = absurd (omega arith)
 
 -- a word by what a section finds and leaves, and by the lists before and after

@@ -1,35 +1,28 @@
 -- A new lock, with nobody and no entry.
 use Rattle.std.proofs.Common.{◌≡◌, ℕ, ◌<◌, ◌≤◌, ◌^◌, List, [], length, refl}
-use Rattle.std.proofs.Common.{ap, ◌∙◌, arith, slice_index, inl, inr}
-use Rattle.std.proofs.lemmas.List.{length-replicate, get_or_past}
-use Rattle.std.proofs.lemmas.Bool.{cases_lt}
+use Rattle.std.proofs.Common.{ap, ◌∙◌, slice_index}
+use Rattle.std.proofs.lemmas.List.{length-replicate}
 use Rattle.lk_locks.specs.State.{start}
 use Rattle.lk_locks.specs.Locks.{word_count}
 use Rattle.lk_locks.specs.Sequential.{nobody}
 use Rattle.lk_locks.specs.invariants.Kept.{Kept}
 use Rattle.lk_locks.specs.invariants.Locks.{owed_of}
-use Rattle.lk_locks.specs.invariants.WellFormed.{IsMachine}
 use Rattle.lk_locks.proofs.EachLock.{proof_of}
-use Rattle.lk_locks.proofs.Machines.{machine_new}
+use Rattle.lk_locks.proofs.Machines.{all_clear, well_new}
 use Rattle.lk_locks.proofs.Threads.{all_idle}
-use Rattle.lk_locks.specs.declared.kinds.LockKind.{LockKind}
-use Rattle.lk_locks.specs.declared.kinds.Phase.TheVariants.{Idle}
+use Rattle.lk_locks.specs.Types.{LockKind, Idle}
 
 -- a new lock has the empty history
 pub kept_start : (kind : LockKind) (bits : ℕ) (ws : List ℕ) (n : ℕ) → n ≤ 64 → n < 2 ^ bits
     → word_count kind n ≤ length ws → ((i : ℕ) → i < length ws → slice_index ws i ≡ 0)
     → Kept (start kind bits ws n) (nobody kind) []
-kept_start kind bits ws n h b w z =
-    let m : IsMachine n (start kind bits ws n) = machine_new kind bits n ws h b w z in
-    let zero : (i : ℕ) → slice_index ws i ≡ 0 =
-    λ i. elim (cases_lt i (length ws)) [ inl k ↦ z i k | inr k ↦ get_or_past ws i 0 k ] in
-    record {
-      well = m.well;
-      few = rw (length-replicate n Idle) h;
-      kind = refl;
-      now = refl;
-      allowed = tt;
-      turns = λ t k. ([], ap (owed_of kind t) (all_idle n t) ∙ (proof_of kind).idle_rest t);
-      no_others = tt;
-      agree = (proof_of kind).starts bits ws n (omega arith) zero;
-    }
+kept_start kind bits ws n h b w z = record {
+  well = well_new kind bits n ws w z;
+  few = rw (length-replicate n Idle) h;
+  kind = refl;
+  now = refl;
+  allowed = tt;
+  turns = λ t k. ([], ap (owed_of kind t) (all_idle n t) ∙ (proof_of kind).idle_rest t);
+  no_others = tt;
+  agree = (proof_of kind).starts bits ws n b (all_clear ws z);
+}

@@ -1,84 +1,75 @@
 -- Lists of threads.
 use Rattle.std.proofs.Common.{Bool, List, [], arith, eqb, false, inl, inr, length, refl, set, sym}
-use Rattle.std.proofs.Common.{replicate, true, ℕ, ◌++◌, ◌<◌, ◌||◌, ◌∙◌, ◌∷◌, ◌≡◌, ◌≢◌, ◌⊎◌}
-use Rattle.std.proofs.lemmas.Bool.{cases_lt, false≢true}
+use Rattle.std.proofs.Common.{replicate, true, ℕ, ◌++◌, ◌<◌, ◌∙◌, ◌∷◌, ◌≡◌, ◌≢◌, ◌⊎◌, drop, Option}
+use Rattle.std.proofs.Common.{Some}
+use Rattle.std.proofs.lemmas.Bool.{cases_lt, eqb-false, ne_eqb}
+use Rattle.std.proofs.lemmas.Bool.{or_parts, or_right}
 use Rattle.std.proofs.lemmas.Bool.Decides.{eqb_tells}
 use Rattle.std.proofs.lemmas.List.{get_or-replicate, get_or-set_other, get_or-set_same, get_or_past}
-use Rattle.std.proofs.lemmas.List.{length-replicate, length-set}
+use Rattle.std.proofs.lemmas.List.{length-replicate}
 use Rattle.std.proofs.lemmas.List.Folds.{list_any-append}
 use Rattle.std.specs.List.{AllByRecursion, IsDistinct}
 use Rattle.lk_locks.specs.Sequential.{has}
 use Rattle.lk_locks.specs.State.{phase_at}
-use Rattle.lk_locks.specs.invariants.Threads.{EachOnce}
-use Rattle.lk_locks.specs.declared.kinds.Phase.{Phase}
-use Rattle.lk_locks.specs.declared.kinds.Phase.TheVariants.{Idle}
+use Rattle.lk_locks.specs.invariants.Threads.{EachOnce, is_this}
+use Rattle.lk_locks.specs.Types.{Phase, Idle}
+use Rattle.std.proofs.Math.Bool.{or-false}
 
 -- a test is true or false
 pub true_or_false : (b : Bool) → (b ≡ true) ⊎ (b ≡ false)
 true_or_false true = inl refl
 true_or_false false = inr refl
 
--- two threads that differ do not pass the test for equality
-pub not_eqb : (t u : ℕ) → t ≢ u → eqb u t ≡ false
-not_eqb t u h = elim (eqb_tells u t) [ inl e ↦ absurd (h (sym e.1)) | inr e ↦ e.0 ]
+-- whom the test finds to have a place has it
+pub this_is : (place : Option ℕ) (t : ℕ) → is_this place t ≡ true → place ≡ Some t
+this_is place t found = grind arith
 
--- who is in a list is its first or among the rest
-pub first_or_rest : (q : List ℕ) (u t : ℕ) → has (u ∷ q) t ≡ true → (t ≡ u) ⊎ (has q t ≡ true)
-first_or_rest q u t h =
-    elim (eqb_tells t u) [
-      | inl e ↦ inl e.1
-      | inr e ↦ inr (let g : has (u ∷ q) t ≡ true = h in rw e.0 at g)
-    ]
+-- the first of a list is in it
+pub first_has : (t : ℕ) (rest : List ℕ) → has (t ∷ rest) t ≡ true
+first_has t rest = grind arith
+
+-- who is not in a list is not after its first
+pub rest_false : (q : List ℕ) (t : ℕ) → has q t ≡ false → has (drop 1 q) t ≡ false
+rest_false q t absent = grind arith
+
+-- if a thread is appended, the others are in the list exactly if they were
+pub more_other : (q : List ℕ) (t other : ℕ) → other ≢ t → has (q ++ t ∷ []) other ≡ has q other
+more_other q t other differs =
+    list_any-append (eqb other) q (t ∷ []) ∙ rw (ne_eqb other t differs) (or-false (has q other))
+
+-- a thread that is appended is in the list
+pub more_same : (q : List ℕ) (t : ℕ) → has (q ++ t ∷ []) t ≡ true
+more_same q t = list_any-append (eqb t) q (t ∷ []) ∙ or_right (has q t) _ (first_has t [])
+
+-- if all in a list are below a number, and a thread is, so are all in the list with this thread
+pub members_more : (n : ℕ) (q : List ℕ) (t : ℕ) → t < n → ((u : ℕ) → has q u ≡ true → u < n)
+    → (u : ℕ) → has (q ++ t ∷ []) u ≡ true → u < n
+members_more n q t fits below u member = elim (eqb_tells u t) [
+  | inl (_, same) ↦ rw same fits
+  | inr (_, other) ↦ below u (sym (more_other q t u other) ∙ member)
+]
 
 -- a thread that is not in a list may be appended, and each is in it once
 pub once_more : (q : List ℕ) (t : ℕ) → EachOnce q → has q t ≡ false → EachOnce (q ++ t ∷ [])
-once_more [] t o h = (refl, tt)
-once_more (u ∷ q) t o h = elim (eqb_tells t u) [
-  | inl e ↦ let g : has (u ∷ q) t ≡ false = h in absurd (false≢true (sym (rw e.0 at g)))
-  | inr e ↦ (
-    list_any-append (eqb u) q (t ∷ []) ∙ rw (o.0, not_eqb t u e.1) refl,
-    once_more q t o.1 (let g : has (u ∷ q) t ≡ false = h in rw e.0 at g),
-  )
-]
-
--- who is in a list with one more is in the list, or is that one
-pub has_more : (q : List ℕ) (t u : ℕ) → has (q ++ t ∷ []) u ≡ (has q u || (eqb u t || false))
-has_more q t u = list_any-append (eqb u) q (t ∷ [])
+once_more [] t once absent = (refl, tt)
+once_more (u ∷ q) t (u_once, once) absent =
+    let (differ, not_in) = or_parts (eqb t u) (has q t) absent in (
+      more_other q t u (λ same. eqb-false t u differ (sym same)) ∙ u_once,
+      once_more q t once not_in,
+    )
 
 -- who is not in a list differs from each thread in it
-pub apart_of_has : (q : List ℕ) (t : ℕ) → has q t ≡ false → AllByRecursion (λ y. eqb t y ≡ false) q
-apart_of_has [] t h = tt
-apart_of_has (u ∷ q) t h = elim (eqb_tells t u) [
-  | inl e ↦ let g : has (u ∷ q) t ≡ false = h in absurd (false≢true (sym (rw e.0 at g)))
-  | inr e ↦ (e.0, apart_of_has q t (let g : has (u ∷ q) t ≡ false = h in rw e.0 at g))
-]
+apart_of_has : (q : List ℕ) (t : ℕ) → has q t ≡ false → AllByRecursion (λ y. eqb t y ≡ false) q
+apart_of_has [] t absent = tt
+apart_of_has (u ∷ q) t absent =
+    let (differ, not_in) = or_parts (eqb t u) (has q t) absent in
+    (differ, apart_of_has q t not_in)
 
 -- a list that has each thread once has no two equal elements
 pub distinct_of_once : (q : List ℕ) → EachOnce q → IsDistinct eqb q
 unfolding IsDistinct
 distinct_of_once [] o = tt
 distinct_of_once (t ∷ q) o = (apart_of_has q t o.0, distinct_of_once q o.1)
-
--- a test or a false one is true only if the test is
-pub or_left : (b : Bool) → (b || false) ≡ true → b ≡ true
-or_left true h = refl
-or_left false h = h
-
--- a test or a false one is false only if the test is
-pub or_left_false : (b : Bool) → (b || false) ≡ false → b ≡ false
-or_left_false true h = h
-or_left_false false h = refl
-
--- a test or a true one is true
-pub or_right : (a : Bool) {b : Bool} → b ≡ true → (a || b) ≡ true
-or_right true h = refl
-or_right false h = h
-
--- a test that is the `or` of two fails only if both fail
-pub neither : (first second : Bool) → (first || second) ≡ false
-    → (first ≡ false) × (second ≡ false)
-neither true second failed = cc
-neither false second failed = (refl, failed)
 
 -- a thread whose phase is set has this phase
 pub at_same : (ps : List Phase) (t : ℕ) (p : Phase) → t < length ps → phase_at (set ps t p) t ≡ p
@@ -91,19 +82,17 @@ at_other ps t u p h = get_or-set_other ps t u p Idle h
 
 -- what holds of the new phase and held of the others holds of all
 pub each_phase : (P : ℕ → Phase → Type 0) (ps : List Phase) (t : ℕ) (p : Phase) → t < length ps
-    → P t p → ((u : ℕ) → u ≢ t → u < length ps → P u (phase_at ps u)) → (u : ℕ)
-    → u < length (set ps t p) → P u (phase_at (set ps t p) u)
+    → P t p → ((u : ℕ) → u ≢ t → u < length ps → P u (phase_at ps u)) → (u : ℕ) → u < length ps
+    → P u (phase_at (set ps t p) u)
 each_phase P ps t p h new old u k =
     elim (eqb_tells u t) [
       | inl e ↦ rw e.1 (rw (at_same ps t p h) new)
-      | inr e ↦ rw (at_other ps t u p e.1) (old u e.1 (omega (arith, length-set ps t p)))
+      | inr e ↦ rw (at_other ps t u p e.1) (old u e.1 k)
     ]
 
 -- at the start each thread is idle
 pub all_idle : (n t : ℕ) → phase_at (replicate n Idle) t ≡ Idle
 all_idle n t = elim (cases_lt t n) [
   | inl h ↦ get_or-replicate n t Idle Idle h
-  | inr h ↦
-      get_or_past (replicate n Idle) t Idle
-      (let e : length (replicate n Idle) ≡ n = length-replicate n Idle in omega arith)
+  | inr h ↦ get_or_past _ t Idle (omega (arith, length-replicate n Idle))
 ]

@@ -8,16 +8,13 @@ use Rattle.lk_locks.specs.Sequential.{Sequential}
 use Rattle.lk_locks.specs.Legal.{AreEnabled, after_entries}
 use Rattle.lk_locks.specs.invariants.Tracking.{IsTracked}
 use Rattle.lk_locks.proofs.Moves.{accepted_of}
-use Rattle.lk_locks.proofs.Keeping.{may_come, keeps}
-use Rattle.lk_locks.specs.declared.kinds.Move.{Move}
-use Rattle.lk_locks.specs.declared.kinds.Move.TheVariants.{Call}
-use Rattle.lk_locks.specs.declared.kinds.Op.{Op}
-use Rattle.lk_locks.specs.declared.kinds.Entry.{Entry}
+use Rattle.lk_locks.proofs.Keeping.{agreed, keeps}
+use Rattle.lk_locks.specs.Types.{Move, Call, Op, Entry}
 
 -- the entries of an accepted move may come next in the history
 pub entries_may_come : (s : State) (q : Sequential) (t : ℕ) (m : Move) → IsTracked s q
     → refusal_of s t m ≡ None → AreEnabled q (entries_of s t m)
-entries_may_come s q t m k a = may_come s q k.0 t m k.1 (accepted_of s t m a)
+entries_may_come s q t m k a = (agreed s q k.0 t m k.1 (accepted_of s t m a)).0
 
 -- after an accepted move there is again a history that leads to the lock
 pub tracked_on : (s r : State) (q u : Sequential) (es : List Entry) (t : ℕ) (m : Move)

@@ -4,9 +4,7 @@ pub mod TicketQueue
 pub mod ticket
 pub mod McsLinks
 pub mod McsQueue
-pub mod McsSteps
 pub mod mcs
-pub mod read_write
+pub mod ReadWriteMoves
 pub mod rw_simple
-pub mod FifoSteps
 pub mod rw_fifo

@@ -1,15 +1,10 @@
 -- Definitions. The entries in which a call takes effect: that of a FIFO writer's announcement, and
 -- those of a call that acts and returns in one step. This project's own.
 use Rattle.std.specs.Prelude.{ℕ, List, [], ◌∷◌}
-use Rattle.lk_locks.specs.declared.kinds.Family.{Family}
-use Rattle.lk_locks.specs.declared.kinds.Family.TheVariants.{FifoReadWrite}
-use Rattle.lk_locks.specs.declared.kinds.Op.{Op}
-use Rattle.lk_locks.specs.declared.kinds.Op.TheVariants.{Acquire, Release, ReadLock, ReadUnlock}
-use Rattle.lk_locks.specs.declared.kinds.Op.TheVariants.{WriteLock, WriteUnlock, Downgrade}
-use Rattle.lk_locks.specs.declared.kinds.Act.{Act}
+use Rattle.lk_locks.specs.Types.{Family, FifoReadWrite, Op, Acquire, Release, ReadLock, ReadUnlock}
+use Rattle.lk_locks.specs.Types.{WriteLock, WriteUnlock, Downgrade, Act, Entry, Announced, Acted}
+use Rattle.lk_locks.specs.Types.{Returned}
 use Rattle.lk_locks.specs.declared.kinds.Act.TheVariants as act
-use Rattle.lk_locks.specs.declared.kinds.Entry.{Entry}
-use Rattle.lk_locks.specs.declared.kinds.Entry.TheVariants.{Announced, Acted, Returned}
 
 abbrev pub announcement : Family → ℕ → Op → List Entry
 announcement FifoReadWrite t WriteLock = Announced t ∷ []

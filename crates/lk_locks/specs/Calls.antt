@@ -4,10 +4,8 @@ use Rattle.std.specs.Prelude.{◌≡◌, ℕ, List, [], ◌∷◌, ◌++◌}
 use Rattle.lk_locks.specs.Locks.{family_of}
 use Rattle.lk_locks.specs.Acts.{announcement}
 use Rattle.lk_locks.specs.Legal.{subhistory}
-use Rattle.lk_locks.specs.declared.kinds.LockKind.{LockKind}
-use Rattle.lk_locks.specs.declared.kinds.Op.{Op}
-use Rattle.lk_locks.specs.declared.kinds.Entry.{Entry}
-use Rattle.lk_locks.specs.declared.kinds.Entry.TheVariants.{Called, Acted, Returned}
+use Rattle.lk_locks.specs.Types.{LockKind, Op, Entry, Acted, Returned}
+use Rattle.lk_locks.specs.declared.kinds.Entry.TheVariants.{Called}
 
 -- in these entries t called op, and since then did this
 abbrev pub HasDone : ℕ → Op → List Entry → List Entry → Type 0

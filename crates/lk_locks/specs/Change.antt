@@ -4,11 +4,7 @@ use Rattle.lk_words.specs.Operations.{Performed, performed}
 use Rattle.lk_words.specs.declared.operation.Operation.{Operation}
 use Rattle.lk_words.specs.declared.operation.Operation.TheVariants as op
 use Rattle.lk_words.specs.declared.operation.Answer.{Answer}
-use Rattle.lk_locks.specs.declared.kinds.StepKind.{StepKind}
-use Rattle.lk_locks.specs.declared.kinds.StepKind.TheVariants.{Read, Write, Swap, Cas, Add}
-use Rattle.lk_locks.specs.declared.kinds.Phase.{Phase}
-use Rattle.lk_locks.specs.declared.kinds.Outcome.{Outcome}
-use Rattle.lk_locks.specs.declared.kinds.Outcome.TheVariants.{Waits}
+use Rattle.lk_locks.specs.Types.{StepKind, Read, Write, Swap, Cas, Add, Phase, Outcome, Waits}
 
 -- the words, the phase of the thread that stepped, and the outcome
 pub record Change : Type 0 where

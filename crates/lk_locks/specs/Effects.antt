@@ -2,9 +2,7 @@
 use Rattle.std.specs.Prelude.{◌≡◌, ◌<◌, ℕ, List, length, slice_index, slice_set}
 use Rattle.lk_locks.specs.Change.{Change}
 use Rattle.lk_locks.specs.read_write.{Tells}
-use Rattle.lk_locks.specs.declared.kinds.Outcome.{Outcome}
-use Rattle.lk_locks.specs.declared.kinds.StepEffect.{StepEffect}
-use Rattle.lk_locks.specs.declared.kinds.StepEffect.TheVariants.{OneWord, Monitor}
+use Rattle.lk_locks.specs.Types.{Outcome, StepEffect, OneWord, Monitor}
 
 abbrev pub outcome_in : StepEffect → Outcome
 outcome_in (OneWord effect outcome) = outcome

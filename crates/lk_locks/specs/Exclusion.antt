@@ -5,13 +5,9 @@ use Rattle.lk_locks.specs.Sequential.{Sequential, nobody, is_head}
 use Rattle.lk_locks.specs.Legal.{Legal, after_entries}
 use Rattle.lk_locks.specs.Holding.{holder_after}
 use Rattle.lk_locks.specs.Places.{Between}
-use Rattle.lk_locks.specs.declared.kinds.LockKind.{LockKind}
-use Rattle.lk_locks.specs.declared.kinds.LockKind.TheVariants.{RwFifo}
-use Rattle.lk_locks.specs.declared.kinds.Family.TheVariants.{Queue}
-use Rattle.lk_locks.specs.declared.kinds.Op.TheVariants.{Acquire, Release, ReadLock, ReadUnlock}
-use Rattle.lk_locks.specs.declared.kinds.Op.TheVariants.{WriteLock, WriteUnlock, Downgrade}
-use Rattle.lk_locks.specs.declared.kinds.Entry.{Entry}
-use Rattle.lk_locks.specs.declared.kinds.Entry.TheVariants.{Announced, Acted, Returned}
+use Rattle.lk_locks.specs.Types.{LockKind, RwFifo, Queue, Acquire, Release, ReadLock, ReadUnlock}
+use Rattle.lk_locks.specs.Types.{WriteLock, WriteUnlock, Downgrade, Entry, Announced, Acted}
+use Rattle.lk_locks.specs.Types.{Returned}
 
 abbrev pub IsQueueLock : LockKind → Type 0
 IsQueueLock kind = family_of kind ≡ Queue

@@ -9,18 +9,9 @@ use Rattle.lk_locks.specs.mcs
 use Rattle.lk_locks.specs.read_write
 use Rattle.lk_locks.specs.rw_simple
 use Rattle.lk_locks.specs.rw_fifo
-use Rattle.lk_locks.specs.declared.kinds.LockKind.{LockKind}
-use Rattle.lk_locks.specs.declared.kinds.LockKind.TheVariants.{Ticket, Mcs, RwSimple, RwFifo}
-use Rattle.lk_locks.specs.declared.kinds.Family.{Family}
-use Rattle.lk_locks.specs.declared.kinds.Family.TheVariants.{Queue, ReadWrite, FifoReadWrite}
-use Rattle.lk_locks.specs.declared.kinds.Phase.{Phase}
-use Rattle.lk_locks.specs.declared.kinds.Op.{Op}
-use Rattle.lk_locks.specs.declared.kinds.StepKind.{StepKind}
-use Rattle.lk_locks.specs.declared.kinds.StepKind.TheVariants.{Read, Write, Swap, Cas, Add, Section}
-use Rattle.lk_locks.specs.declared.kinds.StepEffect.{StepEffect}
-use Rattle.lk_locks.specs.declared.kinds.StepEffect.TheVariants.{OneWord, Monitor}
-use Rattle.lk_locks.specs.declared.kinds.Outcome.{Outcome}
-use Rattle.lk_locks.specs.declared.kinds.Entry.{Entry}
+use Rattle.lk_locks.specs.Types.{LockKind, Ticket, Mcs, RwSimple, RwFifo, Family, Queue, ReadWrite}
+use Rattle.lk_locks.specs.Types.{FifoReadWrite, Phase, Op, StepKind, Read, Write, Swap, Cas, Add}
+use Rattle.lk_locks.specs.Types.{Section, StepEffect, OneWord, Monitor, Outcome, Entry}
 
 abbrev pub family_of : LockKind → Family
 family_of Ticket = Queue

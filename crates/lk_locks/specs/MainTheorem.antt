@@ -5,8 +5,7 @@ use Rattle.lk_locks.specs.Legal.{Legal}
 use Rattle.lk_locks.specs.Runs.{OfEveryRun}
 use Rattle.lk_locks.specs.Exclusion.{HasOneHolder, HasOneWriter, IsNeverBesideReader}
 use Rattle.lk_locks.specs.Order.{IsInOrder}
-use Rattle.lk_locks.specs.declared.kinds.LockKind.{LockKind}
-use Rattle.lk_locks.specs.declared.kinds.Entry.{Entry}
+use Rattle.lk_locks.specs.Types.{LockKind, Entry}
 
 -- A history of n threads on a lock of this kind is legal. So a queue lock has at most one holder
 -- and is entered in the order of its tickets or swaps, and there are never two writers, and never a

@@ -1,9 +1,7 @@
 -- Definitions. The order in which a queue lock is entered: a law of every legal history. This
 -- project's own.
 use Rattle.std.specs.Prelude.{◌≡◌, ℕ, List, [], ◌∷◌, ◌++◌}
-use Rattle.lk_locks.specs.declared.kinds.Op.TheVariants.{Acquire}
-use Rattle.lk_locks.specs.declared.kinds.Entry.{Entry}
-use Rattle.lk_locks.specs.declared.kinds.Entry.TheVariants.{Acted, Returned}
+use Rattle.lk_locks.specs.Types.{Acquire, Entry, Acted, Returned}
 
 -- the threads in the order of their tickets or swaps
 abbrev pub requested : List Entry → List ℕ

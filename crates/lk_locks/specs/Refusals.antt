@@ -1,9 +1,7 @@
 -- Definitions. The name of each refusal, and what it says. This project's own.
 use Rattle.std.specs.Prelude.{ℕ, List, ◌++◌, codes}
-use Rattle.lk_locks.specs.declared.kinds.Refusal.{Refusal}
-use Rattle.lk_locks.specs.declared.kinds.Refusal.TheVariants.{NoSuchThread, WrongLock, Busy}
-use Rattle.lk_locks.specs.declared.kinds.Refusal.TheVariants.{NotHolder, AlreadyHolds, NoCall}
-use Rattle.lk_locks.specs.declared.kinds.Refusal.TheVariants.{WrongStep}
+use Rattle.lk_locks.specs.Types.{Refusal, NoSuchThread, WrongLock, Busy, NotHolder, AlreadyHolds}
+use Rattle.lk_locks.specs.Types.{NoCall, WrongStep}
 
 abbrev pub name_of : Refusal → List ℕ
 name_of NoSuchThread = codes "NoSuchThread"

@@ -5,9 +5,7 @@ use Rattle.lk_locks.specs.State.{State, start}
 use Rattle.lk_locks.specs.Locks.{word_count}
 use Rattle.lk_locks.specs.Steps.{refusal_of, next_state}
 use Rattle.lk_locks.specs.Entries.{entries_of}
-use Rattle.lk_locks.specs.declared.kinds.LockKind.{LockKind}
-use Rattle.lk_locks.specs.declared.kinds.Move.{Move}
-use Rattle.lk_locks.specs.declared.kinds.Entry.{Entry}
+use Rattle.lk_locks.specs.Types.{LockKind, Move, Entry}
 
 -- the entries of moves one after another. A refused move has none, and changes nothing
 abbrev pub entries_after : State → List (ℕ × Move) → List Entry

@@ -1,9 +1,7 @@
 -- Definitions. The state of a lock: its kind, its words, and what each thread does. This project's
 -- own.
 use Rattle.std.specs.Prelude.{ℕ, List, get_or, replicate}
-use Rattle.lk_locks.specs.declared.kinds.LockKind.{LockKind}
-use Rattle.lk_locks.specs.declared.kinds.Phase.{Phase}
-use Rattle.lk_locks.specs.declared.kinds.Phase.TheVariants.{Idle}
+use Rattle.lk_locks.specs.Types.{LockKind, Phase, Idle}
 
 -- the words are below 2 ^ bits, and there is a phase for each thread
 pub record State : Type 0 where

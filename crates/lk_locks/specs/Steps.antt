@@ -8,22 +8,9 @@ use Rattle.lk_locks.specs.contracts.kinds.StepKind.{the_type}
 use Rattle.lk_locks.specs.Change.{Change, to}
 use Rattle.lk_locks.specs.State.{State, phase_at}
 use Rattle.lk_locks.specs.Locks.{family_of, steps_of, after_call, step_due, step_of}
-use Rattle.lk_locks.specs.declared.kinds.LockKind.{LockKind}
-use Rattle.lk_locks.specs.declared.kinds.Family.{Family}
-use Rattle.lk_locks.specs.declared.kinds.Family.TheVariants.{Queue}
-use Rattle.lk_locks.specs.declared.kinds.Phase.{Phase}
-use Rattle.lk_locks.specs.declared.kinds.Phase.TheVariants.{Idle}
-use Rattle.lk_locks.specs.declared.kinds.Op.{Op}
-use Rattle.lk_locks.specs.declared.kinds.Op.TheVariants.{Acquire, Release}
-use Rattle.lk_locks.specs.declared.kinds.StepKind.{StepKind}
-use Rattle.lk_locks.specs.declared.kinds.Move.{Move}
-use Rattle.lk_locks.specs.declared.kinds.Move.TheVariants.{Call, Step}
-use Rattle.lk_locks.specs.declared.kinds.Outcome.{Outcome}
-use Rattle.lk_locks.specs.declared.kinds.Outcome.TheVariants.{Called}
-use Rattle.lk_locks.specs.declared.kinds.Refusal.{Refusal}
-use Rattle.lk_locks.specs.declared.kinds.Refusal.TheVariants.{NoSuchThread, WrongLock, Busy}
-use Rattle.lk_locks.specs.declared.kinds.Refusal.TheVariants.{NotHolder, AlreadyHolds, NoCall}
-use Rattle.lk_locks.specs.declared.kinds.Refusal.TheVariants.{WrongStep}
+use Rattle.lk_locks.specs.Types.{LockKind, Family, Queue, Phase, Idle, Op, Acquire, Release}
+use Rattle.lk_locks.specs.Types.{StepKind, Move, Call, Step, Outcome, Called, Refusal, NoSuchThread}
+use Rattle.lk_locks.specs.Types.{WrongLock, Busy, NotHolder, AlreadyHolds, NoCall, WrongStep}
 
 -- operations
 

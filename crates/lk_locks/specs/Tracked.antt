@@ -8,9 +8,7 @@ use Rattle.lk_locks.specs.Sequential.{Sequential, nobody}
 use Rattle.lk_locks.specs.Legal.{after_entries}
 use Rattle.lk_locks.specs.Locks.{family_of}
 use Rattle.lk_locks.specs.Holding.{Holding, held_in, waits_in, holder_after}
-use Rattle.lk_locks.specs.declared.kinds.Move.{Move}
-use Rattle.lk_locks.specs.declared.kinds.Entry.{Entry}
-use Rattle.lk_locks.specs.declared.kinds.Refusal.{Refusal}
+use Rattle.lk_locks.specs.Types.{Move, Entry, Refusal}
 
 pub record Tracked : Type 0 where
   pub state : State

@@ -14,16 +14,10 @@ use Rattle.lk_words.specs.declared.operation.Answer.{Answer}
 use Rattle.lk_words.specs.declared.operation.Answer.TheVariants.{Found, Swapped}
 use Rattle.lk_locks.specs.Change.{Change, to}
 use Rattle.lk_locks.specs.Acts.{acts}
-use Rattle.lk_locks.specs.declared.kinds.Phase.{Phase}
-use Rattle.lk_locks.specs.declared.kinds.Phase.TheVariants.{Idle, ClearNext, SwapTail, SetLocked}
-use Rattle.lk_locks.specs.declared.kinds.Phase.TheVariants.{LinkTo, AwaitGrant, McsInside, ReadNext}
-use Rattle.lk_locks.specs.declared.kinds.Phase.TheVariants.{CasTail, AwaitLink, Grant}
-use Rattle.lk_locks.specs.declared.kinds.Op.{Op}
-use Rattle.lk_locks.specs.declared.kinds.Op.TheVariants.{Acquire, Release}
-use Rattle.lk_locks.specs.declared.kinds.Outcome.{Outcome}
-use Rattle.lk_locks.specs.declared.kinds.Outcome.TheVariants.{Moved, Waits, Entered, Left}
-use Rattle.lk_locks.specs.declared.kinds.Entry.{Entry}
-use Rattle.lk_locks.specs.declared.kinds.Entry.TheVariants.{Acted, Returned}
+use Rattle.lk_locks.specs.Types.{Phase, Idle, ClearNext, SwapTail, SetLocked, LinkTo, AwaitGrant}
+use Rattle.lk_locks.specs.Types.{McsInside, ReadNext, CasTail, AwaitLink, Grant, Op, Acquire}
+use Rattle.lk_locks.specs.Types.{Release, Outcome, Moved, Waits, Entered, Left, Entry, Acted}
+use Rattle.lk_locks.specs.Types.{Returned}
 
 -- The index of each word: `tail` names the last thread of the queue, or is nil; thread i's `next`
 -- names its successor, and its `locked` is 1 while it has to wait.

@@ -9,22 +9,11 @@ use Rattle.lk_locks.specs.Acts.{acts, announcement}
 use Rattle.lk_locks.specs.Change.{Change}
 use Rattle.lk_locks.specs.rw_fifo
 use Rattle.lk_locks.specs.rw_simple
-use Rattle.lk_locks.specs.declared.kinds.Family.{Family}
-use Rattle.lk_locks.specs.declared.kinds.Family.TheVariants.{FifoReadWrite}
-use Rattle.lk_locks.specs.declared.kinds.Phase.{Phase}
-use Rattle.lk_locks.specs.declared.kinds.Phase.TheVariants.{Idle, TryRead, Reading, LeaveRead}
-use Rattle.lk_locks.specs.declared.kinds.Phase.TheVariants.{TryWrite, AwaitReaders, Writing}
-use Rattle.lk_locks.specs.declared.kinds.Phase.TheVariants.{LeaveWrite, TryDowngrade}
-use Rattle.lk_locks.specs.declared.kinds.Op.{Op}
-use Rattle.lk_locks.specs.declared.kinds.Op.TheVariants.{ReadLock, ReadUnlock, WriteLock}
-use Rattle.lk_locks.specs.declared.kinds.Op.TheVariants.{WriteUnlock, Downgrade}
-use Rattle.lk_locks.specs.declared.kinds.StepKind.{StepKind}
-use Rattle.lk_locks.specs.declared.kinds.StepKind.TheVariants.{Section}
-use Rattle.lk_locks.specs.declared.kinds.SectionEffect.{SectionEffect}
-use Rattle.lk_locks.specs.declared.kinds.Outcome.{Outcome}
-use Rattle.lk_locks.specs.declared.kinds.Outcome.TheVariants.{Moved, Entered, Left}
-use Rattle.lk_locks.specs.declared.kinds.Entry.{Entry}
-use Rattle.lk_locks.specs.declared.kinds.Entry.TheVariants.{Announced}
+use Rattle.lk_locks.specs.Types.{Family, FifoReadWrite, Phase, Idle, TryRead, Reading, LeaveRead}
+use Rattle.lk_locks.specs.Types.{TryWrite, AwaitReaders, Writing, LeaveWrite, TryDowngrade, Op}
+use Rattle.lk_locks.specs.Types.{ReadLock, ReadUnlock, WriteLock, WriteUnlock, Downgrade, StepKind}
+use Rattle.lk_locks.specs.Types.{Section, SectionEffect, Outcome, Moved, Entered, Left, Entry}
+use Rattle.lk_locks.specs.Types.{Announced}
 
 -- the calls that a thread in this phase may make, and where they lead
 abbrev pub after_call : Phase → Op → Option Phase

@@ -6,11 +6,8 @@
 -- sets it; the counts have B bits and wrap; signals are not modelled; a writer may downgrade.
 use Rattle.std.specs.Prelude.{ℕ, Bool, ◌==◌, List, slice_index, set, if◌then◌else◌}
 use Rattle.lk_locks.specs.Change.{Change, to, raised}
-use Rattle.lk_locks.specs.declared.kinds.Phase.{Phase}
-use Rattle.lk_locks.specs.declared.kinds.Phase.TheVariants.{Idle, TryRead, Reading, LeaveRead}
-use Rattle.lk_locks.specs.declared.kinds.Phase.TheVariants.{TryWrite, AwaitReaders, Writing}
-use Rattle.lk_locks.specs.declared.kinds.Phase.TheVariants.{LeaveWrite, TryDowngrade}
-use Rattle.lk_locks.specs.declared.kinds.Outcome.TheVariants.{Moved, Waits, Entered, Left}
+use Rattle.lk_locks.specs.Types.{Phase, Idle, TryRead, Reading, LeaveRead, TryWrite, AwaitReaders}
+use Rattle.lk_locks.specs.Types.{Writing, LeaveWrite, TryDowngrade, Moved, Waits, Entered, Left}
 
 -- the indices of the words: the count of readers that entered, that of readers that left, and the
 -- writer's flag

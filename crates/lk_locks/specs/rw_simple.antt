@@ -7,11 +7,8 @@
 -- downgrade.
 use Rattle.std.specs.Prelude.{ℕ, ◌==◌, ◌&&◌, List, slice_index, set, if◌then◌else◌}
 use Rattle.lk_locks.specs.Change.{Change, to, raised, less_one}
-use Rattle.lk_locks.specs.declared.kinds.Phase.{Phase}
-use Rattle.lk_locks.specs.declared.kinds.Phase.TheVariants.{Idle, TryRead, Reading, LeaveRead}
-use Rattle.lk_locks.specs.declared.kinds.Phase.TheVariants.{TryWrite, Writing, LeaveWrite}
-use Rattle.lk_locks.specs.declared.kinds.Phase.TheVariants.{TryDowngrade}
-use Rattle.lk_locks.specs.declared.kinds.Outcome.TheVariants.{Waits, Entered, Left}
+use Rattle.lk_locks.specs.Types.{Phase, Idle, TryRead, Reading, LeaveRead, TryWrite, Writing}
+use Rattle.lk_locks.specs.Types.{LeaveWrite, TryDowngrade, Waits, Entered, Left}
 
 -- the indices of the words: the count of the readers, and the writer's flag
 abbrev pub readers : ℕ

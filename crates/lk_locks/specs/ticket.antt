@@ -11,15 +11,9 @@ use Rattle.lk_words.specs.declared.operation.Answer.{Answer}
 use Rattle.lk_words.specs.declared.operation.Answer.TheVariants.{Found}
 use Rattle.lk_locks.specs.Change.{Change, to, plus_one}
 use Rattle.lk_locks.specs.Acts.{acts}
-use Rattle.lk_locks.specs.declared.kinds.Phase.{Phase}
-use Rattle.lk_locks.specs.declared.kinds.Phase.TheVariants.{Idle, TakeTicket, AwaitTurn}
-use Rattle.lk_locks.specs.declared.kinds.Phase.TheVariants.{TicketInside, ReadServing, PassOn}
-use Rattle.lk_locks.specs.declared.kinds.Op.{Op}
-use Rattle.lk_locks.specs.declared.kinds.Op.TheVariants.{Acquire, Release}
-use Rattle.lk_locks.specs.declared.kinds.Outcome.{Outcome}
-use Rattle.lk_locks.specs.declared.kinds.Outcome.TheVariants.{Moved, Waits, Entered, Left}
-use Rattle.lk_locks.specs.declared.kinds.Entry.{Entry}
-use Rattle.lk_locks.specs.declared.kinds.Entry.TheVariants.{Acted, Returned}
+use Rattle.lk_locks.specs.Types.{Phase, Idle, TakeTicket, AwaitTurn, TicketInside, ReadServing}
+use Rattle.lk_locks.specs.Types.{PassOn, Op, Acquire, Release, Outcome, Moved, Waits, Entered, Left}
+use Rattle.lk_locks.specs.Types.{Entry, Acted, Returned}
 
 -- the indices of the two words: the next ticket to hand out, and the ticket now served
 abbrev pub next_ticket : ℕ

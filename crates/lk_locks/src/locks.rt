@@ -97,9 +97,9 @@ pub fn operation_of(kind: LockKind, bits: u8, thread: u8, phase: Phase) -> Optio
 pub(crate) fn step_due(kind: LockKind, phase: Phase) -> Option<StepKind>
     ensures { result ≡ step_due kind phase }
 {
-    match kind {
-        LockKind::Ticket | LockKind::Mcs => Some(kind_of(operation_of(kind, 64, 0, phase)?)),
-        LockKind::RwSimple | LockKind::RwFifo => read_write::step_due(phase),
+    match family_of(kind) {
+        Family::Queue => Some(kind_of(operation_of(kind, 64, 0, phase)?)),
+        Family::ReadWrite | Family::FifoReadWrite => read_write::step_due(phase),
     }
 }
 

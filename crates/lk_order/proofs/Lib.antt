@@ -3,4 +3,5 @@ mod Placing
 mod Quiet
 mod Keeping
 mod Beginning
+mod Suspects
 mod Ends

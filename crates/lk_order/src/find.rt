@@ -6,7 +6,7 @@ ghost use Rattle.std.specs.List.{slice_get};
 ghost use Rattle.lk_order.specs.Logs.{ThreadLog};
 ghost use Rattle.lk_order.specs.Runs.{IsOneRun};
 ghost use Rattle.lk_order.specs.Orders.{IsOrder, next_line};
-ghost use Rattle.lk_order.specs.Endings.{EndsAs, EndsWhereCut, IsStuck};
+ghost use Rattle.lk_order.specs.Endings.{EndsAs, EndsWhereCut, IsSuspect, IsWorst, doubt_of};
 
 use crate::engine::{Engine, count_of};
 use crate::{Log, Order, Placed};
@@ -43,13 +43,20 @@ pub struct Found {
 }
 
 // How likely another step is to blame that cannot be placed: 0 if it is surely this one.
-fn doubt(difference: Option<Difference>) -> u8 {
+fn doubt(difference: Option<Difference>) -> u8
+    ensures doubt { result ≡ doubt_of difference }
+    ensures below { result < 4 }
+{
     match difference {
         Some(
             Difference::Refused(_) | Difference::OtherWord { .. } | Difference::LeftOther { .. },
         ) => 0,
         Some(Difference::OtherOutcome { .. }) => 1,
-        Some(_) => 2,
+        Some(
+            Difference::FoundOther { .. }
+            | Difference::WroteOther { .. }
+            | Difference::CountNotAbove { .. },
+        ) => 2,
         None => 3,
     }
 }
@@ -64,8 +71,7 @@ struct Suspect {
 
 // The next step of a thread, if it has one.
 fn suspect_of(order: &Order, thread: u8) -> Option<Suspect>
-    ensures { MatchOption result (next_line order.now thread ≡ None)
-        (λ s. IsStuck order.now s.stuck) }
+    ensures { MatchOption result (next_line order.now thread ≡ None) (IsSuspect order.now thread) }
 {
     let line = order.next(thread)?;
     let difference = order.checker().difference(line);
@@ -82,7 +88,8 @@ fn suspect_of(order: &Order, thread: u8) -> Option<Suspect>
 
 // The step that is most certainly wrong, if one is left: of the same doubt that of the lower count.
 fn suspect_in(order: &Order) -> Option<Suspect>
-    ensures stuck { IfSome result (λ s. IsStuck order.now s.stuck) }
+    ensures suspect { IfSome result (λ s. IsSuspect order.now s.stuck.thread s) }
+    ensures worst { IfSome result (λ s. IsWorst order.now order.now.header.threads s.stuck.thread) }
     ensures none { result ≡ None → (t : ℕ) → t < order.now.header.threads
         → next_line order.now t ≡ None }
 {
@@ -91,9 +98,14 @@ fn suspect_in(order: &Order) -> Option<Suspect>
         let Some(suspect) = suspect_of(order, t) else {
             continue;
         };
-        match worst {
-            Some(worst) if (worst.doubt, worst.count) <= (suspect.doubt, suspect.count) => {}
-            _ => worst = Some(suspect),
+        let Some(other) = worst else {
+            worst = Some(suspect);
+            continue;
+        };
+        if suspect.doubt < other.doubt
+            || suspect.doubt == other.doubt && suspect.count < other.count
+        {
+            worst = Some(suspect);
         }
     }
     worst

@@ -1,8 +1,7 @@
 -- The moves that are asked for, one after another.
-use Rattle.std.proofs.Common.{◌≡◌, ℕ, zero, suc, ◌+◌, ◌-◌, ◌<◌, ◌≤◌, List, [], ◌∷◌, length, take}
-use Rattle.std.proofs.Common.{drop, None, Some, refl, ap, sym, ◌∙◌, arith}
+use Rattle.std.proofs.Common.{◌≡◌, ℕ, zero, suc, ◌+◌, ◌-◌, ◌<◌, List, [], ◌∷◌, length, take}
+use Rattle.std.proofs.Common.{drop, Some, ap, ◌∙◌, arith}
 use Rattle.std.proofs.lemmas.Option.{none-some, same_Some}
-use Rattle.std.proofs.Math.Seq.{take-nil}
 use Rattle.lk_replay.specs.Reading.{first_of}
 use Rattle.lk_replay.specs.declared.schedule.Line.{Line}
 
@@ -21,18 +20,6 @@ next_asked most count ms l h e =
     ∙ prefix (most - count) l (drop 1 ms) (omega (arith, h))
     ∙ (let e : most - count - 1 ≡ most - (count + 1) = omega arith in
     ap (λ (n : ℕ). l ∷ take n (drop 1 ms)) e)
-
-no_first : (ms : List Line) → first_of ms ≡ None → ms ≡ []
-no_first [] e = refl
-no_first (m ∷ ms) e = absurd (none-some m (sym e))
-
-pub none_left : (most count : ℕ) (ms : List Line) → first_of ms ≡ None → take (most - count) ms ≡ []
-none_left most count ms e = ap (take (most - count)) (no_first ms e) ∙ take-nil (most - count)
-
-pub none_asked : (most count : ℕ) (ms : List Line) → most ≤ count → take (most - count) ms ≡ []
-none_asked most count ms h =
-    let e : most - count ≡ 0 = omega (arith, h) in
-    ap (λ (n : ℕ). take n ms) e
 
 pub fewer : (ms : List Line) (l : Line) → first_of ms ≡ Some l → length (drop 1 ms) + 1 ≡ length ms
 fewer [] l e = absurd (none-some l e)

@@ -1,22 +1,16 @@
 -- What is written at the end is what the text says.
-use Rattle.std.proofs.Common.{◌≡◌, ℕ, List, [], ◌++◌, length, take, drop, Option, Some}
-use Rattle.std.proofs.Common.{Result, Ok, Err, refl, ap, subst, ◌∙◌}
+use Rattle.std.proofs.Common.{◌≡◌, ℕ, List, [], ◌++◌, length, take, drop, Option}
+use Rattle.std.proofs.Common.{Result, Ok, refl, ap, ◌∙◌}
 use Rattle.lk_locks.specs.Tracked.{Tracked, tracked, holding_in, waiting_in}
 use Rattle.lk_locks.specs.declared.kinds.Refusal.{Refusal}
 use Rattle.lk_replay.specs.Faults.{Fault}
-use Rattle.lk_replay.specs.Reads.{Fails}
-use Rattle.lk_replay.specs.Reading.{IsOfText}
 use Rattle.lk_replay.specs.Replay.{start_of, replay_from}
 use Rattle.lk_replay.specs.Schedule.{Plan}
-use Rattle.lk_replay.specs.declared.schedule.ReadFault.{ReadFault}
-use Rattle.lk_replay.specs.declared.schedule.ReadFault.TheVariants as read
-use Rattle.lk_page.specs.Codes.{as_fault}
 use Rattle.lk_page.specs.Layout.{bytes_of_state, state_bytes}
 use Rattle.lk_page.specs.Told.{Moment, beginning, after_lines}
 use Rattle.lk_page.specs.Written.{IsTold, answer_of}
 use Rattle.lk_page.specs.Playing.{HavePlayed}
 use Rattle.lk_page.proofs.Replayed.{entries_replayed}
-use Rattle.lk_page.proofs.Tracks.{holding_tracked, waiting_tracked}
 
 same_state : (p : Plan) (most moves : ℕ) (k : Tracked) (count : ℕ) (refused : Option (ℕ × Refusal))
     (old new : List ℕ)
@@ -25,16 +19,7 @@ same_state : (p : Plan) (most moves : ℕ) (k : Tracked) (count : ℕ) (refused 
     bytes_of_state moves count refused k.state (holding_in k) (waiting_in k)
     ≡ state_bytes (length p.moves) (length (replay_from (start_of p) (take most p.moves)).made)
     (replay_from (start_of p) (take most p.moves)).refused end
-same_state p most moves k count refused old new h m =
-    let end : Moment = after_lines (beginning p) (take most p.moves) in
-    rw (
-      h.after,
-      h.made,
-      h.stopped,
-      m,
-      holding_tracked end.state end.entries,
-      waiting_tracked end.state end.entries,
-    ) refl
+same_state p most moves k count refused old new h m = rw (h.after, h.made, h.stopped, m) refl
 
 pub plays : (p : Plan) (read : Result Plan Fault) (most answer moves : ℕ) (first k : Tracked)
     (count : ℕ) (refused : Option (ℕ × Refusal))
@@ -48,8 +33,7 @@ pub plays : (p : Plan) (read : Result Plan Fault) (most answer moves : ℕ) (fir
 plays p read most answer moves first k count refused records_old records_new state_old state_new
     bytes r e h a m b w =
     let g : HavePlayed (start_of p) (take most p.moves) records_old k count refused records_new =
-    subst (λ (x : Tracked). HavePlayed x.state
-    (take most p.moves) records_old k count refused records_new) e h in
+    rw e at h in
     rw r (record {
       answer_is = a ∙ ap answer_of g.stopped;
       records_are = g.records;
@@ -57,14 +41,3 @@ plays p read most answer moves first k count refused records_old records_new sta
       state_is = w ∙ ap (λ (x : List ℕ). x ++ drop 2304 state_old)
           (b ∙ same_state p most moves k count refused records_old records_new g m);
     })
-
-names_fault : (fault : ReadFault) (told : Result Plan Fault) → Fails fault told → IsOfText fault
-    → (f : Fault) × (told ≡ Err f) × (as_fault fault ≡ Some f)
-names_fault read.TooLong told e t = (_, e, refl)
-names_fault (read.NoHeader n) told e t = (_, e, refl)
-names_fault (read.BadHeader n) told e t = (_, e, refl)
-names_fault (read.BadThreads n) told e t = (_, e, refl)
-names_fault (read.BadLine n) told e t = (_, e, refl)
-names_fault (read.TooManyMoves n) told e t = (_, e, refl)
-names_fault (read.WordsTooNarrow n) told e t = (_, e, refl)
-names_fault read.OutOfMemory told e t = absurd t

@@ -1,7 +1,7 @@
 -- What is a thread's own fits into bytes.
 use Rattle.std.proofs.Common.{ℕ, ◌<◌, arith}
 use Rattle.lk_locks.specs.declared.kinds.LockKind.{LockKind}
-use Rattle.lk_locks.specs.declared.kinds.LockKind.TheVariants.{Ticket, Mcs, RwSimple, RwFifo}
+use Rattle.lk_locks.specs.declared.kinds.LockKind.TheVariants.{Ticket}
 use Rattle.lk_page.specs.Owned.{next_word, locked_word, record_name}
 
 pub record AreBytes (kind : LockKind) (bits t : ℕ) : Type 0 where
@@ -11,10 +11,4 @@ pub record AreBytes (kind : LockKind) (bits t : ℕ) : Type 0 where
 
 pub small : (kind : LockKind) (bits t : ℕ) → t < 64 → AreBytes kind bits t
 small Ticket bits t h = record { next = omega arith; locked = omega arith; name = omega arith }
-small Mcs bits t h = record {
-  next = omega (arith, h);
-  locked = omega (arith, h);
-  name = omega (arith, h);
-}
-small RwSimple bits t h = record { next = omega arith; locked = omega arith; name = omega arith }
-small RwFifo bits t h = record { next = omega arith; locked = omega arith; name = omega arith }
+small kind bits t h = record { next = omega arith; locked = omega arith; name = omega arith }

@@ -1,12 +1,11 @@
 -- The record of a move that was made.
-use Rattle.std.proofs.Common.{◌≡◌, ℕ, Bool, List, ◌++◌, length, Option, None, refl, ap}
+use Rattle.std.proofs.Common.{◌≡◌, ℕ, Bool, List, length, Option, None, refl, ap}
 use Rattle.std.proofs.Common.{◌∙◌}
 use Rattle.lk_locks.specs.Locks.{step_due}
 use Rattle.lk_locks.specs.declared.kinds.StepKind.{StepKind}
 use Rattle.std.proofs.lemmas.List.{get_or-set_same}
-use Rattle.lk_locks.specs.State.{State, phase_at}
+use Rattle.lk_locks.specs.State.{phase_at}
 use Rattle.lk_locks.specs.Steps.{refusal_of, change_of, next_state}
-use Rattle.lk_locks.specs.Entries.{entries_of}
 use Rattle.lk_locks.specs.Tracked.{Tracked, tracked, after_tracked, holding_in, waiting_in}
 use Rattle.lk_locks.specs.declared.kinds.Entry.{Entry}
 use Rattle.lk_locks.specs.declared.kinds.Move.{Move}
@@ -20,7 +19,7 @@ use Rattle.lk_page.specs.Next.{allowed_calls, waits_after}
 use Rattle.lk_page.specs.Playing.{moment}
 use Rattle.lk_page.specs.declared.told.Standing.{Standing}
 use Rattle.lk_page.specs.declared.told.Touch.{Touch}
-use Rattle.lk_page.proofs.Tracks.{tracked_on, holding_tracked, waiting_tracked}
+use Rattle.lk_page.proofs.Tracks.{tracked_on}
 
 pub state_after : (k next : Tracked) (t : ℕ) (m : Move) → refusal_of k.state t m ≡ None
     → next ≡ after_tracked k t m → next.state ≡ next_state k.state t m
@@ -52,13 +51,10 @@ pub is_told : (k next : Tracked) (es : List Entry) (l : Line) (o : Outcome) (p :
       second = second;
     })
 is_told k next es l o p d stand calls waits first second h a e oe pe de se ce we touched own =
-    let new : State = next_state k.state l.thread l.action in
-    let all : List Entry = es ++ entries_of k.state l.thread l.action in
-    let g : next ≡ tracked new all =
+    let g =
     e ∙ ap (λ (x : Tracked). after_tracked x l.thread l.action) h
     ∙ tracked_on k.state l.thread l.action es a in
-    let is : phase_at next.state.phases l.thread
-    ≡ (change_of k.state l.thread l.action).phase =
+    let is =
     ap (λ (x : Tracked). phase_at x.state.phases l.thread) g
     ∙ get_or-set_same k.state.phases l.thread (change_of k.state l.thread l.action).phase Idle
     (accepted_of k.state l.thread l.action a).thread in
@@ -69,7 +65,7 @@ is_told k next es l o p d stand calls waits first second h a e oe pe de se ce we
           de ∙ ap (step_due next.state.kind) is
           ∙ ap (λ (x : Tracked). step_due x.state.kind (change_of k.state l.thread l.action).phase)
           g;
-      stands = se ∙ rw (g, holding_tracked new all, waiting_tracked new all) refl;
+      stands = se ∙ rw g refl;
       calls = ce ∙ ap (λ (x : Tracked). allowed_calls x.state l.thread) g;
       waiting = we ∙ ap (λ (x : Tracked). waits_after x.state l.thread o stand.is_queued) g;
       touched = touched;

@@ -1,6 +1,6 @@
 -- The bytes of a state, one part after the other.
 use Rattle.std.proofs.Common.{◌≡◌, ℕ, ◌-◌, ◌*◌, List, [], ◌∷◌, ◌++◌, length, replicate, Option}
-use Rattle.std.proofs.Common.{refl, sym, ◌∙◌}
+use Rattle.std.proofs.Common.{refl, ◌∙◌}
 use Rattle.std.proofs.lemmas.Grind.{flat_map-append}
 use Rattle.std.specs.Int.{to_le_bytes, w32, w64}
 use Rattle.std.specs.List.{flat_map}
@@ -8,25 +8,8 @@ use Rattle.lk_locks.specs.State.{State}
 use Rattle.lk_locks.specs.Holding.{Holding}
 use Rattle.lk_locks.specs.declared.kinds.Refusal.{Refusal}
 use Rattle.lk_page.specs.Codes.{lock_code}
-use Rattle.lk_page.specs.Layout.{padded, holding_code, holder_list, stop_numbers, numbers}
+use Rattle.lk_page.specs.Layout.{padded, holding_code, holder_list, stop_numbers}
 use Rattle.lk_page.specs.Layout.{threads_bytes, bytes_of_state}
-
-numbers_put : (moves count : ℕ) (refused : Option (ℕ × Refusal)) (s : State) (held : Holding)
-    (queue : List ℕ) (stop holders waiting words o0 o1 o2 : List ℕ) (kind threads bits code : ℕ)
-    → stop ≡ stop_numbers refused → kind ≡ lock_code s.kind → threads ≡ length s.phases
-    → bits ≡ s.bits → code ≡ holding_code held → holders ≡ holder_list held → waiting ≡ queue
-    → words ≡ s.words
-    → o0 ≡ [] → o1 ≡ o0 ++ flat_map (to_le_bytes w32) stop
-    → o2 ≡ o1 ++ flat_map (to_le_bytes w32) (kind ∷ threads ∷ bits ∷ count ∷ moves ∷ length words
-    ∷ code ∷ length holders ∷ length waiting ∷ 0 ∷ 0 ∷ 0 ∷ [])
-    → o2 ≡ flat_map (to_le_bytes w32) (numbers moves count refused s held queue)
-numbers_put moves count refused s held queue stop holders waiting words o0 o1 o2 kind threads bits
-    code a k t b c h q w e f g =
-    g
-    ∙ rw (f, e, a, k, t, b, c, h, q, w)
-    (sym (flat_map-append (to_le_bytes w32) (stop_numbers refused)
-    (lock_code s.kind ∷ length s.phases ∷ s.bits ∷ count ∷ moves ∷ length s.words
-    ∷ holding_code held ∷ length (holder_list held) ∷ length queue ∷ 0 ∷ 0 ∷ 0 ∷ [])))
 
 pub state_put : (moves count : ℕ) (refused : Option (ℕ × Refusal)) (s : State) (held : Holding)
     (queue : List ℕ) (stop holders waiting words o0 o1 o2 o3 o4 o5 o6 new : List ℕ)
@@ -44,7 +27,4 @@ pub state_put : (moves count : ℕ) (refused : Option (ℕ × Refusal)) (s : Sta
 unfolding bytes_of_state
 state_put moves count refused s held queue stop holders waiting words o0 o1 o2 o3 o4 o5 o6 new kind
     threads bits code a k t b c h q w e f g i j l m n =
-    let first_numbers : o2 ≡ flat_map (to_le_bytes w32) (numbers moves count refused s held queue) =
-    numbers_put moves count refused s held queue stop holders waiting words o0 o1 o2 kind
-    threads bits code a k t b c h q w e f g in
-    n ∙ rw (m, l, j, i, first_numbers, h, q, w) refl
+    n ∙ rw (m, l, j, i, g, f, e, a, k, t, b, c, h, q, w, flat_map-append) refl

@@ -4,19 +4,10 @@ use Rattle.lk_locks.specs.State.{State}
 use Rattle.lk_locks.specs.Steps.{refusal_of, next_state}
 use Rattle.lk_locks.specs.Entries.{entries_of}
 use Rattle.lk_locks.specs.Sequential.{nobody}
-use Rattle.lk_locks.specs.Holding.{holding_of, waiting_of}
-use Rattle.lk_locks.specs.Tracked.{tracked, followed, after_tracked, holding_in, waiting_in}
+use Rattle.lk_locks.specs.Tracked.{tracked, followed, after_tracked}
 use Rattle.lk_locks.proofs.Histories.{after_append, holder_append}
 use Rattle.lk_locks.specs.declared.kinds.Move.{Move}
 use Rattle.lk_locks.specs.declared.kinds.Entry.{Entry}
-
-pub holding_tracked : (s : State) (es : List Entry)
-    → holding_in (tracked s es) ≡ holding_of s.kind es
-holding_tracked s es = refl
-
-pub waiting_tracked : (s : State) (es : List Entry)
-    → waiting_in (tracked s es) ≡ waiting_of s.kind es
-waiting_tracked s es = refl
 
 more_tracked : (s : State) (t : ℕ) (m : Move) (es new : List Entry)
     → followed (tracked s es) (next_state s t m) new ≡ tracked (next_state s t m) (es ++ new)

@@ -1,6 +1,6 @@
 -- One turn of the loop that plays what is asked for.
-use Rattle.std.proofs.Common.{◌≡◌, ℕ, ◌+◌, ◌-◌, ◌*◌, ◌<◌, List, ◌∷◌, length, take, drop}
-use Rattle.std.proofs.Common.{None, Some, ap, sym, subst, ◌∙◌}
+use Rattle.std.proofs.Common.{◌≡◌, ℕ, ◌+◌, ◌-◌, ◌*◌, ◌<◌, List, length, take, drop}
+use Rattle.std.proofs.Common.{None, Some, ap, sym, ◌∙◌}
 use Rattle.std.proofs.lemmas.List.{length-set}
 use Rattle.lk_locks.specs.State.{State, phase_at}
 use Rattle.lk_locks.specs.Steps.{refusal_of, change_of}
@@ -29,13 +29,8 @@ pub turn_made : (s : State) (moves left after : List Line) (old now written : Li
     → written ≡ placed now (count * 56) (record_bytes r)
     → ArePlaying s (take most moves) old next (take (most - (count + 1)) after) (count + 1) written
 turn_made s moves left after old now written k next l most count r p h f d a e told w =
-    let q : ArePlaying s (take most moves) old k
-    (l ∷ take (most - (count + 1)) (drop 1 left)) count now =
-    subst (λ (ls : List Line). ArePlaying s (take most moves) old k ls count now)
-    (next_asked most count left l h (sym f)) p in
-    subst (λ (ls : List Line). ArePlaying s (take most moves) old next
-    (take (most - (count + 1)) ls) (count + 1) written)
-    (sym d)
+    let q = rw (next_asked most count left l h (sym f)) at p in
+    rw d
     (playing_on s (take most moves) old k next l (take (most - (count + 1)) (drop 1 left)) count now
     written r q (sym a) e (told q.entries q.tracks) w)
 
@@ -46,12 +41,9 @@ pub turn_refused : (s : State) (moves left : List Line) (old now : List ℕ) (k 
     → next ≡ after_tracked k l.thread l.action
     → HavePlayed s (take most moves) old next count (Some (l.number, x)) now
 turn_refused s moves left old now k next l most count x p h f a e =
-    let q : ArePlaying s (take most moves) old k
-    (l ∷ take (most - (count + 1)) (drop 1 left)) count now =
-    subst (λ (ls : List Line). ArePlaying s (take most moves) old k ls count now)
-    (next_asked most count left l h (sym f)) p in
     playing_stops s (take most moves) old k next l
-    (take (most - (count + 1)) (drop 1 left)) count now x q (sym a) e
+    (take (most - (count + 1)) (drop 1 left)) count now x
+    (rw (next_asked most count left l h (sym f)) at p) (sym a) e
 
 pub same_threads : (k next : Tracked) (t : ℕ) (m : Move) → None ≡ refusal_of k.state t m
     → next ≡ after_tracked k t m → length next.state.phases ≡ length k.state.phases

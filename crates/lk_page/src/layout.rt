@@ -6,16 +6,6 @@ ghost use Rattle.std.specs.List.{flat_map};
 
 use arrayvec::ArrayVec;
 
-/// A copy of a list, for which there is room.
-pub fn copy_of<T: Copy + Default, const N: usize>(items: &[T]) -> ArrayVec<T, N>
-    requires { length items.now ≤ N }
-    ensures { result.items ≡ items.now }
-{
-    let mut copy = ArrayVec::new();
-    let _fits = copy.try_extend_from_slice(items);
-    copy
-}
-
 /// Appends bytes, for which there is room.
 pub fn put_bytes<const N: usize>(out: &mut ArrayVec<u8, N>, bytes: &[u8])
     requires { length out.old.items + length bytes.now ≤ N }

@@ -34,7 +34,7 @@ use codes::{expected_code, fault_codes};
 use finding::{MOST_TEXT, seek};
 use kind_texts::put_kind;
 use lk_replay::ScheduleReader;
-use lk_replay::parts::{Unreadable, unreadable_header, unreadable_move};
+use lk_replay::parts::{Expected, unreadable_header, unreadable_move};
 use lk_search::kinds_of;
 use playing::{new_lock, play_moves};
 use sought::{sought_code, sought_number};
@@ -148,7 +148,7 @@ pub extern "C" fn kind_text(lock: u64, kind: u64, text: &mut [u8]) -> u64
 
 // The first place at which something else is expected, of a header if `is_move` is 0, and else of a
 // move.
-fn stop_of(line: &[u8], is_move: u64) -> Option<Unreadable>
+fn stop_of(line: &[u8], is_move: u64) -> Option<(usize, Expected)>
     ensures { result ≡ stop_of is_move line.now }
 {
     if is_move == 0 {
@@ -165,7 +165,7 @@ fn stop_of(line: &[u8], is_move: u64) -> Option<Unreadable>
 pub extern "C" fn stops_at(line: &[u8], is_move: u64) -> u64
     ensures { result ≡ column_of (stop_of is_move line.now) }
 {
-    stop_of(line, is_move).map_or(0, |stop| stop.column as u64)
+    stop_of(line, is_move).map_or(0, |stop| stop.0 as u64)
 }
 
 /// The number of what is expected at that column, and 0 if there is no such place.
@@ -173,5 +173,5 @@ pub extern "C" fn stops_at(line: &[u8], is_move: u64) -> u64
 pub extern "C" fn expected(line: &[u8], is_move: u64) -> u64
     ensures { result ≡ expected_at (stop_of is_move line.now) }
 {
-    stop_of(line, is_move).map_or(0, |stop| expected_code(stop.expected))
+    stop_of(line, is_move).map_or(0, |stop| expected_code(stop.1))
 }

@@ -8,12 +8,12 @@ ghost use Rattle.lk_page.specs.Layout.{thread_bytes, threads_bytes, stop_numbers
 ghost use Rattle.lk_page.specs.Layout.{bytes_of_state, bytes_of_fault};
 
 use crate::codes::{due_code, lock_code, refusal_step};
-use crate::layout::{copy_of, put_bytes, put_u32s, put_u64, put_u64s, put_zeros};
+use crate::layout::{put_bytes, put_u32s, put_u64, put_u64s, put_zeros};
 use crate::next::allowed_calls;
 use crate::owned::owned;
 use crate::told::Stopped;
 use arrayvec::ArrayVec;
-use lk_locks::{Holders, Machine, Refusal, Tracker};
+use lk_locks::{Holders, Machine, Refusal, Tracker, copy_of};
 use lk_search::phase_code;
 use lk_trace::refusal_number;
 use lk_words::{WordArray, Words};

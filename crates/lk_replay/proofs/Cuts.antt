@@ -1,11 +1,11 @@
 -- Where a text is cut at a byte.
 use Rattle.std.proofs.Common.{eq-eqb, ◌≡◌, ℕ, ◌+◌, ◌-◌, ◌<◌, List, [], ◌∷◌, ◌++◌, length, get_or}
-use Rattle.std.proofs.Common.{take, drop, Bool, false, ◌==◌, refl, sym, ap, ◌∙◌, arith, add-one}
-use Rattle.std.proofs.Common.{drop-cons, take-append-drop, length-take-le, get_or-take}
+use Rattle.std.proofs.Common.{take, drop, Bool, false, ◌==◌, refl, sym, ap, ◌∙◌, arith}
+use Rattle.std.proofs.Common.{take-append-drop, length-take-le, get_or-take}
 use Rattle.std.specs.List.{slice_split, All}
 use Rattle.std.proofs.lemmas.List.Splits.{slice_split_none, slice_split_at, length-slice_split}
-use Rattle.std.proofs.lemmas.List.{take_rest, get_or_default}
-use Rattle.std.proofs.lemmas.Bool.{false_from_ne_true, eqb-true}
+use Rattle.std.proofs.lemmas.List.{drop_more, take_rest, get_or_default}
+use Rattle.std.proofs.lemmas.Bool.{ne_eqb}
 use Rattle.lk_replay.specs.Lines.{lines_of, without_empty_end, is_line_feed}
 
 pub cut_nowhere : (byte : ℕ) (text : List ℕ)
@@ -13,7 +13,7 @@ pub cut_nowhere : (byte : ℕ) (text : List ℕ)
     → slice_split (λ b. b == byte) text ≡ text ∷ []
 cut_nowhere byte text none = slice_split_none (λ b. b == byte) text
     (λ k d h. ap (λ x. x == byte) (get_or_default text k d 0 h)
-    ∙ false_from_ne_true _ (λ here. none k h (eqb-true _ _ here)))
+    ∙ ne_eqb _ _ (none k h))
 
 pub cut_first : (byte : ℕ) (text : List ℕ) (at : ℕ)
     → ((k : ℕ) → k < at → get_or text k 0 ≡ byte → ⊥) → at < length text → get_or text at 0 ≡ byte
@@ -26,11 +26,9 @@ cut_first byte text at none within here =
     let clear : All (λ x. p x ≡ false) (take at text) =
     λ k d h. let below : k < at = omega (arith, size, h) in
     ap p (get_or-take at text k d below ∙ get_or_default text k d 0 (omega arith))
-    ∙ false_from_ne_true _ (λ same. none k below (eqb-true _ _ same)) in
-    let whole : text ≡ take at text ++ (get_or text at 0 ∷ drop (at + 1) text) =
-    sym (take-append-drop at text)
-    ∙ ap (λ l. take at text ++ l) (drop-cons text at 0 within ∙ rw add-one refl) in
-    ap (slice_split p) whole
+    ∙ ne_eqb _ _ (none k below) in
+    ap (slice_split p) (sym (take-append-drop at text)
+    ∙ ap (λ (l : List ℕ). take at text ++ l) (drop_more text at 0 within))
     ∙ slice_split_at p (take at text) (get_or text at 0) (drop (at + 1) text) clear
     (eq-eqb _ _ here)
     ∙ ap (λ l. take at text ∷ slice_split p l) (sym (take_rest text (at + 1)))

@@ -1,98 +1,46 @@
 -- What is expected in a line, word by word. It is a move exactly if nothing else is expected.
 use Rattle.std.proofs.Common.{◌≡◌, ◌↔◌, ℕ, ◌+◌, List, [], ◌∷◌, Option, Some, None, cond, length}
-use Rattle.std.proofs.Common.{option_map, is_some, IsNone, IsSome, Bool, true, false, ap, refl, ◌∙◌}
+use Rattle.std.proofs.Common.{is_some, IsNone, IsSome, Bool, true, false, ap, arith, refl, ◌∙◌}
 use Rattle.lk_locks.specs.declared.kinds.Move.{Move}
 use Rattle.lk_replay.specs.Lines.{words_of}
 use Rattle.std.specs.Option.{option_map_or, option_zip}
 use Rattle.lk_replay.specs.Schedule.{move_of, move_of_words}
-use Rattle.lk_replay.specs.Unreadable.{after_word, may_be, may_end, next_of, stop_from}
-use Rattle.lk_replay.specs.Unreadable.{unreadable_from}
+use Rattle.lk_replay.specs.Unreadable.{after_word, may_be, next_of, unreadable_from}
 use Rattle.lk_replay.specs.Vocabulary.{move_named, number_of}
 use Rattle.lk_replay.specs.declared.unreadable.Expected.{Expected}
 use Rattle.lk_replay.specs.declared.unreadable.Expected.TheVariants.{Thread}
-use Rattle.lk_replay.specs.declared.unreadable.Unreadable.{Unreadable}
 
 -- ---- one word
 
-pub stops : {A : Type 0} (next : A → List ℕ → Option A) (ends : A → Bool) (column : ℕ) (due : A)
-    (line word : List ℕ) (words : List (List ℕ)) → words_of line ≡ word ∷ words
-    → next due word ≡ None → stop_from next ends column due (words_of line) ≡ Some (column, due)
-stops next ends column due line word words cut none =
-    ap (stop_from next ends column due) cut
-    ∙ ap (λ after. option_map_or (λ d. stop_from next ends (column + length word + 1) d words) after
-    (Some (column, due))) none
-
-pub goes : {A : Type 0} (next : A → List ℕ → Option A) (ends : A → Bool) (column : ℕ) (due to : A)
-    (line word : List ℕ) (words : List (List ℕ)) → words_of line ≡ word ∷ words
-    → next due word ≡ Some to
-    → stop_from next ends column due (words_of line)
-    ≡ stop_from next ends (column + length word + 1) to words
-goes next ends column due to line word words cut some =
-    ap (stop_from next ends column due) cut
-    ∙ ap (λ after. option_map_or (λ d. stop_from next ends (column + length word + 1) d words) after
-    (Some (column, due))) some
-
--- ---- of a header or a move
-
-abbrev placed : Option (ℕ × Expected) → Option Unreadable
-placed = option_map (λ stop. record { column = stop.0; expected = stop.1 })
-
-at_end : (ends : Bool) (stop : ℕ × Expected)
-    → placed (cond ends None (Some stop)) ≡ cond ends None (placed (Some stop))
-at_end true stop = refl
-at_end false stop = refl
-
 at_word : (b : Bool) (next : Expected) (from : Expected → Option (ℕ × Expected))
     (stop : ℕ × Expected)
-    → placed (option_map_or from (cond b (Some next) None) (Some stop))
-    ≡ cond b (placed (from next)) (placed (Some stop))
+    → cond b (from next) (Some stop) ≡ option_map_or from (cond b (Some next) None) (Some stop)
 at_word true next from stop = refl
 at_word false next from stop = refl
 
-same_place : (column : ℕ) (expected : Expected) (words : List (List ℕ))
-    → placed (stop_from after_word may_end column expected words)
-    ≡ unreadable_from column expected words
+pub walks : (column : ℕ) (expected : Expected) (line word : List ℕ) (words : List (List ℕ))
+    (after : Option Expected) → words_of line ≡ word ∷ words → after_word expected word ≡ after
+    → unreadable_from column expected (words_of line)
+    ≡ option_map_or (λ next. unreadable_from (column + length word + 1) next words) after
+    (Some (column, expected))
 unfolding after_word
-same_place column expected [] = at_end (may_end expected) (column, expected)
-same_place column expected (word ∷ words) =
-    at_word (may_be expected word) (next_of expected) _ (column, expected)
-    ∙ ap (λ rest. cond (may_be expected word) rest (placed (Some (column, expected))))
-    (same_place (column + length word + 1) (next_of expected) words)
-
-pub place_is : (line : List ℕ) (first : Expected) (stop : Option (ℕ × Expected))
-    → stop ≡ stop_from after_word may_end 1 first (words_of line)
-    → placed stop ≡ unreadable_from 1 first (words_of line)
-place_is line first stop is = ap placed is ∙ same_place 1 first (words_of line)
+walks column expected line word words after cut is =
+    ap (unreadable_from column expected) cut
+    ∙ at_word (may_be expected word) (next_of expected) _ _
+    ∙ ap (λ a. option_map_or (λ next. unreadable_from (column + length word + 1) next words) a
+    (Some (column, expected))) is
 
 -- ---- the words of a move
 
-abbrev no_move : Option (ℕ × Move)
-no_move = None
-
-one_word : (n : Option ℕ) (a b : Unreadable)
-    → IsNone (cond (is_some n) (Some b) (Some a)) ↔ IsSome no_move
-one_word (Some n) a b = (λ h. absurd (cc), λ h. absurd (cc))
-one_word None a b = (λ h. absurd (cc), λ h. absurd (cc))
-
-two_words : (n : Option ℕ) (m : Option Move) (a b : Unreadable)
+two_words : (n : Option ℕ) (m : Option Move) (a b : ℕ × Expected)
     → IsNone (cond (is_some n) (cond (is_some m) None (Some b)) (Some a)) ↔ IsSome (option_zip n m)
 two_words (Some n) (Some m) a b = (λ h. refl, λ h. refl)
-two_words (Some n) None a b = (λ h. absurd (cc), λ h. absurd (cc))
-two_words None m a b = (λ h. absurd (cc), λ h. absurd (cc))
-
-more_words : (n : Option ℕ) (m : Option Move) (a b d : Unreadable)
-    → IsNone (cond (is_some n) (cond (is_some m) (Some d) (Some b)) (Some a)) ↔ IsSome no_move
-more_words (Some n) (Some m) a b d = (λ h. absurd (cc), λ h. absurd (cc))
-more_words (Some n) None a b d = (λ h. absurd (cc), λ h. absurd (cc))
-more_words None m a b d = (λ h. absurd (cc), λ h. absurd (cc))
+two_words n m a b = (λ h. absurd (cc), λ h. absurd (cc))
 
 words_are : (words : List (List ℕ))
     → IsNone (unreadable_from 1 Thread words) ↔ IsSome (move_of_words words)
-words_are [] = (λ h. absurd (cc), λ h. absurd (cc))
-words_are (thread ∷ []) = one_word (number_of 0 255 thread) _ _
 words_are (thread ∷ word ∷ []) = two_words (number_of 0 255 thread) (move_named word) _ _
-words_are (thread ∷ word ∷ more ∷ words) =
-    more_words (number_of 0 255 thread) (move_named word) _ _ _
+words_are words = (λ h. absurd (grind (arith)), λ h. absurd (cc))
 
 pub moves_are_readable : (line : List ℕ)
     → IsNone (unreadable_from 1 Thread (words_of line)) ↔ IsSome (move_of line)

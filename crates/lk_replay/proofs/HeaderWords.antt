@@ -1,30 +1,16 @@
 -- What is expected in a line, word by word. It is a header exactly if nothing else is expected.
-use Rattle.std.proofs.Common.{◌↔◌, ℕ, ◌+◌, List, [], ◌∷◌, Option, Some, None, cond, ◌&&◌, is_some}
-use Rattle.std.proofs.Common.{IsNone, IsSome, Bool, true, false, Ok, Err, nat_lt, ◌^◌, codes}
-use Rattle.std.proofs.Common.{refl, length}
+use Rattle.std.proofs.Common.{◌↔◌, ℕ, List, [], ◌∷◌, Option, Some, None, cond, ◌&&◌, is_some}
+use Rattle.std.proofs.Common.{IsNone, Bool, true, false, Ok, Err, nat_lt, ◌^◌, codes, arith, refl}
 use Rattle.std.specs.Str.{bytes_eq}
 use Rattle.lk_locks.specs.declared.kinds.LockKind.{LockKind}
 use Rattle.lk_replay.specs.Faults.{WordsTooNarrow}
 use Rattle.lk_replay.specs.Header.{Header, Shape, Size, header_of, header_of_shape, shape_of_words}
-use Rattle.lk_replay.specs.Header.{with_bits, with_size, with_threads}
+use Rattle.lk_replay.specs.Header.{size_of_words, with_bits, with_size, with_threads}
 use Rattle.lk_replay.specs.Lines.{words_of}
 use Rattle.lk_replay.specs.Unreadable.{IsHeader, unreadable_from}
 use Rattle.lk_replay.specs.Vocabulary.{lock_named, number_of}
+use Rattle.lk_replay.specs.declared.unreadable.Expected.{Expected}
 use Rattle.lk_replay.specs.declared.unreadable.Expected.TheVariants.{Lock, Count}
-use Rattle.lk_replay.specs.declared.unreadable.Unreadable.{Unreadable}
-
--- a place at a word, or in what comes after it
-some_by : (b : Bool) (o : Option Unreadable) (u : Unreadable) → IsSome o
-    → IsSome (cond b o (Some u))
-some_by true o u h = h
-some_by false o u h = refl
-
-neither : (o : Option Unreadable) → IsSome o → IsNone o ↔ ⊥
-neither (Some u) h = (λ e. absurd (cc), λ e. absurd e)
-neither None h = (λ e. absurd (cc), λ e. absurd e)
-
-a_place : (u : Unreadable) → IsNone (Some u) ↔ ⊥
-a_place u = (λ e. absurd (cc), λ e. absurd e)
 
 fits_or_not : (fits : Bool) (h : Header) (number : ℕ)
     → IsHeader (cond fits (Ok h) (Err (WordsTooNarrow number)))
@@ -32,7 +18,7 @@ fits_or_not true h number = tt
 fits_or_not false h number = tt
 
 -- the number of threads is all that is left to go by
-by_threads : (number : ℕ) (s : Shape) (threads : Option ℕ) (u : Unreadable)
+by_threads : (number : ℕ) (s : Shape) (threads : Option ℕ) (u : ℕ × Expected)
     → IsNone (cond (is_some threads) None (Some u)) ↔ IsHeader (with_threads number s threads)
 by_threads number s (Some threads) u = (
   λ h. fits_or_not (nat_lt threads (2 ^ s.size.bits))
@@ -42,7 +28,7 @@ by_threads number s (Some threads) u = (
 by_threads number s None u = (λ h. absurd (cc), λ h. absurd h)
 
 by_bits : (number : ℕ) (kind : LockKind) (count : List ℕ) (bits : Bool) (width : Option ℕ)
-    (a b d : Unreadable)
+    (a b d : ℕ × Expected)
     → IsNone (cond (is_some (number_of 1 64 count))
     (cond bits (cond (is_some width) None (Some d)) (Some b)) (Some a))
     ↔ IsHeader (header_of_shape number
@@ -50,58 +36,33 @@ by_bits : (number : ℕ) (kind : LockKind) (count : List ℕ) (bits : Bool) (wid
 by_bits number kind count true (Some width) a b d =
     by_threads number (record { kind = kind; size = record { count = count; bits = width } })
     (number_of 1 64 count) a
-by_bits number kind count true None a b d =
-    neither _ (some_by (is_some (number_of 1 64 count)) (Some d) a refl)
-by_bits number kind count false width a b d =
-    neither _ (some_by (is_some (number_of 1 64 count)) (Some b) a refl)
+by_bits number kind count bits width a b d = (λ h. absurd (grind (arith)), λ h. absurd h)
+
+size_is : (number column : ℕ) (kind : LockKind) (size : List (List ℕ))
+    → IsNone (unreadable_from column Count size)
+    ↔ IsHeader (header_of_shape number (with_size (Some kind) (size_of_words size)))
+size_is number column kind (count ∷ []) =
+    by_threads number (record { kind = kind; size = record { count = count; bits = 64 } })
+    (number_of 1 64 count) _
+size_is number column kind (count ∷ bits ∷ width ∷ []) =
+    by_bits number kind count (bytes_eq bits (codes "bits")) (number_of 2 64 width) _ _ _
+size_is number column kind size = (λ h. absurd (grind (arith)), λ h. absurd h)
 
 -- what comes after the first three words decides, if these are as they have to be
 by_rest : (number : ℕ) (lock threads : Bool) (kind : Option LockKind) (size : Option Size)
-    (rest : Option Unreadable) (a b d : Unreadable)
+    (rest : Option (ℕ × Expected)) (a b d : ℕ × Expected)
     → ((k : LockKind) → IsNone rest ↔ IsHeader (header_of_shape number (with_size (Some k) size)))
     → IsNone (cond lock (cond (is_some kind) (cond threads rest (Some d)) (Some b)) (Some a))
     ↔ IsHeader (header_of_shape number (cond (lock && threads) (with_size kind size) None))
 by_rest number true true (Some kind) size rest a b d same = same kind
-by_rest number true true None size rest a b d same = (λ h. absurd (cc), λ h. absurd h)
-by_rest number true false (Some kind) size rest a b d same = (λ h. absurd (cc), λ h. absurd h)
-by_rest number true false None size rest a b d same = (λ h. absurd (cc), λ h. absurd h)
-by_rest number false threads kind size rest a b d same = (λ h. absurd (cc), λ h. absurd h)
+by_rest number lock threads kind size rest a b d same = (λ h. absurd (grind (arith)), λ h. absurd h)
 
 words_are : (number : ℕ) (words : List (List ℕ)) → IsNone (unreadable_from 1 Lock words)
     ↔ IsHeader (header_of_shape number (shape_of_words words))
-words_are number [] = (λ h. absurd (cc), λ h. absurd h)
-words_are number (lock ∷ []) = neither _ (some_by (bytes_eq lock (codes "lock")) _ _ refl)
-words_are number (lock ∷ name ∷ []) =
-    neither _ (some_by (bytes_eq lock (codes "lock")) _ _
-    (some_by (is_some (lock_named name)) _ _ refl))
-words_are number (lock ∷ name ∷ threads ∷ []) =
+words_are number (lock ∷ name ∷ threads ∷ size) =
     by_rest number (bytes_eq lock (codes "lock")) (bytes_eq threads (codes "threads"))
-    (lock_named name) None _ _ _ _
-    (λ k. a_place (record {
-      column = 1 + length lock + 1 + length name + 1 + length threads + 1;
-      expected = Count;
-    }))
-words_are number (lock ∷ name ∷ threads ∷ count ∷ []) =
-    by_rest number (bytes_eq lock (codes "lock")) (bytes_eq threads (codes "threads"))
-    (lock_named name) (Some (record { count = count; bits = 64 })) _ _ _ _
-    (λ k. by_threads number
-    (record { kind = k; size = record { count = count; bits = 64 } }) (number_of 1 64 count) _)
-words_are number (lock ∷ name ∷ threads ∷ count ∷ bits ∷ []) =
-    by_rest number (bytes_eq lock (codes "lock")) (bytes_eq threads (codes "threads"))
-    (lock_named name) None _ _ _ _
-    (λ k. neither _ (some_by (is_some (number_of 1 64 count)) _ _
-    (some_by (bytes_eq bits (codes "bits")) _ _ refl)))
-words_are number (lock ∷ name ∷ threads ∷ count ∷ bits ∷ width ∷ []) =
-    by_rest number (bytes_eq lock (codes "lock")) (bytes_eq threads (codes "threads"))
-    (lock_named name)
-    (cond (bytes_eq bits (codes "bits")) (with_bits count (number_of 2 64 width)) None) _ _ _ _
-    (λ k. by_bits number k count (bytes_eq bits (codes "bits")) (number_of 2 64 width) _ _ _)
-words_are number (lock ∷ name ∷ threads ∷ count ∷ bits ∷ width ∷ more ∷ words) =
-    by_rest number (bytes_eq lock (codes "lock")) (bytes_eq threads (codes "threads"))
-    (lock_named name) None _ _ _ _
-    (λ k. neither _ (some_by (is_some (number_of 1 64 count)) _ _
-    (some_by (bytes_eq bits (codes "bits")) _ _
-    (some_by (is_some (number_of 2 64 width)) _ _ refl))))
+    (lock_named name) (size_of_words size) _ _ _ _ (λ kind. size_is number _ kind size)
+words_are number words = (λ h. absurd (grind (arith)), λ h. absurd h)
 
 pub headers_are_readable : (line : List ℕ) (number : ℕ)
     → IsNone (unreadable_from 1 Lock (words_of line)) ↔ IsHeader (header_of number line)

@@ -4,7 +4,6 @@ pub mod Pieces
 pub mod Moves
 pub mod Headers
 pub mod Sofar
-pub mod Changes
 pub mod Digits
 pub mod Transfers
 pub mod Reports

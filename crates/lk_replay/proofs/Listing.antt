@@ -1,14 +1,14 @@
 -- The text of a list of threads that one joins or leaves.
 use Rattle.std.proofs.Common.{◌≡◌, ℕ, ◌+◌, ◌*◌, ◌<◌, ◌≤◌, List, [], ◌∷◌, ◌++◌, length, take}
-use Rattle.std.proofs.Common.{drop, decimal, eqb, nat_lt, Bool, true, false, refl, sym, ap}
-use Rattle.std.proofs.Common.{◌∙◌, subst, arith, append_assoc, append-nil, length-append}
-use Rattle.std.proofs.Common.{IsTrue, ◌↔◌, inl, inr}
+use Rattle.std.proofs.Common.{drop, decimal, eqb, nat_lt, true, false, refl, sym, ap}
+use Rattle.std.proofs.Common.{◌∙◌, subst, arith, append_assoc, length-append}
+use Rattle.std.proofs.Common.{inl, inr}
 use Rattle.std.specs.List.{AllByRecursion}
-use Rattle.std.proofs.Math.Seq.{drop-append_seam, take-append_seam}
+use Rattle.std.proofs.lemmas.List.{drop_at, take_at}
 use Rattle.std.proofs.lemmas.Bool.{cases_Bool, eq-eqb, eqb-true, le-ltb, lt-ltb, ne_eqb}
 use Rattle.std.proofs.lemmas.Fmt.{length-decimal-le}
 use Rattle.lk_locks.specs.Sequential.{Sequential, IsAscending, has, is_head, joined, left_by}
-use Rattle.lk_locks.proofs.Ascending.{all_joined, all_left, below_member}
+use Rattle.lk_locks.proofs.Ascending.{all_joined, below_member}
 use Rattle.std.proofs.lemmas.Grind.{flat_map-append}
 use Rattle.lk_replay.specs.Following.{below, bits_of, AreListed}
 use Rattle.lk_replay.specs.Report.{later_numbers, queue_text}
@@ -20,9 +20,11 @@ later_append xs ys = flat_map-append (λ (n : ℕ). 44 ∷ decimal n) xs ys
 abbrev pub AreBytes : List ℕ → Type 0
 AreBytes xs = AllByRecursion (λ t. t < 256) xs
 
-are_bytes : (xs : List ℕ) → AllByRecursion (λ u. u < 64) xs → AreBytes xs
-are_bytes [] all = tt
-are_bytes (x ∷ xs) (small, all) = (omega (arith, small), are_bytes xs all)
+-- what follows from a fact of each
+pub each : (P Q : ℕ → Type 0) → ((u : ℕ) → P u → Q u) → (xs : List ℕ) → AllByRecursion P xs
+    → AllByRecursion Q xs
+each P Q follows [] all = tt
+each P Q follows (x ∷ xs) (here, rest) = (follows x here, each P Q follows xs rest)
 
 -- each number has at most three digits and a comma
 pub later_most : (xs : List ℕ) → AreBytes xs → length (later_numbers xs) ≤ 4 * length xs
@@ -35,27 +37,17 @@ later_most (x ∷ xs) (b, a) =
       length-append (decimal x) (later_numbers xs),
     )
 
--- a request comes last
-pub request_listed : (queue text new now : List ℕ) (t : ℕ) → text ≡ later_numbers queue
-    → now ≡ 44 ∷ decimal t → new ≡ text ++ now → new ≡ later_numbers (queue ++ t ∷ [])
-request_listed queue text new now t is number grown =
-    grown ∙ ap (λ (xs : List ℕ). xs ++ now) is
-    ∙ ap (λ (ys : List ℕ). later_numbers queue ++ ys)
-    (number ∙ ap (λ (ys : List ℕ). 44 ∷ ys) (sym (append-nil (decimal t))))
-    ∙ sym (later_append queue (t ∷ []))
-
 -- the head is first
 pub head_listed : (queue text : List ℕ) (t gone : ℕ) → is_head queue t ≡ true
     → text ≡ later_numbers queue → gone ≡ length (decimal t) + 1
     → (gone ≤ length text) × (drop gone text ≡ later_numbers (drop 1 queue))
-head_listed [] text t gone head is wide = absurd (cc)
+head_listed [] text t gone head is wide = cc
 head_listed (x ∷ xs) text t gone head is wide =
-    let same : t ≡ x = eqb-true t x head in
-    let place : gone ≡ length (44 ∷ decimal x) =
-    wide ∙ ap (λ (y : ℕ). length (decimal y) + 1) same ∙ omega arith in (
-      omega (arith, place, ap length is, length-append (44 ∷ decimal x) (later_numbers xs)),
-      ap (λ (k : ℕ). drop k text) place ∙ ap (drop (length (44 ∷ decimal x))) is
-          ∙ drop-append_seam (44 ∷ decimal x) (later_numbers xs),
+    let same = ap (λ (y : ℕ). length (decimal y)) (eqb-true t x head) in
+    let place : length (44 ∷ decimal x) ≡ gone = omega arith in
+    rw is (
+      omega (arith, place, length-append (decimal x) (later_numbers xs)),
+      drop_at (44 ∷ decimal x) (later_numbers xs) gone place,
     )
 
 -- a list with a thread, cut before it
@@ -65,7 +57,7 @@ pub record IsSplit (xs : List ℕ) (t : ℕ) : Type 0 where
   pub left : left_by xs t ≡ below xs t ++ after
 
 pub split : (xs : List ℕ) (t : ℕ) → IsAscending xs → has xs t ≡ true → IsSplit xs t
-split [] t a h = absurd (cc)
+split [] t a h = cc
 split (x ∷ xs) t (b, a) h = elim (cases_Bool (eqb t x)) [
   | inl e ↦ let same : t ≡ x = eqb-true t x e in
       let low : nat_lt x t ≡ false = le-ltb x t (omega (arith, same)) in
@@ -85,59 +77,52 @@ split (x ∷ xs) t (b, a) h = elim (cases_Bool (eqb t x)) [
 ]
 
 -- the texts of the list with the thread, and without it
-with_parts : (xs : List ℕ) (t : ℕ) → (s : IsSplit xs t)
-    → later_numbers xs
-    ≡ later_numbers (below xs t) ++ ((44 ∷ decimal t) ++ later_numbers s.after)
-with_parts xs t s = ap later_numbers s.whole ∙ later_append (below xs t) (t ∷ s.after)
+record AreParts (xs : List ℕ) (t : ℕ) : Type 0 where
+  rest : List ℕ
+  whole : later_numbers xs ≡ later_numbers (below xs t) ++ ((44 ∷ decimal t) ++ rest)
+  left : later_numbers (left_by xs t) ≡ later_numbers (below xs t) ++ rest
 
-without_parts : (xs : List ℕ) (t : ℕ) → (s : IsSplit xs t)
-    → later_numbers (left_by xs t) ≡ later_numbers (below xs t) ++ later_numbers s.after
-without_parts xs t s = ap later_numbers s.left ∙ later_append (below xs t) s.after
+text_parts : (xs : List ℕ) (t : ℕ) → IsAscending xs → has xs t ≡ true → AreParts xs t
+text_parts xs t a h =
+    let s = split xs t a h in
+    record {
+      rest = later_numbers s.after;
+      whole = ap later_numbers s.whole ∙ later_append (below xs t) (t ∷ s.after);
+      left = ap later_numbers s.left ∙ later_append (below xs t) s.after;
+    }
 
-pub reader_place : (xs text : List ℕ) (t at : ℕ) → IsAscending xs → has xs t ≡ true
-    → text ≡ later_numbers (left_by xs t) → at ≡ length (later_numbers (below xs t))
-    → at ≤ length text
-reader_place xs text t at a h is place =
-    let s : IsSplit xs t = split xs t a h in
-    omega (
-      arith,
-      place,
-      ap length (is ∙ without_parts xs t s),
-      length-append (later_numbers (below xs t)) (later_numbers s.after),
-    )
+-- a reader comes. The text without it has room for it
+pub record IsPutIn (xs text : List ℕ) (t at : ℕ) : Type 0 where
+  pub within : at ≤ length text
+  pub room : length text ≤ 4 * length xs
+  pub whole : (take at text ++ (44 ∷ decimal t)) ++ drop at text ≡ later_numbers xs
 
--- the text without a thread has room for it
-pub shorter : (xs text : List ℕ) (t : ℕ) → IsAscending xs → has xs t ≡ true
-    → AllByRecursion (λ u. u < 64) xs → text ≡ later_numbers (left_by xs t)
-    → length text ≤ 4 * length xs
-shorter xs text t a h fit is =
-    let s : IsSplit xs t = split xs t a h in
-    omega (
-      arith,
-      ap length (is ∙ without_parts xs t s),
-      length-append (later_numbers (below xs t)) (later_numbers s.after),
-      later_most xs (are_bytes xs fit),
-      ap length (with_parts xs t s),
-      length-append (later_numbers (below xs t)) ((44 ∷ decimal t) ++ later_numbers s.after),
-      length-append (44 ∷ decimal t) (later_numbers s.after),
-    )
-
--- a reader comes
-pub reader_listed : (xs text now : List ℕ) (t at : ℕ) → IsAscending xs → has xs t ≡ true
-    → text ≡ later_numbers (left_by xs t) → at ≡ length (later_numbers (below xs t))
-    → now ≡ 44 ∷ decimal t → (take at text ++ now) ++ drop at text ≡ later_numbers xs
-reader_listed xs text now t at a h is place number =
-    let s : IsSplit xs t = split xs t a h in
-    let up : List ℕ = later_numbers (below xs t) in
-    let rest : List ℕ = later_numbers s.after in
-    let whole : text ≡ up ++ rest = is ∙ without_parts xs t s in
-    let prefix : take at text ≡ up =
-    ap (λ (k : ℕ). take k text) place ∙ ap (take (length up)) whole
-    ∙ take-append_seam up rest in
-    let back : drop at text ≡ rest =
-    ap (λ (k : ℕ). drop k text) place ∙ ap (drop (length up)) whole
-    ∙ drop-append_seam up rest in
-    rw (prefix, back, number) (append_assoc up (44 ∷ decimal t) rest ∙ sym (with_parts xs t s))
+pub reader_listed : (xs text : List ℕ) (t at : ℕ) → IsAscending xs
+    → AllByRecursion (λ u. u < 64) xs → has xs t ≡ true → text ≡ later_numbers (left_by xs t)
+    → at ≡ length (later_numbers (below xs t)) → IsPutIn xs text t at
+reader_listed xs text t at a fit h is place =
+    let up = later_numbers (below xs t) in
+    let number : List ℕ = 44 ∷ decimal t in
+    let p = text_parts xs t a h in
+    record {
+      within = omega (arith, place, ap length (is ∙ p.left), length-append up p.rest);
+      room = omega (
+        arith,
+        later_most xs (each (λ u. u < 64) (λ u. u < 256) (λ u b. omega (arith, b)) xs fit),
+        ap length (is ∙ p.left),
+        ap length p.whole,
+        length-append up p.rest,
+        length-append up (number ++ p.rest),
+        length-append number p.rest,
+      );
+      whole =
+          rw (
+            is ∙ p.left,
+            take_at up p.rest at (sym place),
+            drop_at up p.rest at (sym place),
+          )
+          (append_assoc up number p.rest ∙ sym p.whole);
+    }
 
 -- a reader goes
 pub record IsTakenOut (xs text : List ℕ) (t at gone : ℕ) : Type 0 where
@@ -148,32 +133,22 @@ pub reader_gone : (xs text : List ℕ) (t at gone : ℕ) → IsAscending xs → 
     → text ≡ later_numbers xs → at ≡ length (later_numbers (below xs t))
     → gone ≡ length (decimal t) + 1 → IsTakenOut xs text t at gone
 reader_gone xs text t at gone a h is place wide =
-    let s : IsSplit xs t = split xs t a h in
-    let up : List ℕ = later_numbers (below xs t) in
+    let up = later_numbers (below xs t) in
     let number : List ℕ = 44 ∷ decimal t in
-    let rest : List ℕ = later_numbers s.after in
-    let whole : text ≡ up ++ (number ++ rest) = is ∙ with_parts xs t s in
-    let behind : at + gone ≡ length (up ++ number) =
+    let p = text_parts xs t a h in
+    let end : length (up ++ number) ≡ at + gone =
     omega (arith, place, wide, length-append up number) in
+    let whole = is ∙ p.whole ∙ sym (append_assoc up number p.rest) in
     record {
-      within = omega (
-        arith,
-        behind,
-        ap length whole,
-        length-append up (number ++ rest),
-        length-append number rest,
-        length-append up number,
-      );
+      within = omega (arith, end, ap length whole, length-append (up ++ number) p.rest);
       rest =
-          ap (λ (k : ℕ). take k text ++ drop (at + gone) text) place
-          ∙ ap (λ (k : ℕ). take (length up) text ++ drop k text) behind
-          ∙ ap (λ (ys : List ℕ). take (length up) ys ++ drop (length (up ++ number)) text) whole
-          ∙ ap (λ (ys : List ℕ). ys ++ drop (length (up ++ number)) text)
-          (take-append_seam up (number ++ rest))
-          ∙ ap (λ (ys : List ℕ). up ++ drop (length (up ++ number)) ys)
-          (whole ∙ sym (append_assoc up number rest))
-          ∙ ap (λ (ys : List ℕ). up ++ ys) (drop-append_seam (up ++ number) rest)
-          ∙ sym (without_parts xs t s);
+          rw (
+            whole,
+            drop_at (up ++ number) p.rest (at + gone) end,
+            append_assoc up number p.rest,
+            take_at up (number ++ p.rest) at (sym place),
+          )
+          (sym p.left);
     }
 
 -- ---- the lists after an act
@@ -216,40 +191,25 @@ pub has_come : (q : Sequential) (requests text now : List ℕ) (bits t : ℕ)
     → AreListed q requests text bits → now ≡ joined q.readers t → IsAscending now → t < 64
     → HasJoined now text bits t
 has_come q requests text now bits t l joins ascending small =
-    let left : left_by now t ≡ q.readers =
-    ap (λ (xs : List ℕ). left_by xs t) joins
-    ∙ left_joined q.readers t (subst IsAscending joins ascending) in
-    record {
-      fit = subst (AllByRecursion (λ (u : ℕ). u < 64)) (sym joins)
-          (all_joined (λ u. u < 64) q.readers t small l.readers_fit);
-      member = ap (λ (xs : List ℕ). has xs t) joins ∙ has_joined q.readers t;
+    let left = left_joined q.readers t (rw joins at ascending) in
+    rw joins (record {
+      fit = all_joined (λ u. u < 64) q.readers t small l.readers_fit;
+      member = has_joined q.readers t;
       listed = l.readers_are ∙ ap later_numbers (sym left);
       bits_are = l.bits_are ∙ ap bits_of (sym left);
-    }
+    })
 
-pub reader_came : (q r : Sequential) (requests text new : List ℕ) (bits more : ℕ)
-    → AreListed q requests text bits → r.queue ≡ q.queue
-    → AllByRecursion (λ u. u < 64) r.readers → new ≡ later_numbers r.readers
-    → more ≡ bits_of r.readers → AreListed r requests new more
-reader_came q r requests text new bits more l same fit is bits_are = record {
+-- the lists after a reader came or left
+pub readers_changed : (q r : Sequential) (requests text new now : List ℕ) (bits more : ℕ)
+    → AreListed q requests text bits → r.queue ≡ q.queue → now ≡ r.readers
+    → AllByRecursion (λ u. u < 64) now → new ≡ later_numbers now → more ≡ bits_of now
+    → AreListed r requests new more
+readers_changed q r requests text new now bits more l same are fit is bits_are = record {
   requests_are = l.requests_are ∙ ap later_numbers (sym same);
-  readers_are = is;
-  bits_are = bits_are;
+  readers_are = is ∙ ap later_numbers are;
+  bits_are = bits_are ∙ ap bits_of are;
   requests_fit = subst AreBytes (sym same) l.requests_fit;
-  readers_fit = fit;
-}
-
-pub reader_left : (q r : Sequential) (requests text new : List ℕ) (bits less t : ℕ)
-    → AreListed q requests text bits → r.queue ≡ q.queue → r.readers ≡ left_by q.readers t
-    → new ≡ later_numbers (left_by q.readers t) → less ≡ bits_of (left_by q.readers t)
-    → AreListed r requests new less
-reader_left q r requests text new bits less t l same leaves is bits_are = record {
-  requests_are = l.requests_are ∙ ap later_numbers (sym same);
-  readers_are = is ∙ ap later_numbers (sym leaves);
-  bits_are = bits_are ∙ ap bits_of (sym leaves);
-  requests_fit = subst AreBytes (sym same) l.requests_fit;
-  readers_fit = subst (AllByRecursion (λ (u : ℕ). u < 64)) (sym leaves)
-      (all_left (λ u. u < 64) q.readers t l.readers_fit);
+  readers_fit = subst (AllByRecursion (λ (u : ℕ). u < 64)) are fit;
 }
 
 -- ---- the lists as they are shown
@@ -257,11 +217,6 @@ reader_left q r requests text new bits less t l same leaves is bits_are = record
 pub none_listed : (xs text : List ℕ) → text ≡ later_numbers xs → length text ≡ 0 → xs ≡ []
 none_listed [] text is none = refl
 none_listed (x ∷ xs) text is none = absurd (omega (arith, ap length is))
-
-pub some_listed : (empty : Bool) (text : List ℕ) → (IsTrue empty ↔ (length text ≡ 0))
-    → empty ≡ false → 0 < length text
-some_listed empty [] tells not_so = let so : empty ≡ true = tells.1 refl in absurd (cc)
-some_listed empty (b ∷ bs) tells not_so = omega arith
 
 pub queue_shown : (xs text : List ℕ) → text ≡ later_numbers xs → 0 < length text
     → drop 1 text ≡ queue_text xs

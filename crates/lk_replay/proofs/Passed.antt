@@ -1,11 +1,10 @@
 -- Bytes that go to an output one after another, some of which wait.
-use Rattle.std.proofs.Common.{◌≡◌, ℕ, ◌+◌, List, [], ◌++◌, length, take, Option, Result, Ok, Err}
-use Rattle.std.proofs.Common.{OnOk, OnErr, refl, sym, ap, ◌∙◌, subst, arith, append_assoc}
+use Rattle.std.proofs.Common.{◌≡◌, ℕ, ◌+◌, List, [], ◌++◌, length, Option, Result, Ok, Err}
+use Rattle.std.proofs.Common.{OnErr, refl, sym, ap, ◌∙◌, subst, arith, append_assoc}
 use Rattle.std.proofs.Common.{append-nil}
 use Rattle.std.proofs.KnownBytes.{Appends-nil, Appends-trans}
 use Rattle.std.proofs.Math.Seq.{take-append-add}
 use Rattle.std.proofs.lemmas.List.{length-append, take-append-le}
-use Rattle.std.proofs.lemmas.Result.{on_err_weaker, on_ok_weaker}
 use Rattle.std.specs.Io.KnownBytes.{Appends}
 use Rattle.lk_replay.specs.declared.devices.RunFault.{RunFault}
 use Rattle.lk_replay.specs.Devices.{AppendsPrefix, Passes}
@@ -20,9 +19,9 @@ pub passes_none : (waited : List ℕ) (c : Option (List ℕ)) → Passes waited 
 passes_none waited c = ([], Appends-nil c, sym (append-nil waited))
 
 -- what waited went out
-pub passes_sent : (waited : List ℕ) (old new : Option (List ℕ)) → Appends old new waited
-    → Passes waited old [] [] new
-passes_sent waited old new appended = (waited, appended, refl)
+pub passes_sent : (waited bytes : List ℕ) (old new : Option (List ℕ)) → bytes ≡ waited
+    → Appends old new bytes → Passes waited old [] [] new
+passes_sent waited bytes old new are appended = (bytes, appended, ap (λ (l : List ℕ). l ++ []) are)
 
 -- if nothing waited, the bytes went out
 pub passes_through : (bytes : List ℕ) (old new : Option (List ℕ)) → Appends old new bytes
@@ -40,26 +39,14 @@ passes_on waited a between b waits old mid new (sent, appended, first) (more, ap
       ∙ ap (λ l. l ++ b) first ∙ append_assoc waited a b,
 )
 
--- one text, and then a line, which waits
-pub passes_line : (done between line waits : List ℕ) (old mid : Option (List ℕ))
-    → Passes [] old done between mid → waits ≡ between ++ line
-    → Passes [] old (done ++ line) waits mid
-passes_line done between line waits old mid passed is =
-    subst (λ (xs : List ℕ). Passes [] old (done ++ line) xs mid) (sym is)
-    (passes_on [] done between line (between ++ line) old mid mid passed
-    (passes_kept between line mid))
-
 -- what waited and a prefix of a text, if the text is the beginning of a longer one
 pub prefix_of_more : (waited a b : List ℕ) (old new : Option (List ℕ))
     → AppendsPrefix old new (waited ++ a) → AppendsPrefix old new (waited ++ (a ++ b))
 prefix_of_more waited a b old new (n, within, appended) =
-    let whole : (waited ++ a) ++ b ≡ waited ++ (a ++ b) = append_assoc waited a b in
-    let prefix : take n (waited ++ (a ++ b)) ≡ take n (waited ++ a) = ap (take n) (sym whole)
-    ∙ take-append-le n (waited ++ a) b within in (
+    subst (AppendsPrefix old new) (append_assoc waited a b) (
       n,
-      omega (arith, within, length-append (waited ++ a) b, ap length whole),
-      subst
-          (Appends old new) (sym prefix) appended,
+      omega (arith, within, length-append (waited ++ a) b),
+      rw (take-append-le n (waited ++ a) b within) appended,
     )
 
 -- one text went on its way, and then a prefix of the rest went out
@@ -67,13 +54,13 @@ pub prefix_after : (waited a between b : List ℕ) (old mid new : Option (List �
     → Passes waited old a between mid → AppendsPrefix mid new (between ++ b)
     → AppendsPrefix old new (waited ++ (a ++ b))
 prefix_after waited a between b old mid new (sent, appended, first) (n, within, appends) =
-    let whole : sent ++ (between ++ b) ≡ waited ++ (a ++ b) = sym (append_assoc sent between b)
-    ∙ ap (λ l. l ++ b) first ∙ append_assoc waited a b in
-    let prefix : take (length sent + n) (waited ++ (a ++ b)) ≡ sent ++ take n (between ++ b) =
-    ap (take (length sent + n)) (sym whole) ∙ take-append-add sent (between ++ b) n in (
+    let whole =
+    sym (append_assoc sent between b) ∙ ap (λ l. l ++ b) first ∙ append_assoc waited a b in
+    subst (AppendsPrefix old new) whole (
       length sent + n,
-      omega (arith, within, length-append sent (between ++ b), ap length whole),
-      subst (Appends old new) (sym prefix) (Appends-trans old mid new sent _ appended appends),
+      omega (arith, within, length-append sent (between ++ b)),
+      rw (take-append-add sent (between ++ b) n)
+          (Appends-trans old mid new sent _ appended appends),
     )
 
 -- ---- the same of what a call answers
@@ -81,25 +68,6 @@ prefix_after waited a between b old mid new (sent, appended, first) (n, within, 
 pub told : {T : Type 0} (r : Result T RunFault) (P : Type 0) → P → OnErr r P
 told (Ok _) P fact = tt
 told (Err _) P fact = fact
-
--- what holds of an error, if there is one
-pub of_error : (r : Result (Unit {0}) RunFault) (e : RunFault) (P : Type 0) → OnErr r P → r ≡ Err e
-    → P
-of_error r e P fact is = subst (λ r. OnErr r P) is fact
-
-pub passes_then : (r : Result (Unit {0}) RunFault) (waited a between b waits : List ℕ)
-    (old mid new : Option (List ℕ))
-    → Passes waited old a between mid → OnOk r (Passes between mid b waits new)
-    → OnOk r (Passes waited old (a ++ b) waits new)
-passes_then r waited a between b waits old mid new first =
-    on_ok_weaker r (passes_on waited a between b waits old mid new first)
-
-pub prefix_then : (r : Result (Unit {0}) RunFault) (waited a between b : List ℕ)
-    (old mid new : Option (List ℕ))
-    → Passes waited old a between mid → OnErr r (AppendsPrefix mid new (between ++ b))
-    → OnErr r (AppendsPrefix old new (waited ++ (a ++ b)))
-prefix_then r waited a between b old mid new first =
-    on_err_weaker r (prefix_after waited a between b old mid new first)
 
 -- ---- of a whole batch
 
@@ -113,17 +81,46 @@ prefix_of_whole whole done waits text rest old mid new passed prefix parts =
     ∙ parts) (prefix_of_more [] (done ++ text) rest old new
     (prefix_after [] done waits text old mid new passed prefix))
 
--- all of it went on its way, and then a prefix of what waited went out
-pub prefix_of_rest : (whole waits : List ℕ) (old mid new : Option (List ℕ))
-    → Passes [] old whole waits mid → AppendsPrefix mid new waits → AppendsPrefix old new whole
-prefix_of_rest whole waits old mid new passed prefix =
-    prefix_of_whole whole whole waits [] [] old mid new passed
-    (subst (AppendsPrefix mid new) (sym (append-nil waits)) prefix) (append-nil whole)
+-- some of it went, or waits, and the rest is left
+pub record IsUnderWay (whole rest waits : List ℕ) (old new : Option (List ℕ)) : Type 0 where
+  pub done : List ℕ
+  pub passed : Passes [] old done waits new
+  pub parts : done ++ rest ≡ whole
 
--- a part of it went on its way, and then a prefix of what waited went out
-pub prefix_of_waiting : (whole done waits rest : List ℕ) (old mid new : Option (List ℕ))
-    → Passes [] old done waits mid
-    → AppendsPrefix mid new waits → done ++ rest ≡ whole → AppendsPrefix old new whole
-prefix_of_waiting whole done waits rest old mid new passed prefix parts =
-    prefix_of_whole whole done waits [] rest old mid new passed
-    (subst (AppendsPrefix mid new) (sym (append-nil waits)) prefix) parts
+pub goes_on : (whole rest between text more waits : List ℕ) (old mid new : Option (List ℕ))
+    → IsUnderWay whole rest between old mid → rest ≡ text ++ more
+    → Passes between mid text waits new → IsUnderWay whole more waits old new
+goes_on whole rest between text more waits old mid new way is passes = record {
+  done = way.done ++ text;
+  passed = passes_on [] way.done between text waits old mid new way.passed passes;
+  parts = append_assoc way.done text more ∙ ap (λ l. way.done ++ l) (sym is) ∙ way.parts;
+}
+
+-- a line waits after what waited
+pub printed : (whole lines last between waits rest same : List ℕ) (old mid : Option (List ℕ))
+    → IsUnderWay whole (lines ++ last) between old mid
+    → (line : List ℕ) × (waits ≡ between ++ line) × (lines ≡ line ++ rest) → same ≡ last
+    → IsUnderWay whole (rest ++ same) waits old mid
+printed whole lines last between waits rest same old mid way (line, grown, is) kept =
+    rw (grown, kept)
+    (goes_on whole (lines ++ last) between line (rest ++ last) (between ++ line) old mid mid way
+    (ap (λ l. l ++ last) is ∙ append_assoc line rest last) (passes_kept between line mid))
+
+-- no line is left but the last
+pub last_left : (lines last text : List ℕ) → lines ≡ [] → text ≡ last → lines ++ last ≡ text ++ []
+last_left lines last text none is = rw (none, is) (sym (append-nil last))
+
+-- a prefix of what waited and the next text went out, or of what waited
+pub cut_short : (whole rest waits text more : List ℕ) (old mid new : Option (List ℕ))
+    → IsUnderWay whole rest waits old mid → rest ≡ text ++ more
+    → AppendsPrefix mid new (waits ++ text) → AppendsPrefix old new whole
+cut_short whole rest waits text more old mid new way is prefix =
+    prefix_of_whole whole way.done waits text more old mid new way.passed prefix
+    (ap (λ l. way.done ++ l) (sym is) ∙ way.parts)
+
+pub cut_waiting : (whole rest waits : List ℕ) (old mid new : Option (List ℕ))
+    → IsUnderWay whole rest waits old mid → AppendsPrefix mid new waits
+    → AppendsPrefix old new whole
+cut_waiting whole rest waits old mid new way prefix =
+    cut_short whole rest waits [] rest old mid new way refl
+    (subst (AppendsPrefix mid new) (sym (append-nil waits)) prefix)

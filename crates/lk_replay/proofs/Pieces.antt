@@ -1,15 +1,20 @@
 -- The words of a line.
-use Rattle.std.proofs.Common.{◌≡◌, ℕ, List, [], ◌∷◌, Option, Some, None, cond, refl, sym, ap, ◌∙◌}
-use Rattle.std.proofs.Common.{subst, inl, inr}
+use Rattle.std.proofs.Common.{◌≡◌, ℕ, List, [], ◌∷◌, Option, Some, None, refl, sym, ap, ◌∙◌}
+use Rattle.std.proofs.Common.{arith, inl, inr, length}
+use Rattle.std.specs.Prelude.{find}
 use Rattle.std.specs.List.{slice_split, join_with_byte}
 use Rattle.std.specs.Str.{bytes_eq}
 use Rattle.std.proofs.lemmas.List.Splits.{join_with_byte-slice_split}
 use Rattle.std.proofs.lemmas.Bool.{cases_Bool, cond-false}
 use Rattle.std.proofs.lemmas.Slice.Eq.{bytes_eq-Decides}
 use Rattle.lk_locks.specs.declared.kinds.Move.{Move}
+use Rattle.lk_locks.specs.declared.kinds.Move.TheVariants.{Call, Step}
+use Rattle.lk_locks.specs.declared.kinds.Op.TheVariants.{Acquire}
+use Rattle.lk_locks.specs.declared.kinds.StepKind.TheVariants.{Read}
 use Rattle.std.specs.Option.{option_zip}
+use Rattle.lk_replay.proofs.Cuts.{has_piece}
 use Rattle.lk_replay.specs.Schedule.{move_of, move_of_words}
-use Rattle.lk_replay.specs.Vocabulary.{move_named, number_of}
+use Rattle.lk_replay.specs.Vocabulary.{every_move, move_named, move_word, number_of}
 use Rattle.lk_replay.specs.Lines.{is_space}
 
 -- a line that is not cut
@@ -17,63 +22,43 @@ pub whole_line : (line : List ℕ) → slice_split is_space line ≡ line ∷ []
 unfolding move_of
 whole_line line cut = ap move_of_words cut
 
-no_number : (number : List ℕ) (pieces : List (List ℕ)) → number_of 0 255 number ≡ None
-    → move_of_words (number ∷ pieces) ≡ None
-no_number number [] none = refl
-no_number number (word ∷ []) none = ap (λ n. option_zip n (move_named word)) none
-no_number number (word ∷ next ∷ pieces) none = refl
+-- a move's word has no space in it
+word_whole : (m : Move) → slice_split is_space (move_word m) ≡ move_word m ∷ []
+word_whole (Call Acquire) = refl
+word_whole (Step Read) = refl
+word_whole m = refl
 
-pub without_number : (line number word : List ℕ)
-    → slice_split is_space line ≡ number ∷ slice_split is_space word → number_of 0 255 number ≡ None
-    → move_of line ≡ None
-unfolding move_of
-without_number line number word cut none = ap move_of_words cut ∙ no_number number _ none
+named_whole : (word : List ℕ) (m : Move) (ms : List Move)
+    → find (λ n. bytes_eq word (move_word n)) ms ≡ Some m → slice_split is_space word ≡ word ∷ []
+named_whole word m [] named = cc
+named_whole word m (n ∷ ms) named = elim (cases_Bool (bytes_eq word (move_word n))) [
+  | inl same ↦ rw ((bytes_eq-Decides word (move_word n)).0 same) (word_whole n)
+  | inr other ↦ named_whole word m ms (sym (cond-false _ _ _ other) ∙ named)
+]
 
-both_none : {A B : Type 0} (a : Option A) → option_zip {T = A} {U = B} a None ≡ None
-both_none (Some a) = refl
-both_none None = refl
-
-no_word : (number word : List ℕ) (pieces : List (List ℕ)) → join_with_byte 32 pieces ≡ word
-    → move_named word ≡ None → move_of_words (number ∷ pieces) ≡ None
-no_word number word [] joined none = refl
-no_word number word (piece ∷ []) joined none =
-    ap (λ m. option_zip (number_of 0 255 number) m) (ap move_named joined ∙ none)
-    ∙ both_none (number_of 0 255 number)
-no_word number word (piece ∷ next ∷ pieces) joined none = refl
-
-pub without_word : (line number word : List ℕ)
-    → slice_split is_space line ≡ number ∷ slice_split is_space word → move_named word ≡ None
-    → move_of line ≡ None
-unfolding move_of
-without_word line number word cut none =
-    ap move_of_words cut ∙ no_word number word _ (join_with_byte-slice_split 32 word) none
-
--- one name of the table
-named_or : (word text : List ℕ) (x m : Move) (rest : Option Move)
-    → slice_split is_space text ≡ text ∷ []
-    → (rest ≡ Some m → slice_split is_space word ≡ word ∷ [])
-    → cond (bytes_eq word text) (Some x) rest ≡ Some m → slice_split is_space word ≡ word ∷ []
-named_or word text x m rest whole others named =
-    elim (cases_Bool (bytes_eq word text)) [
-      | inl named_so ↦ let same : word ≡ text = (bytes_eq-Decides word text).0 named_so in
-          subst (λ (w : List ℕ). slice_split is_space w ≡ w ∷ []) (sym same) whole
-      | inr other ↦ others (sym (cond-false _ _ _ other) ∙ named)
-    ]
-
-named_whole : (word : List ℕ) (m : Move) → move_named word ≡ Some m
-    → slice_split is_space word ≡ word ∷ []
+-- so a word with a space in it names none
+no_move : (number : Option ℕ) (move : Option Move) (word first next : List ℕ)
+    (rest : List (List ℕ)) → move_named word ≡ move
+    → slice_split is_space word ≡ first ∷ next ∷ rest → option_zip number move ≡ None
 unfolding move_named
-named_whole word m named =
-    named_or word _ _ m _ refl (named_or word _ _ m _ refl (named_or word _ _ m _
-    refl (named_or word _ _ m _ refl (named_or word _ _ m _ refl (named_or word _ _ m _ refl
-    (named_or word _ _ m _ refl (named_or word _ _ m _
-    refl (named_or word _ _ m _ refl (named_or word _ _ m _ refl (named_or word _ _ m _
-    refl (named_or word _ _ m _ refl (named_or word _ _ m _ refl (λ e. cc))))))))))))) named
+no_move None move word first next rest named cut = refl
+no_move (Some n) None word first next rest named cut = refl
+no_move (Some n) (Some m) word first next rest named cut =
+    let whole = named_whole word m every_move named in cc
 
-pub with_both : (line number word : List ℕ) (n : ℕ) (m : Move)
+words_read : (number word : List ℕ) (pieces : List (List ℕ)) → slice_split is_space word ≡ pieces
+    → move_of_words (number ∷ pieces) ≡ option_zip (number_of 0 255 number) (move_named word)
+words_read number word [] cut = absurd (omega (arith, has_piece is_space word, ap length cut))
+words_read number word (piece ∷ []) cut =
+    ap (λ (w : List ℕ). option_zip (number_of 0 255 number) (move_named w))
+    (ap (join_with_byte 32) (sym cut) ∙ join_with_byte-slice_split 32 word)
+words_read number word (piece ∷ next ∷ pieces) cut =
+    sym (no_move (number_of 0 255 number) (move_named word) word piece next pieces refl cut)
+
+-- a line that is cut once at least is a thread's number and a word
+pub move_read : (line number word : List ℕ) (n : Option ℕ) (m : Option Move)
     → slice_split is_space line ≡ number ∷ slice_split is_space word
-    → number_of 0 255 number ≡ Some n → move_named word ≡ Some m → move_of line ≡ Some (n, m)
+    → number_of 0 255 number ≡ n → move_named word ≡ m → move_of line ≡ option_zip n m
 unfolding move_of
-with_both line number word n m cut here named =
-    ap move_of_words (cut ∙ ap (λ ps. number ∷ ps) (named_whole word m named))
-    ∙ ap (λ a. option_zip a (move_named word)) here ∙ ap (λ b. option_zip (Some n) b) named
+move_read line number word n m cut here named =
+    rw (← here, ← named) (ap move_of_words cut ∙ words_read number word _ refl)

@@ -1,7 +1,7 @@
 -- The lines that are printed as the moves are played are those of the report.
 use Rattle.std.proofs.Common.{◌≡◌, ℕ, ◌+◌, ◌<◌, ◌≤◌, ◌^◌, replicate, List, [], ◌∷◌, ◌++◌}
 use Rattle.std.proofs.Common.{length, codes, Option, None, Some, refl, sym, ap, ◌∙◌, arith}
-use Rattle.std.proofs.Common.{append_assoc, append-nil, length-append}
+use Rattle.std.proofs.Common.{append_assoc, length-append}
 use Rattle.std.specs.List.{join_with_byte, slice_split}
 use Rattle.std.specs.Option.{option_map}
 use Rattle.std.proofs.lemmas.List.Splits.{join_with_byte-slice_split}
@@ -15,7 +15,7 @@ use Rattle.lk_locks.specs.Steps.{refusal_of}
 use Rattle.lk_locks.specs.declared.kinds.Entry.{Entry}
 use Rattle.lk_locks.specs.declared.kinds.LockKind.{LockKind}
 use Rattle.lk_locks.specs.declared.kinds.Refusal.{Refusal}
-use Rattle.lk_replay.proofs.Changes.{followed_more, text_of}
+use Rattle.lk_locks.proofs.Histories.{after_append, holder_append}
 use Rattle.lk_replay.proofs.Cuts.{before_pieces, has_piece}
 use Rattle.lk_replay.proofs.LastLines.{split_append}
 use Rattle.lk_replay.specs.Ending.{ending_of, ending_of_line, last_of}
@@ -30,11 +30,17 @@ use Rattle.lk_replay.specs.Report.{replay_text, state_text}
 use Rattle.lk_replay.specs.Schedule.{Plan}
 use Rattle.lk_replay.specs.declared.schedule.Line.{Line}
 
+-- what is followed of a history that grows
+followed_more : (kind : LockKind) (es new : List Entry)
+    → followed_by (following kind es) new ≡ following kind (es ++ new)
+followed_more kind es new = rw (after_append (nobody kind) es new, holder_append None es new) refl
+
 -- the lines, and then the last line
 lines_are : (kind : LockKind) (count : ℕ) (es : List Entry) (ms : List Made)
     (refused : Option (ℕ × Refusal))
     → lines_from (following kind es) count ms ++ last_line (count + length ms) refused
     ≡ lines_text kind count es ms refused
+unfolding state_text
 lines_are kind count es [] refused = ap (λ (k : ℕ). last_line k refused) (omega arith)
 lines_are kind count es (m ∷ ms) refused =
     let new : List Entry = es ++ m.entries in
@@ -43,8 +49,6 @@ lines_are kind count es (m ∷ ms) refused =
     let last : List ℕ = last_line (count + length (m ∷ ms)) refused in
     ap (λ (f : Following). ((move_text (count + 1) m.accepted ++ followed_text f)
     ++ lines_from f (count + 1) ms) ++ last) (followed_more kind es m.entries)
-    ∙ ap (λ (ys : List ℕ). ((move_text (count + 1) m.accepted ++ ys) ++ rest) ++ last)
-    (text_of kind new)
     ∙ append_assoc line rest last
     ∙ ap (λ (k : ℕ). line ++ (rest ++ last_line k refused)) (omega arith)
     ∙ ap (λ (ys : List ℕ). line ++ ys) (lines_are kind (count + 1) new ms refused)
@@ -69,10 +73,6 @@ tracked_start p few narrow =
           (λ i low. get_or-replicate n i 0 0 (omega (arith, size, low))),
     )
 
-pub tracked_new : (p : Plan) (f : Following) (s : State) → f ≡ following p.kind [] → s ≡ start_of p
-    → IsTracked (start_of p) (nobody p.kind) → IsTracked s f.sequential
-tracked_new p f s follows starts tracked = rw (follows, starts) tracked
-
 stops : (r : Option Refusal) (number : ℕ) (m : Made) (rest : Replay)
     → length (refused_or r number (with_move m rest)).made ≡ 0
     → (refused_or r number (with_move m rest)).refused ≡ option_map {U = ℕ × Refusal}
@@ -93,20 +93,6 @@ pub last_is : (s : State) (i count : ℕ) (ls : List Line) (refused : Option (�
 last_is s i count ls refused none counted is =
     ap (last_line i) (is ∙ sym (none_left s ls none))
     ∙ ap (λ (k : ℕ). last_line k (replay_from s ls).refused) (omega (arith, none, counted))
-
--- the next line, and then the rest
-pub next_parts : (whole done lines line rest last same : List ℕ) → lines ≡ line ++ rest
-    → same ≡ last → done ++ (lines ++ last) ≡ whole
-    → done ++ (line ++ (rest ++ same)) ≡ whole
-next_parts whole done lines line rest last same is kept parts =
-    rw kept (sym (ap (λ (ys : List ℕ). done ++ ys) (ap (λ (ys : List ℕ). ys ++ last) is
-    ∙ append_assoc line rest last)) ∙ parts)
-
--- no line is left but the last
-pub last_part : (whole done lines last : List ℕ) → lines ≡ [] → done ++ (lines ++ last) ≡ whole
-    → done ++ (last ++ []) ≡ whole
-last_part whole done lines last none parts = ap (λ (ys : List ℕ). done ++ ys) (append-nil last
-    ∙ sym (ap (λ (ys : List ℕ). ys ++ last) none)) ∙ parts
 
 -- ---- how the report ends
 
@@ -146,13 +132,10 @@ ending_after_line : (line text : List ℕ) → 0 < length text → ending_of ((l
     ≡ ending_of text
 unfolding ending_of lines_of
 ending_after_line line text some =
-    ap (λ (xs : List ℕ). ending_of_line (last_of (without_empty_end (slice_split is_line_feed xs))))
-    (append_assoc line (10 ∷ []) text)
-    ∙ ap (λ (ps : List (List ℕ)). ending_of_line (last_of (without_empty_end ps)))
-    (split_append is_line_feed line 10 text refl)
-    ∙ ap ending_of_line (last_of_others (slice_split is_line_feed line)
+    rw (append_assoc line (10 ∷ []) text, split_append is_line_feed line 10 text refl)
+    (ap ending_of_line (last_of_others (slice_split is_line_feed line)
     (slice_split is_line_feed text) (has_piece is_line_feed text)
-    (one_piece text (slice_split is_line_feed text) some refl))
+    (one_piece text (slice_split is_line_feed text) some refl)))
 
 pub ending_after_lines : (f : Following) (count : ℕ) (ms : List Made) (text : List ℕ)
     → 0 < length text → ending_of (lines_from f count ms ++ text) ≡ ending_of text
@@ -174,12 +157,3 @@ ending_after_lines f count (m ∷ ms) text some =
 pub last_some : (count : ℕ) (refused : Option (ℕ × Refusal)) → 0 < length (last_line count refused)
 last_some count None = omega arith
 last_some count (Some refused) = omega arith
-
--- ---- the words of a line
-
--- each word with the spaces around it
-pub words_joined : (count thread word outcome : List ℕ)
-    → (((count ++ codes " ") ++ thread) ++ (codes " " ++ word ++ codes " "))
-    ++ (outcome ++ codes " hold ")
-    ≡ count ++ codes " " ++ thread ++ codes " " ++ word ++ codes " " ++ outcome ++ codes " hold "
-words_joined count thread word outcome = simp append_assoc

@@ -20,9 +20,11 @@ same xs text rest whole small end = elim (cases_lt (length text) 1048577) [
       ∙ sym (too_long xs (omega (arith, ap length whole, length-append text rest)))
 ]
 
-pub reported : (a b : Option (List ℕ)) (text : List ℕ) (P : List ℕ → Type 0) → Consumes a b text
-    → length text ≤ 1048577 → (length text < 1048577 → IsAtEnd b) → P (report_text text)
+pub reported : (a b : Option (List ℕ)) (text given : List ℕ) (P : List ℕ → Type 0)
+    → given ≡ text → Consumes a b text → length text ≤ 1048577
+    → (length text < 1048577 → IsAtEnd b) → P (report_text given)
     → IfSome a (λ xs. P (report_text xs))
-reported None b text P taken small end h = tt
-reported (Some xs) None text P taken small end h = absurd taken
-reported (Some xs) (Some ys) text P taken small end h = subst P (same xs text ys taken small end) h
+reported None b text given P is taken small end h = tt
+reported (Some xs) None text given P is taken small end h = absurd taken
+reported (Some xs) (Some ys) text given P is taken small end h =
+    subst P (ap report_text is ∙ same xs text ys taken small end) h

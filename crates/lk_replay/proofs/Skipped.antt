@@ -1,5 +1,5 @@
 -- Lines that are skipped change nothing of what is read.
-use Rattle.std.proofs.Common.{◌≡◌, ℕ, ◌+◌, ◌<◌, List, [], ◌∷◌, ◌++◌, length, true, ◌&&◌, ◌==◌, refl}
+use Rattle.std.proofs.Common.{◌≡◌, ℕ, ◌+◌, List, [], ◌∷◌, ◌++◌, length, true, ◌==◌, refl}
 use Rattle.std.proofs.Common.{sym, ap, subst, ◌∙◌, arith, append_assoc, length-append, Result}
 use Rattle.std.specs.List.{list_all}
 use Rattle.std.proofs.lemmas.List.Folds.{list_all-append}
@@ -25,8 +25,7 @@ skips_more number next lines others rest line s first is = record {
   skipped = s.skipped ++ line ∷ [];
   parts = s.parts ∙ ap (λ os. s.skipped ++ os) first
       ∙ sym (append_assoc s.skipped (line ∷ []) rest);
-  all = list_all-append is_skipped s.skipped (line ∷ [])
-      ∙ ap (λ t. t && list_all is_skipped (line ∷ [])) s.all ∙ ap (λ t. t && true) is;
+  all = rw (list_all-append is_skipped s.skipped (line ∷ []), s.all, is) refl;
   counted = omega (arith, s.counted, length-append s.skipped (line ∷ []));
 }
 
@@ -63,9 +62,3 @@ pub skips_same : (now view : Numbered) → view ≡ now → (next : ℕ) (others
 skips_same now view is next others same s e =
     subst (λ (p : Numbered). SkipsTo p.number p.lines next same) is
     (subst (SkipsTo view.number view.lines next) e s)
-
--- fewer lines are left after the one that is read
-pub fewer : (number next : ℕ) (lines rest : List (List ℕ)) (line : List ℕ)
-    → SkipsTo number lines next (line ∷ rest) → length rest < length lines
-fewer number next lines rest line s =
-    omega (arith, ap length s.parts, length-append s.skipped (line ∷ rest))

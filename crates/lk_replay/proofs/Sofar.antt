@@ -1,10 +1,10 @@
 -- What was played, and what the rest gives.
 use Rattle.std.proofs.Common.{◌≡◌, ℕ, ◌+◌, ◌<◌, ◌≤◌, List, [], ◌∷◌, ◌++◌, map, length, Option, None}
 use Rattle.std.proofs.Common.{Some, Ok, Err, refl, ap, sym, ◌∙◌, append_assoc, append-nil, drop}
-use Rattle.std.proofs.Common.{get_or, subst, drop-cons, add-one}
+use Rattle.std.proofs.Common.{get_or}
 use Rattle.std.specs.List.{flat_map}
 use Rattle.std.proofs.Math.ListN.{length-set}
-use Rattle.std.proofs.lemmas.List.{drop_all}
+use Rattle.std.proofs.lemmas.List.{at_drop_all, at_drop_more}
 use Rattle.lk_locks.specs.Steps.{refusal_of, change_of}
 use Rattle.lk_locks.specs.Play.{RecordedLock, after_play, IsPlayAnswer}
 use Rattle.lk_locks.specs.declared.kinds.Outcome.{Outcome}
@@ -49,32 +49,7 @@ refused_with : (r : Option Refusal) (o : Outcome) (x : Refusal) → IsPlayAnswer
 refused_with None o x h = absurd h
 refused_with (Some y) o x h = ap (λ z. Some z) (sym h)
 
-was_refused : (r : Option Refusal) (o : Outcome) (x : Refusal) (f : PlayFault) → f ≡ Refused x
-    → IsPlayAnswer r o (Err f) → r ≡ Some x
-was_refused r o x f e a = refused_with r o x (subst (λ y. IsPlayAnswer r o (Err y)) e a)
-
-next_line : (ms : List Line) (i : ℕ) (d : Line) → i < length ms
-    → drop i ms ≡ get_or ms i d ∷ drop (i + 1) ms
-next_line ms i d h = drop-cons ms i d h ∙ rw add-one refl
-
 -- one move more
-moved : (k : RecordedLock) (l : Line) (ls : List Line) (acc : List Accepted) (p : Outcome)
-    → IsPlayAnswer (refusal_of k.state l.thread l.action)
-    (change_of k.state l.thread l.action).outcome (Ok p)
-    → after (after_play k l.thread l.action) (acc ++ accepted_of l p ∷ [])
-    (replay_from (after_play k l.thread l.action).state ls)
-    ≡ after k acc (replay_from k.state (l ∷ ls))
-moved k l ls acc p h =
-    let a = was_accepted _ _ _ h in
-    rw (
-      a.0,
-      a.1,
-      length-set k.state.phases l.thread (change_of k.state l.thread l.action).phase,
-      append_assoc acc,
-      append_assoc k.entries,
-    )
-    refl
-
 pub shown_moved : (acc new : List Accepted) (to : Replayed) (k m : RecordedLock) (ms : List Line)
     (i : ℕ) (d : Line) (p : Outcome) → i < length ms
     → IsPlayAnswer (refusal_of k.state (get_or ms i d).thread (get_or ms i d).action)
@@ -84,15 +59,20 @@ pub shown_moved : (acc new : List Accepted) (to : Replayed) (k m : RecordedLock)
     → after k acc (replay_from k.state (drop i ms)) ≡ to
     → after m new (replay_from m.state (drop (i + 1) ms)) ≡ to
 shown_moved acc new to k m ms i d p h a e g w =
-    rw (g, e) (moved k (get_or ms i d) (drop (i + 1) ms) acc p a ∙ ap (λ xs.
-    after k acc (replay_from k.state xs)) (sym (next_line ms i d h)) ∙ w)
+    let l = get_or ms i d in
+    let accepted = was_accepted _ _ _ a in
+    let next = at_drop_more (λ (ls : List Line). after k acc (replay_from k.state ls)) ms i d h in
+    rw (
+      g,
+      e,
+      accepted.1,
+      length-set k.state.phases l.thread (change_of k.state l.thread l.action).phase,
+      append_assoc acc,
+      append_assoc k.entries,
+    )
+    (rw accepted.0 at (sym next ∙ w))
 
 -- a refused move
-stop : (k : RecordedLock) (l : Line) (ls : List Line) (acc : List Accepted) (x : Refusal)
-    → refusal_of k.state l.thread l.action ≡ Some x
-    → so_far k acc (Some (l.number, x)) ≡ after k acc (replay_from k.state (l ∷ ls))
-stop k l ls acc x h = rw (h, append-nil acc, append-nil k.entries) refl
-
 pub shown_stopped : (acc : List Accepted) (to : Replayed) (k m : RecordedLock) (ms : List Line)
     (i : ℕ) (d : Line) (x y : Refusal) (f : PlayFault) → i < length ms
     → IsPlayAnswer (refusal_of k.state (get_or ms i d).thread (get_or ms i d).action)
@@ -101,12 +81,13 @@ pub shown_stopped : (acc : List Accepted) (to : Replayed) (k m : RecordedLock) (
     → after k acc (replay_from k.state (drop i ms)) ≡ to
     → so_far m acc (Some ((get_or ms i d).number, y)) ≡ to
 shown_stopped acc to k m ms i d x y f h a e u g w =
-    rw (u, g) (stop k (get_or ms i d) (drop (i + 1) ms) acc x (was_refused _ _ _ _ e a)
-    ∙ ap (λ xs. after k acc (replay_from k.state xs)) (sym (next_line ms i d h)) ∙ w)
+    let refused = refused_with _ _ _ (rw e at a) in
+    let next = at_drop_more (λ (ls : List Line). after k acc (replay_from k.state ls)) ms i d h in
+    rw (u, g) (rw (refused, append-nil acc, append-nil k.entries) at (sym next ∙ w))
 
 -- all moves were played
 pub shown_ended : (acc : List Accepted) (to : Replayed) (k : RecordedLock) (ms : List Line) (i : ℕ)
     → length ms ≤ i → after k acc (replay_from k.state (drop i ms)) ≡ to → so_far k acc None ≡ to
 shown_ended acc to k ms i all w =
     rw (← append-nil acc, ← append-nil k.entries)
-    (ap (λ xs. after k acc (replay_from k.state xs)) (sym (drop_all i ms all)) ∙ w)
+    (sym (at_drop_all (λ (ls : List Line). after k acc (replay_from k.state ls)) ms i all) ∙ w)

@@ -26,11 +26,8 @@ followed_by f es = record {
 
 -- of a lock of this kind after these entries
 abbrev pub following : LockKind → List Entry → Following
-following kind es = record {
-  kind = kind;
-  sequential = after_entries (nobody kind) es;
-  holder = holder_after None es;
-}
+following kind es =
+    followed_by (record { kind = kind; sequential = nobody kind; holder = None }) es
 
 -- the end of a report's line
 abbrev pub followed_text : Following → List ℕ

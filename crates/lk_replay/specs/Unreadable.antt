@@ -1,7 +1,6 @@
 -- Definitions: the first place of a line at which something else is expected. This project's own.
 use Rattle.std.specs.Prelude.{ℕ, ◌+◌, List, [], ◌∷◌, Option, Some, None, Bool, true, false, is_some}
 use Rattle.std.specs.Prelude.{if◌then◌else◌, codes, length, Result, Ok, Err}
-use Rattle.std.specs.Option.{option_map_or}
 use Rattle.std.specs.Str.{bytes_eq}
 use Rattle.lk_replay.specs.Faults.{Fault, WordsTooNarrow}
 use Rattle.lk_replay.specs.Header.{Header}
@@ -10,7 +9,6 @@ use Rattle.lk_replay.specs.declared.unreadable.Expected.{Expected}
 use Rattle.lk_replay.specs.declared.unreadable.Expected.TheVariants.{Lock, Name, Threads, Count}
 use Rattle.lk_replay.specs.declared.unreadable.Expected.TheVariants.{Bits, Width, Thread, Action}
 use Rattle.lk_replay.specs.declared.unreadable.Expected.TheVariants.{End}
-use Rattle.lk_replay.specs.declared.unreadable.Unreadable.{Unreadable}
 
 -- whether a word may be here
 abbrev pub may_be : Expected → List ℕ → Bool
@@ -51,20 +49,11 @@ IsHeader (Ok header) = Unit {0}
 IsHeader (Err (WordsTooNarrow number)) = Unit {0}
 IsHeader (Err fault) = ⊥
 
--- The column and what is due there, by what may come after a word and whether the line may end
--- instead: at the end of a line, or at a word that may not be here.
-abbrev pub stop_from : {A : Type 0} → (A → List ℕ → Option A) → (A → Bool) → ℕ → A → List (List ℕ)
-    → Option (ℕ × A)
-stop_from next ends column due [] = if ends due then None else Some (column, due)
-stop_from next ends column due (word ∷ words) =
-    option_map_or (λ after. stop_from next ends (column + length word + 1) after words)
-    (next due word) (Some (column, due))
-
--- the same of a header or a move; each word is one space from the next
-abbrev pub unreadable_from : ℕ → Expected → List (List ℕ) → Option Unreadable
-unreadable_from column expected [] =
-    if may_end expected then None else Some (record { column = column; expected = expected })
+-- The column and what is due there: at the end of a line, or at a word that may not be here. Each
+-- word is one space from the next.
+abbrev pub unreadable_from : ℕ → Expected → List (List ℕ) → Option (ℕ × Expected)
+unreadable_from column expected [] = if may_end expected then None else Some (column, expected)
 unreadable_from column expected (word ∷ words) =
     if may_be expected word
     then unreadable_from (column + length word + 1) (next_of expected) words
-    else Some (record { column = column; expected = expected })
+    else Some (column, expected)

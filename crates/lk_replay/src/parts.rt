@@ -5,9 +5,7 @@
 pub use crate::header::{Header, header_of};
 pub use crate::lines::{Lines, cut_line, cut_word, is_skipped};
 pub use crate::status::Status;
-pub use crate::unreadable::{
-    Expected, Grammar, Unreadable, stop_of, unreadable_header, unreadable_move,
-};
+pub use crate::unreadable::{Expected, unreadable_header, unreadable_move};
 pub use crate::vocabulary::{
     LOCK_NAMES, MOVE_WORDS, OUTCOME_WORDS, lock_named, lock_text, move_named, move_text, number_of,
     outcome_named, outcome_text, whole_number,

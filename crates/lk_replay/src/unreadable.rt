@@ -2,12 +2,11 @@
 //! its writer needs. Whether a line is a header or a move, `header_of` and `move_of` say; this goes
 //! along with them word by word.
 
-ghost use Rattle.std.specs.Prelude.{◌≡◌, IsSome, IsNone, ◌↔◌, ℕ, List, Option, Bool};
+ghost use Rattle.std.specs.Prelude.{◌≡◌, IsSome, IsNone, ◌↔◌, ℕ};
 ghost use Rattle.lk_replay.specs.Header.{header_of};
 ghost use Rattle.lk_replay.specs.Lines.{words_of};
 ghost use Rattle.lk_replay.specs.Schedule.{move_of};
-ghost use Rattle.lk_replay.specs.Unreadable.{IsHeader, after_word, may_end, stop_from};
-ghost use Rattle.lk_replay.specs.Unreadable.{unreadable_from};
+ghost use Rattle.lk_replay.specs.Unreadable.{IsHeader, after_word, may_end, unreadable_from};
 ghost use Rattle.lk_replay.specs.declared.unreadable.Expected.TheVariants.{Lock, Thread};
 
 use crate::lines::cut_at;
@@ -37,39 +36,12 @@ pub enum Expected {
     End,
 }
 
-/// The first place of a line at which something else is expected.
-#[derive(Clone, Copy, PartialEq, Eq, Debug, Error)]
-#[error("column {column}: expected {expected}")]
-pub struct Unreadable {
-    /// Where the word begins, in bytes from 1, or the place at which one is missing.
-    pub column: usize,
-    pub expected: Expected,
-}
-
-/// What may come next in a line, word by word.
-pub trait Grammar: Copy {
-    /// What may come after a word.
-    ghost next: { Self → List ℕ → Option Self };
-
-    /// Whether the line may end.
-    ghost ends: { Self → Bool };
-
+impl Expected {
     /// What may come after this word, or none if it may not be here.
-    fn after(self, word: &[u8]) -> Option<Self>
-        ensures { result ≡ next self word.now };
-
-    /// Whether the line may end here.
-    fn may_end(self) -> bool
-        ensures { result ≡ ends self };
-}
-
-impl Grammar for Expected {
-    ghost next = { after_word };
-
-    ghost ends = { may_end };
-
     #[tactic(auto, unfolding(crate::specs::Unreadable::after_word))]
-    fn after(self, word: &[u8]) -> Option<Expected> {
+    pub fn after(self, word: &[u8]) -> Option<Expected>
+        ensures { result ≡ after_word self word.now }
+    {
         let (is_here, next) = match self {
             Expected::Lock => (word == b"lock".as_slice(), Expected::Name),
             Expected::Name => (lock_named(word).is_some(), Expected::Threads),
@@ -84,29 +56,32 @@ impl Grammar for Expected {
         if is_here { Some(next) } else { None }
     }
 
-    fn may_end(self) -> bool {
+    /// Whether the line may end here.
+    pub fn may_end(self) -> bool
+        ensures { result ≡ may_end self }
+    {
         matches!(self, Expected::Bits | Expected::End)
     }
 }
 
-/// Goes along a line, from what its first word may be: the column, from 1, at which something else
-/// is there, and what could be.
-pub fn stop_of<G: Grammar>(line: &[u8], first: G) -> Option<(usize, G)>
-    ensures { result ≡ stop_from G.next G.ends 1 first (words_of line.now) }
+// Goes along a line, from what its first word may be: the column, in bytes from 1, at which a word
+// begins that may not be there or one is missing, and what could be there.
+fn unreadable_from(line: &[u8], first: Expected) -> Option<(usize, Expected)>
+    ensures { result ≡ unreadable_from 1 first (words_of line.now) }
 {
     let mut rest = line;
     let mut column: usize = 1;
-    let mut due = first;
+    let mut expected = first;
     while let Some((word, after)) = cut_at(rest, b' ') {
-        let Some(next) = due.after(word) else {
-            return Some((column, due));
+        let Some(next) = expected.after(word) else {
+            return Some((column, expected));
         };
         column += word.len() + 1;
         rest = after;
-        due = next;
+        expected = next;
     }
-    let Some(next) = due.after(rest) else {
-        return Some((column, due));
+    let Some(next) = expected.after(rest) else {
+        return Some((column, expected));
     };
     if next.may_end() {
         return None;
@@ -114,17 +89,9 @@ pub fn stop_of<G: Grammar>(line: &[u8], first: G) -> Option<(usize, G)>
     Some((column + rest.len() + 1, next))
 }
 
-// The same of a line of a schedule.
-fn unreadable_from(line: &[u8], first: Expected) -> Option<Unreadable>
-    ensures { result ≡ unreadable_from 1 first (words_of line.now) }
-{
-    let (column, expected) = stop_of(line, first)?;
-    Some(Unreadable { column, expected })
-}
-
 /// Where a line stops being a header. Of a header whose words are too narrow for its threads there
 /// is no such place.
-pub fn unreadable_header(line: &[u8]) -> Option<Unreadable>
+pub fn unreadable_header(line: &[u8]) -> Option<(usize, Expected)>
     ensures place { result ≡ unreadable_from 1 Lock (words_of line.now) }
     ensures none { (number : ℕ) → IsNone result ↔ IsHeader (header_of number line.now) }
 {
@@ -132,7 +99,7 @@ pub fn unreadable_header(line: &[u8]) -> Option<Unreadable>
 }
 
 /// Where a line stops being a move.
-pub fn unreadable_move(line: &[u8]) -> Option<Unreadable>
+pub fn unreadable_move(line: &[u8]) -> Option<(usize, Expected)>
     ensures place { result ≡ unreadable_from 1 Thread (words_of line.now) }
     ensures none { IsNone result ↔ IsSome (move_of line.now) }
 {

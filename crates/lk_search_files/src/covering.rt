@@ -6,8 +6,9 @@ ghost use Rattle.lk_search_files.specs.Statuses.{number_of};
 use crate::faults::put_unread;
 use crate::listing::{Format, put_coverage, put_missing};
 use lk_locks::LockKind;
+use lk_replay::parts::move_text;
 use lk_search::{Coverage, LOCKS, Observed};
-use lk_trace::{Event, Made, TextFault, TraceLine, TraceReader};
+use lk_trace::{Difference, Event, Made, TextFault, TraceLine, TraceReader};
 use lk_trace_files::{Status, Summary, take_lines};
 use std::alloc::{AllocError, Global};
 use std::fmt::Write;
@@ -90,8 +91,13 @@ fn take_line(
             note_move(coverages, summary, trace, line, made);
             Ok(None)
         }
-        Event::Differs(_, difference) => {
-            writeln!(errors, "{name}:{number}: refused: {difference}")?;
+        Event::Differs(line, difference) => {
+            if let Difference::Refused(_) = difference {
+                writeln!(errors, "{name}:{number}: refused: {difference}")?;
+            } else {
+                let step = move_text(line.action);
+                writeln!(errors, "{name}:{number}: refused: {step} {difference}")?;
+            }
             Ok(Some(Status::Refused))
         }
         Event::Fault(fault) => {
@@ -99,21 +105,6 @@ fn take_line(
             Ok(Some(Status::Faulty))
         }
     }
-}
-
-// The end of a trace after its last line.
-fn end_of(
-    trace: &TraceReader,
-    name: &str,
-    number: u64,
-    errors: &mut String,
-) -> Result<Status, AllocError> {
-    if trace.checker().is_some() {
-        return Ok(Status::Accepted);
-    }
-    let fault = TextFault::NoHeader;
-    writeln!(errors, "{name}:{number}: {fault}")?;
-    Ok(Status::Faulty)
 }
 
 // Reads a trace up to its end, or up to a line that ends it.
@@ -131,7 +122,12 @@ fn take_trace<R: Read + Drop>(
     })?;
     note_end(coverages, &summary, &trace);
     match ended {
-        Ok(None) => end_of(&trace, name, number, errors),
+        Ok(None) if trace.checker().is_some() => Ok(Status::Accepted),
+        Ok(None) => {
+            let fault = TextFault::NoHeader;
+            writeln!(errors, "{name}:{number}: {fault}")?;
+            Ok(Status::Faulty)
+        }
         Ok(Some(status)) => Ok(status),
         Err(error) => put_unread(errors, name, error),
     }
@@ -182,13 +178,8 @@ pub fn cover_traces<R: Runtime>(
         let status = take_file(rt, alloc, name, coverages.as_mut_slice(), errors)?;
         worst = worse(worst, status);
     }
-    put_coverage(text, job.format, coverages.as_slice())?;
-    if put_missing(
-        errors,
-        coverages.as_slice(),
-        job.all,
-        job.required.as_slice(),
-    )? {
+    put_coverage(text, job.format, &coverages)?;
+    if put_missing(errors, &coverages, job.all, &job.required)? {
         worst = worse(worst, Status::Refused);
     }
     Ok(worst)

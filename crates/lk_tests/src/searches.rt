@@ -4,22 +4,27 @@
 
 use crate::refusing::{MOST_REQUESTS, met_none, refuse, was_refused};
 use lk_locks::LockKind;
-use lk_search::{Bounds, SearchFault, Space, TourFault, tour};
+use lk_search::{Bounds, Heap, Lent, NewLock, SearchFault, Space, TourFault, tour};
+use std::alloc::Global;
 
-// The row of a ticket lock with two threads has 10 cells.
+// A row of it has 10 cells.
+fn ticket_lock() -> NewLock {
+    NewLock {
+        kind: LockKind::Ticket,
+        threads: 2,
+        bits: 64,
+    }
+}
+
+fn explored(alloc: Global) -> Result<Space<'static, Heap>, SearchFault> {
+    Space::explore(Heap::new(alloc)?, ticket_lock(), Bounds::new(1, &[]), 41)
+}
+
 #[test]
 fn states_in_lent_memory(rt: HostRuntime) {
     let (mut cells, mut slots) = ([0; 410], [0; 82]);
-    let bounds = Bounds::new(1, &[]);
-    match Space::explore_in(
-        &mut cells,
-        &mut slots,
-        LockKind::Ticket,
-        2,
-        64,
-        bounds,
-        1000,
-    ) {
+    let store = Lent::new(&mut cells, &mut slots);
+    match Space::explore(store, ticket_lock(), Bounds::new(1, &[]), 1000) {
         Ok(space) => assert_eq!(&rt; space.states(), 41),
         Err(fault) => assert!(&rt; false, "{fault}"),
     }
@@ -28,18 +33,10 @@ fn states_in_lent_memory(rt: HostRuntime) {
 #[test]
 fn lent_memory_is_too_small_by_a_cell(rt: HostRuntime) {
     let (mut cells, mut slots) = ([0; 409], [0; 82]);
-    let bounds = Bounds::new(1, &[]);
-    match Space::explore_in(
-        &mut cells,
-        &mut slots,
-        LockKind::Ticket,
-        2,
-        64,
-        bounds,
-        1000,
-    ) {
-        Err(SearchFault::TooLarge { states }) => assert_eq!(&rt; states, 41),
-        _ => assert!(&rt; false, "there are more rows than fit"),
+    let store = Lent::new(&mut cells, &mut slots);
+    match Space::explore(store, ticket_lock(), Bounds::new(1, &[]), 1000) {
+        Err(fault) => assert_eq!(&rt; fault, SearchFault::OutOfMemory),
+        Ok(_) => assert!(&rt; false, "there are more rows than fit"),
     }
 }
 
@@ -48,7 +45,7 @@ fn each_request_refused_in_a_search(rt: HostRuntime) {
     let alloc = rt.alloc();
     for number in 1..MOST_REQUESTS {
         refuse(alloc, number);
-        let found = Space::explore(alloc, LockKind::Ticket, 2, 64, Bounds::new(1, &[]), 41);
+        let found = explored(alloc);
         let refused = was_refused(alloc);
         match found {
             Ok(space) => assert_eq!(rt; space.states(), 41),
@@ -64,8 +61,7 @@ fn each_request_refused_in_a_search(rt: HostRuntime) {
 #[test]
 fn each_request_refused_in_a_tour(rt: HostRuntime) {
     let alloc = rt.alloc();
-    let bounds = Bounds::new(1, &[]);
-    let Ok(space) = Space::explore(alloc, LockKind::Ticket, 2, 64, bounds, 41) else {
+    let Ok(space) = explored(alloc) else {
         return assert!(rt; false, "41 states");
     };
     for number in 1..MOST_REQUESTS {

@@ -34,17 +34,15 @@ use Rattle.lk_trace.specs.Names.{name_at, same_word}
 use Rattle.lk_trace.proofs.Naming.{has_values}
 use Rattle.lk_words.specs.declared.operation.Effect.{Effect}
 use Rattle.lk_trace.specs.declared.names.WordName.{WordName}
-use Rattle.lk_trace.specs.declared.names.WordName.TheVariants.{NextTicket, NowServing, Tail, Next}
-use Rattle.lk_trace.specs.declared.names.WordName.TheVariants.{Locked, Readers, Flag, ReadAcquires}
-use Rattle.lk_trace.specs.declared.names.WordName.TheVariants.{ReadReleases}
+use Rattle.lk_trace.specs.declared.names.WordName.TheVariants.{Next, Locked}
 use Rattle.lk_trace.specs.declared.difference.Difference.{Difference}
 use Rattle.lk_trace.specs.declared.difference.Difference.TheVariants.{Refused}
 
 -- of two checks, one after the other, neither finds a difference
-both_agree : {P Q : Type 0} (a b : Option Difference) → (a ≡ None ↔ P) → (b ≡ None ↔ Q)
+both_agree : {P Q : Type 0} (a b : Option Difference) → (a ≡ None ↔ P) → (P → (b ≡ None ↔ Q))
     → (option_or a b ≡ None ↔ P × Q)
 both_agree None b first second =
-    (λ none. (first.0 refl, second.0 none), λ both. second.1 both.1)
+    let p = first.0 refl in (λ none. (p, (second p).0 none), λ both. (second both.0).1 both.1)
 both_agree (Some d) b first second = (λ none. cc, λ both. first.1 both.0)
 
 holds : (test : Bool) (d : Difference) → (if test then None else Some d) ≡ None → test ≡ true
@@ -63,27 +61,14 @@ part_agrees agrees other P (Some v) decides = (
 
 -- names
 same_name : (a b : WordName) → same_word a b ≡ true → a ≡ b
-same_name NextTicket NextTicket same = refl
-same_name NowServing NowServing same = refl
-same_name Tail Tail same = refl
 same_name (Next i) (Next j) same = ap Next (eqb-true i j same)
 same_name (Locked i) (Locked j) same = ap Locked (eqb-true i j same)
-same_name Readers Readers same = refl
-same_name Flag Flag same = refl
-same_name ReadAcquires ReadAcquires same = refl
-same_name ReadReleases ReadReleases same = refl
-same_name a b same = cc
+same_name a b same = grind (arith)
 
 its_name : (a : WordName) → same_word a a ≡ true
-its_name NextTicket = refl
-its_name NowServing = refl
-its_name Tail = refl
 its_name (Next i) = eq-eqb i i refl
 its_name (Locked i) = eq-eqb i i refl
-its_name Readers = refl
-its_name Flag = refl
-its_name ReadAcquires = refl
-its_name ReadReleases = refl
+its_name a = refl
 
 named : (word : Option WordName) (given : WordName) → is_word word given ≡ true → word ≡ Some given
 named None given is = cc
@@ -97,15 +82,17 @@ name_agrees word given = (
       ∙ cond-true (same_word given given) _ _ (its_name given),
 )
 
--- what the line saw of a word that has these values
-values_agree : (word : WordName) (v w : ℕ) (found left : Option ℕ) (wrote : Option Bool)
-    → (values_other word v w found left wrote ≡ None
-    ↔ IfSome found (λ x. v ≡ x) × (IfSome left (λ x. w ≡ x)
-    × IfSome wrote (λ x. not (v == w) ≡ x)))
-values_agree word v w found left wrote =
-    both_agree _ _ (part_agrees _ _ _ found (Decides-eqb v))
-    (both_agree _ _ (part_agrees _ _ _ left (Decides-eqb w))
-    (part_agrees _ _ _ wrote (booleans_Decides (not (v == w)))))
+-- what the line saw of a word that has these values, which its effect says
+values_agree : (word : WordName) (v w x y : ℕ) (found left : Option ℕ) (wrote : Option Bool)
+    → v ≡ x → w ≡ y
+    → (values_other word x y found left wrote ≡ None
+    ↔ IfSome found (λ n. v ≡ n) × (IfSome left (λ n. w ≡ n)
+    × IfSome wrote (λ b. not (v == w) ≡ b)))
+values_agree word v w x y found left wrote before after =
+    rw (← before, ← after)
+    (both_agree _ _ (part_agrees _ _ _ found (Decides-eqb v))
+    (λ _. both_agree _ _ (part_agrees _ _ _ left (Decides-eqb w))
+    (λ _. part_agrees _ _ _ wrote (booleans_Decides (not (v == w))))))
 
 word_agrees : (s : State) (t : ℕ) (m : Move) (word : WordName) (found left : Option ℕ)
     (wrote : Option Bool) (effect : Option Effect) → effect_of s t m ≡ effect
@@ -119,29 +106,19 @@ word_agrees s t m word found left wrote None is within = (
 )
 word_agrees s t m word found left wrote (Some e) is within =
     let both = both_agree _ _ (name_agrees (name_at s.kind e.word) word)
-    (values_agree word e.found e.left found left wrote) in (
+    (λ named. let stood = has_values s t m word e is within named in
+    values_agree word _ _ _ _ found left wrote stood.found stood.left) in (
       λ none.
           let parts = both.0 none in
-          let stood = has_values s t m word e is within parts.0 in
           record {
             on_word = ap (name_of s.kind) is ∙ parts.0;
-            found_is = rw stood.found parts.1.0;
-            left_is = rw stood.left parts.1.1.0;
-            wrote_is = rw (stood.found, stood.left) parts.1.1.1;
+            found_is = parts.1.0;
+            left_is = parts.1.1.0;
+            wrote_is = parts.1.1.1;
           },
       λ agrees.
           let named = ap (name_of s.kind) (sym is) ∙ agrees.on_word in
-          let stood = has_values s t m word e is within named in
-          both.1 (
-            named,
-            (
-              rw (← stood.found) agrees.found_is,
-              (
-                rw (← stood.left) agrees.left_is,
-                rw (← stood.found, ← stood.left) agrees.wrote_is,
-              ),
-            ),
-          ),
+          both.1 (named, (agrees.found_is, (agrees.left_is, agrees.wrote_is))),
     )
 
 of_operation : (s : State) (t : ℕ) (o : Option Operation) → WellFormed s → t < length s.phases
@@ -166,15 +143,13 @@ seen_agrees c t m (OnWord word found left wrote) within =
     word_agrees c.lock.state t m word found left wrote (effect_of c.lock.state t m) refl within
 seen_agrees c t m (InSection count outcome) within =
     let both = both_agree _ _ (part_agrees _ _ _ count (Decides-ltb c.sections))
-    (part_agrees _ _ _ outcome (λ o. (same_true the_type tt _ o, true_same the_type _ o))) in (
+    (λ _. part_agrees _ _ _ outcome
+    (λ o. (same_true the_type tt _ o, true_same the_type _ o))) in (
       λ none. record { count_is = (both.0 none).0; outcome_is = (both.0 none).1 },
       λ agrees. both.1 (agrees.count_is, agrees.outcome_is),
     )
 
 -- a line, on a lock that is well formed
-thread_in : (s : State) (t : ℕ) (m : Move) → refusal_of s t m ≡ None → t < length s.phases
-thread_in s t m accepted = (accepted_of s t m accepted).thread
-
 line_agrees : (c : Checked) (l : TraceLine) (r : Option Refusal)
     → refusal_of c.lock.state l.thread l.action ≡ r
     → (r ≡ None → IsWithin c.lock.state l.thread l.action)
@@ -197,7 +172,7 @@ well_agreeing : (c : Checked) (l : TraceLine) → WellFormed c.lock.state
     → (difference_of c l ≡ None ↔ Agrees c l)
 well_agreeing c l w =
     agreeing c l (λ accepted. effect_within c.lock.state l.thread l.action w
-    (thread_in c.lock.state l.thread l.action accepted))
+    (accepted_of c.lock.state l.thread l.action accepted).thread)
 
 pub agrees : (c : Checked) (l : TraceLine) → WellFormed c.lock.state → difference_of c l ≡ None
     → Agrees c l
@@ -224,7 +199,5 @@ stays_well c l w accepted =
 
 -- a count that a line gives is the last one afterwards
 pub counted : (last : ℕ) (seen : Seen) → IsCounted last (count_in seen) (count_given last seen)
-counted last Nothing = record { given_is = tt; stays = λ _. refl }
-counted last (OnWord word found left wrote) = record { given_is = tt; stays = λ _. refl }
-counted last (InSection None outcome) = record { given_is = tt; stays = λ _. refl }
 counted last (InSection (Some n) outcome) = record { given_is = refl; stays = λ e. cc }
+counted last seen = record { given_is = tt; stays = λ _. refl }

@@ -5,19 +5,10 @@ use Rattle.lk_replay.specs.Faults.{Fault}
 use Rattle.lk_replay.specs.Reads.{Fails}
 use Rattle.lk_replay.specs.Reading.{IsOfText}
 use Rattle.lk_replay.specs.declared.schedule.ReadFault.{ReadFault}
-use Rattle.lk_replay.specs.declared.schedule.ReadFault.TheVariants.{TooLong, NoHeader, BadHeader}
-use Rattle.lk_replay.specs.declared.schedule.ReadFault.TheVariants.{BadThreads, BadLine}
-use Rattle.lk_replay.specs.declared.schedule.ReadFault.TheVariants.{TooManyMoves, WordsTooNarrow}
 use Rattle.lk_replay.specs.declared.schedule.ReadFault.TheVariants.{OutOfMemory}
 use Rattle.lk_trace.specs.Traces.{fault_named, header_read}
 
 pub header_fails : (fault : ReadFault) (read : Result Header Fault) → IsOfText fault
     → Fails fault read → Err (fault_named fault) ≡ header_read read
-header_fails TooLong read some fails = sym (ap header_read fails)
-header_fails (NoHeader n) read some fails = sym (ap header_read fails)
-header_fails (BadHeader n) read some fails = sym (ap header_read fails)
-header_fails (BadThreads n) read some fails = sym (ap header_read fails)
-header_fails (BadLine n) read some fails = sym (ap header_read fails)
-header_fails (TooManyMoves n) read some fails = sym (ap header_read fails)
-header_fails (WordsTooNarrow n) read some fails = sym (ap header_read fails)
 header_fails OutOfMemory read some fails = absurd some
+header_fails fault read some fails = sym (ap header_read fails)

@@ -1,6 +1,5 @@
-mod Own
 mod HeaderFaults
 mod Naming
 pub mod Agreeing
-mod Readable
-mod OpenLines
+mod Widths
+mod Stops

@@ -1,15 +1,14 @@
 -- A word's name leads back to its place, and the words of a name have the values that its step's
 -- effect says.
-use Rattle.std.proofs.Common.{List, None, Option, Some, ap, arith, inl, inr, length, option_map}
-use Rattle.std.proofs.Common.{refl, slice_index, subst, sym, ℕ, ◌∙◌, ◌%◌, ◌<◌, ◌≡◌, nat_lt}
-use Rattle.std.proofs.lemmas.Bool.Decides.{eqb_tells}
+use Rattle.std.proofs.Common.{List, None, Option, Some, ap, arith, length, option_map, refl}
+use Rattle.std.proofs.Common.{slice_index, subst, sym, ℕ, ◌∙◌, ◌<◌, ◌≡◌}
+use Rattle.std.proofs.lemmas.Bool.Decides.{nat_tests}
 use Rattle.std.proofs.lemmas.List.{get_or-set_same}
 use Rattle.lk_words.proofs.Operations.{one_word}
 use Rattle.lk_words.specs.Operations.{effect_on, word_of}
 use Rattle.lk_words.specs.declared.operation.Effect.{Effect}
 use Rattle.lk_words.specs.declared.operation.Operation.{Operation}
 use Rattle.lk_locks.proofs.OneOperation.{step_words}
-use Rattle.lk_locks.proofs.Threads.{true_or_false}
 use Rattle.lk_locks.specs.Locks.{operation_of, step_of}
 use Rattle.lk_locks.specs.State.{State, phase_at}
 use Rattle.lk_locks.specs.declared.kinds.LockKind.{LockKind}
@@ -27,40 +26,10 @@ place_or kind place None = place
 place_or kind place (Some word) = place_of kind word
 
 led_back : (kind : LockKind) (place : ℕ) → place_or kind place (name_at kind place) ≡ place
-led_back Ticket place = elim (eqb_tells place 0) [
-  | inl d ↦ rw d.0 (sym d.1)
-  | inr d ↦ rw d.0 (elim (eqb_tells place 1) [
-    | inl g ↦ rw g.0 (sym g.1)
-    | inr g ↦ rw g.0 refl
-  ])
-]
-led_back Mcs place = elim (eqb_tells place 0) [
-  | inl d ↦ rw d.0 (sym d.1)
-  | inr d ↦ rw d.0 (elim (true_or_false (nat_lt 128 place)) [
-    | inl g ↦ rw g refl
-    | inr g ↦ rw g (elim (eqb_tells (place % 2) 1) [
-      | inl o ↦ rw o.0 (omega (arith, o.1))
-      | inr o ↦ rw o.0 (omega (arith, o.1, d.1))
-    ])
-  ])
-]
-led_back RwSimple place = elim (eqb_tells place 0) [
-  | inl d ↦ rw d.0 (sym d.1)
-  | inr d ↦ rw d.0 (elim (eqb_tells place 1) [
-    | inl g ↦ rw g.0 (sym g.1)
-    | inr g ↦ rw g.0 refl
-  ])
-]
-led_back RwFifo place = elim (eqb_tells place 0) [
-  | inl d ↦ rw d.0 (sym d.1)
-  | inr d ↦ rw d.0 (elim (eqb_tells place 1) [
-    | inl g ↦ rw g.0 (sym g.1)
-    | inr g ↦ rw g.0 (elim (eqb_tells place 2) [
-      | inl f ↦ rw f.0 (sym f.1)
-      | inr f ↦ rw f.0 refl
-    ])
-  ])
-]
+led_back Ticket place = grind (arith, nat_tests)
+led_back Mcs place = grind (arith, nat_tests)
+led_back RwSimple place = grind (arith, nat_tests)
+led_back RwFifo place = grind (arith, nat_tests)
 
 named_place : (kind : LockKind) (place : ℕ) (word : WordName) → name_at kind place ≡ Some word
     → place_of kind word ≡ place

@@ -1,8 +1,9 @@
--- Definitions. A line of a trace, and a line of a log: a move, and what its thread saw. This
--- project's own.
-use Rattle.std.specs.Prelude.{ℕ, List, [], ◌∷◌, Option, Some, None, Bool, true, false}
-use Rattle.std.specs.Prelude.{if◌then◌else◌, nat_lt, codes, length, is_some, option_map}
-use Rattle.std.specs.Option.{option_and_then}
+-- Definitions. A line of a trace, and a line of a log: a move, and what its thread saw. Or where it
+-- stops being one, and what could be there. This project's own.
+use Rattle.std.specs.Prelude.{ℕ, List, [], ◌∷◌, Option, Some, None, Bool, true, false, Result, Ok}
+use Rattle.std.specs.Prelude.{Err, if◌then◌else◌, nat_lt, codes, length, ok_or, unwrap_or}
+use Rattle.std.specs.Option.{option_map_or}
+use Rattle.std.specs.Result.{result_ok}
 use Rattle.std.specs.Str.{bytes_eq}
 use Rattle.std.specs.Borrow.{Bor}
 use Rattle.lk_locks.specs.declared.kinds.Move.{Move}
@@ -12,6 +13,11 @@ use Rattle.lk_locks.specs.declared.kinds.StepKind.TheVariants.{Cas, Section}
 use Rattle.lk_replay.specs.Lines.{words_of}
 use Rattle.lk_replay.specs.Digits.{whole_number}
 use Rattle.lk_replay.specs.Vocabulary.{move_named, number_of, outcome_named}
+use Rattle.lk_replay.specs.declared.unreadable.Expected.TheVariants.{Thread, Action, End}
+use Rattle.lk_trace.specs.declared.due.Due.{Due}
+use Rattle.lk_trace.specs.declared.due.Due.TheVariants.{OfSchedule, Count, Place, Of, Owner, Found}
+use Rattle.lk_trace.specs.declared.due.Due.TheVariants.{FoundValue, Left, LeftValue}
+use Rattle.lk_trace.specs.declared.due.Due.TheVariants.{Result as ResultDue, Outcome as OutcomeDue}
 use Rattle.lk_trace.specs.declared.names.WordName.{WordName}
 use Rattle.lk_trace.specs.declared.names.WordName.TheVariants.{NextTicket, NowServing, Tail, Next}
 use Rattle.lk_trace.specs.declared.names.WordName.TheVariants.{Locked}
@@ -22,118 +28,138 @@ use Rattle.lk_trace.specs.declared.line.TraceLine.{TraceLine}
 abbrev pub Words : Type 0
 Words = List (List ℕ)
 
--- a part that was read, and the words after it
+-- what is left of a line, and what could be there
+abbrev pub Remaining : Type 0
+Remaining = Words × Due
+
+-- a part that was read and what is left after it, or where the line stops
 abbrev pub Read : Type 0 → Type 0
-Read A = Option (A × Words)
+Read A = Result (A × Remaining) Remaining
 
--- `of J`, or else the thread's own record
-abbrev pub owner_of : ℕ → Words → Read ℕ
-owner_of thread (of ∷ number ∷ rest) =
-    if bytes_eq of (codes "of") then option_map (λ j. (j, rest))
-    (number_of 0 255 number) else Some (thread, of ∷ number ∷ rest)
-owner_of thread (of ∷ []) = if bytes_eq of (codes "of") then None else Some (thread, of ∷ [])
-owner_of thread [] = Some (thread, [])
+infixl 10 ◌>>=◌
+abbrev pub ◌>>=◌ : {A B : Type 0} → Result A Remaining → (A → Result B Remaining)
+    → Result B Remaining
+(Ok part) >>= next = next part
+(Err stop) >>= next = Err stop
 
-abbrev pub in_record : (ℕ → WordName) → Read ℕ → Read WordName
-in_record word read = option_map (λ r. (word r.0, r.1)) read
+-- the next word, if this reads it, and what is due after it
+abbrev pub word_in : {A : Type 0} → (List ℕ → Option A) → Due → Remaining → Read A
+word_in reads next (word ∷ rest, due) =
+    ok_or (reads word) (word ∷ rest, due) >>= λ part. Ok (part, (rest, next))
+word_in reads next ([], due) = Err ([], due)
 
--- the word that a step was on
-abbrev pub place_in : ℕ → Words → Read WordName
-place_in thread (name ∷ rest) =
-    if bytes_eq name (codes "next_ticket") then Some (NextTicket, rest)
-    else (if bytes_eq name (codes "now_serving") then Some (NowServing, rest)
-    else (if bytes_eq name (codes "tail") then Some (Tail, rest)
-    else (if bytes_eq name (codes "next") then in_record Next (owner_of thread rest)
-    else (if bytes_eq name (codes "locked") then in_record Locked
-    (owner_of thread rest) else None))))
-place_in thread [] = None
+-- a tag and the word after it, if the tag comes next: what is due at that word, and after it
+abbrev pub tagged : {A : Type 0} → List ℕ → (List ℕ → Option A) → Due → Due → Remaining
+    → Read (Option A)
+tagged tag reads value next (word ∷ rest, due) =
+    if bytes_eq word tag
+    then word_in reads next (rest, value) >>= (λ part. Ok (Some part.0, part.1))
+    else Ok (None, (word ∷ rest, due))
+tagged tag reads value next ([], due) = Ok (None, ([], due))
 
--- a tag and its number, if the tag comes next
-abbrev pub tagged : List ℕ → Words → Read (Option ℕ)
-tagged tag (word ∷ number ∷ rest) =
-    if bytes_eq word tag then option_map (λ n. (Some n, rest))
-    (whole_number number) else Some (None, word ∷ number ∷ rest)
-tagged tag (word ∷ []) = if bytes_eq word tag then None else Some (None, word ∷ [])
-tagged tag [] = Some (None, [])
+-- whose record it is, if that is said: `of J`
+abbrev pub owner_of : StepKind → Remaining → Read (Option ℕ)
+owner_of kind = tagged (codes "of") (number_of 0 255) (Owner kind) (Found kind)
+
+-- or else the thread's own
+abbrev pub in_record : ℕ → (ℕ → WordName) → Read (Option ℕ) → Read (Option WordName)
+in_record thread word read = read >>= λ owner. Ok (Some (word (unwrap_or owner.0 thread)), owner.1)
+
+-- the word that a step was on, or none at the line's end
+abbrev pub place_in : ℕ → StepKind → Remaining → Read (Option WordName)
+place_in thread kind (name ∷ rest, due) =
+    if bytes_eq name (codes "next_ticket") then Ok (Some NextTicket, (rest, Found kind))
+    else (if bytes_eq name (codes "now_serving") then Ok (Some NowServing, (rest, Found kind))
+    else (if bytes_eq name (codes "tail") then Ok (Some Tail, (rest, Found kind))
+    else (if bytes_eq name (codes "next")
+    then in_record thread Next (owner_of kind (rest, Of kind))
+    else (if bytes_eq name (codes "locked")
+    then in_record thread Locked (owner_of kind (rest, Of kind)) else Err (name ∷ rest, due)))))
+place_in thread kind ([], due) = Ok (None, ([], due))
 
 abbrev pub wrote : List ℕ → Option Bool
 wrote word =
     if bytes_eq word
     (codes "done") then Some true else (if bytes_eq word (codes "failed") then Some false else None)
 
-abbrev pub result_alone : StepKind → List ℕ → Option (Option Bool)
-result_alone Cas word = option_map Some (wrote word)
+abbrev pub result_alone : StepKind → List ℕ → Option Bool
+result_alone Cas word = wrote word
 result_alone kind word = None
 
+-- nothing may follow
+abbrev pub ended : {A : Type 0} → A → Words → Result A Remaining
+ended part [] = Ok part
+ended part (word ∷ rest) = Err (word ∷ rest, OfSchedule End)
+
 -- whether a compare-and-swap wrote, if that is said, and nothing else
-abbrev pub result_of : StepKind → Words → Option (Option Bool)
-result_of kind [] = Some None
-result_of kind (word ∷ []) = result_alone kind word
-result_of kind (word ∷ next ∷ rest) = None
+abbrev pub result_of : StepKind → Remaining → Result (Option Bool) Remaining
+result_of kind (word ∷ rest, due) =
+    ok_or (result_alone kind word) (word ∷ rest, due) >>= λ said. ended (Some said) rest
+result_of kind ([], due) = Ok None
 
-abbrev pub with_left : StepKind → WordName → Option ℕ → Read (Option ℕ) → Option Seen
-with_left kind word found read =
-    option_and_then (λ left. option_map (OnWord word found left.0) (result_of kind left.1)) read
+-- what a step found and left in its word, and whether it wrote
+abbrev pub values_in : StepKind → Remaining → Result (Option ℕ × Option ℕ × Option Bool) Remaining
+values_in kind at = do
+  found ← tagged (codes "found") whole_number (FoundValue kind) (Left kind) at
+  left ← tagged (codes "left") whole_number (LeftValue kind) (ResultDue kind) found.1
+  wrote ← result_of kind left.1
+  Ok (found.0, left.0, wrote)
 
-abbrev pub with_found : StepKind → WordName → Read (Option ℕ) → Option Seen
-with_found kind word read =
-    option_and_then (λ found. with_left kind word found.0 (tagged (codes "left") found.1)) read
+abbrev pub values_on : StepKind → WordName → Remaining → Result Seen Remaining
+values_on kind word at = values_in kind at >>= λ values. Ok (OnWord word values.0 values.1 values.2)
 
-abbrev pub with_word : StepKind → Read WordName → Option Seen
-with_word kind read =
-    option_and_then (λ word. with_found kind word.0 (tagged (codes "found") word.1)) read
+-- what a step saw of its word, if something is said
+abbrev pub with_place : StepKind → Read (Option WordName) → Result Seen Remaining
+with_place kind (Ok (Some word, at)) = values_on kind word at
+with_place kind (Ok (None, at)) = Ok Nothing
+with_place kind (Err stop) = Err stop
 
--- what a step saw of its word
-abbrev pub values_of : ℕ → StepKind → Words → Option Seen
-values_of thread kind words = with_word kind (place_in thread words)
+abbrev pub values_of : ℕ → StepKind → Remaining → Result Seen Remaining
+values_of thread kind at = with_place kind (place_in thread kind at)
 
 -- the outcome of a section, if that is said, and nothing else
-abbrev pub with_outcome : Option ℕ → Words → Option Seen
-with_outcome count [] = Some (InSection count None)
-with_outcome count (word ∷ []) = option_map (λ o. InSection count (Some o)) (outcome_named word)
-with_outcome count (word ∷ next ∷ rest) = None
+abbrev pub outcome_of : Option ℕ → Remaining → Result Seen Remaining
+outcome_of count (word ∷ rest, due) =
+    ok_or (outcome_named word) (word ∷ rest, due)
+    >>= λ outcome. ended (InSection count (Some outcome)) rest
+outcome_of count ([], due) = Ok (InSection count None)
 
 -- the count of a section, its outcome, or both
-abbrev pub section_of : Words → Option Seen
+abbrev pub section_of : Words → Result Seen Remaining
 section_of (first ∷ rest) =
-    with_outcome (whole_number first) (if is_some (whole_number first) then rest else first ∷ rest)
-section_of [] = None
+    option_map_or (λ count. outcome_of (Some count) (rest, OutcomeDue)) (whole_number first)
+    (outcome_of None (first ∷ rest, Count))
+section_of [] = Ok Nothing
 
-abbrev pub seen_after_move : ℕ → Move → Words → Option Seen
-seen_after_move thread (Call op) words = None
-seen_after_move thread (Step Section) words = section_of words
-seen_after_move thread (Step kind) words = values_of thread kind words
-
--- what follows a move
-abbrev pub seen_of : ℕ → Move → Words → Option Seen
-seen_of thread action [] = Some Nothing
-seen_of thread action (word ∷ rest) = seen_after_move thread action (word ∷ rest)
-
-abbrev pub with_seen : ℕ → Move → Option Seen → Option TraceLine
-with_seen thread action seen =
-    option_map (λ s. record { thread = thread; action = action; seen = s }) seen
-
-abbrev pub with_action : ℕ → Option Move → Words → Option TraceLine
-with_action thread action rest =
-    option_and_then (λ a. with_seen thread a (seen_of thread a rest)) action
+-- what follows a move, on this word if the line does not name it
+abbrev pub seen_of : ℕ → Option WordName → Move → Words → Result Seen Remaining
+seen_of thread None (Call op) words = ended Nothing words
+seen_of thread None (Step Section) words = section_of words
+seen_of thread None (Step kind) words = values_of thread kind (words, Place kind)
+seen_of thread (Some word) (Call op) words = Err (words, OfSchedule End)
+seen_of thread (Some word) (Step Section) words = Err (words, OfSchedule End)
+seen_of thread (Some word) (Step kind) words = values_on kind word (words, Found kind)
 
 -- a move of this thread
-abbrev pub move_with : ℕ → Words → Option TraceLine
-move_with thread (word ∷ rest) = with_action thread (move_named word) rest
-move_with thread [] = None
+abbrev pub move_with : ℕ → Option WordName → Remaining → Result TraceLine Remaining
+move_with thread on (word ∷ rest, due) = do
+  action ← ok_or (move_named word) (word ∷ rest, due)
+  seen ← seen_of thread on action rest
+  Ok (record { thread = thread; action = action; seen = seen })
+move_with thread on ([], due) = Err ([], due)
 
-abbrev pub line_of_words : Words → Option TraceLine
-line_of_words (thread ∷ words) =
-    option_and_then (λ t. move_with t words) (number_of 0 255 thread)
-line_of_words [] = None
+abbrev pub line_of_words : Words → Result TraceLine Remaining
+line_of_words words = do
+  thread ← word_in (number_of 0 255) (OfSchedule Action) (words, OfSchedule Thread)
+  move_with thread.0 None thread.1
 
 -- the move that a line of a trace is
 unfoldable pub trace_line_of : List ℕ → Option TraceLine
-trace_line_of line = line_of_words (words_of line)
+trace_line_of line = result_ok (line_of_words (words_of line))
 
 -- the move that a line of this thread's log is
 unfoldable pub log_line_of : ℕ → List ℕ → Option TraceLine
-log_line_of thread line = move_with thread (words_of line)
+log_line_of thread line = result_ok (move_with thread None (words_of line, OfSchedule Action))
 
 -- the same of a line of at most 96 bytes
 abbrev pub short_line_of : List ℕ → Option TraceLine
@@ -142,7 +168,21 @@ short_line_of line = if nat_lt 96 (length line) then None else trace_line_of lin
 abbrev pub short_log_line_of : ℕ → List ℕ → Option TraceLine
 short_log_line_of thread line = if nat_lt 96 (length line) then None else log_line_of thread line
 
--- the words of what is left of a line
+-- what the program holds of a line is as much of its words
+abbrev pub Held : Type 0
+Held = Option (Bor (List ℕ)) × Due
+
 abbrev pub words_left : Option (Bor (List ℕ)) → Words
 words_left None = []
 words_left (Some line) = words_of line.now
+
+abbrev pub remaining : Held → Remaining
+remaining rest = (words_left rest.0, rest.1)
+
+abbrev pub part_of : {A : Type 0} → Result (A × Held) Held → Read A
+part_of (Ok part) = Ok (part.0, remaining part.1)
+part_of (Err stop) = Err (remaining stop)
+
+abbrev pub whole_of : {A : Type 0} → Result A Held → Result A Remaining
+whole_of (Ok whole) = Ok whole
+whole_of (Err stop) = Err (remaining stop)

@@ -9,7 +9,8 @@ use lk_replay::parts::outcome_text;
 use std::fmt;
 use thiserror::Error;
 
-/// The first thing in which a line of a trace differs from the machine.
+/// The first thing in which a line of a trace differs from the machine. If it is no refusal, its
+/// text comes after the name of the step.
 #[derive(Clone, Copy, PartialEq, Eq, Debug, Error)]
 pub enum Difference {
     /// The machine refuses the move.
@@ -37,18 +38,18 @@ pub enum Difference {
     },
     /// The compare-and-swap wrote although the line says that it failed, or failed although it says
     /// that it wrote.
-    #[error("the compare-and-swap {}", wrote_text(*.wrote))]
+    #[error("{}", wrote_text(*.wrote))]
     WroteOther {
         wrote: bool,
     },
     /// The count of a monitor's section is not above those before it.
-    #[error("section {given} after section {last}")]
+    #[error("has the count {given}, after the count {last}")]
     CountNotAbove {
         last: u64,
         given: u64,
     },
     /// The section has another outcome.
-    #[error("the section came to '{}', and the lock's to '{}'", word(.given), word(.outcome))]
+    #[error("came to '{}', and the lock's to '{}'", word(.given), word(.outcome))]
     OtherOutcome {
         outcome: Outcome,
         given: Outcome,

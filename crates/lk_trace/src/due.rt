@@ -1,15 +1,9 @@
-//! What may come next in a line of a trace or of a sketch, word by word: docs/TRACE.md has the
-//! grammar. Thread and move are a schedule's.
+//! What may come next in a line of a trace or of a sketch, for a message: its text, and the words
+//! that could be there. Thread and move are a schedule's.
 
-ghost use Rattle.std.specs.Prelude.{◌≡◌};
-ghost use Rattle.lk_trace.specs.Unreadable.{after_any_thread, after_count, after_expected};
-ghost use Rattle.lk_trace.specs.Unreadable.{after_found, after_left, after_move, after_of};
-ghost use Rattle.lk_trace.specs.Unreadable.{after_outcome, after_place, after_result, after_word};
-ghost use Rattle.lk_trace.specs.Unreadable.{may_end, opened};
-
-use crate::line::result_alone;
-use lk_locks::{Move, StepKind};
-use lk_replay::parts::{Expected, Grammar, move_named, number_of, outcome_named, whole_number};
+use lk_locks::StepKind;
+use lk_replay::parts::{Expected, LOCK_NAMES, MOVE_WORDS, OUTCOME_WORDS};
+use std::fmt;
 
 /// What may come next. If a part can be left out, the part after it or the end may come here too.
 /// After a step it says which: `done` and `failed` may follow a compare-and-swap alone.
@@ -44,175 +38,82 @@ pub enum Due {
     Open(StepKind),
 }
 
-const END: Due = Due::OfSchedule(Expected::End);
+/// Nothing but the end.
+pub(crate) const END: Due = Due::OfSchedule(Expected::End);
 
-// After a move.
-fn after_move(action: Move) -> Due
-    ensures { result ≡ after_move action }
-{
-    match action {
-        Move::Call(_) => END,
-        Move::Step(StepKind::Section) => Due::Count,
-        Move::Step(kind) => Due::Place(kind),
-    }
+const OUTCOME: &str = "moved, waits, entered or left";
+
+// The words of the locks, and the parts that may come if a sketch names no word.
+const OPEN: [&str; 9] = [
+    "next_ticket",
+    "now_serving",
+    "tail",
+    "next",
+    "locked",
+    "found",
+    "left",
+    "done",
+    "failed",
+];
+
+// What may follow a word of the lock, in this order. The last two are a compare-and-swap's.
+const PARTS: [&str; 5] = ["of", "found", "left", "done", "failed"];
+
+// The parts from this one on.
+fn parts_from(kind: StepKind, first: usize) -> &'static [&'static str] {
+    let end = if matches!(kind, StepKind::Cas) { 5 } else { 3 };
+    PARTS.get(first..end).unwrap_or(&[])
 }
 
-// After a move of a sketch, which may leave out the name of the word.
-fn after_open_move(action: Move) -> Due
-    ensures { result ≡ opened (after_move action) }
-{
-    match after_move(action) {
-        Due::Place(kind) => Due::Open(kind),
-        due => due,
-    }
-}
-
-// After a word of a move of a schedule.
-fn after_expected(expected: Expected, word: &[u8]) -> Option<Due>
-    ensures { result ≡ after_expected expected word.now }
-{
-    match expected {
-        Expected::Thread => {
-            number_of(word, 0, 255)?;
-            Some(Due::OfSchedule(Expected::Action))
-        }
-        Expected::Action => {
-            let action = move_named(word)?;
-            Some(after_move(action))
-        }
-        _ => None,
-    }
-}
-
-// After the outcome of a section.
-fn after_outcome(word: &[u8]) -> Option<Due>
-    ensures { result ≡ after_outcome word.now }
-{
-    outcome_named(word)?;
-    Some(END)
-}
-
-// After the count of a section, or its outcome.
-fn after_count(word: &[u8]) -> Option<Due>
-    ensures { result ≡ after_count word.now }
-{
-    if whole_number(word).is_some() {
-        return Some(Due::Outcome);
-    }
-    after_outcome(word)
-}
-
-// After `done` or `failed`.
-fn after_result(kind: StepKind, word: &[u8]) -> Option<Due>
-    ensures { result ≡ after_result kind word.now }
-{
-    result_alone(kind, word)?;
-    Some(END)
-}
-
-// After `left`, or a part after it.
-fn after_left(kind: StepKind, word: &[u8]) -> Option<Due>
-    ensures { result ≡ after_left kind word.now }
-{
-    if word == b"left".as_slice() {
-        return Some(Due::LeftValue(kind));
-    }
-    after_result(kind, word)
-}
-
-// After `found`, or a part after it.
-fn after_found(kind: StepKind, word: &[u8]) -> Option<Due>
-    ensures { result ≡ after_found kind word.now }
-{
-    if word == b"found".as_slice() {
-        return Some(Due::FoundValue(kind));
-    }
-    after_left(kind, word)
-}
-
-// After `of`, or a part after it.
-fn after_of(kind: StepKind, word: &[u8]) -> Option<Due>
-    ensures { result ≡ after_of kind word.now }
-{
-    if word == b"of".as_slice() {
-        return Some(Due::Owner(kind));
-    }
-    after_found(kind, word)
-}
-
-// After the name of a word. Of one of a record it may be said whose it is.
-fn after_place(kind: StepKind, name: &[u8]) -> Option<Due>
-    ensures { result ≡ after_place kind name.now }
-{
-    if name == b"next_ticket".as_slice()
-        || name == b"now_serving".as_slice()
-        || name == b"tail".as_slice()
-    {
-        Some(Due::Found(kind))
-    } else if name == b"next".as_slice() || name == b"locked".as_slice() {
-        Some(Due::Of(kind))
-    } else {
-        None
-    }
-}
-
-// After `*`, or a thread's number.
-fn after_any_thread(word: &[u8]) -> Option<Due>
-    ensures { result ≡ after_any_thread word.now }
-{
-    if word == b"*".as_slice() || number_of(word, 0, 255).is_some() {
-        Some(Due::OpenMove)
-    } else {
-        None
-    }
-}
-
-impl Grammar for Due {
-    ghost next = { after_word };
-
-    ghost ends = { may_end };
-
-    #[tactic(auto, unfolding(crate::specs::Unreadable::after_word))]
-    fn after(self, word: &[u8]) -> Option<Due> {
+impl Due {
+    /// The words that could be here.
+    pub fn words(self) -> &'static [&'static str] {
         match self {
-            Due::OfSchedule(expected) => after_expected(expected, word),
-            Due::Count => after_count(word),
-            Due::Outcome => after_outcome(word),
-            Due::Place(kind) => after_place(kind, word),
-            Due::Of(kind) => after_of(kind, word),
-            Due::Owner(kind) => {
-                number_of(word, 0, 255)?;
-                Some(Due::Found(kind))
-            }
-            Due::Found(kind) => after_found(kind, word),
-            Due::FoundValue(kind) => {
-                whole_number(word)?;
-                Some(Due::Left(kind))
-            }
-            Due::Left(kind) => after_left(kind, word),
-            Due::LeftValue(kind) => {
-                whole_number(word)?;
-                Some(Due::Result(kind))
-            }
-            Due::Result(kind) => after_result(kind, word),
-            Due::AnyThread => after_any_thread(word),
-            Due::OpenMove => {
-                let action = move_named(word)?;
-                Some(after_open_move(action))
-            }
-            Due::Open(kind) => match after_place(kind, word) {
-                Some(due) => Some(due),
-                None => after_found(kind, word),
-            },
+            Due::OfSchedule(Expected::Lock) => &["lock"],
+            Due::OfSchedule(Expected::Name) => &LOCK_NAMES,
+            Due::OfSchedule(Expected::Threads) => &["threads"],
+            Due::OfSchedule(Expected::Bits) => &["bits"],
+            Due::OfSchedule(Expected::Action) | Due::OpenMove => &MOVE_WORDS,
+            Due::Count | Due::Outcome => &OUTCOME_WORDS,
+            Due::Place(_) => OPEN.get(..5).unwrap_or(&[]),
+            Due::Open(StepKind::Cas) => &OPEN,
+            Due::Open(_) => OPEN.get(..7).unwrap_or(&[]),
+            Due::Of(kind) => parts_from(kind, 0),
+            Due::Found(kind) => parts_from(kind, 1),
+            Due::Left(kind) => parts_from(kind, 2),
+            Due::Result(kind) => parts_from(kind, 3),
+            _ => &[],
         }
     }
+}
 
-    fn may_end(self) -> bool {
+impl fmt::Display for Due {
+    fn fmt<W: fmt::Write>(&self, f: &mut fmt::Formatter<W>) -> fmt::Result {
         match self {
-            Due::OfSchedule(expected) => matches!(expected, Expected::End),
-            Due::Owner(_) | Due::FoundValue(_) | Due::LeftValue(_) => false,
-            Due::AnyThread | Due::OpenMove => false,
-            _ => true,
+            Due::OfSchedule(expected) => write!(f, "{expected}"),
+            Due::OpenMove => write!(f, "{}", Expected::Action),
+            Due::Count => write!(f, "the end, the section's count, or {OUTCOME}"),
+            Due::Outcome => write!(f, "the end, or {OUTCOME}"),
+            Due::Place(_) => f.write_str(
+                "the end, or a word: next_ticket, now_serving, tail, next or locked",
+            ),
+            Due::Owner(_) => f.write_str("a thread's number, from 0 to 255"),
+            Due::FoundValue(_) | Due::LeftValue(_) => { f.write_str("a number of at most 64 bits") }
+            Due::AnyThread => f.write_str("'*', or a thread's number, from 0 to 255"),
+            _ => {
+                let words = self.words();
+                f.write_str("the end")?;
+                for (at, word) in words.iter().enumerate() {
+                    let last = at.saturating_add(1) == words.len();
+                    f.write_str(match (last, words.len()) {
+                        (true, 1) => ", or",
+                        (true, _) => " or",
+                        _ => ",",
+                    })?;
+                    write!(f, " '{word}'")?;
+                }
+                Ok(())
+            }
         }
     }
 }

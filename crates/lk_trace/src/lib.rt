@@ -10,7 +10,6 @@ mod codes;
 mod compare;
 mod difference;
 mod due;
-mod due_texts;
 mod line;
 mod names;
 mod open;

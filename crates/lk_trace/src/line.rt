@@ -1,16 +1,19 @@
-//! A line of a trace or of a log, read: a move, and what its thread saw.
+//! A line of a trace or of a log, read: a move, and what its thread saw. Or where the line stops
+//! being one, and what could be there: docs/TRACE.md has the grammar.
 
-ghost use Rattle.std.specs.Prelude.{◌≡◌, [], ◌∷◌, IfSome, MatchOption, None, Some, codes};
-ghost use Rattle.lk_replay.specs.Lines.{words_of};
+ghost use Rattle.std.specs.Prelude.{◌≡◌, [], ◌∷◌, IfOk, IfSome, MatchOption};
 ghost use Rattle.lk_replay.specs.Digits.{whole_number};
-ghost use Rattle.lk_trace.specs.Lines.{move_with, owner_of};
-ghost use Rattle.lk_trace.specs.Lines.{place_in, result_alone, result_of, section_of, seen_of};
-ghost use Rattle.lk_trace.specs.Lines.{short_line_of, short_log_line_of, tagged, values_of};
-ghost use Rattle.lk_trace.specs.Lines.{with_found, words_left};
+ghost use Rattle.lk_replay.specs.Lines.{words_of};
+ghost use Rattle.lk_replay.specs.Vocabulary.{number_of};
+ghost use Rattle.lk_trace.specs.Lines.{line_of_words, move_with, outcome_of, owner_of, part_of};
+ghost use Rattle.lk_trace.specs.Lines.{place_in, remaining, result_alone, result_of, section_of};
+ghost use Rattle.lk_trace.specs.Lines.{seen_of, short_line_of, short_log_line_of, tagged};
+ghost use Rattle.lk_trace.specs.Lines.{values_of, values_on, whole_of, word_in, words_left};
 
 use crate::WordName;
+use crate::due::{Due, END};
 use lk_locks::{Move, Outcome, StepKind};
-use lk_replay::parts::{cut_word, move_named, number_of, outcome_named, whole_number};
+use lk_replay::parts::{Expected, cut_word, move_named, number_of, outcome_named, whole_number};
 
 /// The most bytes of a header and of a move.
 pub const MOST_OF_A_LINE: usize = 96;
@@ -42,124 +45,136 @@ pub struct TraceLine {
     pub seen: Seen,
 }
 
-/// What is left of a line after a part of it.
-pub(crate) type Rest<'a> = Option<&'a [u8]>;
+/// What is left of a line, and what could be there.
+pub(crate) type Rest<'a> = (Option<&'a [u8]>, Due);
 
-// The first word of what is left of a line, and what is left after it.
-pub(crate) fn first_word(rest: Rest<'_>) -> Option<(&[u8], Rest<'_>)>
-    ensures { MatchOption result (words_left rest.entry ≡ [])
-        (λ cut. words_left rest.entry ≡ cut.0.now ∷ words_left cut.1) }
+/// All that was left of a line, or where the line stops.
+pub(crate) type Whole<'a, T> = Result<T, Rest<'a>>;
+
+/// A part of a line and what is left after it, or where the line stops.
+type Part<'a, T> = Result<(T, Rest<'a>), Rest<'a>>;
+
+// The next word, and what is left after it.
+pub(crate) fn first_word(text: Option<&[u8]>) -> Option<(&[u8], Option<&[u8]>)>
+    ensures { MatchOption result (words_left text.entry ≡ [])
+        (λ cut. words_left text.entry ≡ cut.0.now ∷ words_left cut.1) }
 {
-    let line = rest?;
+    let line = text?;
     match cut_word(line) {
         Some((word, after)) => Some((word, Some(after))),
         None => Some((line, None)),
     }
 }
 
-// The word that a step of this thread was on, by its name.
-fn place_in(rest: Rest<'_>, thread: u8) -> Option<(WordName, Rest<'_>)>
-    ensures { MatchOption result (place_in thread (words_left rest.entry) ≡ None)
-        (λ read. place_in thread (words_left rest.entry) ≡ Some (read.0, words_left read.1)) }
+// The thread whose number comes next, and then this is due.
+fn thread_in(rest: Rest<'_>, next: Due) -> Part<'_, u8>
+    ensures { part_of result ≡ word_in (number_of 0 255) next (remaining rest.entry) }
 {
-    let (name, rest) = first_word(rest)?;
+    let Some((word, after)) = first_word(rest.0) else {
+        return Err(rest);
+    };
+    let thread = number_of(word, 0, 255).ok_or(rest)?;
+    Ok((thread, (after, next)))
+}
+
+// Whose record it is, if that is said: `of J`.
+fn owner_of(rest: Rest<'_>, kind: StepKind) -> Part<'_, Option<u8>>
+    ensures { part_of result ≡ owner_of kind (remaining rest.entry) }
+{
+    let Some((of, after)) = first_word(rest.0) else {
+        return Ok((None, rest));
+    };
+    if of != b"of".as_slice() {
+        return Ok((None, rest));
+    }
+    let (owner, rest) = thread_in((after, Due::Owner(kind)), Due::Found(kind))?;
+    Ok((Some(owner), rest))
+}
+
+// The word that a step of this thread was on, by its name. None if the line ends here.
+fn place_in(rest: Rest<'_>, thread: u8, kind: StepKind) -> Part<'_, Option<WordName>>
+    ensures { part_of result ≡ place_in thread kind (remaining rest.entry) }
+{
+    let Some((name, after)) = first_word(rest.0) else {
+        return Ok((None, rest));
+    };
     if name == b"next_ticket".as_slice() {
-        return Some((WordName::NextTicket, rest));
+        return Ok((Some(WordName::NextTicket), (after, Due::Found(kind))));
     }
     if name == b"now_serving".as_slice() {
-        return Some((WordName::NowServing, rest));
+        return Ok((Some(WordName::NowServing), (after, Due::Found(kind))));
     }
     if name == b"tail".as_slice() {
-        return Some((WordName::Tail, rest));
+        return Ok((Some(WordName::Tail), (after, Due::Found(kind))));
     }
     let is_next = name == b"next".as_slice();
     if !is_next && name != b"locked".as_slice() {
-        return None;
+        return Err(rest);
     }
-    let (owner, rest) = owner_of(rest, thread)?;
+    let (owner, rest) = owner_of((after, Due::Of(kind)), kind)?;
+    let owner = owner.unwrap_or(thread);
     if is_next {
-        Some((WordName::Next(owner), rest))
+        Ok((Some(WordName::Next(owner)), rest))
     } else {
-        Some((WordName::Locked(owner), rest))
+        Ok((Some(WordName::Locked(owner)), rest))
     }
 }
 
-// Whose record it is: `of J`, or else the thread's own.
-fn owner_of(rest: Rest<'_>, thread: u8) -> Option<(u8, Rest<'_>)>
-    ensures { MatchOption result (owner_of thread (words_left rest.entry) ≡ None)
-        (λ read. owner_of thread (words_left rest.entry) ≡ Some (read.0, words_left read.1)) }
+// The number after this word, if this word is the next one. `value` is due after the word, and
+// `next` after the number.
+fn tagged<'a>(rest: Rest<'a>, tag: &[u8], value: Due, next: Due) -> Part<'a, Option<u64>>
+    ensures { part_of result ≡ tagged tag.now whole_number value next (remaining rest.entry) }
 {
-    let Some((of, after)) = first_word(rest) else {
-        return Some((thread, rest));
-    };
-    if of != b"of".as_slice() {
-        return Some((thread, rest));
-    }
-    let (number, after) = first_word(after)?;
-    let owner = number_of(number, 0, 255)?;
-    Some((owner, after))
-}
-
-// The number after this word, if this word is the next one.
-fn tagged<'a>(rest: Rest<'a>, tag: &[u8]) -> Option<(Option<u64>, Rest<'a>)>
-    ensures { MatchOption result (tagged tag.now (words_left rest.entry) ≡ None)
-        (λ read. tagged tag.now (words_left rest.entry) ≡ Some (read.0, words_left read.1)) }
-{
-    let Some((word, after)) = first_word(rest) else {
-        return Some((None, rest));
+    let Some((word, after)) = first_word(rest.0) else {
+        return Ok((None, rest));
     };
     if word != tag {
-        return Some((None, rest));
+        return Ok((None, rest));
     }
-    let (number, after) = first_word(after)?;
-    let number = whole_number(number)?;
-    Some((Some(number), after))
+    let Some((number, end)) = first_word(after) else {
+        return Err((after, value));
+    };
+    let number = whole_number(number).ok_or((after, value))?;
+    Ok((Some(number), (end, next)))
 }
 
 // Whether a compare-and-swap wrote. No other step says so.
-pub(crate) fn result_alone(kind: StepKind, word: &[u8]) -> Option<Option<bool>>
+fn result_alone(kind: StepKind, word: &[u8]) -> Option<bool>
     ensures { result ≡ result_alone kind word.now }
 {
     if !matches!(kind, StepKind::Cas) {
         None
     } else if word == b"done".as_slice() {
-        Some(Some(true))
+        Some(true)
     } else if word == b"failed".as_slice() {
-        Some(Some(false))
+        Some(false)
     } else {
         None
     }
 }
 
 // Whether a compare-and-swap wrote, if that is said. Nothing may follow.
-fn result_of(rest: Rest<'_>, kind: StepKind) -> Option<Option<bool>>
-    ensures { result ≡ result_of kind (words_left rest.entry) }
+fn result_of(rest: Rest<'_>, kind: StepKind) -> Whole<'_, Option<bool>>
+    ensures { whole_of result ≡ result_of kind (remaining rest.entry) }
 {
-    let Some((word, rest)) = first_word(rest) else {
-        return Some(None);
+    let Some((word, after)) = first_word(rest.0) else {
+        return Ok(None);
     };
-    if let Some(_) = first_word(rest) {
-        return None;
+    let wrote = result_alone(kind, word).ok_or(rest)?;
+    match first_word(after) {
+        Some(_) => Err((after, END)),
+        None => Ok(Some(wrote)),
     }
-    result_alone(kind, word)
-}
-
-// What a step saw of a word, if something is said.
-fn values_of(rest: Rest<'_>, thread: u8, kind: StepKind) -> Option<Seen>
-    ensures { result ≡ values_of thread kind (words_left rest.entry) }
-{
-    let (word, rest) = place_in(rest, thread)?;
-    values_on(rest, word, kind)
 }
 
 // What a step saw of this word.
-pub(crate) fn values_on(rest: Rest<'_>, word: WordName, kind: StepKind) -> Option<Seen>
-    ensures { result ≡ with_found kind word (tagged (codes "found") (words_left rest.entry)) }
+fn values_on(rest: Rest<'_>, word: WordName, kind: StepKind) -> Whole<'_, Seen>
+    ensures { whole_of result ≡ values_on kind word (remaining rest.entry) }
 {
-    let (found, rest) = tagged(rest, b"found")?;
-    let (left, rest) = tagged(rest, b"left")?;
+    let (found, rest) = tagged(rest, b"found", Due::FoundValue(kind), Due::Left(kind))?;
+    let (left, rest) = tagged(rest, b"left", Due::LeftValue(kind), Due::Result(kind))?;
     let wrote = result_of(rest, kind)?;
-    Some(Seen::OnWord {
+    Ok(Seen::OnWord {
         word,
         found,
         left,
@@ -167,55 +182,91 @@ pub(crate) fn values_on(rest: Rest<'_>, word: WordName, kind: StepKind) -> Optio
     })
 }
 
-// The count of a section, its outcome, or both.
-fn section_of(rest: Rest<'_>) -> Option<Seen>
-    ensures { result ≡ section_of (words_left rest.entry) }
+// What a step saw of its word, if something is said.
+fn values_of(rest: Rest<'_>, thread: u8, kind: StepKind) -> Whole<'_, Seen>
+    ensures { whole_of result ≡ values_of thread kind (remaining rest.entry) }
 {
-    let (first, after) = first_word(rest)?;
-    let count = whole_number(first);
-    let rest = if count.is_some() { after } else { rest };
-    let Some((word, rest)) = first_word(rest) else {
-        return Some(Seen::InSection {
+    let (word, rest) = place_in(rest, thread, kind)?;
+    match word {
+        Some(word) => values_on(rest, word, kind),
+        None => Ok(Seen::Nothing),
+    }
+}
+
+// The outcome of a section, if that is said. Nothing may follow.
+fn outcome_of(rest: Rest<'_>, count: Option<u64>) -> Whole<'_, Seen>
+    ensures { whole_of result ≡ outcome_of count (remaining rest.entry) }
+{
+    let Some((word, after)) = first_word(rest.0) else {
+        return Ok(Seen::InSection {
             count,
             outcome: None,
         });
     };
-    if let Some(_) = first_word(rest) {
-        return None;
+    let outcome = outcome_named(word).ok_or(rest)?;
+    match first_word(after) {
+        Some(_) => Err((after, END)),
+        None => Ok(Seen::InSection {
+            count,
+            outcome: Some(outcome),
+        }),
     }
-    let outcome = outcome_named(word)?;
-    Some(Seen::InSection {
-        count,
-        outcome: Some(outcome),
-    })
 }
 
-// What follows a move.
-fn seen_of(rest: Rest<'_>, thread: u8, action: Move) -> Option<Seen>
-    ensures { result ≡ seen_of thread action (words_left rest.entry) }
+// The count of a section, its outcome, or both, if something is said.
+fn section_of(text: Option<&[u8]>) -> Whole<'_, Seen>
+    ensures { whole_of result ≡ section_of (words_left text.entry) }
 {
-    let Some(_) = first_word(rest) else {
-        return Some(Seen::Nothing);
+    let Some((first, after)) = first_word(text) else {
+        return Ok(Seen::Nothing);
     };
-    match action {
-        Move::Call(_) => None,
-        Move::Step(StepKind::Section) => section_of(rest),
-        Move::Step(kind) => values_of(rest, thread, kind),
+    match whole_number(first) {
+        Some(count) => outcome_of((after, Due::Outcome), Some(count)),
+        None => outcome_of((text, Due::Count), None),
+    }
+}
+
+// What follows a move, on this word if the line does not name it.
+fn seen_of(text: Option<&[u8]>, thread: u8, on: Option<WordName>, action: Move) -> Whole<'_, Seen>
+    ensures { whole_of result ≡ seen_of thread on action (words_left text.entry) }
+{
+    match (on, action) {
+        (None, Move::Call(_)) => match first_word(text) {
+            Some(_) => Err((text, END)),
+            None => Ok(Seen::Nothing),
+        },
+        (None, Move::Step(StepKind::Section)) => section_of(text),
+        (None, Move::Step(kind)) => values_of((text, Due::Place(kind)), thread, kind),
+        (Some(_), Move::Call(_)) => Err((text, END)),
+        (Some(_), Move::Step(StepKind::Section)) => Err((text, END)),
+        (Some(word), Move::Step(kind)) => values_on((text, Due::Found(kind)), word, kind),
     }
 }
 
 // The move of this thread that the words are.
-pub(crate) fn move_with(rest: Rest<'_>, thread: u8) -> Option<TraceLine>
-    ensures { result ≡ move_with thread (words_left rest.entry) }
+pub(crate) fn move_with(rest: Rest<'_>, thread: u8, on: Option<WordName>) -> Whole<'_, TraceLine>
+    ensures line { whole_of result ≡ move_with thread on (remaining rest.entry) }
+    ensures own { IfOk result (λ line. line.thread ≡ thread) }
 {
-    let (word, rest) = first_word(rest)?;
-    let action = move_named(word)?;
-    let seen = seen_of(rest, thread, action)?;
-    Some(TraceLine {
+    let Some((word, after)) = first_word(rest.0) else {
+        return Err(rest);
+    };
+    let action = move_named(word).ok_or(rest)?;
+    let seen = seen_of(after, thread, on, action)?;
+    Ok(TraceLine {
         thread,
         action,
         seen,
     })
+}
+
+// The move that a line of a trace of any length is.
+pub(crate) fn line_in(line: &[u8]) -> Whole<'_, TraceLine>
+    ensures { whole_of result ≡ line_of_words (words_of line.now) }
+{
+    let first = (Some(line), Due::OfSchedule(Expected::Thread));
+    let (thread, rest) = thread_in(first, Due::OfSchedule(Expected::Action))?;
+    move_with(rest, thread, None)
 }
 
 /// The move that a line of a trace of at most 96 bytes is: a thread's number, a word of a schedule,
@@ -227,9 +278,7 @@ pub fn read_line(line: &[u8]) -> Option<TraceLine>
     if line.len() > MOST_OF_A_LINE {
         return None;
     }
-    let (number, rest) = first_word(Some(line))?;
-    let thread = number_of(number, 0, 255)?;
-    move_with(rest, thread)
+    line_in(line).ok()
 }
 
 /// The move that a line of this thread's log is: a line of a trace without the thread's number.
@@ -241,5 +290,6 @@ pub fn read_log_line(line: &[u8], thread: u8) -> Option<TraceLine>
     if line.len() > MOST_OF_A_LINE {
         return None;
     }
-    move_with(Some(line), thread)
+    let first = (Some(line), Due::OfSchedule(Expected::Action));
+    move_with(first, thread, None).ok()
 }

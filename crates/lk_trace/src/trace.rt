@@ -90,6 +90,7 @@ fn fault_of(fault: ReadFault) -> TextFault
 /// # Errors
 ///
 /// `BadHeader`, `BadThreads` or `WordsTooNarrow`, the first of these that applies.
+#[tactic(auto, using(crate::proofs::HeaderFaults::header_fails))]
 pub fn read_header(line: &[u8]) -> Result<Header, TextFault>
     ensures { result ≡ read_header_of line.now }
 {

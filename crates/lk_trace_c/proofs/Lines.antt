@@ -1,7 +1,7 @@
 -- What one line does to the fault that is still to be found.
 use Rattle.std.proofs.Common.{◌≡◌, ◌≢◌, ℕ, List, [], ◌∷◌, length, Option, ◌==◌, true}
-use Rattle.std.proofs.Common.{refl, sym, ap, ◌∙◌, arith}
-use Rattle.std.proofs.lemmas.Bool.{eqb-true, eq-eqb, ne_eqb, cond-true, cond-false}
+use Rattle.std.proofs.Common.{refl, arith}
+use Rattle.std.proofs.lemmas.Bool.{eqb-true, ne_eqb}
 use Rattle.lk_replay.specs.Lines.{lines_of}
 use Rattle.lk_trace.specs.Checks.{Checked}
 use Rattle.lk_trace.specs.Traces.{event_of, after_text_line}
@@ -17,22 +17,14 @@ pub read_on : (reading next : Option Checked) (lines : List (List ℕ)) (line : 
     → lines ≡ line ∷ others → number ≡ event_number (event_of reading line) → number ≡ 0
     → next ≡ after_text_line reading line
     → fault_of_lines next others ≡ fault_of_lines reading lines
-read_on reading next lines line others number first is none after =
-    ap (λ r. fault_of_lines r others) after
-    ∙ sym (cond-true (event_number (event_of reading line) == 0) _ _
-    (eq-eqb _ _ (sym is ∙ none)))
-    ∙ sym (ap (fault_of_lines reading) first)
+read_on reading next lines line others number first is none after = cc
 
 -- a line with one
 pub ends : (reading : Option Checked) (lines : List (List ℕ)) (line : List ℕ)
     (others : List (List ℕ)) (number : ℕ)
     → lines ≡ line ∷ others → number ≡ event_number (event_of reading line) → number ≢ 0
     → number ≡ fault_of_lines reading lines
-ends reading lines line others number first is some =
-    is
-    ∙ sym (cond-false (event_number (event_of reading line) == 0) _ _
-    (sym (ap (λ n. n == 0) is) ∙ ne_eqb number 0 some))
-    ∙ sym (ap (fault_of_lines reading) first)
+ends reading lines line others number first is some = cc (ne_eqb number 0 some)
 
 -- no line is left
 pub no_more : (reading : Option Checked) (rest : List ℕ) → (length rest == 0) ≡ true
@@ -46,18 +38,13 @@ pub told_on : (t : Told) (lines : List (List ℕ)) (line : List ℕ) (others : L
     (number : ℕ)
     → lines ≡ line ∷ others → number ≡ event_number (event_of t.reading line) → number ≡ 0
     → told_lines (told_line t line) others ≡ told_lines t lines
-told_on t lines line others number first is none =
-    sym (cond-true (event_number (event_of t.reading line) == 0) _ _ (eq-eqb _ _ (sym is ∙ none)))
-    ∙ sym (ap (told_lines t) first)
+told_on t lines line others number first is none = cc
 
 pub told_ends : (t : Told) (lines : List (List ℕ)) (line : List ℕ) (others : List (List ℕ))
     (number : ℕ)
     → lines ≡ line ∷ others → number ≡ event_number (event_of t.reading line) → number ≢ 0
     → told_line t line ≡ told_lines t lines
-told_ends t lines line others number first is some =
-    sym (cond-false (event_number (event_of t.reading line) == 0) _ _
-    (sym (ap (λ n. n == 0) is) ∙ ne_eqb number 0 some))
-    ∙ sym (ap (told_lines t) first)
+told_ends t lines line others number first is some = cc (ne_eqb number 0 some)
 
 pub told_no_more : (t : Told) (rest : List ℕ) → (length rest == 0) ≡ true
     → told_lines t (lines_of rest) ≡ told_end t
@@ -78,12 +65,8 @@ told_as t line number reading answer steps n r a s = rw (s, a, r, n) refl
 pub end_counts : (t : Told) (end number : ℕ) → end ≡ end_number t.reading → end ≢ 0
     → number ≡ one_more t.answer.line
     → record t.answer { line = number } ≡ (told_end t).answer
-end_counts t end number is some n =
-    rw n
-    (sym (cond-false (end_number t.reading == 0) _ _
-    (sym (ap (λ n. n == 0) is) ∙ ne_eqb end 0 some)))
+end_counts t end number is some n = cc (ne_eqb end 0 some)
 
 pub end_stays : (t : Told) (end : ℕ) → end ≡ end_number t.reading → end ≡ 0
     → t.answer ≡ (told_end t).answer
-end_stays t end is none =
-    sym (cond-true (end_number t.reading == 0) _ _ (eq-eqb _ _ (sym is ∙ none)))
+end_stays t end is none = cc

@@ -22,17 +22,11 @@ said_with has_ended number = option_map (λ t. (t, has_ended)) number
 abbrev pub number_before : ℕ → List ℕ → Option ℕ
 number_before size text = number_of 0 63 (take (length text - size) text)
 
-abbrev pub open_in : List ℕ → Option (ℕ × Bool)
-open_in front =
-    if ends_with nat_eq front (codes " has not")
-    then said_with false (number_before 8 front)
-    else None
-
 abbrev pub said_before : List ℕ → Option (ℕ × Bool)
 said_before front =
-    if ends_with nat_eq front (codes " has")
-    then said_with true (number_before 4 front)
-    else open_in front
+    if ends_with nat_eq front (codes " has") then said_with true (number_before 4 front)
+    else if ends_with nat_eq front (codes " has not") then said_with false (number_before 8 front)
+    else None
 
 -- the number of a thread and `has ended`, or `has not ended`
 abbrev pub said_in : List ℕ → Option (ℕ × Bool)

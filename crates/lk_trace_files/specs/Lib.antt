@@ -1,4 +1,5 @@
 pub mod Accepted
+pub mod BadLogs
 pub mod Endings
 pub mod Fates
 pub mod Lines

@@ -1,10 +1,11 @@
 -- Definitions. How the search for the order of a run's logs ends, and how the job ends by it. This
 -- project's own.
-use Rattle.std.specs.Prelude.{◌≡◌, ◌<◌, ⊤, ℕ, List, true, Option, None, Some, IfSome}
+use Rattle.std.specs.Prelude.{◌≡◌, ◌<◌, ℕ, List, true, Option, None, Some, IfSome}
 use Rattle.lk_order.specs.Orders.{Ordered, IsOrder, next_line}
 use Rattle.lk_order.specs.Endings.{EndsAs}
 use Rattle.lk_order.specs.declared.find.Ending.{Ending as SearchEnding}
 use Rattle.lk_order.specs.declared.find.Ending.TheVariants as search
+use Rattle.lk_trace_files.specs.BadLogs.{IsBad}
 use Rattle.lk_trace_files.specs.Fates.{hangs}
 use Rattle.lk_trace_files.specs.declared.check.Ending.{Ending}
 use Rattle.lk_trace_files.specs.declared.check.Ending.TheVariants.{Accepted, Refused, Unread}
@@ -48,7 +49,8 @@ abbrev pub ending_of_sought : Sought → Ending
 ending_of_sought (sought.Bad log) = ending_of_bad log
 ending_of_sought (sought.Order s) = ending_of_search s
 
--- if an order was looked for, the answer is a search's
-abbrev pub IsSought : Sought → Type 0
-IsSought (sought.Bad log) = ⊤
-IsSought (sought.Order s) = IsSearch s
+-- something is wrong with the logs in such files; or an order was looked for, and the answer is a
+-- search's
+abbrev pub IsSought : {F : Type 0} → (F → Option (List ℕ)) → Sought → Type 0
+IsSought of_file (sought.Bad log) = IsBad of_file log
+IsSought of_file (sought.Order s) = IsSearch s

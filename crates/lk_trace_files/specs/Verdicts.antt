@@ -1,6 +1,7 @@
 -- Definitions. How a whole text ends: its lines are read one after another, up to the first that
 -- ends it. This project's own.
-use Rattle.std.specs.Prelude.{◌≡◌, ◌≢◌, ◌↔◌, ◌+◌, ◌<◌, ℕ, List, [], ◌∷◌, length, slice_index_or}
+use Rattle.std.specs.Prelude.{◌≡◌, ◌≢◌, ◌↔◌, ◌⊎◌, ◌+◌, ◌<◌, ℕ, List, [], ◌∷◌, length}
+use Rattle.std.specs.Prelude.{slice_index_or}
 use Rattle.std.specs.Prelude.{Option, None, Some, IfSome, Result, IfOk, Bool, true, false}
 use Rattle.std.specs.declared.alloc.AllocError.{AllocError}
 use Rattle.lk_replay.specs.Lines.{lines_of}
@@ -75,3 +76,14 @@ AreOfTexts {I} remaining inputs reports =
     (i : ℕ) (input : I) (d : Result Report AllocError) → i < length inputs
     → input ≡ slice_index_or inputs i input
     → IfOk (slice_index_or reports i d) (λ report. IfSome (remaining input) (IsOfText report))
+
+-- the ending of a text that such an input has
+abbrev pub EndsOne : {I : Type 0} → (I → Option (List ℕ)) → Ending → Type 0
+EndsOne {I} remaining ending =
+    (input : I) × IfSome (remaining input) (λ text. ending ≡ (verdict_of text).ending)
+
+-- the ending of a file or of standard input, unless that cannot be read
+abbrev pub EndsInput : {F S : Type 0} → (F → Option (List ℕ)) → (S → Option (List ℕ)) → Ending
+    → Type 0
+EndsInput of_file of_input ending =
+    ending ≢ Unread → EndsOne of_file ending ⊎ EndsOne of_input ending

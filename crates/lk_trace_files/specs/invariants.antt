@@ -2,3 +2,4 @@
 -- files.
 pub mod Taken
 pub mod Following
+pub mod Shelves

@@ -42,18 +42,25 @@ impl fmt::Display for Poll<'_> {
     }
 }
 
-// What a thread did by a move that its last poll does not allow, if it is that.
-fn did_after(step: Step, action: Move, refusal: Refusal) -> Option<&'static str> {
-    match (step.made.outcome, refusal, action) {
+// The last poll of a thread, if the thread should have done otherwise after it.
+fn poll_before(
+    lock: &Lock,
+    last: Option<Step>,
+    action: Move,
+    refusal: Refusal,
+) -> Option<Poll<'_>> {
+    let step = last?;
+    let did = match (step.made.outcome, refusal, action) {
         (
             Outcome::Waits,
             Refusal::Busy,
             Move::Call(Op::Release | Op::ReadUnlock | Op::WriteUnlock | Op::Downgrade),
-        ) => Some("entered"),
-        (Outcome::Waits, Refusal::Busy | Refusal::WrongStep { .. }, _) => Some("went on"),
-        (Outcome::Entered | Outcome::Left, Refusal::NoCall, _) => Some("did not see its call end"),
-        _ => None,
-    }
+        ) => "entered",
+        (Outcome::Waits, Refusal::Busy | Refusal::WrongStep { .. }, _) => "went on",
+        (Outcome::Entered | Outcome::Left, Refusal::NoCall, _) => "did not see its call end",
+        _ => return None,
+    };
+    Some(Poll { lock, step, did })
 }
 
 /// Says what helps to see why the move in this line is refused.
@@ -72,28 +79,16 @@ pub fn put_blame(
         }
     }
     match difference {
-        Difference::Refused(refusal) => put_poll(notes, lock, steps[0], line.action, refusal),
+        Difference::Refused(refusal) => {
+            match poll_before(lock, steps[0], line.action, refusal) {
+                Some(poll) => notes.put(poll.step.number, poll),
+                None => Ok(()),
+            }
+        }
         Difference::FoundOther { .. } | Difference::WroteOther { .. } => {
             put_write(notes, lock, trail, line.thread)
         }
         _ => Ok(()),
-    }
-}
-
-// Says what the thread's last poll found, if it should have done otherwise after it.
-fn put_poll(
-    notes: &mut Notes,
-    lock: &Lock,
-    last: Option<Step>,
-    action: Move,
-    refusal: Refusal,
-) -> Result<(), AllocError> {
-    let Some(step) = last else {
-        return Ok(());
-    };
-    match did_after(step, action, refusal) {
-        Some(did) => notes.put(step.number, Poll { lock, step, did }),
-        None => Ok(()),
     }
 }
 

@@ -10,7 +10,7 @@ ghost use Rattle.lk_trace_files.specs.invariants.Following.{Follows};
 
 use crate::blame::put_blame;
 use crate::course::Course;
-use crate::facts::Facts;
+use crate::fields::{put_code, put_refused};
 use crate::lines::{Line, Lines};
 use crate::notes::Notes;
 use crate::summary::Summary;
@@ -83,8 +83,8 @@ pub struct Report {
     pub message: String,
     /// What else helps to see why, with the lines that it is about.
     pub notes: Notes,
-    /// The same for programs.
-    pub facts: Facts,
+    /// The same for programs: further fields of its JSON object, each after a comma.
+    pub fields: String,
     /// Who held and who was in the queue then.
     pub standing: String,
     pub summary: Summary,
@@ -97,7 +97,7 @@ impl Report {
             line: 0,
             message: String::new(alloc),
             notes: Notes::new(alloc),
-            facts: Facts::Nothing,
+            fields: String::new(alloc),
             standing: String::new(alloc),
             summary: Summary::default(),
         }
@@ -123,7 +123,7 @@ impl Report {
         let lock = checker.lock();
         let (wrong, standing) = (Wrong(lock, line, difference, &[]), Standing(lock));
         write!(self.message, "refused: {wrong}")?;
-        self.facts = Facts::of(lock, trail, line, difference);
+        put_refused(&mut self.fields, lock, trail, line, difference)?;
         put_blame(&mut self.notes, lock, trail, line, difference)?;
         write!(self.standing, "{standing}")
     }
@@ -135,7 +135,7 @@ impl Report {
         let lock = checker.lock();
         let standing = Standing(lock);
         self.message.push_str(HANGS)?;
-        self.facts = Facts::Hangs;
+        put_code(&mut self.fields, "Hangs")?;
         put_waits(&mut self.notes, lock, course, &[])?;
         write!(self.standing, "{standing}")
     }
@@ -144,7 +144,7 @@ impl Report {
     fn fault(&mut self, fault: TextFault) -> Result<(), AllocError>
         ensures { IfOk result (λ _. verdict_in self.new ≡ verdict_in self.old) }
     {
-        self.facts = Facts::Fault(fault);
+        put_code(&mut self.fields, fault.name())?;
         write!(self.message, "{fault}")
     }
 
@@ -176,7 +176,7 @@ pub fn unread(alloc: Global, error: &Error) -> Result<Report, AllocError>
 {
     let mut report = Report::new(alloc);
     write!(report.message, "{error}")?;
-    report.facts = Facts::Unread;
+    put_code(&mut report.fields, "Unread")?;
     report.ending = Ending::Unread;
     Ok(report)
 }

@@ -1,8 +1,9 @@
 //! The job of checking files, by several threads if that is asked for. The reports come in the
 //! order of the files.
 
-ghost use Rattle.lk_trace_files.specs.Verdicts.{AreOfTexts};
-ghost use Rattle.std.specs.Prelude.{◌≡◌, ◌+◌, ◌++◌, ◌∷◌, [], IfOk, OnOk, length};
+ghost use Rattle.lk_trace_files.specs.Verdicts.{AreOfTexts, EndsInput};
+ghost use Rattle.std.specs.List.{All};
+ghost use Rattle.std.specs.Prelude.{◌≡◌, ◌+◌, ◌++◌, ◌∷◌, [], IfOk, IfSome, OnOk, length, vec_len};
 
 use crate::check::{Ending, Report, check_input, unread};
 use crate::failures::Failure;
@@ -67,7 +68,10 @@ fn check_file<R: Runtime>(
     alloc: Global,
     name: &str,
     told: bool,
-) -> Result<Report, AllocError> {
+) -> Result<Report, AllocError>
+    ensures { IfOk result
+        (λ report. EndsInput R.File.remaining R.Reader.remaining report.ending) }
+{
     let mut progress = Progress::new(rt, told);
     let watch = |number| progress.line(name, number);
     let report = if name == "-" {
@@ -93,7 +97,8 @@ pub fn check_side_by_side<R: Threads + Sync, I: Read + Send + Drop>(
     alloc: Global,
     inputs: Vec<I>,
 ) -> Result<Vec<Result<Report, AllocError>>, AllocError>
-    ensures { IfOk result (λ reports. AreOfTexts I.remaining inputs.items reports.items) }
+    ensures one_each { IfOk result (λ reports. vec_len reports ≡ vec_len inputs) }
+    ensures each { IfOk result (λ reports. AreOfTexts I.remaining inputs.items reports.items) }
 {
     map_vec(rt, inputs, &|input: I| check_input(alloc, input, |_| {}))
 }
@@ -104,7 +109,10 @@ fn open_round<R: Runtime>(
     rt: &R,
     alloc: Global,
     names: &[String],
-) -> Result<(Vec<R::File>, Vec<Option<Report>>), AllocError> {
+) -> Result<(Vec<R::File>, Vec<Option<Report>>), AllocError>
+    ensures { IfOk result (λ opened. All (λ early. IfSome early
+        (λ report. EndsInput R.File.remaining R.Reader.remaining report.ending)) opened.1.items) }
+{
     let mut inputs = Vec::new(alloc);
     let mut early = Vec::new(alloc);
     for name in names {
@@ -133,8 +141,11 @@ fn check_round<R: Runtime + Threads + Sync, O: Write>(
 ) -> Result<(), Failure>
 where
     R::File: Send,
-    ensures { OnOk result
+    ensures one_each { OnOk result
         (length reports.new.endings.items ≡ length reports.old.endings.items + length names.now) }
+    ensures each { OnOk result
+        (All (EndsInput R.File.remaining R.Reader.remaining) reports.old.endings.items
+        → All (EndsInput R.File.remaining R.Reader.remaining) reports.new.endings.items) }
 {
     let (inputs, early) = open_round(rt, alloc, names)?;
     let mut early = early.into_iter();
@@ -159,9 +170,12 @@ fn check_rounds<R: Runtime + Threads + Sync, O: Write>(
 ) -> Result<(), Failure>
 where
     R::File: Send,
-    ensures { OnOk result
+    ensures one_each { OnOk result
         (length reports.new.endings.items
         ≡ length reports.old.endings.items + length job.now.files.items) }
+    ensures each { OnOk result
+        (All (EndsInput R.File.remaining R.Reader.remaining) reports.old.endings.items
+        → All (EndsInput R.File.remaining R.Reader.remaining) reports.new.endings.items) }
 {
     let mut rest = job.files.as_slice();
     while rest.len() > 0 {
@@ -181,8 +195,11 @@ fn check_each<R: Runtime, O: Write>(
     reports: &mut Reports<'_>,
     output: &mut O,
 ) -> Result<(), Failure>
-    ensures { OnOk result
+    ensures one_each { OnOk result
         (length reports.new.endings.items ≡ length reports.old.endings.items + length files.now) }
+    ensures each { OnOk result
+        (All (EndsInput R.File.remaining R.Reader.remaining) reports.old.endings.items
+        → All (EndsInput R.File.remaining R.Reader.remaining) reports.new.endings.items) }
 {
     for name in files {
         let report = check_file(rt, alloc, name, told)?;
@@ -207,7 +224,10 @@ pub fn check_files<R: Runtime + Threads + Sync, O: Write>(
 ) -> Result<Vec<Ending>, Failure>
 where
     R::File: Send,
-    ensures { IfOk result (λ endings. length endings.items ≡ length job.now.files.items) }
+    ensures one_each { IfOk result
+        (λ endings. length endings.items ≡ length job.now.files.items) }
+    ensures each { IfOk result
+        (λ endings. All (EndsInput R.File.remaining R.Reader.remaining) endings.items) }
 {
     let mut reports = Reports::new(alloc, job)?;
     if job.workers > 1 && job.files.len() > 1 {

@@ -3,7 +3,7 @@
 
 ghost use Rattle.std.specs.Prelude.{◌≡◌, List, Some};
 ghost use Rattle.lk_trace_files.specs.Fates.{after_comment, after_line, hangs, is_hung, is_over};
-ghost use Rattle.lk_trace_files.specs.Fates.{new_fates, open_in, said_before, said_in, said_of};
+ghost use Rattle.lk_trace_files.specs.Fates.{new_fates, said_before, said_of};
 ghost use Rattle.lk_trace_files.specs.declared.course.Fate.{Fate as OfThread};
 ghost use Rattle.std.specs.List.{list_all, list_any};
 
@@ -45,29 +45,17 @@ fn one_hangs(fates: &[Fate]) -> bool
 // The most bytes of a comment that says something of a thread.
 const MOST_OF_A_COMMENT: usize = 96;
 
-/// Which thread a comment says not to have ended: the words before `ended`.
-fn open_in(front: &[u8]) -> Option<(u8, bool)>
-    ensures { result ≡ open_in front.now }
-{
-    let number = front.strip_suffix(b" has not".as_slice())?;
-    Some((number_of(number, 0, 63)?, false))
-}
-
 // Which thread a comment says to have ended, or not to have: the words before `ended`.
 fn said_before(front: &[u8]) -> Option<(u8, bool)>
     ensures { result ≡ said_before front.now }
 {
-    let Some(number) = front.strip_suffix(b" has".as_slice()) else {
-        return open_in(front);
-    };
-    Some((number_of(number, 0, 63)?, true))
-}
-
-// The same of all words after the thread's.
-fn said_in(text: &[u8]) -> Option<(u8, bool)>
-    ensures { result ≡ said_in text.now }
-{
-    said_before(text.strip_suffix(b" ended".as_slice())?)
+    match front.strip_suffix(b" has".as_slice()) {
+        Some(number) => Some((number_of(number, 0, 63)?, true)),
+        None => {
+            let number = front.strip_suffix(b" has not".as_slice())?;
+            Some((number_of(number, 0, 63)?, false))
+        }
+    }
 }
 
 /// Which thread a comment says to have ended, or not to have.
@@ -77,7 +65,8 @@ pub fn said_of(line: &[u8]) -> Option<(u8, bool)>
     if line.len() > MOST_OF_A_COMMENT {
         return None;
     }
-    said_in(line.strip_prefix(b"# thread ".as_slice())?)
+    let text = line.strip_prefix(b"# thread ".as_slice())?;
+    said_before(text.strip_suffix(b" ended".as_slice())?)
 }
 
 /// How far each thread of a run has come. A contract sees a list with a place for each `u8`.

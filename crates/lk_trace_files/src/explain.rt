@@ -56,11 +56,8 @@ fn put_move(
     line: TraceLine,
     made: Made,
 ) -> Result<(), AllocError> {
-    let (thread, word, came) = (
-        line.thread,
-        move_text(line.action),
-        outcome_text(made.outcome),
-    );
+    let (thread, word) = (line.thread, move_text(line.action));
+    let came = outcome_text(made.outcome);
     write!(text, "{thread} {word}: {came}")?;
     if let Some(effect) = made.effect {
         put_values(text, lock, effect)?;
@@ -95,49 +92,41 @@ fn put_due(text: &mut String, machine: &Machine<WordArray>, thread: u8) -> Resul
     writeln!(text)
 }
 
-// What has been explained so far.
-#[derive(Drop)]
-struct Explainer<'a> {
+// Describes the move of a line, or says why the trace ends there.
+fn explain_line(
     alloc: Global,
-    asked: Asked<'a>,
-    trace: TraceReader,
-}
-
-impl Explainer<'_> {
-    // Describes the move of a line, or says why the trace ends there.
-    fn line(
-        &mut self,
-        number: u64,
-        line: &[u8],
-        text: &mut String,
-    ) -> Result<Option<Ending>, AllocError> {
-        let event = self.trace.line(line);
-        if let Event::Fault(fault) = event {
-            put_fault(text, self.alloc, number, line, fault)?;
-            return Ok(Some(Ending::Faulty));
-        }
-        let Some(checker) = self.trace.checker() else {
-            return Ok(None);
-        };
-        let lock = checker.lock();
-        match event {
-            Event::Made(line, made) => {
-                let (first, last) = self.asked.lines;
-                if first <= number && number <= last {
-                    write!(text, "{number}: ")?;
-                    put_move(text, self.asked.names, lock, line, made)?;
-                }
-                Ok(None)
+    asked: &Asked<'_>,
+    trace: &mut TraceReader,
+    number: u64,
+    line: &[u8],
+    text: &mut String,
+) -> Result<Option<Ending>, AllocError> {
+    let event = trace.line(line);
+    if let Event::Fault(fault) = event {
+        put_fault(text, alloc, number, line, fault)?;
+        return Ok(Some(Ending::Faulty));
+    }
+    let Some(checker) = trace.checker() else {
+        return Ok(None);
+    };
+    let lock = checker.lock();
+    match event {
+        Event::Made(line, made) => {
+            let (first, last) = asked.lines;
+            if first <= number && number <= last {
+                write!(text, "{number}: ")?;
+                put_move(text, asked.names, lock, line, made)?;
             }
-            Event::Differs(line, difference) => {
-                let wrong = Wrong(lock, line, difference, self.asked.names);
-                let standing = Standing(lock);
-                writeln!(text, "{number}: refused: {wrong}\n  {standing}")?;
-                put_due(text, lock.machine(), line.thread)?;
-                Ok(Some(Ending::Refused))
-            }
-            _ => Ok(None),
+            Ok(None)
         }
+        Event::Differs(line, difference) => {
+            let wrong = Wrong(lock, line, difference, asked.names);
+            let standing = Standing(lock);
+            writeln!(text, "{number}: refused: {wrong}\n  {standing}")?;
+            put_due(text, lock.machine(), line.thread)?;
+            Ok(Some(Ending::Refused))
+        }
+        _ => Ok(None),
     }
 }
 
@@ -153,19 +142,14 @@ pub fn explain_input<R: Read + Drop, O: Write>(
     asked: Asked<'_>,
     output: &mut O,
 ) -> Result<Ending, Failure> {
-    let mut explainer = Explainer {
-        alloc,
-        asked,
-        trace: TraceReader::new(),
-    };
-    let mut text = String::new(alloc);
+    let (mut trace, mut text) = (TraceReader::new(), String::new(alloc));
     let (number, stopped) = take_lines(alloc, input, |number, line| -> Result<_, Failure> {
-        let stopped = explainer.line(number, line.bytes(), &mut text)?;
+        let stopped = explain_line(alloc, &asked, &mut trace, number, line.bytes(), &mut text)?;
         write_waiting(&mut text, output)?;
         Ok(stopped)
     })?;
     let ending = match stopped {
-        Ok(None) if explainer.trace.checker().is_some() => Ending::Accepted,
+        Ok(None) if trace.checker().is_some() => Ending::Accepted,
         Ok(None) => {
             let fault = TextFault::NoHeader;
             writeln!(text, "{number}: {fault}")?;

@@ -56,12 +56,8 @@ pub fn put_noted<T: fmt::Display + Drop>(
     word: T,
 ) -> Result<(), AllocError> {
     for note in notes.as_slice() {
-        let file = if note.file.is_empty() {
-            name
-        } else {
-            note.file.as_str()
-        };
-        let said = &note.text;
+        let (file, said) = (note.file.as_str(), &note.text);
+        let file = if file.is_empty() { name } else { file };
         put_place(text, file, note.line)?;
         writeln!(text, "{word}{said}")?;
     }
@@ -195,7 +191,7 @@ fn put_json(
     if report.ending != Ending::Accepted {
         let message = Quoted(&report.message);
         write!(text, ",\"line\":{line},\"message\":{message}")?;
-        report.facts.put_fields(text)?;
+        text.push_str(&report.fields)?;
     }
     put_note_fields(text, "notes", &report.notes)?;
     if !report.standing.is_empty() {

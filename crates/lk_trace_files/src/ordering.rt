@@ -12,7 +12,6 @@ mod telling;
 mod writing;
 
 use crate::course::Course;
-use crate::facts::Facts;
 use crate::failures::Failure;
 use crate::formats::Format;
 use crate::progress::Progress;
@@ -77,19 +76,23 @@ fn order_into<R: Files + Eprint, O: Write>(
     report: &mut OrderReport,
     output: &mut O,
 ) -> Result<Sought, Failure>
-    ensures { IfOk result IsSought }
+    ensures { IfOk result (IsSought R.File.remaining) }
 {
     let taken = match take_logs(rt, alloc, &job.logs, &mut report.messages)? {
         Ok(taken) => taken,
         Err(bad) => {
-            report.facts = Facts::BadLog(bad);
+            bad.put_fields(&mut report.fields)?;
             return Ok(Sought::Bad(bad));
         }
     };
-    progress.begin("ordering", &taken.logs);
-    let Some(search) = search_logs(alloc, taken.logs, &taken.open)? else {
-        report.messages.put(0, "the logs are not of one run")?;
-        return Ok(Sought::Bad(BadLog::OtherLock));
+    let logs = taken.shelf.logs(alloc)?;
+    progress.begin("ordering", &logs);
+    let search = match search_logs(alloc, logs, &taken.open)? {
+        Some(search) => search,
+        None => {
+            report.messages.put(0, "the logs are not of one run")?;
+            return Ok(Sought::Bad(BadLog::OtherLock));
+        }
     };
     let (order, hung, names) = (&search.found.order, search.hung.as_ref(), &taken.names);
     progress.begin("writing", order.logs());
@@ -123,7 +126,7 @@ pub fn order_logs<R: Files + Eprint, O: Write>(
     output: &mut O,
     errors: &mut String,
 ) -> Result<Sought, Failure>
-    ensures { IfOk result IsSought }
+    ensures { IfOk result (IsSought R.File.remaining) }
 {
     let mut report = OrderReport::new(alloc);
     let mut progress = Progress::new(rt, is_terminal && !job.quiet);

@@ -1,7 +1,6 @@
 //! The job of writing a trace without its values: the first two words of each move, and every other
 //! line as it is kept.
 
-use crate::check::Ending;
 use crate::failures::Failure;
 use crate::lines::take_lines;
 use crate::written::write_waiting;
@@ -10,27 +9,6 @@ use lk_trace::{TextFault, read_header, read_line};
 use std::alloc::{AllocError, Global};
 use std::fmt::Write as _;
 use std::io::{Error, Read, Write};
-use thiserror::Error;
-
-/// Why a trace has no schedule: what is said after its name.
-#[derive(Debug, Drop, Error)]
-pub enum Unscheduled {
-    /// A line that is not a trace's.
-    #[error(":{0}: {1}")]
-    Faulty(u64, TextFault),
-    #[error(": {0}")]
-    Unread(Error),
-}
-
-impl Unscheduled {
-    /// The same as an ending of a check.
-    pub fn ending(&self) -> Ending {
-        match self {
-            Unscheduled::Faulty(..) => Ending::Faulty,
-            Unscheduled::Unread(_) => Ending::Unread,
-        }
-    }
-}
 
 // Writes the line of a schedule that a trace's line is. `begun` says whether the header was read.
 fn put_line(
@@ -40,28 +18,25 @@ fn put_line(
 ) -> Result<Option<TextFault>, AllocError> {
     if is_skipped(line) {
         text.push('\n')?;
-        return Ok(None);
-    }
-    if !*begun {
+    } else if !*begun {
         if let Err(fault) = read_header(line) {
             return Ok(Some(fault));
         }
         *begun = true;
         let header = str::from_utf8(line).unwrap_or("");
         writeln!(text, "{header}")?;
-        return Ok(None);
+    } else if let Some(read) = read_line(line) {
+        let (thread, word) = (read.thread, move_text(read.action));
+        writeln!(text, "{thread} {word}")?;
+    } else {
+        return Ok(Some(TextFault::BadLine));
     }
-    match read_line(line) {
-        Some(read) => {
-            let (thread, word) = (read.thread, move_text(read.action));
-            writeln!(text, "{thread} {word}")?;
-            Ok(None)
-        }
-        None => Ok(Some(TextFault::BadLine)),
-    }
+    Ok(None)
 }
 
-/// Writes the schedule of a trace. Comments become empty lines, so that each line keeps its number.
+/// Writes the schedule of a trace, up to a line that is not a trace's. Comments become empty lines,
+/// so that each line keeps its number. The answer is that line's number, from 1, and its fault; no
+/// fault if the trace has a schedule.
 ///
 /// # Errors
 ///
@@ -71,7 +46,7 @@ pub fn write_schedule<R: Read + Drop, O: Write>(
     alloc: Global,
     input: R,
     output: &mut O,
-) -> Result<Result<(), Unscheduled>, Failure> {
+) -> Result<(u64, Result<Option<TextFault>, Error>), Failure> {
     let (mut text, mut begun) = (String::new(alloc), false);
     let (number, stopped) = take_lines(alloc, input, |_, line| -> Result<_, Failure> {
         let stopped = put_line(&mut text, &mut begun, line.bytes())?;
@@ -80,10 +55,8 @@ pub fn write_schedule<R: Read + Drop, O: Write>(
     })?;
     output.write_all(text.as_bytes())?;
     output.flush()?;
-    Ok(match stopped {
-        Ok(None) if begun => Ok(()),
-        Ok(None) => Err(Unscheduled::Faulty(number, TextFault::NoHeader)),
-        Ok(Some(fault)) => Err(Unscheduled::Faulty(number, fault)),
-        Err(error) => Err(Unscheduled::Unread(error)),
-    })
+    match stopped {
+        Ok(None) if !begun => Ok((number, Ok(Some(TextFault::NoHeader)))),
+        stopped => Ok((number, stopped)),
+    }
 }

@@ -58,13 +58,8 @@ impl Summary {
     fn note_lock(&mut self, lock: &Lock) {
         self.longest = self.longest.max(lock.queue().len());
         if has_counter(lock.kind()) {
-            let now = lock
-                .machine()
-                .words()
-                .as_slice()
-                .first()
-                .copied()
-                .unwrap_or(0);
+            let words = lock.machine().words().as_slice();
+            let now = words.first().copied().unwrap_or(0);
             if now < self.counter {
                 self.rounds = self.rounds.saturating_add(1);
             }

@@ -163,28 +163,7 @@ impl fmt::Display for Wrong<'_> {
         match difference {
             Difference::Refused(refusal) => self.put_refusal(f, refusal),
             Difference::OtherWord { .. } => write!(f, "{called}'s {step} is {difference}"),
-            Difference::FoundOther { .. } | Difference::LeftOther { .. } => {
-                write!(f, "{called}'s {step} {difference}")
-            }
-            Difference::WroteOther { wrote: true } => {
-                write!(f, "{called}'s {step} failed, and the lock's writes")
-            }
-            Difference::WroteOther { wrote: false } => {
-                write!(f, "{called}'s {step} wrote, and the lock's fails")
-            }
-            Difference::CountNotAbove { last, given } => {
-                write!(
-                    f,
-                    "{called}'s section has the count {given}, after the count {last}"
-                )
-            }
-            Difference::OtherOutcome { outcome, given } => {
-                let (outcome, given) = (outcome_text(outcome), outcome_text(given));
-                write!(
-                    f,
-                    "{called}'s section came to '{given}', and the lock's to '{outcome}'"
-                )
-            }
+            _ => write!(f, "{called}'s {step} {difference}"),
         }
     }
 }

@@ -1,6 +1,7 @@
 -- Numbers below a number.
 use Rattle.std.proofs.Common.{add-one, ◌≡◌, ℕ, zero, suc, ◌+◌, ◌<◌, ◌≤◌, List, [], ◌∷◌, All, refl}
-use Rattle.std.proofs.Common.{ap, ◌∙◌, arith, lt_of_not-le}
+use Rattle.std.proofs.Common.{ap, ◌∙◌, arith, inl, inr, lt_of_not-le}
+use Rattle.std.proofs.lemmas.Bool.{cases_lt}
 use Rattle.std.proofs.lemmas.List.Elements.{All-cons}
 use Rattle.std.proofs.lemmas.List.Concat.{flat_map-cons}
 use Rattle.std.specs.List.{flat_map}
@@ -27,11 +28,10 @@ at_most_once x (suc n) = go (dec_le n x) (at_most_once x n)
     go (no d) r = let l = lt_of_not-le d in grind arith
 
 pub below_of : (x n : ℕ) → 1 ≤ once_below x n → x < n
-below_of x n h = go (dec_le n x)
-  where
-    go : Dec (n ≤ x) → x < n
-    go (yes d) = let r = none_there x n d in absurd (omega arith)
-    go (no d) = lt_of_not-le d
+below_of x n h = elim (cases_lt x n) [
+  | inl low ↦ low
+  | inr high ↦ absurd (omega (arith, none_there x n high))
+]
 
 pub once_there : (x n : ℕ) → x < n → once_below x n ≡ 1
 once_there x zero h = absurd (omega arith)
@@ -50,14 +50,16 @@ pub occurrences-flat_map : {A : Type 0} (f : A → List ℕ) (x : ℕ) (vs : Lis
     → occurrences x (flat_map f vs) ≡ sum_over (λ v. occurrences x (f v)) vs
 occurrences-flat_map f x [] = refl
 occurrences-flat_map f x (v ∷ vs) =
-    let r = occurrences-flat_map f x vs in
-    let a = sum_over-append (indicator x) (f v) (flat_map f vs) in
-    ap (occurrences x) (flat_map-cons f v vs) ∙ omega arith
+    ap (occurrences x) (flat_map-cons f v vs) ∙ omega (
+      arith,
+      occurrences-flat_map f x vs,
+      sum_over-append (indicator x) (f v) (flat_map f vs),
+    )
 
 -- if only numbers below n are in a list, all are below n
 pub all_below : (n : ℕ) (xs : List ℕ) → ((x : ℕ) → 1 ≤ occurrences x xs → x < n)
     → All (λ x. x < n) xs
 all_below n [] h = λ k d l. absurd (omega arith)
 all_below n (y ∷ ys) h =
-    All-cons (λ x. x < n) y ys (h y (let a = indicator_here y in omega arith))
+    All-cons (λ x. x < n) y ys (h y (omega (arith, indicator_here y)))
     (all_below n ys (λ x t. h x (omega arith)))

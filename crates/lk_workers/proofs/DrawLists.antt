@@ -8,9 +8,9 @@ use Rattle.lk_workers.specs.declared.draws.Hand.{Hand}
 use Rattle.lk_workers.specs.Counting.{occurrences}
 use Rattle.lk_workers.specs.invariants.DrawRule.{Drawn}
 use Rattle.lk_workers.specs.DrawLaw.{word_of, DrawState, IsEnd}
-use Rattle.lk_workers.proofs.Sums.{two_there}
+use Rattle.lk_workers.proofs.Sums.{two_there, word_at}
 use Rattle.lk_workers.proofs.Below.{each_below, occurrences-flat_map, at_most_once}
-use Rattle.lk_workers.proofs.DrawSteps.{below_word, whole, word_at}
+use Rattle.lk_workers.proofs.DrawSteps.{below_word, whole}
 
 pub draw_state : (draws : ℕ) (s : State (Unit {0}) Hand) → Drawn draws s → DrawState draws s
 draw_state draws s r = record {
@@ -34,6 +34,6 @@ pub ends : (draws id : ℕ) (v : Hand) (words : List ℕ) (slots : List (Unit {0
 ends draws id v words slots n left h word is = (
   h.0,
   draw_state draws h.0 h.1.0,
-  ap (λ (ws : List ℕ). get_or ws 0 0) h.2 ∙ word_at words n word,
+  ap (λ (ws : List ℕ). get_or ws 0 0) h.2 ∙ word_at words 0 n word,
   (id, v, h.1.1, refl, is),
 )

@@ -2,31 +2,26 @@
 use Rattle.std.proofs.Common.{◌≡◌, ℕ, ◌+◌, ◌-◌, ◌%◌, ◌^◌, ◌<◌, ◌≤◌, List, [], ◌∷◌, ◌++◌, length}
 use Rattle.std.proofs.Common.{get_or, All, set, sym, refl, ap, ◌∙◌, subst, arith, length-set}
 use Rattle.std.proofs.Common.{length-append, get_or-set_same}
-use mathlib.Core.Option.{none, some, some-injective, some-ne-none}
+use mathlib.Core.Option.{none, some}
 use lib.ListN.{get_elem?}
+use Rattle.std.proofs.lemmas.List.{set-get_or}
 use Rattle.atomic_table.specs.Table.{State, Me, step, keeps, Allows, Splits, Joins, Final, Seen}
-use Rattle.atomic_table.specs.Table.{opening}
 use Rattle.atomic_table.proofs.Lists.{set_again}
 use Rattle.lk_workers.specs.declared.draws.Hand.{Hand}
 use Rattle.lk_workers.specs.Counting.{indicator, occurrences, once_below, IsEachBelow}
 use Rattle.lk_workers.specs.Drawing.{hand}
 use Rattle.lk_workers.specs.invariants.DrawRule.{Drawn, DrawFinds, CountFinds}
+use Rattle.lk_workers.proofs.Sums.{sum_over-cut, sum_over-two}
 use Rattle.lk_workers.proofs.Sums.{sum_over-set, sum_over-append, at_most_sum, sum_over-both}
-use Rattle.lk_workers.proofs.Sums.{alone_at, set_same}
+use Rattle.lk_workers.proofs.Sums.{alone_at, word_at}
 use Rattle.lk_workers.proofs.Below.{below_suc, below_of, all_below, each_below}
-
-pub opens : (draws : ℕ) → draws ≤ 2 ^ 40 → Drawn draws (opening (0 ∷ []) [] (hand [] draws draws))
-opens draws few =
-    record { one_word = refl; once = λ x. refl; many = refl; all = omega arith; few = few }
 
 -- each number of a seat's list is below the word
 pub below_word : (all : ℕ) (s : State (Unit {0}) Hand) (id : ℕ) (v : Hand) → Drawn all s
     → get_elem? s.views id ≡ some v → All (λ x. x < get_or s.words 0 0) v.drawn
 below_word all s id v r at = all_below (get_or s.words 0 0) v.drawn
-    (λ x t. below_of x (get_or s.words 0 0) (
-    let a = at_most_sum (λ (u : Hand). occurrences x u.drawn) s.views id v at in
-    let b = r.once x in
-    omega arith))
+    (λ x t. below_of x (get_or s.words 0 0)
+    (omega (arith, at_most_sum (λ (u : Hand). occurrences x u.drawn) s.views id v at, r.once x)))
 
 pub draws : (all slots id : ℕ) (me : Me (Unit {0}) Hand) → 0 < me.0.left
     → Allows (Drawn all) slots id me 0 (λ n. (n + 1) % 2 ^ 64)
@@ -57,14 +52,12 @@ draws all slots id me some_left s r _ at _ =
             let d = length-append v.drawn (n ∷ []) in
             let e = r.many in
             omega arith);
-        all = (let c = sum_over-set (λ (u : Hand). u.left) s.views id v w at in omega arith);
+        all = omega (arith, sum_over-set (λ (u : Hand). u.left) s.views id v w at);
         few = few;
       },
       (
         refl,
-        (let a = at_most_sum (λ (u : Hand). length u.drawn) s.views id v at in
-            let b = r.many in
-            omega arith),
+        omega (arith, at_most_sum (λ (u : Hand). length u.drawn) s.views id v at, r.many),
         below_word all s id v r at,
       ),
     )
@@ -74,27 +67,16 @@ pub splits : (all id : ℕ) (v : Hand) (a : ℕ) → a ≤ v.left
 splits all id v a low s r at =
     let l : Hand = hand v.drawn (v.left - a) v.draws in
     let n : Hand = hand [] a v.draws in
-    let vs : List Hand = set s.views id l in
     record {
       one_word = r.one_word;
-      once = λ x. (
-          let f : Hand → ℕ = λ u. occurrences x u.drawn in
-          let c = sum_over-set f s.views id v l at in
-          let d = sum_over-append f vs (n ∷ []) in
-          let e = r.once x in
-          omega arith);
-      many = (
-          let f : Hand → ℕ = λ u. length u.drawn in
-          let c = sum_over-set f s.views id v l at in
-          let d = sum_over-append f vs (n ∷ []) in
-          let e = r.many in
-          omega arith);
-      all = (
-          let f : Hand → ℕ = λ u. u.left in
-          let c = sum_over-set f s.views id v l at in
-          let d = sum_over-append f vs (n ∷ []) in
-          let e = r.all in
-          omega arith);
+      once = λ x.
+          sum_over-cut (λ (u : Hand). occurrences x u.drawn) s.views id v l n at (omega arith)
+          ∙ r.once x;
+      many =
+          sum_over-cut (λ (u : Hand). length u.drawn) s.views id v l n at (omega arith) ∙ r.many;
+      all =
+          let c = sum_over-cut (λ (u : Hand). u.left) s.views id v l n at (omega arith) in
+          omega (arith, r.all);
       few = r.few;
     }
 
@@ -104,29 +86,19 @@ pub joins : (all id : ℕ) (v : Hand) (other : ℕ) (w : Hand)
 joins all id v other w s r at two there =
     let b : Hand = hand (v.drawn ++ w.drawn) (v.left + w.left) v.draws in
     let o : Hand = hand [] 0 0 in
-    let vs : List Hand = set s.views id b in
     record {
       one_word = r.one_word;
       once = λ x. (
           let f : Hand → ℕ = λ u. occurrences x u.drawn in
-          let c = sum_over-set f s.views id v b at in
-          let d = sum_over-set f vs other w o there in
           let g = sum_over-append (indicator x) v.drawn w.drawn in
-          let e = r.once x in
-          omega arith);
+          sum_over-two f s.views id other v w b o at there (omega arith) ∙ r.once x);
       many = (
           let f : Hand → ℕ = λ u. length u.drawn in
-          let c = sum_over-set f s.views id v b at in
-          let d = sum_over-set f vs other w o there in
           let g = length-append v.drawn w.drawn in
-          let e = r.many in
-          omega arith);
-      all = (
+          sum_over-two f s.views id other v w b o at there (omega arith) ∙ r.many);
+      all =
           let f : Hand → ℕ = λ u. u.left in
-          let c = sum_over-set f s.views id v b at in
-          let d = sum_over-set f vs other w o there in
-          let e = r.all in
-          omega arith);
+          omega (arith, sum_over-two f s.views id other v w b o at there (omega arith), r.all);
       few = r.few;
     }
 
@@ -149,16 +121,12 @@ whole all id v s r at is = each_below (get_or s.words 0 0) v.drawn
     (λ j u _ e. no_occurrences x u.drawn (omega arith)) id v at (omega arith) in
     sym only ∙ r.once x)
 
-pub word_at : (ws : List ℕ) (n : ℕ) → get_elem? ws 0 ≡ some n → get_or ws 0 0 ≡ n
-word_at [] n e = absurd (some-ne-none n (sym e))
-word_at (w ∷ ws) n e = some-injective w n e
-
 pub closes : (all id : ℕ) (v : Hand) (words : List ℕ) (slots : List (Unit {0})) (n left : ℕ)
     → Final (Seen (Drawn all) id v) words slots → get_elem? words 0 ≡ some n → v.left ≡ left
     → length v.drawn + left ≡ all → IsEachBelow n v.drawn
 closes all id v words slots n left h word is full =
     subst (λ m. IsEachBelow m v.drawn)
-    (ap (λ (ws : List ℕ). get_or ws 0 0) h.2 ∙ word_at words n word)
+    (ap (λ (ws : List ℕ). get_or ws 0 0) h.2 ∙ word_at words 0 n word)
     (whole all id v h.0 h.1.0 h.1.1 (omega arith))
 
 pub counts : (all slots id : ℕ) (me : Me (Unit {0}) Hand)
@@ -172,7 +140,7 @@ counts all slots id me s r _ at _ =
       keeps,
       tt,
       subst (Drawn all) (λ k. record {
-        words = sym (set_same s.words 0) k;
+        words = sym (set-get_or s.words 0 0) k;
         homes = s.homes;
         views = sym (set_again s.views id v at) k;
       }) r,

@@ -2,13 +2,14 @@
 use Rattle.std.proofs.Common.{◌≡◌, ℕ, ◌+◌, ◌-◌, ◌*◌, ◌<◌, ◌≤◌, Vec, Global, List, [], ◌∷◌, ◌++◌}
 use Rattle.std.proofs.Common.{cond, length, map, filter, ltb, Bool, true, false, ltb-false, ap₂}
 use Rattle.std.proofs.Common.{sym, refl, ap, ◌∙◌, arith, length-append, le-ltb, append-nil}
-use Rattle.std.proofs.Common.{lt_of_not-le}
-use native.Mathlib.Decide.{dec_le}
+use Rattle.std.proofs.Common.{inl, inr}
+use Rattle.std.proofs.lemmas.Bool.{cases_lt}
 use Rattle.std.proofs.Math.Nat.{add-mul}
 use Rattle.std.proofs.lemmas.List.Elements.{filter-append}
 use mathlib.Core.List.{map-append}
 use Rattle.lk_replay.specs.declared.report.Report.{Report}
 use Rattle.lk_workers.specs.Counting.{occurrences, indicator, IsEachBelow}
+use Rattle.lk_workers.proofs.Below.{indicator_here}
 use Rattle.lk_workers.proofs.Sums.{sum_over-append}
 use Rattle.lk_workers.specs.Drawing.{Counter, Drawer, drawer}
 use Rattle.lk_workers.specs.invariants.Collected.{bytes_of, IsDone, report_at, reports_of}
@@ -26,13 +27,8 @@ past texts drawn x h =
 
 pub through : (texts : List (List ℕ)) (drawn : List ℕ) (x : ℕ) → length texts ≤ x
     → IsThrough texts (drawn ++ x ∷ [])
-through texts drawn x h = (
-  x,
-  h,
-  (let a = sum_over-append (indicator x) drawn (x ∷ []) in
-      let b : indicator x x ≡ 1 = grind arith in
-      omega arith),
-)
+through texts drawn x h =
+    (x, h, omega (arith, sum_over-append (indicator x) drawn (x ∷ []), indicator_here x))
 
 pub both : (texts : List (List ℕ)) (a b : List ℕ)
     → reports_of texts (a ++ b) ≡ reports_of texts a ++ reports_of texts b
@@ -44,7 +40,7 @@ both texts a b =
 pub through_both : (texts : List (List ℕ)) (a b : List ℕ) → IsThrough texts a
     → IsThrough texts (a ++ b)
 through_both texts a b h =
-    (h.0, h.1, (let c = sum_over-append (indicator h.0) a b in let d = h.2 in omega arith))
+    (h.0, h.1, omega (arith, sum_over-append (indicator h.0) a b, h.2))
 
 pub together : {X : Type 0} (f : X → ℕ × List ℕ) (texts : List (List ℕ)) (ps qs : List X)
     (a b : List ℕ)
@@ -70,22 +66,20 @@ kept_occurrences n k (x ∷ xs) h = go (ltb x n) refl (kept_occurrences n k xs h
 -- a number that was drawn is below the word
 drawn_below : (drawn : List ℕ) (word x : ℕ) → IsEachBelow word drawn → 1 ≤ occurrences x drawn
     → x < word
-drawn_below drawn word x each t = go (dec_le word x)
-  where
-    go : Dec (word ≤ x) → x < word
-    go (yes d) = let z = each.1 x d in absurd (omega arith)
-    go (no d) = lt_of_not-le d
+drawn_below drawn word x each t = elim (cases_lt x word) [
+  | inl low ↦ low
+  | inr high ↦ absurd (omega (arith, each.1 x high, t))
+]
 
 pub each_once : (texts : List (List ℕ)) (ps : List (ℕ × List ℕ)) (drawn : List ℕ) (word : ℕ)
     → IsWorkOf texts drawn ps → IsEachBelow word drawn → IsEachOnce texts ps
 each_once texts ps drawn word work each = (
   drawn,
   work.0,
-  λ k below. kept_occurrences (length texts) k drawn below ∙ each.0 k (
-      let last = work.1 in
-      let past = drawn_below drawn word last.0 each last.2 in
-      let far = last.1 in
-      omega arith),
+  λ k below.
+      let (last, far, some) = work.1 in
+      kept_occurrences (length texts) k drawn below
+      ∙ each.0 k (omega (arith, drawn_below drawn word last each some, far, below)),
 )
 
 -- what two groups of workers bring back is what all of them bring back
@@ -96,13 +90,12 @@ pub done_both : (c : Counter) (texts : List (Vec ℕ Global)) (workers half rest
     → s ≡ drawer c (front.drawn ++ back.drawn) (front.left + back.left) → all ≡ ps ++ qs
     → IsDone c texts workers s all
 done_both c texts workers half rest front back s ps qs all sum f b seat reports =
-    let n : ℕ = length texts + 1 in
-    let k : workers * n ≡ half * n + rest * n =
-    ap (λ m. m * n) (sym sum) ∙ add-mul half rest n in
-    let long = length-append front.drawn back.drawn in let x = f.0.1 in let y = b.0.1 in
+    let n = length texts + 1 in
+    let k = ap (λ m. m * n) (sym sum) ∙ add-mul half rest n in
+    let long = length-append front.drawn back.drawn in
     let whole : IsDone c texts workers
     (drawer c (front.drawn ++ back.drawn) (front.left + back.left)) (ps ++ qs) = (
-      ((refl, refl), omega (arith, k, long, x, y)),
+      ((refl, refl), omega (arith, k, long, f.0.1, b.0.1)),
       (
         together (λ p. (p.0, p.1.text.items))
             (bytes_of texts) ps qs front.drawn back.drawn f.1.0 b.1.0,

@@ -4,6 +4,7 @@ use Rattle.std.proofs.Common.{[], ◌∷◌, length, get_or, if◌then◌else◌
 use Rattle.std.proofs.Common.{subst, arith, get_or-set_same, get_or-set_other}
 use mathlib.Core.Option.{some, some-ne-none}
 use lib.ListN.{get_elem?}
+use Rattle.std.proofs.lemmas.List.{set-get_or}
 use Rattle.atomic_table.proofs.Lists.{set_here, set_else}
 use Rattle.lk_locks.specs.declared.kinds.Phase.TheVariants.{AwaitTurn, TicketInside, PassOn}
 use Rattle.lk_locks.specs.declared.kinds.Outcome.TheVariants.{Waits, Entered, Left}
@@ -20,22 +21,12 @@ use Rattle.lk_workers.specs.SeatSteps.{LiveStep, take_step, look_step, read_step
 use Rattle.lk_workers.specs.SeatSteps.{after}
 use Rattle.lk_workers.specs.invariants.Running.{FitsPhase}
 use Rattle.lk_workers.specs.LockState.{Happens, IsEvent, due_in}
-use Rattle.lk_workers.proofs.Sums.{set_same}
 use Rattle.lk_workers.proofs.LockStates.{between}
-
--- what looks of this word: inside if it is the ticket
-pub looks : (found t : ℕ) (b : Bool) → (found == t) ≡ b
-    → look_event t found
-    ≡ event found (thread_in (if b then Inside else Waiting) t) (if b then Entered else Waits)
-looks found t true e =
-    ap (λ c. if c then event found (TicketInside t) Entered else event found (AwaitTurn t) Waits) e
-looks found t false e =
-    ap (λ c. if c then event found (TicketInside t) Entered else event found (AwaitTurn t) Waits) e
 
 there : {A : Type 0} (l : List A) (i : ℕ) (a : A) → get_elem? l i ≡ some a → i < length l
 there [] i a e = absurd (some-ne-none a (sym e))
 there (x ∷ xs) zero a e = omega arith
-there (x ∷ xs) (suc i) a e = let r = there xs i a e in omega arith
+there (x ∷ xs) (suc i) a e = omega (arith, there xs i a e)
 
 -- a step on one word by one seat is an event that leaves the same in the word and in the seat's
 -- phase
@@ -65,15 +56,17 @@ takes all id s r h at is =
 -- a load stores nothing
 loads : (ws : List ℕ) (e : Event)
     → to ws e.phase e.outcome ≡ to (set ws 1 (get_or ws 1 0)) e.phase e.outcome
-loads ws e = ap (λ v. to v e.phase e.outcome) (sym (set_same ws 1))
+loads ws e = ap (λ v. to v e.phase e.outcome) (sym (set-get_or ws 1 0))
 
 -- what looks of this word: its phase and word
 seen_phase : (found t : ℕ) (b : Bool) → (found == t) ≡ b
     → thread_in (if b then Inside else Waiting) t ≡ (look_event t found).phase
-seen_phase found t b e = ap (λ (v : Event). v.phase) (sym (looks found t b e))
+seen_phase found t true e = rw e refl
+seen_phase found t false e = rw e refl
 
 seen_word : (found t : ℕ) (b : Bool) → (found == t) ≡ b → found ≡ (look_event t found).word
-seen_word found t b e = ap (λ (v : Event). v.word) (sym (looks found t b e))
+seen_word found t true e = rw e refl
+seen_word found t false e = rw e refl
 
 looked : (ws : List ℕ) (found t : ℕ) (b : Bool)
     → (if b then to ws (TicketInside t) Entered else to ws (AwaitTurn t) Waits)

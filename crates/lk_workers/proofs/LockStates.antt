@@ -1,22 +1,22 @@
 -- What the rule says of a state, in the words of a ticket lock.
 use Rattle.std.proofs.Common.{◌≡◌, ◌≢◌, ℕ, zero, suc, ◌<◌, ◌≤◌, List, [], ◌∷◌, get_or, set, sym}
-use Rattle.std.proofs.Common.{refl, ap, ◌∙◌, subst, arith, lt_of_not-le}
-use native.Mathlib.Decide.{dec_le, ℕ_discrete}
+use Rattle.std.proofs.Common.{refl, ap, ◌∙◌, subst, arith, inl, inr}
+use Rattle.std.proofs.lemmas.Bool.{cases_lt}
+use native.Mathlib.Decide.{ℕ_discrete}
 use mathlib.Core.Logic.{dite}
 use mathlib.Core.Option.{some, some-injective, some-ne-none}
 use lib.ListN.{get_elem?}
 use Rattle.atomic_table.specs.Table.{Final, Seen}
 use Rattle.atomic_table.proofs.Lists.{set_else, at_longer}
 use Rattle.lk_workers.specs.declared.live.LivePhase.{LivePhase}
-use Rattle.lk_workers.specs.declared.live.LivePhase.TheVariants.{Idle, Waiting, Inside, Leaving}
+use Rattle.lk_workers.specs.declared.live.LivePhase.TheVariants.{Idle, Waiting}
 use Rattle.lk_workers.specs.declared.live.rule.SeatState.{SeatState}
 use Rattle.lk_workers.specs.Counting.{sum_over, indicator}
 use Rattle.lk_workers.specs.Seats.{Table, next_of, serving_of, ticket_indicator}
 use Rattle.lk_workers.specs.Seats.{ticket_indicator_in, IsHolding}
 use Rattle.lk_workers.specs.invariants.Running.{FitsPhase, Fits, Each, Running}
 use Rattle.lk_workers.specs.LockState.{IsAt, LockState, OthersStay, IsEnd}
-use Rattle.lk_workers.proofs.SeatJoins.{word_at}
-use Rattle.lk_workers.proofs.Sums.{at_most_sum, two_there, some_one}
+use Rattle.lk_workers.proofs.Sums.{at_most_sum, two_there, some_one, word_at}
 use Rattle.lk_workers.proofs.Below.{indicator_here, none_there, at_most_once, below_of, once_there}
 
 each_at : (P : SeatState → Type 0) (v : List SeatState) (k : ℕ) (r : SeatState) → Each P v
@@ -28,9 +28,7 @@ each_at P (x ∷ xs) (suc k) r e at = each_at P xs k r e.1 at
 ticket_indicator_of : (t : ℕ) (p : LivePhase) (u : ℕ) → p ≢ Idle → u ≡ t
     → ticket_indicator_in t p u ≡ 1
 ticket_indicator_of t Idle u n e = absurd (n refl)
-ticket_indicator_of t Waiting u n e = ap (indicator t) e ∙ indicator_here t
-ticket_indicator_of t Inside u n e = ap (indicator t) e ∙ indicator_here t
-ticket_indicator_of t Leaving u n e = ap (indicator t) e ∙ indicator_here t
+ticket_indicator_of t p u n e = ap (indicator t) e ∙ indicator_here t
 
 indicator_of_same : (t u : ℕ) → 1 ≤ indicator t u → u ≡ t
 indicator_of_same t u h =
@@ -40,40 +38,35 @@ indicator_of_same t u h =
 of_ticket_indicator : (t : ℕ) (p : LivePhase) (u : ℕ) → 1 ≤ ticket_indicator_in t p u
     → (p ≢ Idle) × (u ≡ t)
 of_ticket_indicator t Idle u h = absurd (omega arith)
-of_ticket_indicator t Waiting u h = ((λ e. grind arith), indicator_of_same t u h)
-of_ticket_indicator t Inside u h = ((λ e. grind arith), indicator_of_same t u h)
-of_ticket_indicator t Leaving u h = ((λ e. grind arith), indicator_of_same t u h)
+of_ticket_indicator t p u h = ((λ e. grind arith), indicator_of_same t u h)
 
 taken_of : (m : ℕ) (p : LivePhase) (t taken : ℕ) → FitsPhase m p t taken → p ≢ Idle → 1 ≤ taken
 taken_of m Idle t taken f n = absurd (n refl)
 taken_of m Waiting t taken f n = f
-taken_of m Inside t taken f n = f.1
-taken_of m Leaving t taken f n = f.1
+taken_of m p t taken f n = f.1
 
 held_of : (m : ℕ) (p : LivePhase) (t taken : ℕ) → FitsPhase m p t taken → IsHolding p
     → (t ≡ m) × (p ≢ Idle)
 held_of m Idle t taken f h = absurd h
 held_of m Waiting t taken f h = absurd h
-held_of m Inside t taken f h = (f.0, λ e. grind arith)
-held_of m Leaving t taken f h = (f.0, λ e. grind arith)
+held_of m p t taken f h = (f.0, λ e. grind arith)
 
 module _ (takes : ℕ) (s : Table) (h : Running takes s) where
   -- the ticket of a seat is one of those between the words
   pub between : (id k : ℕ) (r : SeatState) → IsAt s.views id k r → r.phase ≢ Idle
       → (serving_of s ≤ r.ticket) × (r.ticket < next_of s)
   between id k r at busy =
-      let t : ℕ = r.ticket in
-      let one : ticket_indicator t r ≡ 1 = ticket_indicator_of t r.phase t busy refl in
+      let t = r.ticket in
+      let one = ticket_indicator_of t r.phase t busy refl in
       let a = at_most_sum (ticket_indicator t) at.0 k r at.2 in
       let b = at_most_sum (sum_over (ticket_indicator t)) s.views id at.0 at.1 in
       let c = h.tickets t in
       let d = at_most_once t (next_of s) in
-      let up : t < next_of s = below_of t (next_of s) (omega arith) in
-      (go (dec_le (serving_of s) t) (λ l. let e = once_there t (serving_of s) l in omega arith), up)
-    where
-      go : Dec (serving_of s ≤ r.ticket) → (r.ticket < serving_of s → ⊥) → serving_of s ≤ r.ticket
-      go (yes d) f = d
-      go (no d) f = absurd (f (lt_of_not-le d))
+      let up = below_of t (next_of s) (omega arith) in
+      elim (cases_lt t (serving_of s)) [
+        | inl less ↦ absurd (omega (arith, once_there t (serving_of s) less))
+        | inr low ↦ (low, up)
+      ]
 
   pub lock_state : LockState s
   lock_state = record {
@@ -82,13 +75,11 @@ module _ (takes : ℕ) (s : Table) (h : Running takes s) where
     holding = λ id k r at w. (
         let f = each_at (Fits (serving_of s)) at.0 k r (h.seats id at.0 at.1).0 at.2 in
         let g = held_of (serving_of s) r.phase r.ticket r.taken f.0 w in
-        let b = between id k r at g.1 in
-        let e = g.0 in
-        (g.0, omega arith));
+        (g.0, omega (arith, between id k r at g.1, g.0)));
     differ =
         λ id k id' k' r r' t at at' a b.
-        (let ha : ticket_indicator t r ≡ 1 = ticket_indicator_of t r.phase r.ticket a.0 a.1 in
-        let hb : ticket_indicator t r' ≡ 1 = ticket_indicator_of t r'.phase r'.ticket b.0 b.1 in
+        (let ha = ticket_indicator_of t r.phase r.ticket a.0 a.1 in
+        let hb = ticket_indicator_of t r'.phase r'.ticket b.0 b.1 in
         let c = h.tickets t in
         let d = at_most_once t (next_of s) in
         let p = at_most_sum (ticket_indicator t) at.0 k r at.2 in

@@ -1,8 +1,7 @@
 -- Reports put into their places, and taken out of them.
-use Rattle.std.proofs.Common.{Bool, true, false, cond, ltb, ltb-true, filter, All, subst, ◌≡◌, ℕ}
-use Rattle.std.proofs.Common.{◌<◌, ◌≤◌, List, [], ◌∷◌, length, map, set, get_or, replicate, drop}
-use Rattle.std.proofs.Common.{Some, None, option_map, sym, refl, ap, ap₂}
-use Rattle.std.proofs.Common.{◌∙◌, arith, get_or-set_same, get_or-set_other}
+use Rattle.std.proofs.Common.{◌≡◌, ℕ, ◌<◌, ◌≤◌, List, [], ◌∷◌, length, map, set, get_or, replicate}
+use Rattle.std.proofs.Common.{drop, filter, All, ltb, ltb-true, Some, None, option_map, sym, refl}
+use Rattle.std.proofs.Common.{ap, ap₂, ◌∙◌, subst, arith, get_or-set_other}
 use Rattle.std.proofs.Common.{ext_get_or, length-set}
 use Rattle.std.specs.Prelude.{Option}
 use Rattle.std.specs.List.{flat_map}
@@ -12,8 +11,10 @@ use native.Mathlib.Decide.{ℕ_discrete}
 use lib.Seq.{map-set}
 use lib.ListN.{length-map}
 use Rattle.lk_workers.specs.Counting.{occurrences, indicator}
-use Rattle.std.proofs.lemmas.List.Elements.{All-head, All-tail, All-cons}
+use Rattle.std.proofs.lemmas.List.Elements.{All-head, All-map, All-tail, filter_passes}
+use Rattle.std.proofs.lemmas.Grind.{get_or-set_at}
 use Rattle.std.proofs.lemmas.List.{get_or-map, length-replicate}
+use Rattle.std.proofs.lemmas.Simd.{map-map, splat_is_map}
 use Rattle.lk_replay.specs.Report.{report_text}
 use Rattle.lk_workers.specs.invariants.Collected.{placed, report_at, IsEachOnce}
 
@@ -40,8 +41,9 @@ module _ (F : ℕ → List ℕ) where
   stays [] os k b e = e
   stays (j ∷ ks) os k b e =
       stays ks (set os j (Some (F j))) k (let l = length-set os j (Some (F j)) in omega arith)
-      (dite (ℕ_discrete k j) (λ is. ap (λ i. get_or (set os j (Some (F j))) i None) is
-      ∙ get_or-set_same os j (Some (F j)) None (omega arith) ∙ ap (λ i. Some (F i)) (sym is))
+      (dite (ℕ_discrete k j)
+      (λ is.
+      get_or-set_at os j k (Some (F j)) None is (omega arith) ∙ ap (λ i. Some (F i)) (sym is))
       (λ no. get_or-set_other os j k (Some (F j)) None no ∙ e))
 
   pub hit : (ks : List ℕ) (os : List (Option (List ℕ))) (k : ℕ) → k < length os
@@ -50,8 +52,7 @@ module _ (F : ℕ → List ℕ) where
   hit (j ∷ ks) os k b t = dite (ℕ_discrete k j)
       (λ is.
       stays ks (set os j (Some (F j))) k (let l = length-set os j (Some (F j)) in omega arith)
-      (ap (λ i. get_or (set os j (Some (F j))) i None) is
-      ∙ get_or-set_same os j (Some (F j)) None (omega arith) ∙ ap (λ i. Some (F i)) (sym is)))
+      (get_or-set_at os j k (Some (F j)) None is (omega arith) ∙ ap (λ i. Some (F i)) (sym is)))
       (λ no. hit ks (set os j (Some (F j))) k (let l = length-set os j (Some (F j)) in omega arith)
       (let z : indicator k j ≡ 0 = grind arith in omega arith))
 
@@ -68,16 +69,9 @@ Below n p = p.0 < n
 
 kept_below : (n : ℕ) (ks : List ℕ) (f : ℕ → List ℕ)
     → All (Below n) (map (λ k. (k, f k)) (filter (λ j. ltb j n) ks))
-kept_below n [] f = λ k d h. absurd (omega arith)
-kept_below n (x ∷ xs) f = go (ltb x n) refl (kept_below n xs f)
-  where
-    go : (b : Bool) → ltb x n ≡ b → All (Below n) (map (λ k. (k, f k)) (filter (λ j. ltb j n) xs))
-        → All (Below n)
-        (map (λ k. (k, f k)) (cond b (x ∷ filter (λ j. ltb j n) xs) (filter (λ j. ltb j n) xs)))
-    go true e r =
-        All-cons (Below n) (x, f x) (map (λ k. (k, f k)) (filter (λ j. ltb j n) xs))
-        (ltb-true x n e) r
-    go false e r = r
+kept_below n ks f =
+    All-map (Below n) (λ (k : ℕ). (k, f k)) (filter (λ j. ltb j n) ks)
+    (λ i d h. ltb-true _ n (filter_passes (λ (j : ℕ). ltb j n) ks i d h))
 
 pub each_below : (texts : List (List ℕ)) (ps : List (ℕ × List ℕ)) → IsEachOnce texts ps
     → All (Below (length texts)) ps
@@ -106,15 +100,6 @@ pub unmapped : {X Y : Type 0} (P : Y → Type 0) (f : X → Y) (xs : List X) →
 unmapped P f xs a k d h =
     subst P (get_or-map f xs k d (f d) h) (a k (f d) (let l = length-map xs f in omega arith))
 
-alike : {X T : Type 0} (x : X) (ts : List T) → replicate (length ts) x ≡ map (λ _. x) ts
-alike x [] = refl
-alike x (t ∷ ts) = ap (λ l. x ∷ l) (alike x ts)
-
-twice : {T : Type 0} (it : T → List ℕ) (F : List ℕ → Option (List ℕ)) (ts : List T)
-    → map F (map it ts) ≡ map (λ t. F (it t)) ts
-twice it F [] = refl
-twice it F (t ∷ ts) = ap (λ l. F (it t) ∷ l) (twice it F ts)
-
 module _ {X T : Type 0} (h : X → List ℕ) (it : T → List ℕ) (ts : List T) (reports : List (ℕ × X))
     (once : IsEachOnce (map it ts) (map (λ p. (p.0, h p.1)) reports)) where
   pub fits : All (λ p. p.0 < length ts) reports
@@ -128,8 +113,9 @@ module _ {X T : Type 0} (h : X → List ℕ) (it : T → List ℕ) (ts : List T)
   finished =
       let ps : List (ℕ × List ℕ) = map (λ p. (p.0, h p.1)) reports in
       ap (λ os. placed os ps)
-      (sym (alike None ts) ∙ ap (λ n. replicate n None) (sym (length-map ts it)))
-      ∙ filled (map it ts) ps once ∙ twice it (λ t. Some (report_text t)) ts
+      (sym (splat_is_map {Y = Option (List ℕ)} ts (length ts) None refl)
+      ∙ ap (λ n. replicate n None) (sym (length-map ts it)))
+      ∙ filled (map it ts) ps once ∙ map-map (λ (t : List ℕ). Some (report_text t)) it ts
 
 pub first : {X : Type 0} (n k : ℕ) (x : X) (rest old : List (ℕ × X)) → old ≡ (k, x) ∷ rest
     → All (λ p. p.0 < n) old → k < n

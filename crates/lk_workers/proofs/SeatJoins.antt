@@ -1,84 +1,60 @@
 -- Splits and joins of seats keep the rule of the running ticket lock, and what it says of the last
 -- state.
-use Rattle.std.proofs.Common.{◌≡◌, ℕ, zero, suc, ◌+◌, ◌≤◌, max, List, [], ◌∷◌, ◌++◌, get_or, set}
-use Rattle.std.proofs.Common.{sym, refl, ap, ◌∙◌, subst, arith, ⊎_elim, lt_of_not-le}
-use native.Mathlib.Decide.{dec_le}
-use mathlib.Core.Option.{some, some-injective, some-ne-none}
+use Rattle.std.proofs.Common.{◌≡◌, ℕ, ◌+◌, ◌≤◌, max, List, [], ◌∷◌, ◌++◌, get_or, set}
+use Rattle.std.proofs.Common.{sym, refl, ap, ◌∙◌, subst, arith, ⊎_elim, inl, inr}
+use Rattle.std.proofs.lemmas.Bool.{cases_lt}
+use mathlib.Core.Option.{some}
 use lib.ListN.{get_elem?}
 use Rattle.atomic_table.specs.Table.{Splits, Joins, Final, Seen}
 use Rattle.atomic_table.proofs.Lists.{at_set, at_snoc}
 use Rattle.lk_workers.specs.declared.live.LivePhase.{LivePhase}
-use Rattle.lk_workers.specs.declared.live.LivePhase.TheVariants.{Idle, Waiting, Inside, Leaving}
+use Rattle.lk_workers.specs.declared.live.LivePhase.TheVariants.{Idle, Waiting}
 use Rattle.lk_workers.specs.declared.live.rule.SeatState.{SeatState}
 use Rattle.lk_workers.specs.Counting.{sum_over, once_below}
 use Rattle.lk_workers.specs.Seats.{next_of, serving_of, ticket_indicator, ticket_indicator_in}
 use Rattle.lk_workers.specs.SeatSteps.{cut_left, cut_right, glued, paired, first_of, second_of}
 use Rattle.lk_workers.specs.invariants.Running.{FitsPhase, Fits, Each, ViewFits, Running}
-use Rattle.lk_workers.proofs.Sums.{sum_over-set, sum_over-append, at_most_sum, alone_at}
+use Rattle.lk_workers.proofs.Sums.{sum_over-cut, sum_over-two, at_most_sum, alone_at}
 use Rattle.lk_workers.proofs.Below.{none_there, once_there}
 use Rattle.lk_workers.proofs.SeatMoves.{built, views_set}
+use Rattle.lk_workers.proofs.Sums.{word_at}
+
+-- a view becomes two lists of seats, which have together what it had
+two_lists : (takes id : ℕ) (v l b : List SeatState)
+    → ((x : ℕ) → sum_over (ticket_indicator x) l + sum_over (ticket_indicator x) b
+    ≡ sum_over (ticket_indicator x) v)
+    → sum_over (λ u. u.taken) l + sum_over (λ u. u.taken) b ≡ sum_over (λ u. u.taken) v
+    → sum_over (λ u. u.left) l + sum_over (λ u. u.left) b ≡ sum_over (λ u. u.left) v
+    → ((m : ℕ) → ViewFits m v → ViewFits m l × ViewFits m b)
+    → Splits (Running takes) id v l b
+two_lists takes id v l b hs ts ls fits s h at =
+    let vs : List (List SeatState) = s.views in
+    let m : ℕ = serving_of s in
+    let both = fits m (h.seats id v at) in
+    built takes (record { words = s.words; homes = s.homes; views = set vs id l ++ b ∷ [] })
+    (next_of s) m h.two_words refl refl h.served
+    (λ x. let c = sum_over-cut (sum_over (ticket_indicator x)) vs id v l b at (hs x) in
+    omega (arith, h.tickets x))
+    (λ j u e. ⊎_elim
+    (λ x. views_set (ViewFits m) vs id l both.0 (λ j u _ e. h.seats j u e) j u x)
+    (λ (x : b ≡ u). subst (ViewFits m) x both.1) (at_snoc (set vs id l) b u j e))
+    (sum_over-cut (sum_over (λ u. u.taken)) vs id v l b at ts ∙ h.taken)
+    (omega (arith, sum_over-cut (sum_over (λ u. u.left)) vs id v l b at ls, h.left))
 
 pub splits : (takes id a : ℕ) (v : List SeatState) (r : SeatState) → v ≡ r ∷ [] → a ≤ r.left
     → Splits (Running takes) id v (cut_left a v) (cut_right a v)
 splits takes id a v r is low =
-    subst (λ u. Splits (Running takes) id u (cut_left a u) (cut_right a u)) (sym is) go
-  where
-    go : Splits (Running takes) id (r ∷ []) (cut_left a (r ∷ [])) (cut_right a (r ∷ []))
-    go s h at =
-        let vs : List (List SeatState) = s.views in
-        let l : List SeatState = cut_left a (r ∷ []) in
-        let b : List SeatState = cut_right a (r ∷ []) in
-        let old = h.seats id (r ∷ []) at in
-        let m : ℕ = serving_of s in
-        let ls : List (List SeatState) = set vs id l in let n : ℕ = next_of s in
-        built takes (record { words = s.words; homes = s.homes; views = ls ++ b ∷ [] }) n m
-        h.two_words refl refl h.served
-        (λ x. let c = sum_over-set (sum_over (ticket_indicator x)) vs id (r ∷ []) l at in
-        let d = sum_over-append (sum_over (ticket_indicator x)) ls (b ∷ []) in
-        let t = h.tickets x in
-        omega arith)
-        (λ j u e. ⊎_elim (λ x. views_set (ViewFits m) vs id l ((old.0.0, tt), omega arith)
-        (λ j u _ e. h.seats j u e) j u x)
-        (λ (x : b ≡ u). subst (ViewFits m) x (((tt, old.0.0.1), tt), omega arith))
-        (at_snoc ls b u j e))
-        (let c = sum_over-set (sum_over (λ u. u.taken)) vs id (r ∷ []) l at in
-        let d = sum_over-append (sum_over (λ u. u.taken)) ls (b ∷ []) in
-        let t = h.taken in
-        omega arith)
-        (let c = sum_over-set (sum_over (λ u. u.left)) vs id (r ∷ []) l at in
-        let d = sum_over-append (sum_over (λ u. u.left)) ls (b ∷ []) in
-        let t = h.left in
-        omega arith)
+    subst (λ u. Splits (Running takes) id u (cut_left a u) (cut_right a u)) (sym is)
+    (two_lists takes id (r ∷ []) (cut_left a (r ∷ [])) (cut_right a (r ∷ []))
+    (λ x. omega arith) (omega arith) (omega arith)
+    (λ m old. (((old.0.0, tt), omega arith), (((tt, old.0.0.1), tt), omega arith))))
 
 pub unpairs : (takes id : ℕ) (v : List SeatState) (r q : SeatState) → v ≡ r ∷ q ∷ []
     → Splits (Running takes) id v (first_of v) (second_of v)
 unpairs takes id v r q is =
-    subst (λ u. Splits (Running takes) id u (first_of u) (second_of u)) (sym is) go
-  where
-    go : Splits (Running takes) id (r ∷ q ∷ []) (r ∷ []) (q ∷ [])
-    go s h at =
-        let vs : List (List SeatState) = s.views in
-        let old = h.seats id (r ∷ q ∷ []) at in
-        let m : ℕ = serving_of s in
-        let ls : List (List SeatState) = set vs id (r ∷ []) in let n : ℕ = next_of s in
-        built takes (record { words = s.words; homes = s.homes; views = ls ++ (q ∷ []) ∷ [] }) n m
-        h.two_words refl refl h.served
-        (λ x. let c = sum_over-set (sum_over (ticket_indicator x)) vs id (r ∷ q ∷ []) (r ∷ []) at in
-        let d = sum_over-append (sum_over (ticket_indicator x)) ls ((q ∷ []) ∷ []) in
-        let t = h.tickets x in
-        omega arith)
-        (λ j u e. ⊎_elim (λ x. views_set (ViewFits m) vs id (r ∷ []) ((old.0.0, tt), omega arith)
-        (λ j u _ e. h.seats j u e) j u x)
-        (λ (x : q ∷ [] ≡ u). subst (ViewFits m) x (old.0.1, omega arith))
-        (at_snoc ls (q ∷ []) u j e))
-        (let c = sum_over-set (sum_over (λ u. u.taken)) vs id (r ∷ q ∷ []) (r ∷ []) at in
-        let d = sum_over-append (sum_over (λ u. u.taken)) ls ((q ∷ []) ∷ []) in
-        let t = h.taken in
-        omega arith)
-        (let c = sum_over-set (sum_over (λ u. u.left)) vs id (r ∷ q ∷ []) (r ∷ []) at in
-        let d = sum_over-append (sum_over (λ u. u.left)) ls ((q ∷ []) ∷ []) in
-        let t = h.left in
-        omega arith)
+    subst (λ u. Splits (Running takes) id u (first_of u) (second_of u)) (sym is)
+    (two_lists takes id (r ∷ q ∷ []) (r ∷ []) (q ∷ []) (λ x. omega arith) (omega arith)
+    (omega arith) (λ m old. (((old.0.0, tt), omega arith), (old.0.1, omega arith))))
 
 -- two seats become the one list of seats b, which has what both had
 one_list : (takes id other : ℕ) (r q : SeatState) (b : List SeatState)
@@ -90,27 +66,22 @@ one_list takes id other r q b hs ts ls fits s h at two there =
     let vs : List (List SeatState) = s.views in
     let bs : List (List SeatState) = set vs id b in
     let m : ℕ = serving_of s in
-    let n : ℕ = next_of s in
     let theirs : get_elem? vs other ≡ some (q ∷ []) =
     ⊎_elim (λ x. absurd (two x.0)) (λ x. x.1) (at_set vs id other b (q ∷ []) there) in
     let mine = h.seats id (r ∷ []) at in let its = h.seats other (q ∷ []) theirs in
-    built takes (record { words = s.words; homes = s.homes; views = set bs other [] }) n m
-    h.two_words refl refl h.served
-    (λ x. let c = sum_over-set (sum_over (ticket_indicator x)) vs id (r ∷ []) b at in
-    let d = sum_over-set (sum_over (ticket_indicator x)) bs other (q ∷ []) [] there in
-    let t = h.tickets x in
-    let e = hs x in
-    omega arith)
+    built takes (record { words = s.words; homes = s.homes; views = set bs other [] })
+    (next_of s) m h.two_words refl refl h.served
+    (λ x. let c = sum_over-two (sum_over (ticket_indicator x)) vs id other (r ∷ []) (q ∷ []) b []
+    at there (omega (arith, hs x)) in
+    omega (arith, h.tickets x))
     (views_set (ViewFits m) bs other [] (tt, omega arith) (λ j u _ e. views_set (ViewFits m) vs id b
     (fits m mine.0.0 its.0.0) (λ j u _ e. h.seats j u e) j u e))
-    (let c = sum_over-set (sum_over (λ u. u.taken)) vs id (r ∷ []) b at in
-    let d = sum_over-set (sum_over (λ u. u.taken)) bs other (q ∷ []) [] there in
-    let t = h.taken in
-    omega arith)
-    (let c = sum_over-set (sum_over (λ u. u.left)) vs id (r ∷ []) b at in
-    let d = sum_over-set (sum_over (λ u. u.left)) bs other (q ∷ []) [] there in
-    let t = h.left in
-    omega arith)
+    (sum_over-two (sum_over (λ u. u.taken)) vs id other (r ∷ []) (q ∷ []) b [] at there
+    (omega arith)
+    ∙ h.taken)
+    (let c = sum_over-two (sum_over (λ u. u.left)) vs id other (r ∷ []) (q ∷ []) b [] at there
+    (omega arith) in
+    omega (arith, h.left))
 
 max_le : (a b m : ℕ) → a ≤ m → b ≤ m → max a b ≤ m
 max_le a b m h k = omega arith
@@ -142,8 +113,7 @@ none_taken : (x m : ℕ) (p : LivePhase) (t taken : ℕ) → FitsPhase m p t tak
     → ticket_indicator_in x p t ≡ 0
 none_taken x m Idle t taken f z = refl
 none_taken x m Waiting t taken f z = absurd (omega arith)
-none_taken x m Inside t taken f z = let g = f.1 in absurd (omega arith)
-none_taken x m Leaving t taken f z = let g = f.1 in absurd (omega arith)
+none_taken x m p t taken f z = absurd (omega (arith, f.1))
 
 none_of_ticket : (x m : ℕ) (u : List SeatState) → Each (Fits m) u → sum_over (λ p. p.taken) u ≡ 0
     → sum_over (ticket_indicator x) u ≡ 0
@@ -152,11 +122,6 @@ none_of_ticket x m (p ∷ ps) e z =
     let a = none_taken x m p.phase p.ticket p.taken e.0.0 (omega arith) in
     let b = none_of_ticket x m ps e.1 (omega arith) in
     omega arith
-
-pub word_at : (ws : List ℕ) (i n : ℕ) → get_elem? ws i ≡ some n → get_or ws i 0 ≡ n
-word_at [] i n e = absurd (some-ne-none n (sym e))
-word_at (w ∷ ws) zero n e = some-injective w n e
-word_at (w ∷ ws) (suc i) n e = word_at ws i n e
 
 pub closes : (takes id : ℕ) (v : List SeatState) (r : SeatState) (words : List ℕ)
     (slots : List (Unit {0})) (n m : ℕ)
@@ -168,8 +133,7 @@ closes takes id v r words slots n m is idle h w0 w1 =
     let k = h.1.0 in
     let at : get_elem? s.views id ≡ some (r ∷ []) = h.1.1 ∙ ap some is in
     let en : next_of s ≡ n = ap (λ (ws : List ℕ). get_or ws 0 0) h.2 ∙ word_at words 0 n w0 in
-    let em : serving_of s ≡ m =
-    ap (λ (ws : List ℕ). get_or ws 1 0) h.2 ∙ word_at words 1 m w1 in
+    let em : serving_of s ≡ m = ap (λ (ws : List ℕ). get_or ws 1 0) h.2 ∙ word_at words 1 m w1 in
     let low = k.served in
     let t = k.taken in
     let mine = at_most_sum (sum_over (λ u. u.taken)) s.views id (r ∷ []) at in (
@@ -187,8 +151,7 @@ closes takes id v r words slots n m is idle h w0 w1 =
     )
   where
     ends : (x y m n : ℕ) → x ≡ m → y ≡ n → x ≤ y → once_below x y ≡ 0 → m ≡ n
-    ends x y m n e f low z = go (dec_le y x)
-      where
-        go : Dec (y ≤ x) → m ≡ n
-        go (yes d) = omega arith
-        go (no d) = let o = once_there x y (lt_of_not-le d) in absurd (omega arith)
+    ends x y m n e f low z = elim (cases_lt x y) [
+      | inl less ↦ absurd (omega (arith, once_there x y less))
+      | inr more ↦ omega arith
+    ]

@@ -1,10 +1,11 @@
 -- Each step of the running ticket lock keeps its rule.
-use Rattle.std.proofs.Common.{◌≡◌, ◌≢◌, ℕ, zero, suc, ◌+◌, ◌%◌, ◌^◌, ◌<◌, ◌≤◌, ◌==◌, Bool, true}
+use Rattle.std.proofs.Common.{◌≡◌, ◌≢◌, ℕ, ◌+◌, ◌%◌, ◌^◌, ◌<◌, ◌≤◌, ◌==◌, Bool, true}
 use Rattle.std.proofs.Common.{false, List, [], ◌∷◌, ◌++◌, length, if◌then◌else◌, set, sym, refl, ap}
 use Rattle.std.proofs.Common.{◌∙◌, subst, arith, length-set, ⊎_elim}
-use mathlib.Core.Option.{none, some, some-ne-none}
+use mathlib.Core.Option.{none, some}
 use lib.ListN.{get_elem?}
-use Rattle.atomic_table.specs.Table.{Step, step, keeps, stepped, Allows, opening}
+use Rattle.std.proofs.lemmas.List.{set-get_or}
+use Rattle.atomic_table.specs.Table.{Step, step, keeps, stepped, Allows}
 use Rattle.atomic_table.proofs.Lists.{at_set, set_again}
 use Rattle.lk_workers.specs.declared.live.LivePhase.{LivePhase}
 use Rattle.lk_workers.specs.declared.live.LivePhase.TheVariants.{Idle, Waiting, Inside, Leaving}
@@ -16,7 +17,7 @@ use Rattle.lk_workers.specs.SeatSteps.{LiveStep, take_step, look_step, read_step
 use Rattle.lk_workers.specs.invariants.Running.{Sees, loads_of, made_of, FitsPhase, Fits, Each}
 use Rattle.lk_workers.specs.invariants.Running.{ViewFits, Running, TakeFinds, LookFinds, ReadFinds}
 use Rattle.lk_workers.specs.invariants.Running.{PassFinds, OfOne, Counts, Compares}
-use Rattle.lk_workers.proofs.Sums.{sum_over-set, at_most_sum, set_same}
+use Rattle.lk_workers.proofs.Sums.{sum_over-set, at_most_sum}
 use Rattle.lk_workers.proofs.TwoWords.{w00, w01, w10, w11}
 use Rattle.lk_workers.proofs.Below.{below_suc, indicator_here, at_most_once, below_of, once_there}
 
@@ -70,11 +71,7 @@ pub built : (takes : ℕ) (s : Table) (n m : ℕ) → length s.words ≡ 2 → n
 built takes s n m two en em low tickets seats taken left = record {
   two_words = two;
   served = omega arith;
-  tickets = λ x. (
-      let a = ap (once_below x) en in
-      let b = ap (once_below x) em in
-      let c = tickets x in
-      omega arith);
+  tickets = λ x. omega (arith, ap (once_below x) en, ap (once_below x) em, tickets x);
   seats = λ id v at. subst (λ k. ViewFits k v) (sym em) (seats id v at);
   taken = taken ∙ sym en;
   left = omega arith;
@@ -88,24 +85,11 @@ views_set P views id w mine others j u e =
     ⊎_elim (λ (x : (j ≡ id) × (w ≡ u)). subst P x.1 mine)
     (λ (x : (j ≢ id) × (get_elem? views j ≡ some u)). others j u x.0 x.1) (at_set views id j w u e)
 
-pub opens : (takes : ℕ) → takes ≤ 2 ^ 40
-    → Running takes (opening (0 ∷ 0 ∷ []) [] (seat_state Idle 0 takes 0 0 0 [] ∷ []))
-opens takes few = record {
-  two_words = refl;
-  served = omega arith;
-  tickets = λ x. refl;
-  seats =
-      views_set (ViewFits 0) ((seat_state Idle 0 takes 0 0 0 [] ∷ []) ∷ []) 0
-      (seat_state Idle 0 takes 0 0 0 [] ∷ []) (((tt, omega arith), tt), omega arith)
-      (λ j u other e. only j u other e);
-  taken = refl;
-  left = omega arith;
-}
-  where
-    only : (j : ℕ) (u : List SeatState) → j ≢ 0
-        → get_elem? ((seat_state Idle 0 takes 0 0 0 [] ∷ []) ∷ []) j ≡ some u → ViewFits 0 u
-    only zero u other e = absurd (other refl)
-    only (suc j) u other e = absurd (some-ne-none u (sym e))
+-- a sum over all seats after a step of one of them
+change : (f : SeatState → ℕ) (vs : List (List SeatState)) (id : ℕ) (r q : SeatState)
+    → get_elem? vs id ≡ some (r ∷ [])
+    → sum_over_seats f (set vs id (q ∷ [])) + f r ≡ sum_over_seats f vs + f q
+change f vs id r q at = omega (arith, sum_over-set (sum_over f) vs id (r ∷ []) (q ∷ []) at)
 
 module _ (takes slots id : ℕ) (me : Sees) (r : SeatState) (is : me.0 ≡ r ∷ []) where
   pub take : r.phase ≡ Idle → 0 < r.left
@@ -129,20 +113,42 @@ module _ (takes slots id : ℕ) (me : Sees) (r : SeatState) (is : me.0 ≡ r ∷
         built takes (stepped s 0 ((n + 1) % 2 ^ 64) id me.1 (q ∷ []) keeps) (n + 1) m
             (length-set s.words 0 _ ∙ h.two_words) (w00 s.words _ h.two_words ∙ next)
             (w01 s.words _) (omega arith)
-            (λ x. let c = sum_over-set (sum_over (ticket_indicator x)) vs id (r ∷ []) (q ∷ []) at in
-            let none_yet : ticket_indicator x r ≡ 0 =
-            ap (λ p. ticket_indicator_in x p r.ticket) idle in
-            let t = h.tickets x in
-            let b = below_suc x n in
-            omega arith)
+            (λ x. let none_yet = ap (λ (p : LivePhase). ticket_indicator_in x p r.ticket) idle in
+            omega (arith, change (ticket_indicator x) vs id r q at, h.tickets x, below_suc x n))
             (views_set (ViewFits m) vs id (q ∷ []) (((omega arith, seen), tt), omega arith)
             (λ j u _ e. h.seats j u e))
-            (let c = sum_over-set (sum_over (λ u. u.taken)) vs id (r ∷ []) (q ∷ []) at in
-            omega arith)
-            (let c = sum_over-set (sum_over (λ u. u.left)) vs id (r ∷ []) (q ∷ []) at in
-            omega arith),
+            (omega (arith, change (λ u. u.taken) vs id r q at))
+            (omega (arith, change (λ u. u.left) vs id r q at)),
         told take_step TakeFinds (step slots 0 1 0 none) me n r is
             (omega arith, omega arith, omega arith),
+      )
+
+  -- a load of `now_serving` that leaves the seat its ticket and what it took and has left
+  load : (live : LiveStep) (tells : SeatState → ℕ → Type 0)
+      → ((x m : ℕ) → ticket_indicator x (live.next r m) ≡ ticket_indicator x r)
+      → ((m : ℕ) → (live.next r m).taken ≡ r.taken) → ((m : ℕ) → (live.next r m).left ≡ r.left)
+      → ((m : ℕ) → Fits m r → Fits m (live.next r m) × tells r m)
+      → Allows (Running takes) slots id me 1 (λ n. n)
+      (OfOne live tells (step slots 1 0 0 none) me)
+  load live tells has taken left fits s h _ at0 _ =
+      let at : get_elem? s.views id ≡ some (r ∷ []) = at0 ∙ ap some is in
+      let n : ℕ = next_of s in
+      let m : ℕ = serving_of s in
+      let q : SeatState = noted (operation 1 0) (live.next r m) in
+      let vs : List (List SeatState) = s.views in
+      let new = fits m (h.seats id (r ∷ []) at).0.0 in (
+        (q ∷ []),
+        keeps,
+        tt,
+        built takes (stepped s 1 m id me.1 (q ∷ []) keeps) n m
+            (length-set s.words 1 _ ∙ h.two_words) (w10 s.words _)
+            (w11 s.words _ h.two_words) h.served
+            (λ x. omega (arith, change (ticket_indicator x) vs id r q at, has x m, h.tickets x))
+            (views_set (ViewFits m) vs id (q ∷ []) ((new.0, tt), omega arith)
+            (λ j u _ e. h.seats j u e))
+            (omega (arith, change (λ u. u.taken) vs id r q at, taken m, h.taken))
+            (omega (arith, change (λ u. u.left) vs id r q at, left m, h.left)),
+        told live tells (step slots 1 0 0 none) me m r is new.1,
       )
 
   look_indicator : (x t : ℕ) (b : Bool)
@@ -158,93 +164,36 @@ module _ (takes slots id : ℕ) (me : Sees) (r : SeatState) (is : me.0 ≡ r ∷
   pub look : r.phase ≡ Waiting
       → Allows (Running takes) slots id me 1 (λ n. n)
       (OfOne look_step LookFinds (step slots 1 0 0 none) me)
-  look waiting s h _ at0 _ = let at : get_elem? s.views id ≡ some (r ∷ []) = at0 ∙ ap some is in
-      let n : ℕ = next_of s in
-      let m : ℕ = serving_of s in
-      let q : SeatState = moved look_step r m in
-      let vs : List (List SeatState) = s.views in
-      let old = h.seats id (r ∷ []) at in
-      let served = h.served in
-      let some_taken : 1 ≤ r.taken =
-      subst (λ p. FitsPhase m p r.ticket r.taken) waiting old.0.0.0 in (
-        (q ∷ []),
-        keeps,
-        tt,
-        built takes (stepped s 1 m id me.1 (q ∷ []) keeps) n m
-            (length-set s.words 1 _ ∙ h.two_words) (w10 s.words _)
-            (w11 s.words _ h.two_words) served
-            (λ x. let c = sum_over-set (sum_over (ticket_indicator x)) vs id (r ∷ []) (q ∷ []) at in
-            let a : ticket_indicator x r ≡ indicator x r.ticket =
-            ap (λ p. ticket_indicator_in x p r.ticket) waiting in
-            let b = look_indicator x r.ticket (m == r.ticket) in
-            let t = h.tickets x in
-            omega arith)
-            (views_set (ViewFits m) vs id (q ∷ []) (
-              ((look_fits m r.ticket r.taken (m == r.ticket) refl some_taken, omega arith), tt),
-              omega arith,
-            ) (λ j u _ e. h.seats j u e))
-            (let c = sum_over-set (sum_over (λ u. u.taken)) vs id (r ∷ []) (q ∷ []) at in
-            let t = h.taken in
-            omega arith)
-            (let c = sum_over-set (sum_over (λ u. u.left)) vs id (r ∷ []) (q ∷ []) at in
-            let t = h.left in
-            omega arith),
-        told look_step LookFinds (step slots 1 0 0 none) me m r is old.0.0.1,
-      )
+  look waiting = load look_step LookFinds
+      (λ x m. look_indicator x r.ticket (m == r.ticket)
+      ∙ sym (ap (λ (p : LivePhase). ticket_indicator_in x p r.ticket) waiting))
+      (λ m. refl) (λ m. refl)
+      (λ m old. let some_taken : 1 ≤ r.taken =
+      subst (λ p. FitsPhase m p r.ticket r.taken) waiting old.0 in
+      ((look_fits m r.ticket r.taken (m == r.ticket) refl some_taken, omega arith), old.1))
 
   pub read : r.phase ≡ Inside
       → Allows (Running takes) slots id me 1 (λ n. n)
       (OfOne read_step ReadFinds (step slots 1 0 0 none) me)
-  read inside s h _ at0 _ = let at : get_elem? s.views id ≡ some (r ∷ []) = at0 ∙ ap some is in
-      let n : ℕ = next_of s in
-      let m : ℕ = serving_of s in
-      let q : SeatState = moved read_step r m in
-      let vs : List (List SeatState) = s.views in
-      let old = h.seats id (r ∷ []) at in
-      let fits = subst (λ p. FitsPhase m p r.ticket r.taken) inside old.0.0.0 in (
-        (q ∷ []),
-        keeps,
-        tt,
-        built takes (stepped s 1 m id me.1 (q ∷ []) keeps) n m
-            (length-set s.words 1 _ ∙ h.two_words) (w10 s.words _)
-            (w11 s.words _ h.two_words) h.served
-            (λ x. let c = sum_over-set (sum_over (ticket_indicator x)) vs id (r ∷ []) (q ∷ []) at in
-            let a : ticket_indicator x r ≡ indicator x r.ticket =
-            ap (λ p. ticket_indicator_in x p r.ticket) inside in
-            let t = h.tickets x in
-            omega arith)
-            (views_set (ViewFits m) vs id (q ∷ []) (((fits, omega arith), tt), omega arith)
-            (λ j u _ e. h.seats j u e))
-            (let c = sum_over-set (sum_over (λ u. u.taken)) vs id (r ∷ []) (q ∷ []) at in
-            let t = h.taken in
-            omega arith)
-            (let c = sum_over-set (sum_over (λ u. u.left)) vs id (r ∷ []) (q ∷ []) at in
-            let t = h.left in
-            omega arith),
-        told read_step ReadFinds (step slots 1 0 0 none) me m r is (sym fits.0),
-      )
+  read inside = load read_step ReadFinds
+      (λ x m. sym (ap (λ (p : LivePhase). ticket_indicator_in x p r.ticket) inside))
+      (λ m. refl) (λ m. refl)
+      (λ m old. let fits = subst (λ p. FitsPhase m p r.ticket r.taken) inside old.0 in
+      ((fits, omega arith), sym fits.0))
 
   -- if no seat has the ticket that was served, each fits the next
   up_phase : (m : ℕ) (p : LivePhase) (t taken : ℕ) → FitsPhase m p t taken
       → ticket_indicator_in m p t ≡ 0 → FitsPhase (m + 1) p t taken
   up_phase m Idle t taken f z = tt
   up_phase m Waiting t taken f z = f
-  up_phase m Inside t taken f z =
-      let a = indicator_here m in
-      let b = ap (indicator m) f.0 in
-      absurd (omega arith)
-  up_phase m Leaving t taken f z =
-      let a = indicator_here m in
-      let b = ap (indicator m) f.0 in
-      absurd (omega arith)
+  up_phase m p t taken f z = absurd (omega (arith, indicator_here m, ap (indicator m) f.0))
 
   up : (m : ℕ) (u : List SeatState) → Each (Fits m) u → sum_over (ticket_indicator m) u ≡ 0
       → Each (Fits (m + 1)) u
   up m [] e z = tt
   up m (p ∷ ps) e z =
-      let a : ticket_indicator m p ≡ 0 = omega arith in
-      let b = e.0.1 in
-      ((up_phase m p.phase p.ticket p.taken e.0.0 a, omega arith), up m ps e.1 (omega arith))
+      let here = up_phase m p.phase p.ticket p.taken e.0.0 (omega arith) in
+      ((here, omega (arith, e.0.1)), up m ps e.1 (omega arith))
 
   pub pass : (new : ℕ) → r.phase ≡ Leaving → new ≡ r.ticket + 1
       → Allows (Running takes) slots id me 1 (λ _. new)
@@ -268,17 +217,15 @@ module _ (takes slots id : ℕ) (me : Sees) (r : SeatState) (is : me.0 ≡ r ∷
       let tickets : (x : ℕ)
       → sum_over_seats (ticket_indicator x) (set vs id (q ∷ [])) + once_below x (m + 1)
       ≡ once_below x n =
-      λ x. (
-      let c = sum_over-set (sum_over (ticket_indicator x)) vs id (r ∷ []) (q ∷ []) at in
-      let a = has_r x in
-      let t = h.tickets x in
-      let b = below_suc x m in
-      omega arith) in
-      let gone : sum_over_seats (ticket_indicator m) (set vs id (q ∷ [])) ≡ 0 = (
-      let a = tickets m in
-      let b = at_most_once m n in
-      let c = once_there m (m + 1) (omega arith) in
-      omega arith) in (
+      λ x. omega (
+        arith,
+        change (ticket_indicator x) vs id r q at,
+        has_r x,
+        h.tickets x,
+        below_suc x m,
+      ) in
+      let gone : sum_over_seats (ticket_indicator m) (set vs id (q ∷ [])) ≡ 0 =
+      omega (arith, tickets m, at_most_once m n, once_there m (m + 1) (omega arith)) in (
         (q ∷ []),
         keeps,
         tt,
@@ -295,12 +242,8 @@ module _ (takes slots id : ℕ) (me : Sees) (r : SeatState) (is : me.0 ≡ r ∷
               f.1,
             ))
             (at_set vs id j (q ∷ []) u e))
-            (let c = sum_over-set (sum_over (λ u. u.taken)) vs id (r ∷ []) (q ∷ []) at in
-            let t = h.taken in
-            omega arith)
-            (let c = sum_over-set (sum_over (λ u. u.left)) vs id (r ∷ []) (q ∷ []) at in
-            let t = h.left in
-            omega arith),
+            (omega (arith, change (λ u. u.taken) vs id r q at, h.taken))
+            (omega (arith, change (λ u. u.left) vs id r q at, h.left)),
         told pass_step PassFinds (step slots 1 new 0 none) me new r is tt,
       )
 
@@ -314,7 +257,7 @@ module _ (takes slots id : ℕ) (me : Sees) (r : SeatState) (is : me.0 ≡ r ∷
         keeps,
         tt,
         subst (Running takes) (λ k. record {
-          words = sym (set_same s.words 0) k;
+          words = sym (set-get_or s.words 0 0) k;
           homes = s.homes;
           views = sym (set_again s.views id me.0 at0) k;
         }) h,
@@ -331,8 +274,7 @@ module _ (takes slots id : ℕ) (me : Sees) where
       → ticket_indicator_in m p t ≡ 1
   holds_it m Idle t taken f h = absurd h
   holds_it m Waiting t taken f h = absurd h
-  holds_it m Inside t taken f h = ap (indicator m) f.0 ∙ indicator_here m
-  holds_it m Leaving t taken f h = ap (indicator m) f.0 ∙ indicator_here m
+  holds_it m p t taken f h = ap (indicator m) f.0 ∙ indicator_here m
 
   pub compare : Allows (Running takes) slots id me 0 (λ n. n) (Compares (step slots 0 0 0 none) me)
   compare s h _ at _ = let m : ℕ = serving_of s in let n : ℕ = next_of s in (
@@ -340,7 +282,7 @@ module _ (takes slots id : ℕ) (me : Sees) where
     keeps,
     tt,
     subst (Running takes) (λ k. record {
-      words = sym (set_same s.words 0) k;
+      words = sym (set-get_or s.words 0 0) k;
       homes = s.homes;
       views = sym (set_again s.views id me.0 at) k;
     }) h,
@@ -348,11 +290,12 @@ module _ (takes slots id : ℕ) (me : Sees) where
       refl,
       refl,
       λ r q is. let at' : get_elem? s.views id ≡ some (r ∷ q ∷ []) = at ∙ ap some is in
-          let once : (x : ℕ) → ticket_indicator x r + ticket_indicator x q ≤ 1 = λ x. (
-          let a = at_most_sum (sum_over (ticket_indicator x)) s.views id (r ∷ q ∷ []) at' in
-          let b = h.tickets x in
-          let c = at_most_once x n in
-          omega arith) in
+          let once : (x : ℕ) → ticket_indicator x r + ticket_indicator x q ≤ 1 = λ x. omega (
+            arith,
+            at_most_sum (sum_over (ticket_indicator x)) s.views id (r ∷ q ∷ []) at',
+            h.tickets x,
+            at_most_once x n,
+          ) in
           let fits = h.seats id (r ∷ q ∷ []) at' in (
             (λ two. let a = holds_it m r.phase r.ticket r.taken fits.0.0.0 two.0 in
                 let b = holds_it m q.phase q.ticket q.taken fits.0.1.0.0 two.1 in

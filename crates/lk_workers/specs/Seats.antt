@@ -60,9 +60,7 @@ serving_of s = slice_index s.words 1
 -- the ticket of a seat that is not idle
 abbrev pub ticket_in : LivePhase → ℕ → Option ℕ
 ticket_in Idle t = None
-ticket_in Waiting t = Some t
-ticket_in Inside t = Some t
-ticket_in Leaving t = Some t
+ticket_in phase t = Some t
 
 -- the phase of the thread that a seat represents
 abbrev pub thread_in : LivePhase → ℕ → Phase
@@ -76,17 +74,14 @@ thread_of r = thread_in r.phase r.ticket
 
 -- inside or leaving
 abbrev pub IsHolding : LivePhase → Type 0
-IsHolding Idle = ⊥
-IsHolding Waiting = ⊥
 IsHolding Inside = ⊤
 IsHolding Leaving = ⊤
+IsHolding phase = ⊥
 
 -- 1 if the seat has the ticket x, else 0
 abbrev pub ticket_indicator_in : ℕ → LivePhase → ℕ → ℕ
 ticket_indicator_in x Idle t = 0
-ticket_indicator_in x Waiting t = indicator x t
-ticket_indicator_in x Inside t = indicator x t
-ticket_indicator_in x Leaving t = indicator x t
+ticket_indicator_in x phase t = indicator x t
 
 abbrev pub ticket_indicator : ℕ → SeatState → ℕ
 ticket_indicator x r = ticket_indicator_in x r.phase r.ticket

@@ -14,7 +14,7 @@ ghost use Rattle.lk_workers.specs.invariants.Collected.{bytes_of, numbered, MayW
 ghost use Rattle.lk_workers.specs.invariants.Collected.{IsEachOnce, placed};
 
 use crate::draws::{DrawSeat, Draws};
-use crate::gate::{Gate, Opened};
+use crate::gate::Gate;
 use lk_replay::Report;
 use std::alloc::{AllocError, Global};
 use std::thread::{Threads, join};
@@ -25,64 +25,55 @@ type Numbered = (usize, Report);
 // A seat that comes back, and the reports of the texts whose numbers it drew.
 type Done = (DrawSeat, Vec<Numbered>);
 
-// What all workers share.
-#[derive(Drop)]
-struct Batch<'a, G> {
+// The report of one text, between the gate's two calls. No `?` may come between them.
+fn replay_one<G: Gate>(
     alloc: Global,
-    draws: &'a Draws,
-    texts: &'a [Vec<u8>],
-    gate: &'a G,
+    text: &[u8],
+    gate: &G,
+    number: u32,
+) -> Result<Report, AllocError>
+    ensures { IfOk result (λ report. report.text.items ≡ report_text text.now) }
+{
+    gate.begin(number);
+    let report = Report::of(alloc, text);
+    gate.end(number);
+    report
 }
 
-impl<'a, G: Gate> Batch<'a, G> {
-    fn new(alloc: Global, draws: &'a Draws, texts: &'a [Vec<u8>], gate: &'a G) -> Batch<'a, G>
-        ensures { (result.draws.now ≡ draws.now) × (result.texts.now ≡ texts.now) }
-    {
-        Batch {
-            alloc,
-            draws,
-            texts,
-            gate,
+// One worker: the reports of the texts whose numbers its seat draws.
+fn work<G: Gate>(
+    alloc: Global,
+    draws: &Draws,
+    texts: &[Vec<u8>],
+    gate: &G,
+    mut seat: DrawSeat,
+) -> Result<Done, AllocError>
+    requires { MayWork draws.now texts.now 1 seat }
+    ensures { IfOk result (λ r. IsDone draws.now texts.now 1 r.0 r.1.items) }
+{
+    let mut reports = Vec::new(alloc);
+    for _ in 0..texts.len() + 1 {
+        let number = draws.draw(&mut seat);
+        if number >= texts.len() as u64 {
+            return Ok((seat, reports));
         }
+        let number = number as usize;
+        let report = replay_one(alloc, texts[number].as_slice(), gate, number as u32)?;
+        reports.push((number, report))?;
     }
+    unreachable!()
+}
 
-    // The report of one text, between the gate's two calls.
-    fn replay_one(&self, text: &[u8], number: u32) -> Result<Report, AllocError>
-        ensures { IfOk result (λ report. report.text.items ≡ report_text text.now) }
-    {
-        let opened = Opened::begin(self.gate, number);
-        opened.end(Report::of(self.alloc, text))
-    }
-
-    // One worker: the reports of the texts whose numbers its seat draws.
-    fn work(&self, mut seat: DrawSeat) -> Result<Done, AllocError>
-        requires { MayWork self.now.draws.now self.now.texts.now 1 seat }
-        ensures { IfOk result (λ r. IsDone self.now.draws.now self.now.texts.now 1 r.0 r.1.items) }
-    {
-        let mut reports = Vec::new(self.alloc);
-        for _ in 0..self.texts.len() + 1 {
-            let number = self.draws.draw(&mut seat);
-            if number >= self.texts.len() as u64 {
-                return Ok((seat, reports));
-            }
-            let number = number as usize;
-            let report = self.replay_one(self.texts[number].as_slice(), number as u32)?;
-            reports.push((number, report))?;
-        }
-        unreachable!()
-    }
-
-    // Leaves the seat with the draws of `half` of its workers, and gives those of the others to
-    // another one.
-    fn deal(&self, seat: &mut DrawSeat, workers: u8, half: u8) -> DrawSeat
-        requires own { MayWork self.now.draws.now self.now.texts.now workers seat.old }
-        requires half { (1 ≤ half) × (half < workers) }
-        ensures kept { MayWork self.now.draws.now self.now.texts.now half seat.new }
-        ensures given { MayWork self.now.draws.now self.now.texts.now (workers - half) result }
-    {
-        let share = self.texts.len() as u64 + 1;
-        self.draws.split(seat, u64::from(workers - half) * share)
-    }
+// Leaves the seat with the draws of `half` of its workers, and gives those of the others to another
+// one.
+fn deal(draws: &Draws, texts: &[Vec<u8>], seat: &mut DrawSeat, workers: u8, half: u8) -> DrawSeat
+    requires own { MayWork draws.now texts.now workers seat.old }
+    requires half { (1 ≤ half) × (half < workers) }
+    ensures kept { MayWork draws.now texts.now half seat.new }
+    ensures given { MayWork draws.now texts.now (workers - half) result }
+{
+    let share = texts.len() as u64 + 1;
+    draws.split(seat, u64::from(workers - half) * share)
 }
 
 // What two groups of workers bring back, as one.
@@ -99,40 +90,36 @@ fn gather(draws: &Draws, front: Done, back: Done) -> Result<Done, AllocError>
     Ok((seat, reports))
 }
 
-// This many workers, in halves side by side. It takes `Batch` apart: of a closure that holds a
-// whole one, inside a recursion, the kit's `join` can prove nothing.
+// This many workers, in halves side by side. What they share is passed part by part: of a closure
+// that holds it as one struct, inside a recursion, the kit's `join` can prove nothing.
 fn work_all<G: Gate, R: Threads + Sync>(
     rt: &R,
-    batch: Batch<'_, G>,
+    alloc: Global,
+    draws: &Draws,
+    texts: &[Vec<u8>],
+    gate: &G,
     mut seat: DrawSeat,
     workers: u8,
 ) -> Result<Done, AllocError>
-    requires { MayWork batch.draws.now batch.texts.now workers seat }
-    ensures { IfOk result
-        (λ r. IsDone batch.entry.draws.now batch.entry.texts.now workers r.0 r.1.items) }
+    requires { MayWork draws.now texts.now workers seat }
+    ensures { IfOk result (λ r. IsDone draws.now texts.now workers r.0 r.1.items) }
 {
     if workers == 1 {
-        return batch.work(seat);
+        return work(alloc, draws, texts, gate, seat);
     }
     let half = workers / 2;
     let rest = workers - half;
-    let other = batch.deal(&mut seat, workers, half);
-    let Batch {
-        alloc,
-        draws,
-        texts,
-        gate,
-    } = batch;
+    let other = deal(draws, texts, &mut seat, workers, half);
     let (front, back) = join(
         rt,
         move || -> Result<Done, AllocError>
             requires { IsSync R.row × IsSync G.row × MayWork draws.now texts.now half seat }
             ensures { IfOk result (λ r. IsDone draws.entry.now texts.entry.now half r.0 r.1.items) }
-        { work_all(rt, Batch::new(alloc, draws, texts, gate), seat, half) },
+        { work_all(rt, alloc, draws, texts, gate, seat, half) },
         move || -> Result<Done, AllocError>
             requires { IsSync R.row × IsSync G.row × MayWork draws.now texts.now rest other }
             ensures { IfOk result (λ r. IsDone draws.entry.now texts.entry.now rest r.0 r.1.items) }
-        { work_all(rt, Batch::new(alloc, draws, texts, gate), other, rest) },
+        { work_all(rt, alloc, draws, texts, gate, other, rest) },
     );
     gather(draws, front?, back?)
 }
@@ -151,8 +138,7 @@ fn draw_all<G: Gate, R: Threads + Sync>(
 {
     let share = texts.len() as u64 + 1;
     let (draws, seat) = Draws::open(alloc, u64::from(workers) * share)?;
-    let batch = Batch::new(alloc, &draws, texts, gate);
-    let (seat, reports) = work_all(rt, batch, seat, workers)?;
+    let (seat, reports) = work_all(rt, alloc, &draws, texts, gate, seat, workers)?;
     draws.close(seat);
     Ok(reports)
 }

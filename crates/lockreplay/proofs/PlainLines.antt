@@ -1,8 +1,9 @@
 -- What the parser makes of a plain batch line: the words after `batch` go to it, the digit to
 -- `--workers`, and each word after it to the files.
-use Rattle.std.proofs.Common.{◌≡◌, ◌∙◌, ℕ, ◌+◌, ◌<◌, Bool, true, false, List, [], ◌∷◌, ◌++◌, length}
+use Rattle.std.proofs.Common.{◌≡◌, ◌∙◌, ℕ, ◌+◌, ◌<◌, true, false, List, [], ◌∷◌, ◌++◌, length}
 use Rattle.std.proofs.Common.{Option, Some, None, codes, refl, sym, ap, arith, not, append_assoc}
 use Rattle.std.proofs.Common.{append-nil, inl, inr}
+use Rattle.std.proofs.lemmas.Bool.{not-true}
 use Rattle.std.proofs.lemmas.Bool.Decides.{eqb_tells}
 use Rattle.std.specs.Prelude.{fold, ◌==◌}
 use Rattle.std.specs.List.{list_all}
@@ -24,24 +25,17 @@ batch_shape = built_leaf (inherited (built program_app).top batch_app.top)
 abbrev pub batch_rules : List Rule
 batch_rules = batch_shape.rules
 
-pub no_hyphen : (b : ℕ) → not (b == 45) ≡ true → (b == 45) ≡ false
-no_hyphen b e = go (b == 45) e
-  where
-    go : (t : Bool) → not t ≡ true → t ≡ false
-    go true e = sym e
-    go false e = refl
-
 pub no_long : (file : Text) → is_plain file ≡ true → long_of file ≡ None
 no_long [] plain = refl
-no_long (b ∷ rest) plain = rw (no_hyphen b plain) refl
+no_long (b ∷ rest) plain = rw (not-true (b == 45) plain) refl
 
 pub no_short : (file : Text) → is_plain file ≡ true → short_of file ≡ None
 no_short [] plain = refl
-no_short (b ∷ rest) plain = rw (no_hyphen b plain) refl
+no_short (b ∷ rest) plain = rw (not-true (b == 45) plain) refl
 
 pub no_dashes : (file : Text) → is_plain file ≡ true → bytes_eq file (45 ∷ 45 ∷ []) ≡ false
 no_dashes [] plain = refl
-no_dashes (b ∷ rest) plain = rw (no_hyphen b plain) refl
+no_dashes (b ∷ rest) plain = rw (not-true (b == 45) plain) refl
 
 -- where files are taken, after the digit or after a file
 abbrev pub taking : Waiting → List Row → Option (Text × List Text) → Walk

@@ -1,32 +1,25 @@
 -- What the getters read of the rows that a plain batch line gives.
 use Rattle.std.proofs.Common.{◌≡◌, ◌∙◌, ℕ, ◌+◌, ◌<◌, ◌≤◌, List, Option, Some, None, Result}
-use Rattle.std.proofs.Common.{option_map, codes, refl, ap, arith, zero, suc}
-use Rattle.std.specs.Prelude.{unwrap_or, IsSomeAnd}
+use Rattle.std.proofs.Common.{option_map, codes, refl, ap, arith, suc}
+use Rattle.std.specs.Prelude.{unwrap_or, IsSomeAnd, ◌==◌}
+use Rattle.std.proofs.lemmas.Bool.{not-true}
 use Rattle.std.proofs.lemmas.Option.{none-some, same_Some}
 use Rattle.std.specs.Str.Parse.{ParsesUnsigned, digits_value, without_leading_plus, IsNumeral}
 use Rattle.std.specs.Char.{digit_value}
-use Rattle.clap.specs.Matches.{ReadsOne}
-use Rattle.clap.specs.Words.{Text, all_of, one_of}
+use Rattle.clap.specs.Matches.{ReadsOne, matched_of, one_text, raw_values}
+use Rattle.clap.specs.declared.parser.matches.Found.{Found}
+use Rattle.clap.proofs.WalkLemmas.{one_text-rows, raw_values-rows}
+use Rattle.clap.specs.Words.{Text, all_of, one_of, rows_of}
 use Rattle.lockreplay.specs.Commands.{batch_rows, digit}
-use Rattle.lockreplay.proofs.PlainLines.{no_hyphen, plain_digit}
+use Rattle.lockreplay.proofs.PlainLines.{plain_digit}
 
 -- the digit is a numeral, and writes the number
 is_number : (workers : ℕ) → workers ≤ 9
     → (digits_value 10 (without_leading_plus (digit workers)) ≡ workers)
     × (without_leading_plus (digit workers) ≡ digit workers) × (digit_value (48 + workers) < 10)
-is_number zero most = (refl, refl, omega arith)
-is_number (suc zero) most = (refl, refl, omega arith)
-is_number (suc (suc zero)) most = (refl, refl, omega arith)
-is_number (suc (suc (suc zero))) most = (refl, refl, omega arith)
-is_number (suc (suc (suc (suc zero)))) most = (refl, refl, omega arith)
-is_number (suc (suc (suc (suc (suc zero))))) most = (refl, refl, omega arith)
-is_number (suc (suc (suc (suc (suc (suc zero)))))) most = (refl, refl, omega arith)
-is_number (suc (suc (suc (suc (suc (suc (suc zero))))))) most = (refl, refl, omega arith)
-is_number (suc (suc (suc (suc (suc (suc (suc (suc zero)))))))) most = (refl, refl, omega arith)
-is_number (suc (suc (suc (suc (suc (suc (suc (suc (suc zero))))))))) most =
-    (refl, refl, omega arith)
 is_number (suc (suc (suc (suc (suc (suc (suc (suc (suc (suc k)))))))))) most =
     absurd (omega (arith, most))
+is_number workers most = (refl, refl, omega arith)
 
 is_numeral : (workers : ℕ) → workers ≤ 9 → IsNumeral 10 (without_leading_plus (digit workers))
 is_numeral workers most =
@@ -34,7 +27,7 @@ is_numeral workers most =
     rw (number.1) (omega arith, (number.2, tt))
 
 -- `get_one::<u8>` of the digit
-pub reads_digit : {E : Type 0} (gives : Text → Result ℕ E → Type 0)
+reads_digit : {E : Type 0} (gives : Text → Result ℕ E → Type 0)
     → ((t : Text) (r : Result ℕ E) → gives t r → ParsesUnsigned 8 10 t r)
     → (workers : ℕ) (r : Option ℕ) → workers ≤ 9 → ReadsOne gives (digit workers) r
     → r ≡ Some workers
@@ -45,19 +38,36 @@ reads_digit gives parses workers None most read =
     absurd (parses _ _ read.1 (is_numeral workers most, omega (arith, number.0, most)))
 
 -- what is in the rows
-pub finds_digit : (workers : ℕ) (files : List Text)
+finds_digit : (workers : ℕ) (files : List Text)
     → one_of (codes "workers") (batch_rows workers files) ≡ Some (digit workers)
-finds_digit workers files = rw (no_hyphen (48 + workers) (plain_digit workers)) refl
+finds_digit workers files = rw (not-true ((48 + workers) == 45) (plain_digit workers)) refl
 
-pub finds_files : (workers : ℕ) (files : List Text)
-    → all_of (codes "files") (batch_rows workers files) ≡ Some files
-finds_files workers files = refl
+-- the workers that `get_one` and `unwrap_or` read of the rows
+pub workers_read : {E : Type 0} (gives : Text → Result ℕ E → Type 0)
+    → ((t : Text) (r : Result ℕ E) → gives t r → ParsesUnsigned 8 10 t r)
+    → (found : Found) (workers got : ℕ) (files : List Text) (read : Option ℕ) → workers ≤ 9
+    → rows_of found ≡ batch_rows workers files
+    → ((t : Text) → one_text found (codes "workers") ≡ Some t → ReadsOne gives t read)
+    → got ≡ unwrap_or read 0 → got ≡ workers
+workers_read gives parses found workers got files read most rows value is =
+    is ∙ ap (λ (o : Option ℕ). unwrap_or o 0) (reads_digit gives parses workers read most
+    (value (digit workers) (one_text-rows found (codes "workers")
+    ∙ ap (one_of (codes "workers")) rows ∙ finds_digit workers files)))
 
 -- what an option's default means, if the option has a value
-pub taken_texts : {X : Type 0} (f : X → List Text) (o : Option X) (d : X) (files : List Text)
+taken_texts : {X : Type 0} (f : X → List Text) (o : Option X) (d : X) (files : List Text)
     → option_map f o ≡ Some files → f (unwrap_or o d) ≡ files
 taken_texts f None d files e = absurd (none-some files e)
 taken_texts f (Some x) d files e = same_Some _ _ e
+
+-- the files that `get_strs` and `unwrap_or` read of the rows
+pub files_read : {X : Type 0} (f : X → List Text) (read : Option X) (d got : X) (found : Found)
+    (workers : ℕ) (files : List Text) → rows_of found ≡ batch_rows workers files
+    → option_map f read ≡ option_map raw_values (matched_of found (codes "files"))
+    → got ≡ unwrap_or read d → f got ≡ files
+files_read f read d got found workers files rows reads is =
+    ap f is ∙ taken_texts f read d files (reads ∙ raw_values-rows found (codes "files")
+    ∙ ap (all_of (codes "files")) rows)
 
 -- a value that has a fact of equality is that value
 pub is_given : {X : Type 0} (o : Option X) (v : X) → IsSomeAnd o (λ x. x ≡ v) → o ≡ Some v

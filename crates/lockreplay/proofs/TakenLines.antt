@@ -33,16 +33,9 @@ strings_pass (file ∷ files) = strings_pass files
 digit_passes : (workers : ℕ) → 1 ≤ workers → workers ≤ 8
     → value_passes (filled workers_rule) (digit workers) ≡ true
 digit_passes zero few many = absurd (omega (arith, few))
-digit_passes (suc zero) few many = refl
-digit_passes (suc (suc zero)) few many = refl
-digit_passes (suc (suc (suc zero))) few many = refl
-digit_passes (suc (suc (suc (suc zero)))) few many = refl
-digit_passes (suc (suc (suc (suc (suc zero))))) few many = refl
-digit_passes (suc (suc (suc (suc (suc (suc zero)))))) few many = refl
-digit_passes (suc (suc (suc (suc (suc (suc (suc zero))))))) few many = refl
-digit_passes (suc (suc (suc (suc (suc (suc (suc (suc zero)))))))) few many = refl
 digit_passes (suc (suc (suc (suc (suc (suc (suc (suc (suc k))))))))) few many =
     absurd (omega (arith, many))
+digit_passes workers few many = refl
 
 file_turn : (rows : List Row) (seen : List Text) (file : Text) → is_plain file ≡ true
     → turn_passes batch_shape [] (files_after rows seen) file ≡ true

@@ -37,10 +37,7 @@ abbrev pub ReportsEnding : Result Job ParseFault → Result ℕ ProgramFault →
     → Option (List ℕ) → Ended → Type 0
 ReportsEnding (Err (parse.Usage text)) r old new ended =
     (ended.status ≡ 2) × (ended.told ≡ true → Appends old new (string_bytes text))
-ReportsEnding (Err (parse.Help text)) r old new ended = ReportsStatus r old new ended
-ReportsEnding (Err parse.TooManyFiles) r old new ended = ReportsStatus r old new ended
-ReportsEnding (Err parse.OutOfMemory) r old new ended = ReportsStatus r old new ended
-ReportsEnding (Ok job) r old new ended = ReportsStatus r old new ended
+ReportsEnding asked r old new ended = ReportsStatus r old new ended
 
 -- what the program leaves of its input, standard output and standard error
 abbrev pub EndsProgram : Result Job ParseFault → Option (List ℕ) → Option (List ℕ) → Option (List ℕ)

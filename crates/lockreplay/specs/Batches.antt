@@ -4,19 +4,17 @@ use Rattle.std.specs.Prelude.{MatchResult, if◌then◌else◌}
 use Rattle.std.specs.List.{list_all}
 use Rattle.std.specs.Io.KnownBytes.{Appends, Keeps}
 use Rattle.lk_replay.specs.declared.ending.Ending.{Ending}
-use Rattle.lk_replay.specs.declared.ending.Ending.TheVariants.{Accepted, Refused, Faulty}
+use Rattle.lk_replay.specs.declared.ending.Ending.TheVariants.{Accepted}
 use Rattle.lk_replay.specs.Ending.{ending_of}
 use Rattle.lk_replay.specs.Devices.{AppendsPrefix}
 use Rattle.lk_replay.specs.Report.{report_text}
 use Rattle.lk_workers.specs.Batch.{batch_text_of}
 use Rattle.lockreplay.specs.declared.faults.ProgramFault.{ProgramFault}
-use Rattle.lockreplay.specs.declared.faults.ProgramFault.TheVariants.{Input, Output, Memory}
-use Rattle.lockreplay.specs.declared.faults.ProgramFault.TheVariants.{TooManyFiles, File}
+use Rattle.lockreplay.specs.declared.faults.ProgramFault.TheVariants.{Output, Memory, File}
 
 abbrev pub is_accepted : Ending → Bool
 is_accepted Accepted = true
-is_accepted Refused = false
-is_accepted Faulty = false
+is_accepted _ = false
 
 -- 0 if each report is that of a schedule of which every move was accepted, else 1
 abbrev pub status_of_reports : List (List ℕ) → ℕ
@@ -35,8 +33,7 @@ IsCutBatch count old new Output = (texts : List (List ℕ)) × (length texts ≡
     × AppendsPrefix old new (batch_text_of (map report_text texts))
 IsCutBatch count old new (File k) = (1 ≤ k) × (k ≤ count) × Keeps old new
 IsCutBatch count old new Memory = Keeps old new
-IsCutBatch count old new Input = ⊥
-IsCutBatch count old new TooManyFiles = ⊥
+IsCutBatch count old new _ = ⊥
 
 -- what a batch of so many files leaves
 abbrev pub EndsBatch : ℕ → Option (List ℕ) → Option (List ℕ) → Result ℕ ProgramFault → Type 0

@@ -10,10 +10,7 @@ use Rattle.lockreplay.specs.declared.faults.ProgramFault.TheVariants.{TooManyFil
 -- 2 if the words ask for too much, 3 if a device or the memory failed
 abbrev pub fault_status : ProgramFault → ℕ
 fault_status TooManyFiles = 2
-fault_status Input = 3
-fault_status Output = 3
-fault_status Memory = 3
-fault_status (File k) = 3
+fault_status _ = 3
 
 -- a run reads standard input and writes standard output
 abbrev pub fault_from : RunFault → ProgramFault

@@ -6,7 +6,6 @@ use Rattle.lk_replay.specs.Ending.{ending_of, status_of}
 use Rattle.lk_replay.specs.Report.{report_text}
 use Rattle.lockreplay.specs.declared.faults.ProgramFault.{ProgramFault}
 use Rattle.lockreplay.specs.declared.faults.ProgramFault.TheVariants.{Input, Output, Memory}
-use Rattle.lockreplay.specs.declared.faults.ProgramFault.TheVariants.{TooManyFiles, File}
 
 -- the report of the input's bytes went out, and the status is its ending's
 abbrev pub IsReplayOf : Option (List ℕ) → Option (List ℕ) → Option (List ℕ) → ℕ → Type 0
@@ -19,8 +18,7 @@ abbrev pub IsCutReplay : Option (List ℕ) → Option (List ℕ) → Option (Lis
 IsCutReplay input old new Output = IfSome input (λ text. AppendsPrefix old new (report_text text))
 IsCutReplay input old new Input = Keeps old new
 IsCutReplay input old new Memory = Keeps old new
-IsCutReplay input old new (File k) = ⊥
-IsCutReplay input old new TooManyFiles = ⊥
+IsCutReplay input old new _ = ⊥
 
 -- what the replay of an input leaves
 abbrev pub EndsReplay : Option (List ℕ) → Option (List ℕ) → Option (List ℕ) → Result ℕ ProgramFault

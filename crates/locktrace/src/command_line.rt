@@ -15,7 +15,8 @@ use thiserror::Error;
 pub enum Job {
     Check {
         job: CheckJob,
-        color: Color,
+        /// Whether the text has colors. If nothing is said of it, a terminal's has.
+        colored: Option<bool>,
     },
     Schedule {
         file: String,
@@ -46,25 +47,20 @@ pub enum ParseFault {
 /// The version of the program, as the file VERSION has it.
 const VERSION: &str = "1.0.0";
 
-/// When the text has colors.
-#[derive(Clone, Copy, PartialEq, Eq, Debug)]
-pub enum Color {
-    /// On a terminal.
-    Auto,
-    Always,
-    Never,
-}
-
 /// The most workers of a check.
 pub const MOST_WORKERS: u8 = 64;
 
-/// The option of a report's form: these are the forms.
-pub fn format_arg<'a>(alloc: Global, forms: &'a str) -> Arg<'a> {
-    Arg::new(alloc, "format")
-        .long("format")
-        .value_name("FORMAT")
-        .help(forms)
+/// A value that is known by its place.
+pub fn value_arg<'a>(alloc: Global, name: &'a str, value: &'a str, help: &'a str) -> Arg<'a> {
+    Arg::new(alloc, name)
+        .value_name(value)
+        .help(help)
         .action(ArgAction::Set)
+}
+
+/// An option with a value.
+pub fn option_arg<'a>(alloc: Global, name: &'a str, value: &'a str, help: &'a str) -> Arg<'a> {
+    value_arg(alloc, name, value, help).long(name)
 }
 
 fn quiet_arg<'a>(alloc: Global) -> Arg<'a> {
@@ -76,11 +72,8 @@ fn quiet_arg<'a>(alloc: Global) -> Arg<'a> {
 }
 
 fn check_command<'a>(alloc: Global) -> Result<Command<'a>, AllocError> {
-    let color = Arg::new(alloc, "color")
-        .long("color")
-        .value_name("WHEN")
-        .help("auto, always or never: auto is on a terminal alone")
-        .action(ArgAction::Set);
+    let help = "auto, always or never: auto is on a terminal alone";
+    let color = option_arg(alloc, "color", "WHEN", help);
     let summary = Arg::new(alloc, "summary")
         .long("summary")
         .help(
@@ -88,21 +81,17 @@ fn check_command<'a>(alloc: Global) -> Result<Command<'a>, AllocError> {
              longest queue, and wrap-arounds of the counter",
         )
         .action(ArgAction::SetTrue);
-    let workers = Arg::new(alloc, "jobs")
+    let workers = option_arg(alloc, "jobs", "N", "How many threads share the files")
         .short('j')
-        .long("jobs")
-        .value_name("N")
-        .help("How many threads share the files")
-        .action(ArgAction::Set)
         .value_parser(value_parser!(u8).range(1..=MOST_WORKERS as i64));
-    let files = Arg::new(alloc, "files")
-        .value_name("FILE")
-        .help("Traces or schedules, or folders of them; - is standard input, also if none is named")
+    let help =
+        "Traces or schedules, or folders of them; - is standard input, also if none is named";
+    let files = value_arg(alloc, "files", "FILE", help)
         .num_args(0..)
         .action(ArgAction::Append);
     Command::new(alloc, "check")
         .about("Checks each move, and each value that is given, with the lock's machine")
-        .arg(format_arg(alloc, "text, tap or json"))?
+        .arg(option_arg(alloc, "format", "FORMAT", "text, tap or json"))?
         .arg(summary)?
         .arg(quiet_arg(alloc))?
         .arg(color)?
@@ -111,23 +100,15 @@ fn check_command<'a>(alloc: Global) -> Result<Command<'a>, AllocError> {
 }
 
 fn file_arg<'a>(alloc: Global) -> Arg<'a> {
-    Arg::new(alloc, "file")
-        .value_name("FILE")
-        .help("A trace or a schedule; - is standard input, also if none is named")
-        .action(ArgAction::Set)
+    let help = "A trace or a schedule; - is standard input, also if none is named";
+    value_arg(alloc, "file", "FILE", help)
 }
 
 fn explain_command<'a>(alloc: Global) -> Result<Command<'a>, AllocError> {
-    let moves = Arg::new(alloc, "moves")
-        .long("moves")
-        .value_name("FIRST..LAST")
-        .help("Only the moves in these lines, as 5..10, 5.. or 5")
-        .action(ArgAction::Set);
-    let names = Arg::new(alloc, "names")
-        .long("names")
-        .value_name("NAME,NAME")
-        .help("What the threads are called, from thread 0 on")
-        .action(ArgAction::Set);
+    let help = "Only the moves in these lines, as 5..10, 5.. or 5";
+    let moves = option_arg(alloc, "moves", "FIRST..LAST", help);
+    let help = "What the threads are called, from thread 0 on";
+    let names = option_arg(alloc, "names", "NAME,NAME", help);
     Command::new(alloc, "explain")
         .about("Says of each move what it found and left, and why the first wrong one is wrong")
         .arg(moves)?
@@ -136,15 +117,11 @@ fn explain_command<'a>(alloc: Global) -> Result<Command<'a>, AllocError> {
 }
 
 fn order_command<'a>(alloc: Global) -> Result<Command<'a>, AllocError> {
-    let folder = Arg::new(alloc, "folder")
+    let help = "Where the trace and the schedules are written; - is standard output, for the trace";
+    let folder = value_arg(alloc, "folder", "DIR", help)
         .short('o')
-        .value_name("DIR")
-        .help("Where the trace and the schedules are written; - is standard output, for the trace")
-        .required(true)
-        .action(ArgAction::Set);
-    let logs = Arg::new(alloc, "logs")
-        .value_name("LOG")
-        .help("The log of each thread")
+        .required(true);
+    let logs = value_arg(alloc, "logs", "LOG", "The log of each thread")
         .required(true)
         .num_args(1..)
         .action(ArgAction::Append);
@@ -154,7 +131,7 @@ fn order_command<'a>(alloc: Global) -> Result<Command<'a>, AllocError> {
              it found",
         )
         .arg(folder)?
-        .arg(format_arg(alloc, "text, tap or json"))?
+        .arg(option_arg(alloc, "format", "FORMAT", "text, tap or json"))?
         .arg(quiet_arg(alloc))?
         .arg(logs)
 }
@@ -215,10 +192,10 @@ fn format_given(alloc: Global, matches: &ArgMatches<'_>) -> Result<Format, Parse
 }
 
 fn check_given(alloc: Global, matches: &ArgMatches<'_>) -> Result<Job, ParseFault> {
-    let color = match matches.get_str("color").unwrap_or("auto").as_bytes() {
-        b"auto" => Color::Auto,
-        b"always" => Color::Always,
-        b"never" => Color::Never,
+    let colored = match matches.get_str("color").unwrap_or("auto").as_bytes() {
+        b"auto" => None,
+        b"always" => Some(true),
+        b"never" => Some(false),
         _ => return usage(alloc, "error: a color is auto, always or never\n"),
     };
     let job = CheckJob {
@@ -229,7 +206,7 @@ fn check_given(alloc: Global, matches: &ArgMatches<'_>) -> Result<Job, ParseFaul
         workers: matches.get_one::<u8>("jobs").unwrap_or(1),
         files: copied(alloc, matches.get_strs("files").unwrap_or(&["-"]))?,
     };
-    Ok(Job::Check { job, color })
+    Ok(Job::Check { job, colored })
 }
 
 fn order_given(alloc: Global, matches: &ArgMatches<'_>) -> Result<Job, ParseFault> {

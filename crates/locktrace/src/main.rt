@@ -8,12 +8,11 @@ mod command_line;
 mod folders;
 mod searches;
 
-use command_line::{Color, Job, ParseFault, parse_words};
+use command_line::{Job, ParseFault, parse_words};
 use folders::files_named;
 use lk_search_files::{count_space, cover_traces, find_run, write_tour};
 use lk_trace_files::{
-    Asked, Ending, Failure, Status, Unscheduled, check_files, explain_input, order_logs, worst,
-    write_schedule,
+    Asked, Ending, Failure, Status, check_files, explain_input, order_logs, worst, write_schedule,
 };
 use searches::SearchJob;
 use std::alloc::{AllocError, Global};
@@ -47,19 +46,23 @@ fn write_file<R: Runtime, O: Write>(
     file: &str,
     output: &mut O,
 ) -> Result<Ending, Failure> {
-    let scheduled = if file == "-" {
+    let (number, stopped) = if file == "-" {
         write_schedule(alloc, rt.reader(), output)?
     } else {
         match fs::open(rt, file) {
             Ok(input) => write_schedule(alloc, input, output)?,
-            Err(error) => Err(Unscheduled::Unread(error)),
+            Err(error) => (0, Err(error)),
         }
     };
-    match scheduled {
-        Ok(()) => Ok(Ending::Accepted),
-        Err(unscheduled) => {
-            let _ = eprintln!(rt; "{file}{unscheduled}");
-            Ok(unscheduled.ending())
+    match stopped {
+        Ok(None) => Ok(Ending::Accepted),
+        Ok(Some(fault)) => {
+            let _ = eprintln!(rt; "{file}:{number}: {fault}");
+            Ok(Ending::Faulty)
+        }
+        Err(error) => {
+            let _ = eprintln!(rt; "{file}: {error}");
+            Ok(Ending::Unread)
         }
     }
 }
@@ -92,36 +95,20 @@ fn search<R: Runtime, O: Write>(
     output: &mut O,
 ) -> Result<u8, Failure> {
     let (mut text, mut errors) = (String::new(alloc), String::new(alloc));
+    let (found, told) = (&mut text, &mut errors);
     let status = match job {
-        SearchJob::Find { source, asked } => {
-            find_run(rt, alloc, source, *asked, &mut text, &mut errors)?
-        }
+        SearchJob::Find { source, asked } => find_run(rt, alloc, source, *asked, found, told)?,
         SearchJob::Space {
             header,
             asked,
             format,
-        } => count_space(
-            alloc,
-            header.as_slice(),
-            *asked,
-            *format,
-            &mut text,
-            &mut errors,
-        )?,
+        } => count_space(alloc, header, *asked, *format, found, told)?,
         SearchJob::Tour {
             header,
             asked,
             folder,
-        } => write_tour(
-            rt,
-            alloc,
-            header.as_slice(),
-            *asked,
-            folder.as_str(),
-            &mut text,
-            &mut errors,
-        )?,
-        SearchJob::Cover(job) => cover_traces(rt, alloc, job, &mut text, &mut errors)?,
+        } => write_tour(rt, alloc, header, *asked, folder, found, told)?,
+        SearchJob::Cover(job) => cover_traces(rt, alloc, job, found, told)?,
     };
     let _ = eprint!(rt; "{errors}");
     output.write_all(text.as_bytes())?;
@@ -129,33 +116,23 @@ fn search<R: Runtime, O: Write>(
     Ok(status as u8)
 }
 
-// Which outputs are terminals.
-#[derive(Clone, Copy)]
-struct Terminals {
-    output: bool,
-    errors: bool,
-}
-
-// Does a job, and gives the status that the program ends with.
-fn perform<R: Runtime + Threads + Sync + Clone + Drop, O: Write>(
+// Does a job, and gives the status that the program ends with. `told` if standard error is a
+// terminal.
+fn perform<R: Runtime + Threads + Sync + Clone + Drop, O: Write + IsTerminal>(
     rt: &R,
     alloc: Global,
     job: Job,
-    terminals: Terminals,
+    told: bool,
     output: &mut O,
 ) -> Result<u8, Failure>
 where
     R::File: Send,
 {
     match job {
-        Job::Check { mut job, color } => {
-            job.colored = match color {
-                Color::Auto => terminals.output,
-                Color::Always => true,
-                Color::Never => false,
-            };
+        Job::Check { mut job, colored } => {
+            job.colored = colored.unwrap_or_else(|| output.is_terminal());
             job.files = files_named(rt, alloc, &job.files)?;
-            let told = terminals.errors && !job.quiet;
+            let told = told && !job.quiet;
             Ok(worst(&check_files(rt, alloc, &job, told, output)?))
         }
         Job::Schedule { file } => Ok(write_file(rt, alloc, &file, output)?.status()),
@@ -169,7 +146,7 @@ where
         Job::Search(job) => search(rt, alloc, &job, output),
         Job::Order(job) => {
             let mut errors = String::new(alloc);
-            let ended = order_logs(rt, alloc, &job, terminals.errors, output, &mut errors);
+            let ended = order_logs(rt, alloc, &job, told, output, &mut errors);
             let _ = eprint!(rt; "{errors}");
             Ok(ended?.ending().status())
         }
@@ -179,11 +156,8 @@ where
 fn main(rt: HostRuntime) -> ExitCode {
     let ended = match job_given(&rt) {
         Ok(job) => {
-            let terminals = Terminals {
-                output: rt.stdout().is_terminal(),
-                errors: rt.stderr().is_terminal(),
-            };
-            perform(&rt, rt.alloc(), job, terminals, &mut rt.stdout())
+            let told = rt.stderr().is_terminal();
+            perform(&rt, rt.alloc(), job, told, &mut rt.stdout())
         }
         Err(ParseFault::Told(text)) => match rt.stdout().write_all(text.as_bytes()) {
             Ok(()) => Ok(Status::Accepted as u8),

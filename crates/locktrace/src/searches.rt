@@ -1,7 +1,7 @@
 //! The words of the commands that search a lock's space, and the jobs that they ask for.
 
-use crate::command_line::{ParseFault, copied, format_arg, names_in, usage};
-use clap::{Arg, ArgAction, ArgMatches, Command, value_parser};
+use crate::command_line::{ParseFault, copied, names_in, option_arg, usage, value_arg};
+use clap::{ArgAction, ArgMatches, Command, value_parser};
 use lk_search_files::{Asked, CoverJob, Format, Source, SpaceFormat, is_kind};
 use std::alloc::{AllocError, Global};
 
@@ -32,31 +32,23 @@ pub enum SearchJob {
 }
 
 fn with_bounds<'a>(alloc: Global, command: Command<'a>) -> Result<Command<'a>, AllocError> {
-    let rounds = Arg::new(alloc, "rounds")
-        .long("rounds")
-        .value_name("R")
-        .help("How many times each thread takes the lock at most; 1 if it is not given")
-        .action(ArgAction::Set)
-        .value_parser(value_parser!(u8).range(1..=255));
-    let bits = Arg::new(alloc, "bits")
-        .long("bits")
-        .value_name("B")
-        .help("How many bits a word has; 64 if it is not given")
-        .action(ArgAction::Set);
-    let limit = Arg::new(alloc, "limit")
-        .long("limit")
-        .value_name("N")
-        .help("How many states are searched at most; 1,000,000 if it is not given")
-        .action(ArgAction::Set)
-        .value_parser(value_parser!(u64).range(1..=MOST_STATES));
+    let help = "How many times each thread takes the lock at most; 1 if it is not given";
+    let rounds = option_arg(alloc, "rounds", "R", help).value_parser(value_parser!(u8).range(
+        1..=255,
+    ));
+    let help = "How many bits a word has; 64 if it is not given";
+    let bits = option_arg(alloc, "bits", "B", help);
+    let help = "How many states are searched at most; 1,000,000 if it is not given";
+    let limit = option_arg(alloc, "limit", "N", help).value_parser(value_parser!(u64).range(
+        1..=MOST_STATES,
+    ));
     command.arg(rounds)?.arg(bits)?.arg(limit)
 }
 
 /// The command `find`.
 pub fn find_command<'a>(alloc: Global) -> Result<Command<'a>, AllocError> {
-    let words = Arg::new(alloc, "words")
-        .value_name("LOCK THREADS LINE")
-        .help("A lock, its threads and the lines of a sketch; or the file of a sketch, or -")
+    let help = "A lock, its threads and the lines of a sketch; or the file of a sketch, or -";
+    let words = value_arg(alloc, "words", "LOCK THREADS LINE", help)
         .required(true)
         .num_args(1..)
         .action(ArgAction::Append);
@@ -67,16 +59,10 @@ pub fn find_command<'a>(alloc: Global) -> Result<Command<'a>, AllocError> {
 }
 
 fn with_lock<'a>(alloc: Global, command: Command<'a>) -> Result<Command<'a>, AllocError> {
-    let lock = Arg::new(alloc, "lock")
-        .value_name("LOCK")
-        .help("ticket, mcs, rw-simple or rw-fifo")
-        .required(true)
-        .action(ArgAction::Set);
-    let threads = Arg::new(alloc, "threads")
-        .value_name("THREADS")
-        .help("How many threads it has, from 1 to 64")
-        .required(true)
-        .action(ArgAction::Set);
+    let help = "ticket, mcs, rw-simple or rw-fifo";
+    let lock = value_arg(alloc, "lock", "LOCK", help).required(true);
+    let help = "How many threads it has, from 1 to 64";
+    let threads = value_arg(alloc, "threads", "THREADS", help).required(true);
     command.arg(lock)?.arg(threads)
 }
 
@@ -85,18 +71,16 @@ pub fn space_command<'a>(alloc: Global) -> Result<Command<'a>, AllocError> {
     let command = Command::new(alloc, "space").about(
         "Counts the states and the transitions of all runs of a lock, or draws them",
     );
-    let format = format_arg(alloc, "text, json or dot");
+    let format = option_arg(alloc, "format", "FORMAT", "text, json or dot");
     with_lock(alloc, with_bounds(alloc, command)?.arg(format)?)
 }
 
 /// The command `tour`.
 pub fn tour_command<'a>(alloc: Global) -> Result<Command<'a>, AllocError> {
-    let folder = Arg::new(alloc, "folder")
+    let help = "Where the schedules are written; those of an earlier tour are removed";
+    let folder = value_arg(alloc, "folder", "DIR", help)
         .short('o')
-        .value_name("DIR")
-        .help("Where the schedules are written; those of an earlier tour are removed")
-        .required(true)
-        .action(ArgAction::Set);
+        .required(true);
     let command = Command::new(alloc, "tour").about(
         "Writes schedules that together take every transition of a lock",
     );
@@ -105,20 +89,16 @@ pub fn tour_command<'a>(alloc: Global) -> Result<Command<'a>, AllocError> {
 
 /// The command `cover`.
 pub fn cover_command<'a>(alloc: Global) -> Result<Command<'a>, AllocError> {
-    let required = Arg::new(alloc, "require")
-        .long("require")
-        .value_name("NAME,NAME")
-        .help("Fails if one of these kinds is missing; all is each one of the traces' locks")
-        .action(ArgAction::Set);
-    let files = Arg::new(alloc, "files")
-        .value_name("TRACE")
-        .help("Traces or schedules; - is standard input, also if none is named")
+    let help = "Fails if one of these kinds is missing; all is each one of the traces' locks";
+    let required = option_arg(alloc, "require", "NAME,NAME", help);
+    let help = "Traces or schedules; - is standard input, also if none is named";
+    let files = value_arg(alloc, "files", "TRACE", help)
         .num_args(0..)
         .action(ArgAction::Append);
     Command::new(alloc, "cover")
         .about("Counts which kinds of transition traces took, and how to reach the others")
         .arg(required)?
-        .arg(format_arg(alloc, "text or json"))?
+        .arg(option_arg(alloc, "format", "FORMAT", "text or json"))?
         .arg(files)
 }
 

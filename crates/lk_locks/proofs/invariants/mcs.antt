@@ -1,336 +1,184 @@
 -- The MCS queue lock: each step adds the next entries of its call, and each move preserves that
 -- words and phases agree with the queue.
-use Rattle.std.proofs.Common.{List, [], ap, arith, false, inl, inr, length, refl, set, slice_index}
-use Rattle.std.proofs.Common.{sym, true, ℕ, ◌*◌, ◌+◌, ◌-◌, ◌<◌, ◌∙◌, ◌∷◌, ◌≡◌, ◌≤◌, ◌^◌}
-use Rattle.std.proofs.lemmas.Bool.{eq-eqb, false≢true}
+use Rattle.std.proofs.Common.{List, ap, arith, inl, inr, refl, set, slice_index, rules, length, ◌≤◌}
+use Rattle.std.proofs.Common.{sym, ℕ, ◌*◌, ◌+◌, ◌-◌, ◌<◌, ◌∙◌, ◌≡◌, ◌^◌}
+use Rattle.std.proofs.lemmas.Bool.{eq-eqb, cases_lt}
 use Rattle.std.proofs.lemmas.Bool.Decides.{eqb_tells}
-use Rattle.std.proofs.lemmas.List.{get_or-set_same}
-use Rattle.lk_locks.specs.Change.{Change}
-use Rattle.lk_locks.specs.Entries.{move_entries}
-use Rattle.lk_locks.specs.Sequential.{nobody, Sequential, has, is_allowed}
-use Rattle.lk_locks.specs.State.{phase_at, start}
-use Rattle.lk_locks.specs.Steps.{move_change}
+use Rattle.std.proofs.lemmas.List.{get_or-set_same, get_or-set_other, length-set, set_past}
+use Rattle.std.proofs.lemmas.Grind.{common_steps}
+use Rattle.lk_locks.specs.Sequential.{nobody}
+use Rattle.lk_locks.specs.State.{start}
 use Rattle.lk_locks.specs.invariants.Locks.{AgreeAs}
-use Rattle.lk_locks.specs.invariants.mcs.{IsSuccessor, IsHead, IsQueue, locked_of, next_of}
+use Rattle.lk_locks.specs.invariants.mcs.{locked_of, next_of}
 use Rattle.lk_locks.specs.mcs.{locked, next}
-use Rattle.lk_locks.proofs.Cases.{IsAgreed, LockProof, IsTaken, waits}
+use Rattle.lk_locks.proofs.Cases.{LockProof, waits, Keeps}
 use Rattle.lk_locks.proofs.Threads.{all_idle}
-use Rattle.lk_locks.proofs.invariants.McsLinks.{IsHeadOf, alone, empty_of, first_frame}
-use Rattle.lk_locks.proofs.invariants.McsLinks.{head_by_phase, head_is, locked_after_locked}
-use Rattle.lk_locks.proofs.invariants.McsLinks.{locked_after_next, member_of, next_after_locked}
-use Rattle.lk_locks.proofs.invariants.McsLinks.{next_after_next, not_alone, not_member, place}
-use Rattle.lk_locks.proofs.invariants.McsLinks.{relinked, tail_after}
+use Rattle.lk_locks.proofs.invariants.McsLinks.{alone, empty_of, place_of}
+use Rattle.lk_locks.proofs.invariants.McsLinks.{head_by_phase}
+use Rattle.lk_locks.proofs.invariants.McsLinks.{not_alone, not_member}
 use Rattle.lk_locks.proofs.invariants.McsQueue.{head_moves, mcs_first, mcs_grant, mcs_only}
-use Rattle.lk_locks.proofs.invariants.McsQueue.{mcs_later, mcs_out, second, swapped}
-use Rattle.lk_locks.specs.declared.kinds.LockKind.TheVariants.{Mcs}
-use Rattle.lk_locks.specs.declared.kinds.Move.{Move}
-use Rattle.lk_locks.specs.declared.kinds.Move.TheVariants.{Call, Step}
-use Rattle.lk_locks.specs.declared.kinds.Op.TheVariants.{Acquire, Release}
-use Rattle.lk_locks.specs.declared.kinds.Phase.{Phase}
-use Rattle.lk_locks.specs.declared.kinds.Phase.TheVariants.{AwaitGrant, AwaitLink, CasTail}
-use Rattle.lk_locks.specs.declared.kinds.Phase.TheVariants.{ClearNext, Grant, Idle, LinkTo}
-use Rattle.lk_locks.specs.declared.kinds.Phase.TheVariants.{McsInside, ReadNext, SetLocked}
-use Rattle.lk_locks.specs.declared.kinds.Phase.TheVariants.{SwapTail}
-use Rattle.lk_locks.specs.declared.kinds.Entry.TheVariants.{Acted}
+use Rattle.lk_locks.proofs.invariants.McsQueue.{mcs_later, mcs_out, swapped, may_grant}
+use Rattle.lk_locks.specs.Types.{Mcs, Call, Step, Acquire, Release, AwaitGrant, AwaitLink, CasTail}
+use Rattle.lk_locks.specs.Types.{ClearNext, Grant, Idle, LinkTo, McsInside, ReadNext, SetLocked}
+use Rattle.lk_locks.specs.Types.{SwapTail}
 use Rattle.lk_locks.proofs.Requests.{allows_acquire, allows_release}
 use Rattle.lk_locks.specs.Locks.{family_of}
-use Rattle.lk_locks.proofs.invariants.McsSteps.{begins, call_fits, few_entries, goes_on}
-use Rattle.lk_locks.proofs.invariants.McsSteps.{keeps_length, links_fit, owed_is_own, step_fits}
 
 -- each move keeps the queue, and its entries may come
-keeps : (bits : ℕ) (ws : List ℕ) (ps : List Phase) (q : Sequential) (t : ℕ) (p : Phase)
-    (m : Move) → IsTaken Mcs bits ws ps q t p m
-    → let change : Change =
-    move_change Mcs bits ws t p m in IsAgreed Mcs (λ lock. IsQueue change.words
-    (set ps t change.phase) lock.queue) q (move_entries Mcs t p m change.outcome)
-keeps bits ws ps q t Idle (Call Acquire) given =
-    let in_lock : t < length ps = given.thread in
-    let was : phase_at ps t ≡ Idle = given.phase_is in
-    let agreed : IsQueue ws ps q.queue = given.agrees in
-    let not_queued : has q.queue t ≡ false =
-    not_member ws ps q.queue t agreed (λ rest first. rw was at first)
-    (λ before after. rw was at after) in
-    record {
-      allowed = (tt, tt);
-      kind_is = given.kind_is;
-      agrees =
-          mcs_out ws ws ps q.queue t ClearNext in_lock not_queued refl (λ other differs. refl)
-          (λ other. refl) tt agreed;
-    }
+keeps : Keeps Mcs
+keeps bits ws ps q t Idle (Call Acquire) given = (
+  (tt, tt),
+  mcs_out given.agrees ws t ClearNext given.thread
+      (not_member given.agrees t given.phase_is (λ rest first. first) (λ before after. after)) refl
+      (λ other differs. refl) (λ other. refl) tt,
+)
 keeps bits ws ps q t McsInside (Call Release) given =
-    let in_lock : t < length ps = given.thread in
-    let was : phase_at ps t ≡ McsInside = given.phase_is in
-    let agreed : IsQueue ws ps q.queue = given.agrees in
-    let at_head : IsHeadOf ws ps q.queue t =
-    head_by_phase ws ps q.queue t McsInside was (λ outside. outside) (λ before after. after)
-    agreed in
-    record {
-      allowed = (tt, tt);
-      kind_is = given.kind_is;
-      agrees = head_moves ws ps q.queue t ReadNext at_head in_lock tt agreed;
-    }
-keeps bits ws ps q t ClearNext (Step kind) given =
-    let in_lock : t < length ps = given.thread in
-    let enough : 1 + 2 * length ps ≤ length ws = given.enough in
-    let was : phase_at ps t ≡ ClearNext = given.phase_is in
-    let agreed : IsQueue ws ps q.queue = given.agrees in
-    let not_queued : has q.queue t ≡ false =
-    not_member ws ps q.queue t agreed (λ rest first. rw was at first)
-    (λ before after. rw was at after) in
-    record {
-      allowed = tt;
-      kind_is = given.kind_is;
-      agrees =
-          mcs_out ws (set ws (next t) 0) ps q.queue t SwapTail in_lock not_queued
-          (tail_after ws (next t) 0 (omega arith))
-          (λ other differs. next_after_next ws t other 0 differs)
-          (λ other. locked_after_next ws t other 0)
-          (get_or-set_same ws (next t) 0 0 (omega arith)) agreed;
-    }
+    let at_head =
+    head_by_phase given.agrees t given.phase_is (λ outside. outside) (λ before after. after) in
+    ((tt, tt), head_moves ReadNext at_head given.thread tt given.agrees)
+keeps bits ws ps q t ClearNext (Step kind) given = (
+  tt,
+  mcs_out given.agrees (set ws (next t) 0) t SwapTail given.thread
+      (not_member given.agrees t given.phase_is (λ rest first. first) (λ before after. after))
+      (get_or-set_other ws (next t) 0 0 0 (omega arith))
+      (λ other differs. get_or-set_other ws (next t) (next other) 0 0 (omega arith))
+      (λ other. get_or-set_other ws (next t) (locked other) 0 0 (omega arith))
+      (get_or-set_same ws (next t) 0 0 (omega (arith, given.enough))),
+)
 keeps bits ws ps q t SwapTail (Step kind) given =
-    let in_lock : t < length ps = given.thread in
-    let few : length ps ≤ 64 = given.few in
-    let enough : 1 + 2 * length ps ≤ length ws = given.enough in
-    let was : phase_at ps t ≡ SwapTail = given.phase_is in
-    let agreed : IsQueue ws ps q.queue = given.agrees in
-    let not_queued : has q.queue t ≡ false =
-    not_member ws ps q.queue t agreed (λ rest first. rw was at first)
-    (λ before after. rw was at after) in
-    let may_act : is_allowed q (Acted t Acquire)
-    ≡ true = allows_acquire q t (ap family_of given.kind_is) (omega arith) not_queued in
-    let no_next : next_of ws t ≡ 0 = rw was at (agreed.others t not_queued) in
+    let not_queued =
+    not_member given.agrees t given.phase_is (λ rest first. first) (λ before after. after) in
+    let may_act = allows_acquire q t (ap family_of given.kind_is) (omega arith) not_queued in
+    let no_next : next_of ws t ≡ 0 = rw given.phase_is at (given.agrees.others t not_queued) in
     elim (eqb_tells (slice_index ws 0) 0) [
       | inl (test, is_nil) ↦
-          let empty : q.queue ≡ [] = empty_of ws ps q.queue is_nil agreed in
-          rw test (record {
-            allowed = (may_act, (rw empty (eq-eqb t t refl), tt));
-            kind_is = given.kind_is;
-            agrees =
-                rw empty (mcs_first ws ps t in_lock (omega arith) no_next (rw empty at agreed));
-          })
-      | inr (test, not_nil) ↦ rw test (record {
-        allowed = (may_act, tt);
-        kind_is = given.kind_is;
-        agrees =
-            swapped ws ps q.queue t in_lock (omega arith) not_queued no_next not_nil agreed;
-      })
+          let empty = empty_of ws ps q.queue is_nil given.agrees in
+          rw test (
+            (may_act, (rw empty (eq-eqb t t refl), tt)),
+            rw empty
+                (mcs_first ws ps t given.thread (omega (arith, given.enough)) no_next
+                (rw empty at given.agrees)),
+          )
+      | inr (test, not_nil) ↦ rw test (
+        (may_act, tt),
+        swapped ws ps q.queue t given.thread (omega (arith, given.enough)) not_queued no_next
+            not_nil given.agrees,
+      )
     ]
 keeps bits ws ps q t (SetLocked predecessor) (Step kind) given =
-    let in_lock : t < length ps = given.thread in
-    let enough : 1 + 2 * length ps ≤ length ws = given.enough in
-    let was : phase_at ps t ≡ SetLocked predecessor = given.phase_is in
-    let fits : predecessor < length ps = given.fits in
-    let agreed : IsQueue ws ps q.queue = given.agrees in
-    elim
-    (place ws ps q.queue t agreed.links
-    (member_of ws ps q.queue t agreed (λ outside. rw was at outside))) [
-      | inl at_head ↦
-          absurd
-          (let first : IsHead ws t at_head.rest (SetLocked predecessor) =
-          rw was at at_head.first in first)
-      | inr (in_rest, (one, after)) ↦
-          record {
-            allowed = tt;
-            kind_is = given.kind_is;
-            agrees =
-                mcs_later ws (set ws (locked t) 1) ps q.queue t predecessor (LinkTo predecessor)
-                in_lock in_rest (tail_after ws (locked t) 1 (omega arith))
-                (λ before after.
-                let after_it : IsSuccessor ws before t (SetLocked predecessor) = rw was at after in
-                let (knows, no_next) = after_it in (
-                  sym knows,
-                  (
-                    knows,
-                    next_after_locked ws t before 1 ∙ no_next,
-                    get_or-set_same ws (locked t) 1 0 (omega arith),
-                  ),
-                ))
-                (λ other differs. next_after_locked ws t other 1)
-                (λ other differs. locked_after_locked ws t other 1 differs)
-                (λ head rest differs first.
-                first_frame ws (set ws (locked t) 1) head rest (phase_at ps head)
-                (next_after_locked ws t head 1) (locked_after_locked ws t head 1 differs) first)
-                agreed;
-          }
+    elim (place_of given.agrees t given.phase_is (λ outside. outside)) [
+      | inl at_head ↦ absurd at_head.first
+      | inr (in_rest, one, (knows_one, one_nil)) ↦ (
+        tt,
+        mcs_later ws (set ws (locked t) 1) ps q.queue t predecessor (SetLocked predecessor)
+            (LinkTo predecessor) given.phase_is given.thread in_rest
+            (get_or-set_other ws (locked t) 0 1 0 (omega arith)) (rw knows_one one_nil)
+            (λ before (knows, no_next). (
+              sym knows,
+              (
+                knows,
+                get_or-set_other ws (locked t) (next before) 1 0 (omega arith) ∙ no_next,
+                get_or-set_same ws (locked t) 1 0 (omega (arith, given.enough)),
+              ),
+            ))
+            (λ other differs. get_or-set_other ws (locked t) (next other) 1 0 (omega arith))
+            (λ other differs. get_or-set_other ws (locked t) (locked other) 1 0 (omega arith))
+            given.agrees,
+      )
     ]
 keeps bits ws ps q t (LinkTo predecessor) (Step kind) given =
-    let in_lock : t < length ps = given.thread in
-    let enough : 1 + 2 * length ps ≤ length ws = given.enough in
-    let was : phase_at ps t ≡ LinkTo predecessor = given.phase_is in
-    let fits : predecessor < length ps = given.fits in
-    let agreed : IsQueue ws ps q.queue = given.agrees in
-    elim
-    (place ws ps q.queue t agreed.links
-    (member_of ws ps q.queue t agreed (λ outside. rw was at outside))) [
-      | inl at_head ↦
-          absurd
-          (let first : IsHead ws t at_head.rest (LinkTo predecessor) =
-          rw was at at_head.first in first)
-      | inr (in_rest, (one, after)) ↦
-          let after_one : IsSuccessor ws one t (LinkTo predecessor) = rw was at after in
-          let (knows_one, one_nil, one_locks) = after_one in
-          let no_next : next_of ws predecessor ≡ 0 = ap (next_of ws) knows_one ∙ one_nil in
-          record {
-            allowed = tt;
-            kind_is = given.kind_is;
-            agrees =
-                mcs_later ws (set ws (next predecessor) (t + 1)) ps q.queue t predecessor AwaitGrant
-                in_lock in_rest (tail_after ws (next predecessor) (t + 1) (omega arith))
-                (λ before after.
-                let after_it : IsSuccessor ws before t (LinkTo predecessor) = rw was at after in
-                let (knows, was_nil, locks) = after_it in (
-                  sym knows,
-                  (
-                    rw (← knows)
-                        (get_or-set_same ws (next predecessor) (t + 1) 0 (omega arith)),
-                    locked_after_next ws predecessor t (t + 1) ∙ locks,
-                  ),
-                ))
-                (λ other differs. next_after_next ws predecessor other (t + 1) differs)
-                (λ other differs. locked_after_next ws predecessor other (t + 1))
-                (λ head rest differs first. elim (eqb_tells head predecessor) [
-                  | inl (_, same) ↦
-                      relinked ws (set ws (next predecessor) (t + 1)) head rest (phase_at ps head)
-                      (ap (next_of ws) same ∙ no_next)
-                      (locked_after_next ws predecessor head (t + 1)) first
-                  | inr (_, other) ↦
-                      first_frame ws (set ws (next predecessor) (t + 1)) head rest
-                      (phase_at ps head) (next_after_next ws predecessor head (t + 1) other)
-                      (locked_after_next ws predecessor head (t + 1)) first
-                ]) agreed;
-          }
+    elim (place_of given.agrees t given.phase_is (λ outside. outside)) [
+      | inl at_head ↦ absurd at_head.first
+      | inr (in_rest, one, (knows_one, one_nil, one_locks)) ↦ (
+        tt,
+        mcs_later ws (set ws (next predecessor) (t + 1)) ps q.queue t predecessor
+            (LinkTo predecessor) AwaitGrant given.phase_is given.thread in_rest
+            (get_or-set_other ws (next predecessor) 0 (t + 1) 0 (omega arith))
+            (rw knows_one one_nil)
+            (λ before (knows, no_next, locks). (
+              sym knows,
+              (
+                rw (← knows)
+                    (get_or-set_same ws (next predecessor) (t + 1) 0
+                    (omega (arith, given.fits, given.enough))),
+                get_or-set_other ws (next predecessor) (locked t) (t + 1) 0 (omega arith) ∙ locks,
+              ),
+            ))
+            (λ other differs.
+            get_or-set_other ws (next predecessor) (next other) (t + 1) 0 (omega arith))
+            (λ other differs.
+            get_or-set_other ws (next predecessor) (locked other) (t + 1) 0 (omega arith))
+            given.agrees,
+      )
     ]
-keeps bits ws ps q t AwaitGrant (Step kind) given =
-    let in_lock : t < length ps = given.thread in
-    let enough : 1 + 2 * length ps ≤ length ws = given.enough in
-    let was : phase_at ps t ≡ AwaitGrant = given.phase_is in
-    let agreed : IsQueue ws ps q.queue = given.agrees in
-    elim (eqb_tells (locked_of ws t) 0) [
-      | inl (test, granted) ↦ rw test (elim
-          (place ws ps q.queue t agreed.links
-          (member_of ws ps q.queue t agreed (λ outside. rw was at outside))) [
-            | inl at_head ↦
-                record {
-                  allowed = (head_is q.queue t at_head.rest at_head.is, tt);
-                  kind_is = given.kind_is;
-                  agrees = head_moves ws ps q.queue t McsInside at_head in_lock tt agreed;
-                }
-            | inr (in_rest, (before, after)) ↦
-                let after_it : IsSuccessor ws before t AwaitGrant = rw was at after in
-                let (linked, locks) = after_it in
-                absurd (omega (arith, locks, granted))
-          ])
-      | inr (test, _) ↦
-          rw test
-          (waits Mcs (λ phases lock. IsQueue ws phases lock.queue) ps q t AwaitGrant was
-          given.kind_is agreed)
-    ]
+keeps bits ws ps q t AwaitGrant (Step kind) given = elim (eqb_tells (locked_of ws t) 0) [
+  | inr (test, _) ↦ rw test (waits given)
+  | inl (test, granted) ↦ rw test (
+      elim (place_of given.agrees t given.phase_is (λ outside. outside)) [
+        | inl at_head ↦ (
+          (at_head.head, tt),
+          head_moves McsInside at_head given.thread tt given.agrees,
+        )
+        | inr (in_rest, before, (linked, locks)) ↦ absurd (omega (arith, locks, granted))
+      ]
+      )
+]
 keeps bits ws ps q t ReadNext (Step kind) given =
-    let in_lock : t < length ps = given.thread in
-    let enough : 1 + 2 * length ps ≤ length ws = given.enough in
-    let was : phase_at ps t ≡ ReadNext = given.phase_is in
-    let agreed : IsQueue ws ps q.queue = given.agrees in
-    let at_head : IsHeadOf ws ps q.queue t =
-    head_by_phase ws ps q.queue t ReadNext was (λ outside. outside) (λ before after. after)
-    agreed in
+    let at_head =
+    head_by_phase given.agrees t given.phase_is (λ outside. outside) (λ before after. after) in
     elim (eqb_tells (next_of ws t) 0) [
-      | inl (test, _) ↦
-          rw test
-          (record {
-            allowed = tt;
-            kind_is = given.kind_is;
-            agrees = head_moves ws ps q.queue t CasTail at_head in_lock tt agreed;
-          })
-      | inr (test, linked) ↦
-          rw test
-          (record {
-            allowed = tt;
-            kind_is = given.kind_is;
-            agrees =
-                head_moves ws ps q.queue t (Grant (next_of ws t - 1)) at_head in_lock
-                (second ws ps t at_head.rest at_head.later linked, omega (arith, linked))
-                agreed;
-          })
+      | inl (test, _) ↦ rw test (tt, head_moves CasTail at_head given.thread tt given.agrees)
+      | inr (test, linked) ↦ rw test (
+        tt,
+        head_moves (Grant (next_of ws t - 1)) at_head given.thread
+            (may_grant ws ps t at_head.rest at_head.later linked) given.agrees,
+      )
     ]
 keeps bits ws ps q t CasTail (Step kind) given =
-    let in_lock : t < length ps = given.thread in
-    let few : length ps ≤ 64 = given.few in
-    let enough : 1 + 2 * length ps ≤ length ws = given.enough in
-    let was : phase_at ps t ≡ CasTail = given.phase_is in
-    let agreed : IsQueue ws ps q.queue = given.agrees in
-    let at_head : IsHeadOf ws ps q.queue t =
-    head_by_phase ws ps q.queue t CasTail was (λ outside. outside) (λ before after. after)
-    agreed in
-    let may_act : is_allowed q (Acted t Release) ≡ true =
-    allows_release q t (ap family_of given.kind_is) (omega arith)
-    (head_is q.queue t at_head.rest at_head.is) in
+    let at_head =
+    head_by_phase given.agrees t given.phase_is (λ outside. outside) (λ before after. after) in
     elim (eqb_tells (slice_index ws 0) (t + 1)) [
       | inl (test, own_tail) ↦
-          let no_other : at_head.rest ≡ [] =
-          alone ws ps q.queue t at_head.rest at_head.is agreed own_tail in
-          let one : q.queue ≡ t ∷ [] = at_head.is ∙ ap (λ rest. t ∷ rest) no_other in
-          rw test (record {
-            allowed = (may_act, (tt, tt));
-            kind_is = given.kind_is;
-            agrees = rw one (mcs_only ws ps t in_lock (omega arith) (rw one at agreed));
-          })
-      | inr (test, other_tail) ↦
-          rw test
-          (record {
-            allowed = tt;
-            kind_is = given.kind_is;
-            agrees =
-                head_moves ws ps q.queue t AwaitLink at_head in_lock
-                (not_alone ws ps q.queue t at_head.rest at_head.is agreed other_tail) agreed;
-          })
+          let one = alone ws ps q.queue t at_head.rest at_head.is given.agrees own_tail in
+          rw test (
+            (
+              allows_release q t (ap family_of given.kind_is) (omega arith) at_head.head,
+              (tt, tt),
+            ),
+            rw one
+                (mcs_only ws ps t given.thread (omega (arith, given.enough))
+                (rw one at given.agrees)),
+          )
+      | inr (test, other_tail) ↦ rw test (
+        tt,
+        head_moves AwaitLink at_head given.thread
+            (not_alone ws ps q.queue t at_head.rest at_head.is given.agrees other_tail)
+            given.agrees,
+      )
     ]
 keeps bits ws ps q t AwaitLink (Step kind) given =
-    let in_lock : t < length ps = given.thread in
-    let enough : 1 + 2 * length ps ≤ length ws = given.enough in
-    let was : phase_at ps t ≡ AwaitLink = given.phase_is in
-    let agreed : IsQueue ws ps q.queue = given.agrees in
-    let at_head : IsHeadOf ws ps q.queue t =
-    head_by_phase ws ps q.queue t AwaitLink was (λ outside. outside) (λ before after. after)
-    agreed in
+    let at_head =
+    head_by_phase given.agrees t given.phase_is (λ outside. outside) (λ before after. after) in
     elim (eqb_tells (next_of ws t) 0) [
-      | inl (test, _) ↦
-          rw test
-          (waits Mcs (λ phases lock. IsQueue ws phases lock.queue) ps q t AwaitLink was
-          given.kind_is agreed)
-      | inr (test, linked) ↦
-          rw test
-          (record {
-            allowed = tt;
-            kind_is = given.kind_is;
-            agrees =
-                head_moves ws ps q.queue t (Grant (next_of ws t - 1)) at_head in_lock
-                (second ws ps t at_head.rest at_head.later linked, omega (arith, linked))
-                agreed;
-          })
+      | inl (test, _) ↦ rw test (waits given)
+      | inr (test, linked) ↦ rw test (
+        tt,
+        head_moves (Grant (next_of ws t - 1)) at_head given.thread
+            (may_grant ws ps t at_head.rest at_head.later linked) given.agrees,
+      )
     ]
 keeps bits ws ps q t (Grant successor) (Step kind) given =
-    let in_lock : t < length ps = given.thread in
-    let few : length ps ≤ 64 = given.few in
-    let enough : 1 + 2 * length ps ≤ length ws = given.enough in
-    let was : phase_at ps t ≡ Grant successor = given.phase_is in
-    let fits : successor < length ps = given.fits in
-    let agreed : IsQueue ws ps q.queue = given.agrees in
-    let at_head : IsHeadOf ws ps q.queue t =
-    head_by_phase ws ps q.queue t (Grant successor) was (λ outside. outside)
-    (λ before after. after) agreed in
-    let may_act : is_allowed q (Acted t Release) ≡ true =
-    allows_release q t (ap family_of given.kind_is) (omega arith)
-    (head_is q.queue t at_head.rest at_head.is) in
-    record {
-      allowed = (may_act, (tt, tt));
-      kind_is = given.kind_is;
-      agrees =
-          rw at_head.is
-          (mcs_grant ws ps at_head.rest t successor in_lock (omega arith) was
-          (rw at_head.is at agreed));
-    }
-keeps bits ws ps q t p m given =
-    let fits = given.fits in let own = given.own in let not_refused = given.not_refused in cc
+    let at_head =
+    head_by_phase given.agrees t given.phase_is (λ outside. outside) (λ before after. after) in (
+      (
+        allows_release q t (ap family_of given.kind_is) (omega arith) at_head.head,
+        (tt, tt),
+      ),
+      rw at_head.is
+          (mcs_grant ws ps at_head.rest t successor given.thread
+          (omega (arith, given.fits, given.enough)) at_head.first (rw at_head.is at given.agrees)),
+    )
+keeps bits ws ps q t p m given = cc
 
 -- at the start the words are clear and all threads idle
 starts : (bits : ℕ) (ws : List ℕ) (n : ℕ) → n < 2 ^ bits → ((i : ℕ) → slice_index ws i ≡ 0)
@@ -339,25 +187,36 @@ starts bits ws n few clear = record {
   tail_is = clear 0;
   links = tt;
   once = tt;
-  members = λ t queued. absurd (false≢true queued);
+  members = λ t queued. cc;
   others = λ t not_queued. rw (all_idle n t) tt;
 }
 
--- all that the other proofs use of the MCS lock
+-- a word that names a thread, or none, still does after a write of such a value to any word
+word_fits : (n : ℕ) (ws : List ℕ) (written value word : ℕ) → value ≤ n → slice_index ws word ≤ n
+    → slice_index (set ws written value) word ≤ n
+word_fits n ws written value word value_fits word_fitted = elim (eqb_tells word written) [
+  | inr (_, other) ↦ rw (get_or-set_other ws written word value 0 other) word_fitted
+  | inl (_, same) ↦ elim (cases_lt written (length ws)) [
+    | inl inside ↦ rw (same, get_or-set_same ws written value 0 inside) value_fits
+    | inr past ↦ rw (set_past ws written value past) word_fitted
+  ]
+]
+
+-- all that the other proofs use of the MCS lock; most of it is found from its table, by cases
 pub proof : LockProof Mcs
 proof = record {
-  goes_on = goes_on;
-  begins = begins;
-  owed_is_own = owed_is_own;
+  goes_on = λ bits t ws p. grind (arith, common_steps);
+  begins = λ n t p op fits own not_refused. search rules;
+  owed_is_own = λ t p. search rules;
   idle_rest = λ t. refl;
-  few_entries = few_entries;
-  keeps_length = keeps_length;
+  few_entries = λ t p outcome. search rules;
+  keeps_length = λ bits t ws p. search (rules, length-set);
   idle_fits = λ n. tt;
-  call_fits = call_fits;
-  step_fits = step_fits;
+  call_fits = λ n p op fits. search rules;
+  step_fits = λ n bits t ws p in_lock fits links. search rules;
   clear_links =
       λ n ws clear. (omega (arith, clear 0), λ thread below. omega (arith, clear (1 + 2 * thread)));
-  links_fit = links_fit;
+  links_fit = λ n bits t ws p in_lock links. grind (arith, word_fits n);
   starts = starts;
   keeps = keeps;
 }

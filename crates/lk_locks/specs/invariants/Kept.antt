@@ -10,7 +10,7 @@ use Rattle.lk_locks.specs.Tracked.{Tracked}
 use Rattle.lk_locks.specs.invariants.Locks.{AgreeAs}
 use Rattle.lk_locks.specs.invariants.WellFormed.{WellFormed}
 use Rattle.lk_locks.specs.invariants.Owed.{IsInTurn}
-use Rattle.lk_locks.specs.declared.kinds.Entry.{Entry}
+use Rattle.lk_locks.specs.Types.{Entry}
 
 pub record Kept (s : State) (q : Sequential) (es : List Entry) : Type 0 where
   pub well : WellFormed s

@@ -9,10 +9,7 @@ use Rattle.lk_locks.specs.invariants.mcs
 use Rattle.lk_locks.specs.invariants.read_write
 use Rattle.lk_locks.specs.invariants.rw_simple
 use Rattle.lk_locks.specs.invariants.rw_fifo
-use Rattle.lk_locks.specs.declared.kinds.LockKind.{LockKind}
-use Rattle.lk_locks.specs.declared.kinds.LockKind.TheVariants.{Ticket, Mcs, RwSimple, RwFifo}
-use Rattle.lk_locks.specs.declared.kinds.Phase.{Phase}
-use Rattle.lk_locks.specs.declared.kinds.Entry.{Entry}
+use Rattle.lk_locks.specs.Types.{LockKind, Ticket, Mcs, RwSimple, RwFifo, Phase, Entry}
 
 -- a phase of this lock, with n threads
 abbrev pub IsPhaseOf : LockKind → ℕ → Phase → Type 0

@@ -3,10 +3,7 @@ use Rattle.std.specs.Prelude.{◌≡◌, ℕ, List, ◌++◌}
 use Rattle.std.specs.List.{flat_map}
 use Rattle.lk_locks.specs.Legal.{subhistory, whole_call}
 use Rattle.lk_locks.specs.invariants.Locks.{owed_of}
-use Rattle.lk_locks.specs.declared.kinds.LockKind.{LockKind}
-use Rattle.lk_locks.specs.declared.kinds.Phase.{Phase}
-use Rattle.lk_locks.specs.declared.kinds.Op.{Op}
-use Rattle.lk_locks.specs.declared.kinds.Entry.{Entry}
+use Rattle.lk_locks.specs.Types.{LockKind, Phase, Op, Entry}
 
 -- thread t's entries, with the rest of its pending call, are whole calls
 abbrev pub IsInTurn : LockKind → List Entry → ℕ → Phase → Type 0

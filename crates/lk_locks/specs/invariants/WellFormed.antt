@@ -3,8 +3,7 @@ use Rattle.std.specs.Prelude.{◌≡◌, ℕ, ◌^◌, ◌<◌, ◌≤◌, List,
 use Rattle.lk_locks.specs.State.{State, phase_at}
 use Rattle.lk_locks.specs.Locks.{word_count}
 use Rattle.lk_locks.specs.invariants.Locks.{IsPhaseOf, AreLinks}
-use Rattle.lk_locks.specs.declared.kinds.LockKind.{LockKind}
-use Rattle.lk_locks.specs.declared.kinds.Phase.{Phase}
+use Rattle.lk_locks.specs.Types.{LockKind, Phase}
 
 pub record WellFormed (s : State) : Type 0 where
   pub enough : word_count s.kind (length s.phases) ≤ length s.words

@@ -9,13 +9,9 @@ use Rattle.lk_locks.specs.Acts.{acts}
 use Rattle.lk_locks.specs.Sequential.{has, is_head}
 use Rattle.lk_locks.specs.mcs.{tail, next, locked}
 use Rattle.lk_locks.specs.invariants.Threads.{EachOnce}
-use Rattle.lk_locks.specs.declared.kinds.Phase.{Phase}
-use Rattle.lk_locks.specs.declared.kinds.Phase.TheVariants.{Idle, ClearNext, SwapTail, SetLocked}
-use Rattle.lk_locks.specs.declared.kinds.Phase.TheVariants.{LinkTo, AwaitGrant, McsInside, ReadNext}
-use Rattle.lk_locks.specs.declared.kinds.Phase.TheVariants.{CasTail, AwaitLink, Grant}
-use Rattle.lk_locks.specs.declared.kinds.Op.TheVariants.{Acquire, Release}
-use Rattle.lk_locks.specs.declared.kinds.Entry.{Entry}
-use Rattle.lk_locks.specs.declared.kinds.Entry.TheVariants.{Returned}
+use Rattle.lk_locks.specs.Types.{Phase, Idle, ClearNext, SwapTail, SetLocked, LinkTo, AwaitGrant}
+use Rattle.lk_locks.specs.Types.{McsInside, ReadNext, CasTail, AwaitLink, Grant, Acquire, Release}
+use Rattle.lk_locks.specs.Types.{Entry, Returned}
 
 -- the threads that a phase names are among the n
 abbrev pub IsPhase : ℕ → Phase → Type 0

@@ -1,18 +1,14 @@
 -- Invariants. What the two read-write locks share: what a pending call still owes the history, who
 -- reads, who writes and who has announced itself.
-use Rattle.std.specs.Prelude.{◌≡◌, ℕ, List, [], ◌++◌, Option, None, Some, Bool, true, false}
+use Rattle.std.specs.Prelude.{◌≡◌, ◌<◌, ◌^◌, ℕ, List, [], ◌++◌, length, Option, None, Some}
+use Rattle.std.specs.Prelude.{Bool, true, false}
 use Rattle.lk_locks.specs.Acts.{acts, announcement}
 use Rattle.lk_locks.specs.State.{phase_at}
 use Rattle.lk_locks.specs.Sequential.{Sequential, has}
 use Rattle.lk_locks.specs.invariants.Threads.{EachOnce, is_this}
-use Rattle.lk_locks.specs.declared.kinds.Entry.{Entry}
-use Rattle.lk_locks.specs.declared.kinds.Family.{Family}
-use Rattle.lk_locks.specs.declared.kinds.Op.TheVariants.{ReadLock, ReadUnlock, WriteLock}
-use Rattle.lk_locks.specs.declared.kinds.Op.TheVariants.{WriteUnlock, Downgrade}
-use Rattle.lk_locks.specs.declared.kinds.Phase.{Phase}
-use Rattle.lk_locks.specs.declared.kinds.Phase.TheVariants.{TryRead, Reading, LeaveRead}
-use Rattle.lk_locks.specs.declared.kinds.Phase.TheVariants.{TryWrite, AwaitReaders, Writing}
-use Rattle.lk_locks.specs.declared.kinds.Phase.TheVariants.{LeaveWrite, TryDowngrade}
+use Rattle.lk_locks.specs.Types.{Entry, Family, ReadLock, ReadUnlock, WriteLock, WriteUnlock}
+use Rattle.lk_locks.specs.Types.{Downgrade, Phase, TryRead, Reading, LeaveRead, TryWrite}
+use Rattle.lk_locks.specs.Types.{AwaitReaders, Writing, LeaveWrite, TryDowngrade}
 
 -- what the pending call of thread i has still to add to the history
 abbrev pub owed : Family → ℕ → Phase → List Entry
@@ -56,3 +52,12 @@ pub record AreHolders (ps : List Phase) (q : Sequential) : Type 0 where
 abbrev pub flag_of : Option ℕ → Option ℕ → ℕ
 flag_of None None = 0
 flag_of writer announced = 1
+
+-- Words that count readers in some way, and have this flag, agree with the holders. There are fewer
+-- threads than a word has values.
+pub record AgreeAsCounted (Count : ℕ → Type 0) (flag bits : ℕ) (ps : List Phase)
+    (q : Sequential) : Type 0 where
+  pub narrow : length ps < 2 ^ bits
+  pub count : Count (length q.readers)
+  pub flag_is : flag ≡ flag_of q.writer q.announced
+  pub holders : AreHolders ps q

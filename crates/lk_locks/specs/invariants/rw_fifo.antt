@@ -1,14 +1,11 @@
 -- Invariants. The FIFO read-write lock's: its phases, and how its words agree with the
 -- holders of its sequential object.
-use Rattle.std.specs.Prelude.{◌≡◌, ℕ, ◌+◌, ◌%◌, ◌^◌, ◌<◌, List, length, slice_index, Bool}
-use Rattle.std.specs.Prelude.{true, false}
+use Rattle.std.specs.Prelude.{◌≡◌, ℕ, ◌+◌, ◌%◌, ◌^◌, ◌<◌, List, slice_index, Bool, true, false}
 use Rattle.lk_locks.specs.Sequential.{Sequential}
 use Rattle.lk_locks.specs.rw_fifo.{read_acquires, read_releases, flag}
-use Rattle.lk_locks.specs.invariants.read_write.{AreHolders, flag_of}
-use Rattle.lk_locks.specs.declared.kinds.Phase.{Phase}
-use Rattle.lk_locks.specs.declared.kinds.Phase.TheVariants.{Idle, TryRead, Reading, LeaveRead}
-use Rattle.lk_locks.specs.declared.kinds.Phase.TheVariants.{TryWrite, AwaitReaders, Writing}
-use Rattle.lk_locks.specs.declared.kinds.Phase.TheVariants.{LeaveWrite, TryDowngrade}
+use Rattle.lk_locks.specs.invariants.read_write.{AgreeAsCounted}
+use Rattle.lk_locks.specs.Types.{Phase, Idle, TryRead, Reading, LeaveRead, TryWrite, AwaitReaders}
+use Rattle.lk_locks.specs.Types.{Writing, LeaveWrite, TryDowngrade}
 
 abbrev pub is_phase : Phase → Bool
 is_phase Idle = true
@@ -22,13 +19,11 @@ is_phase LeaveWrite = true
 is_phase TryDowngrade = true
 is_phase p = false
 
--- The lock counts the readers that entered and that left, and its flag is for the writer or the
--- announced one. There are fewer threads than a count has values, so the counts are equal if and
--- only if there is no reader.
-pub record AgreesWith (bits : ℕ) (ws : List ℕ) (ps : List Phase) (q : Sequential) : Type 0 where
-  pub narrow : length ps < 2 ^ bits
+-- The words count the readers that entered and those that left. There are fewer threads than a
+-- count has values, so the counts are equal if and only if there is no reader.
+pub record Count (bits : ℕ) (ws : List ℕ) (n : ℕ) : Type 0 where
   pub left : slice_index ws read_releases < 2 ^ bits
-  pub came : slice_index ws read_acquires
-      ≡ (slice_index ws read_releases + length q.readers) % 2 ^ bits
-  pub flag_is : slice_index ws flag ≡ flag_of q.writer q.announced
-  pub holders : AreHolders ps q
+  pub came : slice_index ws read_acquires ≡ (slice_index ws read_releases + n) % 2 ^ bits
+
+abbrev pub AgreesWith : ℕ → List ℕ → List Phase → Sequential → Type 0
+AgreesWith bits ws ps q = AgreeAsCounted (Count bits ws) (slice_index ws flag) bits ps q

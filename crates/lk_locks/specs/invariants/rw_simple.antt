@@ -1,13 +1,11 @@
 -- Invariants. The simple read-write lock's: its phases, and how its words agree with the
 -- holders of its sequential object.
-use Rattle.std.specs.Prelude.{◌≡◌, ℕ, ◌^◌, ◌<◌, List, length, slice_index, Bool, true, false}
+use Rattle.std.specs.Prelude.{◌≡◌, ℕ, List, slice_index, Bool, true, false}
 use Rattle.lk_locks.specs.Sequential.{Sequential}
 use Rattle.lk_locks.specs.rw_simple.{readers, flag}
-use Rattle.lk_locks.specs.invariants.read_write.{AreHolders, flag_of}
-use Rattle.lk_locks.specs.declared.kinds.Phase.{Phase}
-use Rattle.lk_locks.specs.declared.kinds.Phase.TheVariants.{Idle, TryRead, Reading, LeaveRead}
-use Rattle.lk_locks.specs.declared.kinds.Phase.TheVariants.{TryWrite, Writing, LeaveWrite}
-use Rattle.lk_locks.specs.declared.kinds.Phase.TheVariants.{TryDowngrade}
+use Rattle.lk_locks.specs.invariants.read_write.{AgreeAsCounted}
+use Rattle.lk_locks.specs.Types.{Phase, Idle, TryRead, Reading, LeaveRead, TryWrite, Writing}
+use Rattle.lk_locks.specs.Types.{LeaveWrite, TryDowngrade}
 
 abbrev pub is_phase : Phase → Bool
 is_phase Idle = true
@@ -20,9 +18,9 @@ is_phase LeaveWrite = true
 is_phase TryDowngrade = true
 is_phase p = false
 
--- the lock counts its readers, and its flag is for the writer
-pub record AgreesWith (bits : ℕ) (ws : List ℕ) (ps : List Phase) (q : Sequential) : Type 0 where
-  pub narrow : length ps < 2 ^ bits
-  pub count : slice_index ws readers ≡ length q.readers
-  pub flag_is : slice_index ws flag ≡ flag_of q.writer q.announced
-  pub holders : AreHolders ps q
+-- the words count the readers
+abbrev pub Count : List ℕ → ℕ → Type 0
+Count ws n = slice_index ws readers ≡ n
+
+abbrev pub AgreesWith : ℕ → List ℕ → List Phase → Sequential → Type 0
+AgreesWith bits ws ps q = AgreeAsCounted (Count ws) (slice_index ws flag) bits ps q

@@ -8,12 +8,8 @@ use Rattle.lk_locks.specs.Acts.{acts}
 use Rattle.lk_locks.specs.Sequential.{has}
 use Rattle.lk_locks.specs.ticket.{next_ticket, now_serving}
 use Rattle.lk_locks.specs.invariants.Threads.{EachOnce}
-use Rattle.lk_locks.specs.declared.kinds.Phase.{Phase}
-use Rattle.lk_locks.specs.declared.kinds.Phase.TheVariants.{Idle, TakeTicket, AwaitTurn}
-use Rattle.lk_locks.specs.declared.kinds.Phase.TheVariants.{TicketInside, ReadServing, PassOn}
-use Rattle.lk_locks.specs.declared.kinds.Op.TheVariants.{Acquire, Release}
-use Rattle.lk_locks.specs.declared.kinds.Entry.{Entry}
-use Rattle.lk_locks.specs.declared.kinds.Entry.TheVariants.{Returned}
+use Rattle.lk_locks.specs.Types.{Phase, Idle, TakeTicket, AwaitTurn, TicketInside, ReadServing}
+use Rattle.lk_locks.specs.Types.{PassOn, Acquire, Release, Entry, Returned}
 
 abbrev pub is_phase : Phase → Bool
 is_phase Idle = true

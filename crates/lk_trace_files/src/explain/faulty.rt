@@ -35,8 +35,8 @@ fn nearest(
 pub fn wrong_in_header(line: &[u8]) -> Option<(usize, Due)>
     ensures none { (number : ℕ) → IsNone result ↔ IsHeader (header_of number line.now) }
 {
-    let place = unreadable_header(line)?;
-    Some((place.column, Due::OfSchedule(place.expected)))
+    let (column, expected) = unreadable_header(line)?;
+    Some((column, Due::OfSchedule(expected)))
 }
 
 /// Writes what is at this column of a line, what could be there, and the nearest word. A line with

@@ -4,7 +4,10 @@ ghost use Rattle.std.specs.Prelude.{◌≡◌};
 ghost use Rattle.lk_trace_files.specs.Searches.{ending_of_bad};
 
 use crate::check::Ending;
+use crate::fields::put_code;
 use lk_order::{LogFault, Unfit};
+use std::alloc::AllocError;
+use std::fmt::Write;
 use thiserror::Error;
 
 /// What is wrong with a log, or with the logs together.
@@ -38,8 +41,8 @@ impl BadLog {
         }
     }
 
-    /// Its name for programs: of a fault the one that its sentence has in brackets.
-    pub fn code(self) -> &'static str {
+    // Its name for programs: of a fault the one that its sentence has in brackets.
+    fn code(self) -> &'static str {
         match self {
             BadLog::Unread => "Unread",
             BadLog::Fault(LogFault::NoHeader) => "NoHeader",
@@ -54,13 +57,15 @@ impl BadLog {
         }
     }
 
-    /// The thread of the run that it is about.
-    pub fn thread(self) -> Option<u8> {
+    /// Writes its name, and the thread of the run that it is about, as further fields of a JSON
+    /// object.
+    pub fn put_fields(self, text: &mut String) -> Result<(), AllocError> {
+        put_code(text, self.code())?;
         match self {
             BadLog::OtherRun(thread) | BadLog::SecondLog(thread) | BadLog::Missing(thread) => {
-                Some(thread)
+                write!(text, ",\"thread\":{thread}")
             }
-            _ => None,
+            _ => Ok(()),
         }
     }
 }

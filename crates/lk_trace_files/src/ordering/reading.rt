@@ -1,42 +1,43 @@
 //! The logs of a run, read from their files.
 
+ghost use Rattle.std.specs.Prelude.{◌≡◌, ◌⊎◌, IfErr, IfOk, IfSome, MatchResult, Ok, Err};
+ghost use Rattle.lk_order.specs.Logs.{log_read};
+ghost use Rattle.lk_order.specs.Shelves.{HaveLogs, IsTaken, threads_of};
+ghost use Rattle.lk_trace_files.specs.BadLogs.{IsBad, IsInFile, IsNoLog, IsText};
+ghost use Rattle.lk_trace_files.specs.invariants.Shelves.{IsBadBeside, IsKept, IsOwn};
+
 use super::bad_log::BadLog;
 use crate::course::said_of;
-use crate::lines::take_lines;
+use crate::lines::{Line, Lines};
 use crate::notes::Notes;
 use lk_order::{Log, LogFault, LogReader, MOST_THREADS, Shelf, Unfit};
 use std::alloc::{AllocError, Global};
-use std::io::Error;
+use std::io::{Error, ErrorKind, Read};
 use std::rt::Files;
 use std::{fs, str};
-use thiserror::Error;
 
-/// The logs of a run, with the names of their files, and which threads have not ended, each by
-/// thread.
+/// The logs of a run that were taken, with the names of their files, and which threads have not
+/// ended, each by thread.
 #[derive(Drop)]
 pub struct Taken<'a> {
-    pub logs: Vec<Log>,
+    pub shelf: Shelf,
+    // of the first log that has one
+    run: Option<u64>,
     pub names: [&'a str; 64],
     pub open: [bool; 64],
 }
 
-// Why a log could not be read.
-#[derive(Debug, Drop, Error)]
-enum Unread {
-    #[error("{0}")]
-    Input(#[from] Error),
-    #[error("{1}")]
-    Fault(u64, LogFault),
-    #[error("out of memory")]
-    Memory(#[from(alloc)] AllocError),
-}
-
 // A log, with the number of its run, if it has that, and whether its thread has not ended.
-#[derive(Drop)]
-struct LogRead {
-    log: Log,
-    run: Option<u64>,
-    is_open: bool,
+type LogRead = (Log, Option<u64>, bool);
+
+// The log that was read, with what the first line says of its run, and the last of its thread.
+fn whole(reader: LogReader, run: Option<u64>, last: Option<(u8, bool)>) -> Result<LogRead, LogFault>
+    ensures { MatchResult result (λ read. log_read reader.log ≡ Ok read.0)
+        (λ fault. log_read reader.log ≡ Err fault) }
+{
+    let log = reader.log()?;
+    let is_open = last == Some((log.thread(), false)) && log.dropped().is_none();
+    Ok((log, run, is_open))
 }
 
 // The number of a run, which a recorder writes into the first line.
@@ -46,53 +47,90 @@ fn run_of(line: &[u8]) -> Option<u64> {
     u64::from_str_radix(text, 16).ok()
 }
 
-// Reads the log in the file of this name.
-fn read_log<R: Files>(rt: &R, alloc: Global, name: &str) -> Result<LogRead, Unread> {
+// Reads the log of an input. The number is that of the line at which this ended.
+fn read_input<I: Read + Drop>(
+    alloc: Global,
+    input: I,
+) -> Result<(u64, Result<Result<LogRead, LogFault>, Error>), AllocError>
+    ensures { IfOk result (λ ended. IfOk ended.1 (λ read. IfSome (I.remaining input)
+        (λ text. MatchResult read (λ log. IsText log.0 text) (λ fault. IsNoLog fault text)))) }
+{
     let mut reader = LogReader::new(alloc);
     let (mut run, mut last) = (None, None);
-    let input = fs::open(rt, name)?;
-    let (number, ended) = take_lines(alloc, input, |number, line| -> Result<_, AllocError> {
+    let mut lines = Lines::new(alloc, input)?;
+    let mut line = Line::new();
+    for number in 1..u64::MAX {
+        match lines.next_line(&mut line) {
+            Ok(true) => {}
+            Ok(false) => return Ok((number, Ok(whole(reader, run, last)))),
+            Err(error) => return Ok((number, Err(error))),
+        }
         if number == 1 {
             run = run_of(line.bytes());
         }
         last = said_of(line.bytes());
-        Ok(reader.line(line.bytes(), line.is_whole()).err())
-    })?;
-    let log = match ended? {
-        Some(fault) => Err(fault),
-        None => reader.log(),
+        match reader.line(line.bytes(), line.is_whole()) {
+            Ok(()) => {}
+            Err(fault) => return Ok((number, Ok(Err(fault)))),
+        }
+    }
+    Ok((u64::MAX, Err(Error::from(ErrorKind::FileTooLarge))))
+}
+
+// Reads the log in the file of this name. What is wrong with it is said, and is the answer.
+fn read_log<R: Files>(
+    rt: &R,
+    alloc: Global,
+    name: &str,
+    messages: &mut Notes,
+) -> Result<Result<LogRead, BadLog>, AllocError>
+    ensures { IfOk result (λ read. MatchResult read
+        (λ log. IsInFile R.File.remaining log.0) (IsBad R.File.remaining)) }
+{
+    let input = match fs::open(rt, name) {
+        Ok(input) => input,
+        Err(error) => {
+            messages.put_in(name, 0, error)?;
+            return Ok(Err(BadLog::Unread));
+        }
     };
-    let log = log.map_err(|fault| Unread::Fault(number, fault))?;
-    let is_open = last == Some((log.thread(), false)) && log.dropped().is_none();
-    Ok(LogRead { log, run, is_open })
+    let (number, ended) = read_input(alloc, input)?;
+    match ended {
+        Ok(Ok(read)) => Ok(Ok(read)),
+        Ok(Err(LogFault::OutOfMemory)) => Err(AllocError),
+        Ok(Err(fault)) => {
+            messages.put_in(name, number, fault)?;
+            Ok(Err(BadLog::Fault(fault)))
+        }
+        Err(error) => {
+            messages.put_in(name, 0, error)?;
+            Ok(Err(BadLog::Unread))
+        }
+    }
 }
 
-// The logs that were taken, the names of their files by thread, and who has not ended.
-#[derive(Drop)]
-struct Run<'a> {
-    shelf: Shelf,
-    // of the first log that has one
-    number: Option<u64>,
-    names: [&'a str; 64],
-    open: [bool; 64],
-}
-
-impl<'a> Run<'a> {
+impl<'a> Taken<'a> {
     // Takes a log, if it is one of the run.
-    fn put(&mut self, read: LogRead, name: &'a str) -> Result<(), BadLog> {
-        let LogRead { log, run, is_open } = read;
+    fn put(&mut self, read: LogRead, name: &'a str) -> Result<(), BadLog>
+        ensures own { IsOwn read.0 }
+        ensures shelf { (self.new.shelf ≡ self.old.shelf)
+            ⊎ IsTaken self.old.shelf self.new.shelf read.0 }
+        ensures bad { IfErr result (IsBadBeside self.old.shelf read.0) }
+    {
+        let (log, run, is_open) = read;
         let thread = log.thread();
         let place = thread as usize;
-        self.shelf.put(log).map_err(|unfit| match unfit {
-            Unfit::OtherLock => BadLog::OtherLock,
-            Unfit::SecondLog => BadLog::SecondLog(thread),
-        })?;
+        match self.shelf.put(log) {
+            Ok(()) => {}
+            Err(Unfit::OtherLock) => return Err(BadLog::OtherLock),
+            Err(Unfit::SecondLog) => return Err(BadLog::SecondLog(thread)),
+        }
         if place < MOST_THREADS {
             self.names[place] = name;
             self.open[place] = is_open;
         }
-        self.number = self.number.or(run);
-        if run.is_some() && self.number != run {
+        self.run = self.run.or(run);
+        if run.is_some() && self.run != run {
             return Err(BadLog::OtherRun(thread));
         }
         Ok(())
@@ -105,26 +143,22 @@ impl<'a> Run<'a> {
         alloc: Global,
         name: &'a str,
         messages: &mut Notes,
-    ) -> Result<Option<BadLog>, AllocError> {
-        let (number, bad) = match read_log(rt, alloc, name) {
-            Ok(read) => match self.put(read, name) {
-                Ok(()) => return Ok(None),
-                Err(bad) => (0, bad),
-            },
-            Err(Unread::Memory(_) | Unread::Fault(_, LogFault::OutOfMemory)) => {
-                return Err(AllocError);
-            }
-            Err(Unread::Fault(number, fault)) => (number, BadLog::Fault(fault)),
-            Err(Unread::Input(error)) => {
-                messages.put_in(name, 0, error)?;
-                return Ok(Some(BadLog::Unread));
-            }
+    ) -> Result<Option<BadLog>, AllocError>
+        ensures { IfOk result (λ bad. IsKept R.File.remaining self.old.shelf
+            → IsKept R.File.remaining self.new.shelf × IfSome bad (IsBad R.File.remaining)) }
+    {
+        let read = match read_log(rt, alloc, name, messages)? {
+            Ok(read) => read,
+            Err(bad) => return Ok(Some(bad)),
+        };
+        let Err(bad) = self.put(read, name) else {
+            return Ok(None);
         };
         if let BadLog::SecondLog(thread) = bad {
             let other = self.names.get(thread as usize).copied().unwrap_or("");
             messages.put_in(name, 0, format_args!("{bad}, beside {other}"))?;
         } else {
-            messages.put_in(name, number, bad)?;
+            messages.put_in(name, 0, bad)?;
         }
         Ok(Some(bad))
     }
@@ -137,16 +171,21 @@ pub fn take_logs<'a, R: Files>(
     alloc: Global,
     names: &'a [String],
     messages: &mut Notes,
-) -> Result<Result<Taken<'a>, BadLog>, AllocError> {
-    let mut run = Run {
+) -> Result<Result<Taken<'a>, BadLog>, AllocError>
+    ensures { IfOk result (λ all. MatchResult all
+        (λ taken. IsKept R.File.remaining taken.shelf
+        × HaveLogs taken.shelf (threads_of taken.shelf.lock))
+        (IsBad R.File.remaining)) }
+{
+    let mut taken = Taken {
         shelf: Shelf::new(alloc)?,
-        number: None,
+        run: None,
         names: [""; 64],
         open: [false; 64],
     };
     let mut worst: Option<BadLog> = None;
     for name in names {
-        if let Some(bad) = run.read(rt, alloc, name.as_str(), messages)? {
+        if let Some(bad) = taken.read(rt, alloc, name.as_str(), messages)? {
             let status = bad.ending().status();
             if worst.is_none_or(|worst| worst.ending().status() < status) {
                 worst = Some(bad);
@@ -156,12 +195,10 @@ pub fn take_logs<'a, R: Files>(
     if let Some(bad) = worst {
         return Ok(Err(bad));
     }
-    if let Some(thread) = run.shelf.missing() {
+    if let Some(thread) = taken.shelf.missing() {
         let bad = BadLog::Missing(thread);
         messages.put(0, bad)?;
         return Ok(Err(bad));
     }
-    let (names, open) = (run.names, run.open);
-    let logs = run.shelf.logs(alloc)?;
-    Ok(Ok(Taken { logs, names, open }))
+    Ok(Ok(taken))
 }

@@ -2,7 +2,6 @@
 //! as TAP or JSON.
 
 use crate::check::Ending;
-use crate::facts::Facts;
 use crate::formats::{Format, Quoted, put_comments, put_note_fields, put_noted};
 use crate::notes::Notes;
 use std::alloc::{AllocError, Global};
@@ -15,7 +14,8 @@ pub struct OrderReport {
     pub placed: usize,
     /// What is wrong.
     pub messages: Notes,
-    pub facts: Facts,
+    /// The same for programs: further fields of its JSON object, each after a comma.
+    pub fields: String,
     pub warnings: Notes,
     pub notes: Notes,
 }
@@ -29,7 +29,7 @@ impl OrderReport {
         OrderReport {
             placed: 0,
             messages: Notes::new(alloc),
-            facts: Facts::Nothing,
+            fields: String::new(alloc),
             warnings: Notes::new(alloc),
             notes: Notes::new(alloc),
         }
@@ -44,11 +44,8 @@ impl OrderReport {
 
     // Writes it as TAP with one point.
     fn put_tap(&self, text: &mut String, ending: Ending, folder: &str) -> Result<(), AllocError> {
-        let sign = if ending == Ending::Accepted {
-            "ok"
-        } else {
-            "not ok"
-        };
+        let is_ok = ending == Ending::Accepted;
+        let sign = if is_ok { "ok" } else { "not ok" };
         writeln!(text, "TAP version 14\n1..1\n{sign} 1 - {folder}")?;
         put_comments(text, &self.messages)?;
         put_comments(text, &self.warnings)?;
@@ -62,7 +59,7 @@ impl OrderReport {
             text,
             "{{\"folder\":{folder},\"ending\":\"{ending}\",\"moves\":{placed}"
         )?;
-        self.facts.put_fields(text)?;
+        text.push_str(&self.fields)?;
         put_note_fields(text, "messages", &self.messages)?;
         put_note_fields(text, "warnings", &self.warnings)?;
         put_note_fields(text, "notes", &self.notes)?;

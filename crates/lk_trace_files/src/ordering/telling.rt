@@ -2,7 +2,7 @@
 
 use super::report::OrderReport;
 use crate::course::Course;
-use crate::facts::Facts;
+use crate::fields::{put_code, put_refused};
 use crate::summary::Count;
 use crate::texts::{Called, Shown, Standing, Wrong};
 use crate::trail::Trail;
@@ -99,7 +99,8 @@ pub fn put_stuck(
         if let Some(difference) = stuck.difference {
             let said = format_args!("cannot be placed: {why}");
             report.messages.put_in(name, number, said)?;
-            report.facts = Facts::of(order.checker().lock(), &Trail::new(), line, difference);
+            let lock = order.checker().lock();
+            put_refused(&mut report.fields, lock, &Trail::new(), line, difference)?;
         } else {
             let said = format_args!("'{shown}' cannot be placed: {why}");
             report.messages.put_in(name, number, said)?;
@@ -156,7 +157,7 @@ pub fn put_hang(
     names: &[&str],
     course: &Course,
 ) -> Result<(), AllocError> {
-    report.facts = Facts::Hangs;
+    put_code(&mut report.fields, "Hangs")?;
     report.messages.put(0, HANGS)?;
     put_waits(&mut report.notes, order.checker().lock(), course, names)?;
     report.notes.put(0, Placed(order))

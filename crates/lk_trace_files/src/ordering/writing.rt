@@ -27,12 +27,9 @@ fn put_header(text: &mut String, order: &Order) -> Result<(), AllocError> {
 // Writes which threads of a run that hangs have ended, as a recorder writes it.
 fn put_ends(text: &mut String, threads: u8, course: &Course) -> Result<(), AllocError> {
     for thread in 0..threads {
-        let end = if course.fate(thread) == Fate::Ended {
-            "has ended"
-        } else {
-            "has not ended"
-        };
-        writeln!(text, "# thread {thread} {end}")?;
+        let is_over = course.fate(thread) == Fate::Ended;
+        let end = if is_over { "ended" } else { "not ended" };
+        writeln!(text, "# thread {thread} has {end}")?;
     }
     Ok(())
 }

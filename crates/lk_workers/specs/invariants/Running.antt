@@ -5,7 +5,7 @@ use mathlib.Core.Option.{some}
 use lib.ListN.{get_elem?}
 use Rattle.atomic_table.specs.Table.{Me, Step}
 use Rattle.lk_workers.specs.declared.live.LivePhase.{LivePhase}
-use Rattle.lk_workers.specs.declared.live.LivePhase.TheVariants.{Idle, Waiting, Inside, Leaving}
+use Rattle.lk_workers.specs.declared.live.LivePhase.TheVariants.{Idle, Waiting}
 use Rattle.lk_workers.specs.declared.live.rule.Operation.{Operation}
 use Rattle.lk_workers.specs.declared.live.rule.SeatState.{SeatState}
 use Rattle.lk_workers.specs.Counting.{once_below}
@@ -19,8 +19,7 @@ Sees = Me (Unit {0}) (List SeatState)
 abbrev pub FitsPhase : ℕ → LivePhase → ℕ → ℕ → Type 0
 FitsPhase serving Idle t taken = ⊤
 FitsPhase serving Waiting t taken = 1 ≤ taken
-FitsPhase serving Inside t taken = (t ≡ serving) × (1 ≤ taken)
-FitsPhase serving Leaving t taken = (t ≡ serving) × (1 ≤ taken)
+FitsPhase serving phase t taken = (t ≡ serving) × (1 ≤ taken)
 
 -- the loads of the first seat of a view
 abbrev pub loads_of : List SeatState → ℕ

@@ -1,6 +1,6 @@
 use Rattle.std.proofs.Common.{[], ap, refl, ◌∷◌, ◌≡◌}
 use Rattle.lk_locks.specs.read_write.{section}
-use Rattle.lk_locks.specs.declared.kinds.SectionEffect.{SectionEffect}
+use Rattle.lk_locks.specs.Types.{SectionEffect}
 use Rattle.lk_locks.proofs.Sections.{fifo, fifo_told, simple, simple_told, telling, two_first}
 use Rattle.lk_locks.proofs.read_write.section.Goals as goal
 

@@ -1,7 +1,6 @@
 -- The first line that is not skipped is the header.
-use Rattle.std.proofs.Common.{Err, Ok, ◌+◌, ◌∙◌, ap, refl, sym}
+use Rattle.std.proofs.Common.{◌+◌, refl}
 use Rattle.std.proofs.lemmas.Result.{err_from_is_err_and}
-use Rattle.lk_replay.specs.Faults.{NoHeader}
 use Rattle.lk_replay.specs.Header.{header_of}
 use Rattle.lk_replay.specs.Schedule.{moves_from, with_header}
 use Rattle.lk_replay.proofs.Headers.{fails_as, header_here, no_header}
@@ -10,10 +9,10 @@ use Rattle.lk_replay.proofs.schedule.read_header.Goals as goal
 
 pub returns-in_default-clause-fault : goal.returns-in_default-clause-fault
 returns-in_default-clause-fault c =
-    no_header c.args.text.now _ _ c.if-text-gt-MOST_BYTES.false
+    rw c.number.ensures
+    (no_header c.args.text.now _ _ c.if-text-gt-MOST_BYTES.false
     (skips_same _ _ c.new-lines.ensures _ _ _ c.in_default.ensures.end refl)
-    c.in_default.ensures.none
-    ∙ ap (λ n. Err (NoHeader n)) (sym c.number.ensures)
+    c.in_default.ensures.none)
 
 pub returns-in_err-header-clause-fault : goal.returns-in_err-header-clause-fault
 returns-in_err-header-clause-fault c =
@@ -32,11 +31,12 @@ returns-in_err-header-clause-fault c =
 
 pub returns-clause-read : goal.returns-clause-read
 returns-clause-read c =
-    let others = c.next_line.new.self.lines in
-    header_here c.args.text.now c.in-Some.line.now others c.in-Some.number
-    c.if-text-gt-MOST_BYTES.false
-    (skips_same _ _ c.new-lines.ensures _ _ _ c.in-Some.ensures.found refl) c.in-Some.ensures.read
-    ∙ ap (λ h. with_header h (moves_from (c.in-Some.number + 1) 0 others))
-    c.in_ok-header.ensures.read
-    ∙ ap (λ n. with_header (Ok c.in_ok-header.header) (moves_from n 0 others))
-    (sym c.in-Some.ensures.counted)
+    rw (
+      header_here c.args.text.now c.in-Some.line.now c.next_line.new.self.lines c.in-Some.number
+          c.if-text-gt-MOST_BYTES.false
+          (skips_same _ _ c.new-lines.ensures _ _ _ c.in-Some.ensures.found refl)
+          c.in-Some.ensures.read,
+      c.in_ok-header.ensures.read,
+      c.in-Some.ensures.counted,
+    )
+    refl

@@ -6,8 +6,8 @@ use Rattle.lk_workers.proofs.many.+fn-work_all-join+arg2+fn-work_all-join+arg3+w
 
 pub returns : goal.returns
 returns g t c =
-    let d = c.args.batch.draws.now in
-    let texts = c.args.batch.texts.now in
+    let d = c.args.draws.now in
+    let texts = c.args.texts.now in
     let workers = c.args.workers in
     let half = workers / 2 in
     let rest = workers - half in

@@ -1,8 +1,8 @@
 -- The three texts of the line, one after another.
 use Rattle.std.proofs.Common.{List, ℕ, ◌++◌, ◌∙◌, codes, decimal, subst}
 use Rattle.lk_replay.specs.Devices.{AppendsPrefix, Passes}
-use Rattle.lk_replay.proofs.Passed.{prefix_after, prefix_of_more, prefix_then, passes_on}
-use Rattle.lk_replay.proofs.Passed.{passes_then, told}
+use Rattle.std.proofs.lemmas.Result.{on_err_weaker, on_ok_weaker}
+use Rattle.lk_replay.proofs.Passed.{passes_on, prefix_after, prefix_of_more, told}
 use Rattle.lockreplay.proofs.sending.push_file_line.Goals as goal
 
 pub returns-in_err-push-clause-prefix : goal.returns-in_err-push-clause-prefix
@@ -30,10 +30,10 @@ returns-clause-passed g c =
     let second =
     subst (λ (d : List ℕ). Passes c.push.new.self mid d c.push-2.new.self new)
     (c.as_bytes.ensures.value ∙ c.format.ensures.text) c.in_ok-push-2.ensures.passed in
-    passes_then c.push-3.result c.args.waiting.now (codes "file " ++ decimal c.args.number) _
-    (codes "\n") _ _ _ _
+    on_ok_weaker c.push-3.result
+    (passes_on c.args.waiting.now (codes "file " ++ decimal c.args.number) _ (codes "\n") _ _ _ _
     (passes_on _ (codes "file ") _
-    (decimal c.args.number) _ _ _ _ c.in_ok-push.ensures.passed second) c.push-3.ensures.passed
+    (decimal c.args.number) _ _ _ _ c.in_ok-push.ensures.passed second)) c.push-3.ensures.passed
 
 pub returns-clause-prefix : goal.returns-clause-prefix
 returns-clause-prefix g c =
@@ -42,7 +42,7 @@ returns-clause-prefix g c =
     let second =
     subst (λ (d : List ℕ). Passes c.push.new.self mid d c.push-2.new.self new)
     (c.as_bytes.ensures.value ∙ c.format.ensures.text) c.in_ok-push-2.ensures.passed in
-    prefix_then c.push-3.result c.args.waiting.now (codes "file " ++ decimal c.args.number) _
-    (codes "\n") _ _ _
+    on_err_weaker c.push-3.result
+    (prefix_after c.args.waiting.now (codes "file " ++ decimal c.args.number) _ (codes "\n") _ _ _
     (passes_on _ (codes "file ") _
-    (decimal c.args.number) _ _ _ _ c.in_ok-push.ensures.passed second) c.push-3.ensures.prefix
+    (decimal c.args.number) _ _ _ _ c.in_ok-push.ensures.passed second)) c.push-3.ensures.prefix

@@ -1,7 +1,8 @@
 -- Each report goes out after its line.
 use Rattle.std.proofs.Common.{ℕ, List, [], ◌++◌, ◌+◌, ◌∙◌, append-nil, append_assoc, arith, subst}
 use Rattle.std.proofs.Common.{sym}
-use Rattle.lk_replay.proofs.Passed.{prefix_of_whole, of_error, passes_on}
+use Rattle.std.proofs.lemmas.Result.{IfErr-at_err}
+use Rattle.lk_replay.proofs.Passed.{prefix_of_whole, passes_on}
 use Rattle.lk_replay.specs.Devices.{AppendsPrefix, Passes}
 use Rattle.lk_workers.specs.Batch.{file_line}
 use Rattle.lockreplay.proofs.Passed.{none_left, report_gone, report_next}
@@ -58,7 +59,8 @@ returns-clause-prefix g c = λ is_write.
     let new = g.W.Write.contents c.send_whole.new.output in
     let prefix =
     subst (AppendsPrefix mid new) (sym (append-nil c.loop-place.waiting))
-    (of_error c.send_whole.result _ _ c.send_whole.ensures.prefix is_write) in
+    (IfErr-at_err (λ _. AppendsPrefix mid new c.loop-place.waiting) is_write
+    c.send_whole.ensures.prefix) in
     prefix_of_whole _ done _ [] [] _ _ _ passed prefix
     (none_left _ done c.loop-place.place c.args.reports.now
     (omega (arith, c.loop-place-test.false)) parts)

@@ -1,12 +1,15 @@
 -- The last line begins with `refused ` or with `end `, and has no line feed in it.
-use Rattle.std.proofs.Common.{rules}
-use Rattle.lk_replay.proofs.LastLines.{accepted_ending, refused_ending}
+use Rattle.std.proofs.Common.{codes, refl, rules}
+use Rattle.lk_replay.proofs.LastLines.{accepted_ending, marked_ending, reason_is}
+use Rattle.lk_replay.specs.Report.{refusal_text}
+use Rattle.lk_replay.specs.declared.ending.Ending.TheVariants.{Refused}
 use Rattle.lk_replay.proofs.report.closings.last_line.Goals as goal
 
 pub invariant_of-result : goal.invariant_of-result
 invariant_of-result c = record {
-  told = refused_ending _ c.at_line-line.result c.in-Some.number c.in-Some.refusal
-      c.at_line-line.ensures.whole c.at_line-line.ensures.text (search rules);
+  told = marked_ending Refused (codes "refused") _ c.at_line-line.result
+      (refusal_text c.in-Some.refusal) c.in-Some.number c.at_line-line.ensures.whole
+      (reason_is c.in-Some.refusal) c.at_line-line.ensures.text (search rules) refl;
 }
 
 pub invariant_of-result-2 : goal.invariant_of-result-2

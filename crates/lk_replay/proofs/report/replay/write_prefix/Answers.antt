@@ -1,5 +1,5 @@
 -- The words come one after another.
-use Rattle.lk_replay.proofs.Printed.{words_joined}
+use Rattle.std.proofs.Common.{append_assoc}
 use Rattle.lk_replay.specs.Report.{move_text}
 use Rattle.lk_replay.proofs.report.replay.write_prefix.Goals as goal
 
@@ -15,4 +15,4 @@ returns-clause-text c =
       c.block-len.ensures.text,
       c.move_block-len.ensures.text,
       c.outcome_block-len.ensures.text,
-    ) (words_joined _ _ _ _)
+    ) (simp append_assoc)

@@ -1,6 +1,6 @@
 -- The number comes last.
-use Rattle.std.proofs.Common.{arith, ap, length}
-use Rattle.lk_replay.proofs.Listing.{later_most, request_listed}
+use Rattle.std.proofs.Common.{arith, ap, append-nil, decimal, length, [], ◌∷◌}
+use Rattle.lk_replay.proofs.Listing.{later_append, later_most}
 use Rattle.lk_replay.proofs.report.status.push_request.Goals as goal
 
 pub push_block-requires-clause-room : goal.push_block-requires-clause-room
@@ -10,5 +10,4 @@ push_block-requires-clause-room c =
 
 pub returns : goal.returns
 returns c =
-    request_listed c.args.queue.now c.args.text.now c.push_block.new.self _ c.args.thread
-    c.requires.listed c.thread_block-len.ensures.text c.push_block.ensures
+    cc (later_append c.args.queue.now (c.args.thread ∷ []), append-nil (decimal c.args.thread))

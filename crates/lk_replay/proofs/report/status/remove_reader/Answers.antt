@@ -1,12 +1,13 @@
 -- The number is after those below it.
 use Rattle.std.proofs.Common.{◌∙◌, ◌+◌, ℕ, ap, arith}
-use Rattle.lk_replay.proofs.Bits.{bits_split, member_fits, shifted}
+use Rattle.lk_replay.proofs.Bits.{has_bit}
 use Rattle.lk_replay.proofs.Listing.{reader_gone}
 use Rattle.lk_replay.proofs.report.status.remove_reader.Goals as goal
 
 pub place_of-at-requires-clause-fits : goal.place_of-at-requires-clause-fits
 place_of-at-requires-clause-fits c =
-    member_fits c.args.readers.now c.args.thread c.requires.fit c.requires.member
+    let given = c.requires in
+    (has_bit c.args.readers.now c.args.thread given.ascending given.fit given.member).small
 
 pub remove-requires : goal.remove-requires
 remove-requires c =
@@ -16,16 +17,13 @@ remove-requires c =
 
 pub overflow_shl-bits : goal.overflow_shl-bits
 overflow_shl-bits c =
-    member_fits c.args.readers.now c.args.thread c.requires.fit c.requires.member
+    let given = c.requires in
+    (has_bit c.args.readers.now c.args.thread given.ascending given.fit given.member).small
 
 pub overflow_sub-bits : goal.overflow_sub-bits
-overflow_sub-bits c = omega (
-  arith,
-  c.requires.bits,
-  shifted c.args.thread
-      (member_fits c.args.readers.now c.args.thread c.requires.fit c.requires.member),
-  bits_split c.args.readers.now c.args.thread c.requires.ascending c.requires.member,
-)
+overflow_sub-bits c =
+    let given = c.requires in
+    omega (arith, has_bit c.args.readers.now c.args.thread given.ascending given.fit given.member)
 
 pub returns-clause-text : goal.returns-clause-text
 returns-clause-text c =
@@ -35,10 +33,6 @@ returns-clause-text c =
     (ap (λ (x : ℕ). x + 1) c.width.ensures.digits)).rest
 
 pub returns-clause-bits : goal.returns-clause-bits
-returns-clause-bits c = omega (
-  arith,
-  c.requires.bits,
-  shifted c.args.thread
-      (member_fits c.args.readers.now c.args.thread c.requires.fit c.requires.member),
-  bits_split c.args.readers.now c.args.thread c.requires.ascending c.requires.member,
-)
+returns-clause-bits c =
+    let given = c.requires in
+    omega (arith, has_bit c.args.readers.now c.args.thread given.ascending given.fit given.member)

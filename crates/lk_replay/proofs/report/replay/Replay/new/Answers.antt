@@ -1,6 +1,6 @@
 -- All moves are left, on a new lock.
 use Rattle.std.proofs.Common.{◌∙◌, ◌+◌, [], ap, arith, length, sym}
-use Rattle.lk_replay.proofs.Printed.{ending_after_lines, last_some, replay_printed, tracked_new}
+use Rattle.lk_replay.proofs.Printed.{ending_after_lines, last_some, replay_printed}
 use Rattle.lk_replay.specs.Ending.{ending_of}
 use Rattle.lk_replay.specs.Following.{following}
 use Rattle.lk_replay.specs.Replay.{Replay, replay_from}
@@ -24,7 +24,10 @@ returns-clause-ending c =
 pub invariant_of-result : goal.invariant_of-result
 invariant_of-result c = record {
   few = omega (arith, c.of.ensures, c.moves.ensures.few);
-  tracked = tracked_new c.args.schedule.now _ _ (c.new.ensures
-      ∙ ap (λ k. following k []) c.kind.ensures)
-      c.new_machine.ensures.state c.new_machine.ensures.tracked;
+  tracked =
+      rw (
+        c.new.ensures ∙ ap (λ k. following k []) c.kind.ensures,
+        c.new_machine.ensures.state,
+      )
+      c.new_machine.ensures.tracked;
 }

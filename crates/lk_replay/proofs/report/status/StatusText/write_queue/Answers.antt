@@ -1,27 +1,24 @@
 -- The requests' text without its first comma, or that there is none.
-use Rattle.std.proofs.Common.{◌++◌, ◌∙◌, List, ℕ, ap, sym, take}
-use Rattle.lk_replay.proofs.Listing.{none_listed, queue_shown, some_listed}
-use Rattle.lk_replay.specs.Following.{Following}
-use Rattle.lk_replay.specs.Report.{queue_text}
+use Rattle.std.proofs.Common.{◌++◌, List, ℕ, ap, arith, refl, take}
+use Rattle.std.proofs.lemmas.Bool.{iff_false}
+use Rattle.lk_replay.proofs.Listing.{none_listed, queue_shown}
 use Rattle.lk_replay.proofs.report.status.StatusText.write_queue.Goals as goal
 
 pub returns-then-is_empty-clause-text : goal.returns-then-is_empty-clause-text
 returns-then-is_empty-clause-text c =
-    c.put_block.ensures.text
-    ∙ ap (λ (q : List ℕ). take c.args.at c.args.line.now ++ queue_text q)
-    (sym (none_listed _ _ c.self.invariant.requests_are
-    (c.is_empty.ensures.0 c.if-is_empty.true)))
-    ∙ ap (λ (f : Following). take c.args.at c.args.line.now ++ queue_text f.sequential.queue)
-    c.self.view_is
+    rw (
+      ← c.self.view_is,
+      c.put_block.ensures.text,
+      none_listed _ _ c.self.invariant.requests_are (c.is_empty.ensures.0 c.if-is_empty.true),
+    )
+    refl
 
 pub put_rest-requires-clause-some : goal.put_rest-requires-clause-some
-put_rest-requires-clause-some c = some_listed _ _ c.is_empty.ensures c.if-is_empty.false
+put_rest-requires-clause-some c = omega (arith, iff_false c.is_empty.ensures c.if-is_empty.false)
 
 pub returns-else-is_empty-clause-text : goal.returns-else-is_empty-clause-text
 returns-else-is_empty-clause-text c =
-    c.put_rest.ensures.text
-    ∙ ap (λ (ys : List ℕ). take c.args.at c.args.line.now ++ ys)
+    rw (← c.self.view_is, c.put_rest.ensures.text)
+    (ap (λ (ys : List ℕ). take c.args.at c.args.line.now ++ ys)
     (queue_shown _ _ c.self.invariant.requests_are
-    (some_listed _ _ c.is_empty.ensures c.if-is_empty.false))
-    ∙ ap (λ (f : Following). take c.args.at c.args.line.now ++ queue_text f.sequential.queue)
-    c.self.view_is
+    (omega (arith, iff_false c.is_empty.ensures c.if-is_empty.false))))

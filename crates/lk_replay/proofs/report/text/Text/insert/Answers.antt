@@ -1,20 +1,17 @@
 -- The bytes are between the two parts.
-use Rattle.std.proofs.Common.{◌≡◌, ◌≤◌, ◌++◌, ◌∙◌, length, length-take-le, List, ℕ, ap, arith, take}
-use Rattle.std.proofs.Common.{drop}
+use Rattle.std.proofs.Common.{◌++◌, ◌∙◌, length, length-take-le, List, ℕ, ap, arith, take, drop}
 use Rattle.lk_replay.proofs.Texts.{inserted}
 use Rattle.lk_replay.proofs.report.text.Text.insert.Goals as goal
 
 pub returns : goal.returns
 returns c =
-    let size : length (take c.self.inside.len c.self.inside.bytes) ≡ c.self.inside.len =
-    length-take-le c.self.inside.len c.self.inside.bytes (omega arith) in
-    let within : c.args.at ≤ c.self.inside.len =
-    omega (arith, c.requires.place, ap length c.self.view_is) in
-    let wide : length (take c.args.len c.args.block.now) ≡ c.args.len =
+    let inside = c.self.inside in
+    let text = take c.args.len c.args.block.now in
+    let size = length-take-le inside.len inside.bytes (omega arith) in
+    let wide =
     length-take-le c.args.len c.args.block.now (omega (arith, c.requires.fits, c.told-block)) in
-    inserted c.self.inside.bytes c.copy_within.new.self c.copy_from_slice.new.self
-    (take c.args.len c.args.block.now) c.args.at c.args.len c.self.inside.len within
+    inserted inside.bytes c.copy_within.new.self c.copy_from_slice.new.self text c.args.at
+    c.args.len inside.len (omega (arith, c.requires.place, ap length c.self.view_is))
     (omega (arith, c.requires.room, c.requires.fits, ap length c.self.view_is)) wide
     c.copy_from_slice.ensures.after c.copy_within.ensures.after
-    ∙ ap (λ (xs : List ℕ).
-    (take c.args.at xs ++ take c.args.len c.args.block.now) ++ drop c.args.at xs) c.self.view_is
+    ∙ ap (λ (xs : List ℕ). (take c.args.at xs ++ text) ++ drop c.args.at xs) c.self.view_is
