@@ -1,10 +1,12 @@
 -- Each step of a queue lock that is accepted is one operation, of the kind that the move names.
-use Rattle.std.proofs.Common.{arith, length, ◌<◌, List, None, Option, Some, ap, refl, ℕ}
+use Rattle.std.proofs.Common.{arith, length, ◌<◌, List, None, Option, Some, ap, refl, ℕ, ◌∙◌, ◌≤◌}
 use Rattle.std.proofs.Common.{◌≡◌, if◌then◌else◌, option_map}
-use Rattle.lk_words.specs.Operations.{performed, word_of}
+use Rattle.lk_words.specs.Operations.{effect_on, performed, word_of}
+use Rattle.lk_words.proofs.Operations.{one_word}
 use Rattle.lk_words.specs.declared.operation.Answer.{Answer}
 use Rattle.lk_words.specs.declared.operation.Operation.{Operation}
 use Rattle.lk_locks.specs.Change.{kind_of, step_by}
+use Rattle.lk_locks.specs.Effects.{IsEffectOf}
 use Rattle.lk_locks.specs.OneOperation.{IsMade, IsOneOperation}
 use Rattle.lk_locks.specs.Locks.{family_of, operation_of, step_of, word_count}
 use Rattle.lk_locks.specs.invariants.Locks.{IsPhaseOf}
@@ -15,6 +17,7 @@ use Rattle.lk_locks.specs.mcs
 use Rattle.lk_locks.specs.ticket
 use Rattle.lk_locks.specs.Types.{Queue, LockKind, Mcs, RwFifo, RwSimple, Ticket, Move, Call, Step}
 use Rattle.lk_locks.specs.Types.{Outcome, Phase, ClearNext, TakeTicket, WrongStep, StepKind}
+use Rattle.lk_locks.specs.Types.{OneWord}
 use Rattle.lk_locks.proofs.Moves.{accepted_of}
 
 -- a step that is not refused is of the kind that the lock expects
@@ -80,6 +83,20 @@ within : (kind : LockKind) (n bits t : ℕ) (p : Phase) (o : Operation)
 within Ticket n bits t TakeTicket o e h f = omega (arith, ap word_or e)
 within Mcs n bits t ClearNext o e h f = omega (arith, ap word_or e)
 within kind n bits t p o e h f = omega (arith, ap word_or e)
+
+-- what an operation does to its word is what its step does to the words
+pub told : (kind : LockKind) (n bits : ℕ) (ws : List ℕ) (t : ℕ) (p : Phase) (o : Operation)
+    (outcome : Outcome) → operation_of kind bits t p ≡ Some o → t < n → IsPhaseOf kind n p
+    → word_count kind n ≤ length ws → outcome ≡ (step_of kind bits ws t p).outcome
+    → IsEffectOf (step_of kind bits ws t p) ws (OneWord (effect_on bits ws o) outcome)
+told kind n bits ws t p o outcome e h f enough same = (
+  (
+    omega (arith, within kind n bits t p o e h f, enough),
+    refl,
+    step_words kind bits ws t p o e ∙ one_word bits ws o,
+  ),
+  same,
+)
 
 -- the word of an operation is one of the lock's
 pub operation_within : (s : State) (t : ℕ) (o : Operation) → WellFormed s → t < length s.phases
