@@ -9,10 +9,9 @@ use Rattle.lk_locks.specs.Entries.{move_entries, entries_of}
 use Rattle.lk_locks.specs.Sequential.{Sequential, thread_of}
 use Rattle.lk_locks.specs.Legal.{after_entries, Legal}
 use Rattle.lk_locks.specs.invariants.Locks.{AgreeAs, IsPhaseOf, owed_of}
-use Rattle.lk_locks.specs.invariants.Owed.{IsInTurn}
 use Rattle.lk_locks.specs.Holding.{holder_after}
 use Rattle.lk_locks.specs.Tracked.{Tracked, followed}
-use Rattle.lk_locks.specs.invariants.Kept.{Kept, IsRecorded}
+use Rattle.lk_locks.specs.invariants.Kept.{IsInTurn, Kept, IsRecorded}
 use Rattle.lk_locks.proofs.Cases.{AreOf, IsAgreed}
 use Rattle.lk_locks.proofs.Threads.{each_phase}
 use Rattle.lk_locks.proofs.EachLock.{proof_of}

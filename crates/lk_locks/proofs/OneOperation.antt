@@ -1,10 +1,12 @@
 -- Each step of a queue lock that is accepted is one operation, of the kind that the move names.
-use Rattle.std.proofs.Common.{arith, length, ◌<◌, List, None, Option, Some, ap, refl, sym, ℕ}
-use Rattle.std.proofs.Common.{◌∙◌, ◌≡◌, if◌then◌else◌, option_map}
-use Rattle.lk_words.specs.Operations.{performed, word_of}
+use Rattle.std.proofs.Common.{arith, length, ◌<◌, List, None, Option, Some, ap, refl, ℕ, ◌∙◌, ◌≤◌}
+use Rattle.std.proofs.Common.{◌≡◌, if◌then◌else◌, option_map}
+use Rattle.lk_words.specs.Operations.{effect_on, performed, word_of}
+use Rattle.lk_words.proofs.Operations.{one_word}
 use Rattle.lk_words.specs.declared.operation.Answer.{Answer}
 use Rattle.lk_words.specs.declared.operation.Operation.{Operation}
-use Rattle.lk_locks.specs.Change.{Change, kind_of, step_by}
+use Rattle.lk_locks.specs.Change.{kind_of, step_by}
+use Rattle.lk_locks.specs.Effects.{IsEffectOf}
 use Rattle.lk_locks.specs.OneOperation.{IsMade, IsOneOperation}
 use Rattle.lk_locks.specs.Locks.{family_of, operation_of, step_of, word_count}
 use Rattle.lk_locks.specs.invariants.Locks.{IsPhaseOf}
@@ -14,33 +16,21 @@ use Rattle.lk_locks.specs.Steps.{next_state, refusal_at, refusal_in, refusal_of,
 use Rattle.lk_locks.specs.mcs
 use Rattle.lk_locks.specs.ticket
 use Rattle.lk_locks.specs.Types.{Queue, LockKind, Mcs, RwFifo, RwSimple, Ticket, Move, Call, Step}
-use Rattle.lk_locks.specs.Types.{Phase, ClearNext, TakeTicket, WrongStep, StepKind}
+use Rattle.lk_locks.specs.Types.{Outcome, Phase, ClearNext, TakeTicket, WrongStep, StepKind}
+use Rattle.lk_locks.specs.Types.{OneWord}
 use Rattle.lk_locks.proofs.Moves.{accepted_of}
-
-abbrev Keeps : List ℕ → Change → Type 0
-Keeps ws c = c.words ≡ ws
-
--- what a ticket step does after its operation changes no word
-ticket_keeps : (p : Phase) (ws : List ℕ) (a : Answer) → Keeps ws (ticket.after p ws a)
-ticket_keeps p ws a = grind arith
-
--- what an MCS step does after its operation changes no word
-mcs_keeps : (p : Phase) (ws : List ℕ) (a : Answer) → Keeps ws (mcs.after p ws a)
-mcs_keeps p ws a = grind arith
 
 -- a step that is not refused is of the kind that the lock expects
 same : (a b : StepKind) → (if same_step a b then None else Some (WrongStep a)) ≡ None → a ≡ b
 same a b r = grind arith
 
 -- a step that makes one operation changes the words as this operation does
-by_one : (after : Phase → List ℕ → Answer → Change)
-    → ((p : Phase) (ws : List ℕ) (a : Answer) → Keeps ws (after p ws a)) → (kind : LockKind)
-    (bits : ℕ) (ws : List ℕ) (p : Phase) (k : StepKind) (o : Option Operation)
+by_one : (after : Phase → Answer → Phase × Outcome) (kind : LockKind) (bits : ℕ) (ws : List ℕ)
+    (p : Phase) (k : StepKind) (o : Option Operation)
     → refusal_at kind p (option_map kind_of o) (Step k) ≡ None
     → IsMade Queue bits ws k o (step_by after bits ws p o).words
-by_one after keeps kind bits ws p k None r = cc
-by_one after keeps kind bits ws p k (Some o) r =
-    (same (kind_of o) k r, sym (keeps p (performed bits ws o).words (performed bits ws o).answer))
+by_one after kind bits ws p k None r = cc
+by_one after kind bits ws p k (Some o) r = (same (kind_of o) k r, refl)
 
 -- the kind of a ticket step does not depend on how wide the words are
 ticket_kind : (bits : ℕ) (p : Phase)
@@ -58,30 +48,19 @@ made : (kind : LockKind) (bits : ℕ) (ws : List ℕ) (t : ℕ) (p : Phase) (k :
     → IsMade (family_of kind) bits ws k (operation_of kind bits t p)
     (step_of kind bits ws t p).words
 made Ticket bits ws t p k r =
-    by_one ticket.after ticket_keeps Ticket bits ws p k (ticket.operation bits p)
+    by_one ticket.after Ticket bits ws p k (ticket.operation bits p)
     (rw (ticket_kind bits p) at r)
 made Mcs bits ws t p k r =
-    by_one mcs.after mcs_keeps Mcs bits ws p k (mcs.operation t p) (rw (mcs_kind t p) at r)
+    by_one mcs.after Mcs bits ws p k (mcs.operation t p) (rw (mcs_kind t p) at r)
 made RwSimple bits ws t p k r = tt
 made RwFifo bits ws t p k r = tt
-
--- what a step leaves is what its operation leaves
-stepped : (after : Phase → List ℕ → Answer → Change)
-    → ((p : Phase) (ws : List ℕ) (a : Answer) → Keeps ws (after p ws a)) → (bits : ℕ)
-    (ws : List ℕ) (p : Phase) (o : Option Operation) (operation : Operation) → o ≡ Some operation
-    → (step_by after bits ws p o).words ≡ (performed bits ws operation).words
-stepped after keeps bits ws p o operation e =
-    ap (λ x. (step_by after bits ws p x).words) e
-    ∙ keeps p (performed bits ws operation).words (performed bits ws operation).answer
 
 -- after a step the words are as its operation leaves them
 pub step_words : (kind : LockKind) (bits : ℕ) (ws : List ℕ) (t : ℕ) (p : Phase)
     (operation : Operation) → operation_of kind bits t p ≡ Some operation
     → (step_of kind bits ws t p).words ≡ (performed bits ws operation).words
-step_words Ticket bits ws t p operation e =
-    stepped ticket.after ticket_keeps bits ws p (ticket.operation bits p) operation e
-step_words Mcs bits ws t p operation e =
-    stepped mcs.after mcs_keeps bits ws p (mcs.operation t p) operation e
+step_words Ticket bits ws t p operation e = ap (λ o. (step_by ticket.after bits ws p o).words) e
+step_words Mcs bits ws t p operation e = ap (λ o. (step_by mcs.after bits ws p o).words) e
 step_words RwSimple bits ws t p operation e = cc
 step_words RwFifo bits ws t p operation e = cc
 
@@ -104,6 +83,20 @@ within : (kind : LockKind) (n bits t : ℕ) (p : Phase) (o : Operation)
 within Ticket n bits t TakeTicket o e h f = omega (arith, ap word_or e)
 within Mcs n bits t ClearNext o e h f = omega (arith, ap word_or e)
 within kind n bits t p o e h f = omega (arith, ap word_or e)
+
+-- what an operation does to its word is what its step does to the words
+pub told : (kind : LockKind) (n bits : ℕ) (ws : List ℕ) (t : ℕ) (p : Phase) (o : Operation)
+    (outcome : Outcome) → operation_of kind bits t p ≡ Some o → t < n → IsPhaseOf kind n p
+    → word_count kind n ≤ length ws → outcome ≡ (step_of kind bits ws t p).outcome
+    → IsEffectOf (step_of kind bits ws t p) ws (OneWord (effect_on bits ws o) outcome)
+told kind n bits ws t p o outcome e h f enough same = (
+  (
+    omega (arith, within kind n bits t p o e h f, enough),
+    refl,
+    step_words kind bits ws t p o e ∙ one_word bits ws o,
+  ),
+  same,
+)
 
 -- the word of an operation is one of the lock's
 pub operation_within : (s : State) (t : ℕ) (o : Operation) → WellFormed s → t < length s.phases

@@ -6,7 +6,7 @@ use Rattle.lk_locks.specs.Steps.{next_state, refusal_of}
 use Rattle.lk_locks.specs.Entries.{entries_of}
 use Rattle.lk_locks.specs.Sequential.{Sequential}
 use Rattle.lk_locks.specs.Legal.{AreEnabled, after_entries}
-use Rattle.lk_locks.specs.invariants.Tracking.{IsTracked}
+use Rattle.lk_locks.specs.invariants.Kept.{IsTracked}
 use Rattle.lk_locks.proofs.Moves.{accepted_of}
 use Rattle.lk_locks.proofs.Keeping.{agreed, keeps}
 use Rattle.lk_locks.specs.Types.{Move, Call, Op, Entry}

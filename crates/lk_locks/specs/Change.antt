@@ -23,14 +23,13 @@ kind_of (op.Swap i v) = Swap
 kind_of (op.CompareAndSwap i old new) = Cas
 kind_of (op.FetchAndAdd i d) = Add
 
--- a step is one operation, and what its answer leads to
-abbrev pub lead : (Phase → List ℕ → Answer → Change) → Phase → Performed → Change
-lead after p e = after p e.words e.answer
-
-abbrev pub step_by : (Phase → List ℕ → Answer → Change) → ℕ → List ℕ → Phase → Option Operation
+-- a step is one operation, and its answer leads to the new phase and the outcome
+abbrev pub step_by : (Phase → Answer → Phase × Outcome) → ℕ → List ℕ → Phase → Option Operation
     → Change
 step_by after bits ws p None = to ws p Waits
-step_by after bits ws p (Some operation) = lead after p (performed bits ws operation)
+step_by after bits ws p (Some operation) =
+    let made : Performed = performed bits ws operation in
+    to made.words (after p made.answer).0 (after p made.answer).1
 
 -- sums of words of so many bits wrap
 abbrev pub plus_one : ℕ → ℕ → ℕ

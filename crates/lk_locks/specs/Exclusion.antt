@@ -1,13 +1,17 @@
 -- Definitions. Mutual exclusion, in its own words: laws of every legal history. This project's own.
-use Rattle.std.specs.Prelude.{◌≡◌, ℕ, List, [], ◌∷◌, ◌++◌, Option, None, Some, ◌⊎◌, IsTrue}
+use Rattle.std.specs.Prelude.{◌≡◌, ℕ, List, [], ◌∷◌, ◌++◌, Option, None, Some, ◌⊎◌, IsTrue, Any}
 use Rattle.lk_locks.specs.Locks.{family_of}
 use Rattle.lk_locks.specs.Sequential.{Sequential, nobody, is_head}
 use Rattle.lk_locks.specs.Legal.{Legal, after_entries}
 use Rattle.lk_locks.specs.Holding.{holder_after}
-use Rattle.lk_locks.specs.Places.{Between}
 use Rattle.lk_locks.specs.Types.{LockKind, RwFifo, Queue, Acquire, Release, ReadLock, ReadUnlock}
 use Rattle.lk_locks.specs.Types.{WriteLock, WriteUnlock, Downgrade, Entry, Announced, Acted}
 use Rattle.lk_locks.specs.Types.{Returned}
+
+-- between each a and each later b is an entry that meets P
+abbrev pub Between : Entry → Entry → (Entry → Type 0) → List Entry → Type 0
+Between a b P es =
+    (before middle after : List Entry) → es ≡ before ++ a ∷ middle ++ b ∷ after → Any P middle
 
 abbrev pub IsQueueLock : LockKind → Type 0
 IsQueueLock kind = family_of kind ≡ Queue

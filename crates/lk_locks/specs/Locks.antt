@@ -58,16 +58,14 @@ step_of Mcs bits ws t p = step_by mcs.after bits ws p (mcs.operation t p)
 step_of RwSimple bits ws t p = rw_simple.step bits ws p
 step_of RwFifo bits ws t p = rw_fifo.step bits ws p
 
--- what an operation that is a step with this outcome does
-abbrev pub on_word : ℕ → List ℕ → Outcome → Operation → StepEffect
-on_word bits ws o operation = OneWord (effect_on bits ws operation) o
-
 -- what the next step of thread t in this phase would do, if it has one
 abbrev pub effect_of : LockKind → ℕ → List ℕ → ℕ → Phase → Option StepEffect
 effect_of Ticket bits ws t p =
-    option_map (on_word bits ws (step_of Ticket bits ws t p).outcome) (ticket.operation bits p)
+    option_map (λ o. OneWord (effect_on bits ws o) (step_of Ticket bits ws t p).outcome)
+    (ticket.operation bits p)
 effect_of Mcs bits ws t p =
-    option_map (on_word bits ws (step_of Mcs bits ws t p).outcome) (mcs.operation t p)
+    option_map (λ o. OneWord (effect_on bits ws o) (step_of Mcs bits ws t p).outcome)
+    (mcs.operation t p)
 effect_of kind bits ws t p =
     option_map (λ due. Monitor (read_write.section (family_of kind) bits ws p))
     (read_write.step_due p)

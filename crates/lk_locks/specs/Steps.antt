@@ -1,7 +1,7 @@
 -- Definitions. Which moves are accepted, and what an accepted move does. This file knows no lock:
 -- `Locks` has what differs. This project's own: the seven refusals and their order.
 use Rattle.std.specs.Prelude.{ℕ, List, length, set, Option, None, Some, is_some, is_none, unwrap_or}
-use Rattle.std.specs.Prelude.{Bool, true, false, not, nat_lt, if◌then◌else◌, Result, Ok, Err}
+use Rattle.std.specs.Prelude.{Bool, true, false, nat_lt, if◌then◌else◌, Result, Ok, Err}
 use Rattle.std.specs.List.{list_any}
 use denote.Enum.Bare.{sameb}
 use Rattle.lk_locks.specs.contracts.kinds.StepKind.{the_type}
@@ -12,17 +12,14 @@ use Rattle.lk_locks.specs.Types.{LockKind, Family, Queue, Phase, Idle, Op, Acqui
 use Rattle.lk_locks.specs.Types.{StepKind, Move, Call, Step, Outcome, Called, Refusal, NoSuchThread}
 use Rattle.lk_locks.specs.Types.{WrongLock, Busy, NotHolder, AlreadyHolds, NoCall, WrongStep}
 
--- operations
-
--- a queue lock has these operations, and a read-write lock the others
-abbrev pub is_queue_op : Op → Bool
-is_queue_op Acquire = true
-is_queue_op Release = true
-is_queue_op op = false
-
+-- a queue lock has acquire and release, and a read-write lock the others
 abbrev pub has_op : Family → Op → Bool
-has_op Queue op = is_queue_op op
-has_op family op = not (is_queue_op op)
+has_op Queue Acquire = true
+has_op Queue Release = true
+has_op Queue op = false
+has_op family Acquire = false
+has_op family Release = false
+has_op family op = true
 
 -- refusals
 

@@ -1,6 +1,6 @@
 -- Definitions. A lock that goes along with its own history and keeps none of it: the state, the
 -- sequential object, and who holds a queue lock. This project's own.
-use Rattle.std.specs.Prelude.{ℕ, List, Option, None, Some}
+use Rattle.std.specs.Prelude.{ℕ, List, Option, None, is_none, if◌then◌else◌}
 use Rattle.lk_locks.specs.State.{State}
 use Rattle.lk_locks.specs.Steps.{refusal_of, next_state}
 use Rattle.lk_locks.specs.Entries.{entries_of}
@@ -8,7 +8,7 @@ use Rattle.lk_locks.specs.Sequential.{Sequential, nobody}
 use Rattle.lk_locks.specs.Legal.{after_entries}
 use Rattle.lk_locks.specs.Locks.{family_of}
 use Rattle.lk_locks.specs.Holding.{Holding, held_in, waits_in, holder_after}
-use Rattle.lk_locks.specs.Types.{Move, Entry, Refusal}
+use Rattle.lk_locks.specs.Types.{Move, Entry}
 
 pub record Tracked : Type 0 where
   pub state : State
@@ -32,13 +32,11 @@ followed k next es = record {
 }
 
 -- a refused move changes nothing
-abbrev pub followed_unless : Option Refusal → Tracked → State → List Entry → Tracked
-followed_unless None k next es = followed k next es
-followed_unless (Some r) k next es = k
-
 abbrev pub after_tracked : Tracked → ℕ → Move → Tracked
 after_tracked k t m =
-    followed_unless (refusal_of k.state t m) k (next_state k.state t m) (entries_of k.state t m)
+    if is_none (refusal_of k.state t m)
+    then followed k (next_state k.state t m) (entries_of k.state t m)
+    else k
 
 -- who holds, and who is in the queue; `holding_of` and `waiting_of` say the same of the entries
 abbrev pub holding_in : Tracked → Holding

@@ -8,7 +8,5 @@ pub mod rw_simple
 pub mod rw_fifo
 pub mod Locks
 pub mod WellFormed
-pub mod Owed
 pub mod SequentialKept
 pub mod Kept
-pub mod Tracking

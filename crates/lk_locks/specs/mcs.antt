@@ -12,7 +12,6 @@ use Rattle.lk_words.specs.declared.operation.Operation.TheVariants.{Read, Write,
 use Rattle.lk_words.specs.declared.operation.Operation.TheVariants.{CompareAndSwap}
 use Rattle.lk_words.specs.declared.operation.Answer.{Answer}
 use Rattle.lk_words.specs.declared.operation.Answer.TheVariants.{Found, Swapped}
-use Rattle.lk_locks.specs.Change.{Change, to}
 use Rattle.lk_locks.specs.Acts.{acts}
 use Rattle.lk_locks.specs.Types.{Phase, Idle, ClearNext, SwapTail, SetLocked, LinkTo, AwaitGrant}
 use Rattle.lk_locks.specs.Types.{McsInside, ReadNext, CasTail, AwaitLink, Grant, Op, Acquire}
@@ -50,25 +49,23 @@ operation i (Grant j) = Some (Write (locked j) 0)
 operation i p = None
 
 -- if the read found a successor, the thread's next step grants it the lock
-abbrev pub grant_or : ℕ → List ℕ → Change → Change
-grant_or found ws otherwise =
-    if found == 0 then otherwise else to ws (Grant (found - 1)) Moved
+abbrev pub grant_or : ℕ → Phase × Outcome → Phase × Outcome
+grant_or found otherwise = if found == 0 then otherwise else (Grant (found - 1), Moved)
 
--- the change by what the operation answered, with the words that it left
-abbrev pub after : Phase → List ℕ → Answer → Change
-after ClearNext ws answer = to ws SwapTail Moved
-after SwapTail ws (Found p) =
-    if p == 0 then to ws McsInside Entered else to ws (SetLocked (p - 1)) Moved
-after (SetLocked j) ws answer = to ws (LinkTo j) Moved
-after (LinkTo j) ws answer = to ws AwaitGrant Moved
-after AwaitGrant ws (Found l) =
-    if l == 0 then to ws McsInside Entered else to ws AwaitGrant Waits
-after ReadNext ws (Found s) = grant_or s ws (to ws CasTail Moved)
-after CasTail ws (Swapped true) = to ws Idle Left
-after CasTail ws (Swapped false) = to ws AwaitLink Moved
-after AwaitLink ws (Found s) = grant_or s ws (to ws AwaitLink Waits)
-after (Grant j) ws answer = to ws Idle Left
-after p ws answer = to ws p Waits
+-- the next phase and the outcome, by what the operation answered
+abbrev pub after : Phase → Answer → Phase × Outcome
+after ClearNext answer = (SwapTail, Moved)
+after SwapTail (Found p) =
+    if p == 0 then (McsInside, Entered) else (SetLocked (p - 1), Moved)
+after (SetLocked j) answer = (LinkTo j, Moved)
+after (LinkTo j) answer = (AwaitGrant, Moved)
+after AwaitGrant (Found l) = if l == 0 then (McsInside, Entered) else (AwaitGrant, Waits)
+after ReadNext (Found s) = grant_or s (CasTail, Moved)
+after CasTail (Swapped true) = (Idle, Left)
+after CasTail (Swapped false) = (AwaitLink, Moved)
+after AwaitLink (Found s) = grant_or s (AwaitLink, Waits)
+after (Grant j) answer = (Idle, Left)
+after p answer = (p, Waits)
 
 -- The entries of a step. An acquire acts at its swap, and returns when it enters: at the swap
 -- if that found nil, otherwise at the read that finds `locked` 0. A release acts and returns at its

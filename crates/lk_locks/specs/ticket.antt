@@ -9,7 +9,7 @@ use Rattle.lk_words.specs.declared.operation.Operation.{Operation}
 use Rattle.lk_words.specs.declared.operation.Operation.TheVariants.{Read, Write, FetchAndAdd}
 use Rattle.lk_words.specs.declared.operation.Answer.{Answer}
 use Rattle.lk_words.specs.declared.operation.Answer.TheVariants.{Found}
-use Rattle.lk_locks.specs.Change.{Change, to, plus_one}
+use Rattle.lk_locks.specs.Change.{plus_one}
 use Rattle.lk_locks.specs.Acts.{acts}
 use Rattle.lk_locks.specs.Types.{Phase, Idle, TakeTicket, AwaitTurn, TicketInside, ReadServing}
 use Rattle.lk_locks.specs.Types.{PassOn, Op, Acquire, Release, Outcome, Moved, Waits, Entered, Left}
@@ -36,14 +36,14 @@ operation bits (ReadServing t) = Some (Read now_serving)
 operation bits (PassOn v) = Some (Write now_serving (plus_one bits v))
 operation bits p = None
 
--- the change by what the operation answered, with the words that it left
-abbrev pub after : Phase → List ℕ → Answer → Change
-after TakeTicket ws (Found t) = to ws (AwaitTurn t) Moved
-after (AwaitTurn t) ws (Found v) =
-    if v == t then to ws (TicketInside t) Entered else to ws (AwaitTurn t) Waits
-after (ReadServing t) ws (Found v) = to ws (PassOn v) Moved
-after (PassOn v) ws answer = to ws Idle Left
-after p ws answer = to ws p Waits
+-- the next phase and the outcome, by what the operation answered
+abbrev pub after : Phase → Answer → Phase × Outcome
+after TakeTicket (Found t) = (AwaitTurn t, Moved)
+after (AwaitTurn t) (Found v) =
+    if v == t then (TicketInside t, Entered) else (AwaitTurn t, Waits)
+after (ReadServing t) (Found v) = (PassOn v, Moved)
+after (PassOn v) answer = (Idle, Left)
+after p answer = (p, Waits)
 
 -- The entries of a step. An acquire acts at its fetch-and-add, and returns at the read that
 -- finds its ticket. A release acts and returns at its last step.

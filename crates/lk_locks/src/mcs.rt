@@ -7,9 +7,9 @@
 //! nil; the last write of a release uses the successor that was read last.
 //!
 //! In contracts `after_call`, `operation`, `after` and `entries` are the definitions of
-//! `specs/mcs.antt`, and `(ws : List ℕ) →` means: for all lists of words.
+//! `specs/mcs.antt`.
 
-ghost use Rattle.std.specs.Prelude.{◌≡◌, ◌+◌, ◌-◌, ◌<◌, ◌≤◌, ℕ, List, []};
+ghost use Rattle.std.specs.Prelude.{◌≡◌, ◌+◌, ◌-◌, ◌<◌, ◌≤◌, []};
 ghost use Rattle.lk_locks.specs.mcs.{next, locked, after_call, operation, after, entries};
 ghost use Rattle.lk_locks.specs.invariants.mcs.{IsInRange};
 
@@ -108,9 +108,7 @@ pub fn operation(thread: u8, phase: Phase) -> Option<Operation>
 #[inline(always)]
 pub fn after(phase: Phase, answer: Answer) -> (Phase, Outcome)
     requires { IsInRange phase answer }
-    ensures words { (ws : List ℕ) → (after phase ws answer).words ≡ ws }
-    ensures phase { (ws : List ℕ) → result.0 ≡ (after phase ws answer).phase }
-    ensures outcome { (ws : List ℕ) → result.1 ≡ (after phase ws answer).outcome }
+    ensures { result ≡ after phase answer }
 {
     match (phase, answer) {
         (Phase::ClearNext, _) => (Phase::SwapTail, Outcome::Moved),

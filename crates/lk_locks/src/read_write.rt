@@ -107,12 +107,10 @@ pub fn add_entries(added: &mut Added, family: Family, thread: u8, phase: Phase, 
         (Phase::TryRead, Outcome::Entered) => added.acts(thread, Op::ReadLock),
         (Phase::LeaveRead, Outcome::Left) => added.acts(thread, Op::ReadUnlock),
         (Phase::TryWrite, Outcome::Moved) => added.one(Entry::Announced(thread)),
-        (Phase::TryWrite, Outcome::Entered) if matches!(family, Family::FifoReadWrite) =>
-            added.three(
-                Entry::Announced(thread),
-                Entry::Acted(thread, Op::WriteLock),
-                Entry::Returned(thread, Op::WriteLock),
-            ),
+        (Phase::TryWrite, Outcome::Entered) if matches!(family, Family::FifoReadWrite) => {
+            added.one(Entry::Announced(thread));
+            added.acts(thread, Op::WriteLock);
+        }
         (Phase::TryWrite | Phase::AwaitReaders, Outcome::Entered) => {
             added.acts(thread, Op::WriteLock)
         }

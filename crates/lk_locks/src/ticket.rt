@@ -6,9 +6,9 @@
 //! write of the value read plus one.
 //!
 //! In contracts `after_call`, `operation`, `after` and `entries` are the definitions of
-//! `specs/ticket.antt`, and `(ws : List ℕ) →` means: for all lists of words.
+//! `specs/ticket.antt`.
 
-ghost use Rattle.std.specs.Prelude.{◌≡◌, ◌≤◌, ℕ, List, []};
+ghost use Rattle.std.specs.Prelude.{◌≡◌, ◌≤◌, []};
 ghost use Rattle.lk_locks.specs.ticket.{after_call, operation, after, entries};
 
 use crate::entries::Added;
@@ -58,9 +58,7 @@ pub fn operation(bits: u8, phase: Phase) -> Option<Operation>
 /// The next phase and the outcome, by what the phase's operation answered.
 #[inline(always)]
 pub fn after(phase: Phase, answer: Answer) -> (Phase, Outcome)
-    ensures words { (ws : List ℕ) → (after phase ws answer).words ≡ ws }
-    ensures phase { (ws : List ℕ) → result.0 ≡ (after phase ws answer).phase }
-    ensures outcome { (ws : List ℕ) → result.1 ≡ (after phase ws answer).outcome }
+    ensures { result ≡ after phase answer }
 {
     match (phase, answer) {
         (Phase::TakeTicket, Answer::Found(ticket)) => (Phase::AwaitTurn(ticket), Outcome::Moved),

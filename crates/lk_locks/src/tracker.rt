@@ -3,9 +3,8 @@
 
 ghost use Rattle.std.specs.Prelude.{◌≡◌, ℕ, ◌<◌, ◌≤◌, ◌^◌, length, slice_index, [], None};
 ghost use Rattle.lk_locks.specs.Holding.{holder_after, holding, IsListed};
-ghost use Rattle.lk_locks.specs.Tracked.{Tracked, tracked, followed, holding_in};
-ghost use Rattle.lk_locks.specs.Tracked.{waiting_in};
-ghost use Rattle.lk_locks.specs.invariants.Tracking.{IsTracked};
+ghost use Rattle.lk_locks.specs.Tracked.{Tracked, tracked, followed, holding_in, waiting_in};
+ghost use Rattle.lk_locks.specs.invariants.Kept.{IsTracked};
 ghost use Rattle.lk_locks.specs.State.{start};
 ghost use Rattle.lk_locks.specs.Locks.{word_count};
 ghost use Rattle.lk_locks.specs.Steps.{change_of, next_state, refusal_of};

@@ -8,7 +8,7 @@ use Rattle.std.proofs.lemmas.List.Splits.{join_with_byte-slice_split}
 use Rattle.lk_locks.specs.State.{State}
 use Rattle.lk_locks.specs.Locks.{family_of, word_count}
 use Rattle.lk_locks.specs.Sequential.{nobody}
-use Rattle.lk_locks.specs.invariants.Tracking.{IsTracked}
+use Rattle.lk_locks.specs.invariants.Kept.{IsTracked}
 use Rattle.lk_locks.proofs.Starting.{kept_start}
 use Rattle.std.proofs.lemmas.List.{get_or-replicate, length-replicate}
 use Rattle.lk_locks.specs.Steps.{refusal_of}

@@ -5,7 +5,7 @@ use Rattle.std.specs.Option.{option_map}
 use Rattle.lk_locks.specs.State.{State}
 use Rattle.lk_locks.specs.Steps.{refusal_of}
 use Rattle.lk_locks.specs.declared.kinds.Refusal.{Refusal}
-use Rattle.lk_locks.specs.invariants.Tracking.{IsTracked}
+use Rattle.lk_locks.specs.invariants.Kept.{IsTracked}
 use Rattle.lk_replay.specs.Following.{Following, followed_by, followed_text}
 use Rattle.lk_replay.specs.Replay.{Made, Replay}
 use Rattle.lk_replay.specs.Report.{last_line, move_text}

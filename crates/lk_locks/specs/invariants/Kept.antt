@@ -1,16 +1,20 @@
 -- Invariants. What holds of a lock, its sequential object and its history after every list of
 -- moves.
-use Rattle.std.specs.Prelude.{◌≡◌, ℕ, ◌<◌, ◌≤◌, List, length, None}
-use Rattle.std.specs.List.{AllByRecursion}
+use Rattle.std.specs.Prelude.{◌≡◌, ℕ, ◌<◌, ◌≤◌, List, ◌++◌, length, None}
+use Rattle.std.specs.List.{flat_map, AllByRecursion}
 use Rattle.lk_locks.specs.State.{State, phase_at}
 use Rattle.lk_locks.specs.Sequential.{Sequential, nobody, thread_of}
-use Rattle.lk_locks.specs.Legal.{AreEnabled, after_entries}
+use Rattle.lk_locks.specs.Legal.{AreEnabled, after_entries, subhistory, whole_call}
 use Rattle.lk_locks.specs.Holding.{holder_after}
 use Rattle.lk_locks.specs.Tracked.{Tracked}
-use Rattle.lk_locks.specs.invariants.Locks.{AgreeAs}
+use Rattle.lk_locks.specs.invariants.Locks.{AgreeAs, owed_of}
 use Rattle.lk_locks.specs.invariants.WellFormed.{WellFormed}
-use Rattle.lk_locks.specs.invariants.Owed.{IsInTurn}
-use Rattle.lk_locks.specs.Types.{Entry}
+use Rattle.lk_locks.specs.Types.{LockKind, Phase, Op, Entry}
+
+-- thread t's entries, with the rest of its pending call, are whole calls
+abbrev pub IsInTurn : LockKind → List Entry → ℕ → Phase → Type 0
+IsInTurn kind es t p =
+    (ops : List Op) × (subhistory t es ++ owed_of kind t p ≡ flat_map (whole_call kind t) ops)
 
 pub record Kept (s : State) (q : Sequential) (es : List Entry) : Type 0 where
   pub well : WellFormed s
@@ -26,3 +30,7 @@ pub record Kept (s : State) (q : Sequential) (es : List Entry) : Type 0 where
 pub record IsRecorded (k : Tracked) (es : List Entry) : Type 0 where
   pub kept : Kept k.state k.sequential es
   pub holder : k.holder ≡ holder_after None es
+
+-- words, phases and sequential object are those that some history leaves
+abbrev pub IsTracked : State → Sequential → Type 0
+IsTracked s q = (es : List Entry) × Kept s q es

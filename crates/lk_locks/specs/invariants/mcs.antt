@@ -1,32 +1,26 @@
 -- Invariants. The MCS lock: which phases and links are in range, which entries a pending call has
 -- still to add, and how words and phases agree with the queue, in which links may be missing.
 use Rattle.std.specs.Prelude.{◌≡◌, ◌≢◌, ℕ, ◌+◌, ◌<◌, ◌≤◌, List, [], ◌∷◌, length, slice_index}
-use Rattle.std.specs.Prelude.{true, false, IsTrue}
+use Rattle.std.specs.Prelude.{true, false, is_some, IsTrue}
 use Rattle.lk_words.specs.declared.operation.Answer.{Answer}
 use Rattle.lk_words.specs.declared.operation.Answer.TheVariants.{Found}
 use Rattle.lk_locks.specs.State.{phase_at}
 use Rattle.lk_locks.specs.Acts.{acts}
 use Rattle.lk_locks.specs.Sequential.{has, is_head}
-use Rattle.lk_locks.specs.mcs.{tail, next, locked}
+use Rattle.lk_locks.specs.mcs.{tail, next, locked, operation}
 use Rattle.lk_locks.specs.invariants.Threads.{EachOnce}
 use Rattle.lk_locks.specs.Types.{Phase, Idle, ClearNext, SwapTail, SetLocked, LinkTo, AwaitGrant}
 use Rattle.lk_locks.specs.Types.{McsInside, ReadNext, CasTail, AwaitLink, Grant, Acquire, Release}
 use Rattle.lk_locks.specs.Types.{Entry, Returned}
 
--- the threads that a phase names are among the n
+-- a thread is idle, inside, or before a step; the threads that a phase names are among the n
 abbrev pub IsPhase : ℕ → Phase → Type 0
-IsPhase n Idle = Unit {0}
-IsPhase n ClearNext = Unit {0}
-IsPhase n SwapTail = Unit {0}
 IsPhase n (SetLocked j) = j < n
 IsPhase n (LinkTo j) = j < n
-IsPhase n AwaitGrant = Unit {0}
-IsPhase n McsInside = Unit {0}
-IsPhase n ReadNext = Unit {0}
-IsPhase n CasTail = Unit {0}
-IsPhase n AwaitLink = Unit {0}
 IsPhase n (Grant j) = j < n
-IsPhase n p = IsTrue false
+IsPhase n Idle = Unit {0}
+IsPhase n McsInside = Unit {0}
+IsPhase n p = IsTrue (is_some (operation 0 p))
 
 -- the tail and each link name one of the n threads, or none
 abbrev pub AreLinks : ℕ → List ℕ → Type 0

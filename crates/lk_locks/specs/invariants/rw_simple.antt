@@ -1,22 +1,16 @@
 -- Invariants. The simple read-write lock's: its phases, and how its words agree with the
 -- holders of its sequential object.
-use Rattle.std.specs.Prelude.{◌≡◌, ℕ, List, slice_index, Bool, true, false}
+use Rattle.std.specs.Prelude.{◌≡◌, ℕ, List, slice_index, Bool, false}
 use Rattle.lk_locks.specs.Sequential.{Sequential}
 use Rattle.lk_locks.specs.rw_simple.{readers, flag}
 use Rattle.lk_locks.specs.invariants.read_write.{AgreeAsCounted}
-use Rattle.lk_locks.specs.Types.{Phase, Idle, TryRead, Reading, LeaveRead, TryWrite, Writing}
-use Rattle.lk_locks.specs.Types.{LeaveWrite, TryDowngrade}
+use Rattle.lk_locks.specs.invariants.rw_fifo
+use Rattle.lk_locks.specs.Types.{Phase, AwaitReaders}
 
+-- no writer announces itself
 abbrev pub is_phase : Phase → Bool
-is_phase Idle = true
-is_phase TryRead = true
-is_phase Reading = true
-is_phase LeaveRead = true
-is_phase TryWrite = true
-is_phase Writing = true
-is_phase LeaveWrite = true
-is_phase TryDowngrade = true
-is_phase p = false
+is_phase AwaitReaders = false
+is_phase p = rw_fifo.is_phase p
 
 -- the words count the readers
 abbrev pub Count : List ℕ → ℕ → Type 0

@@ -1,24 +1,21 @@
 -- Invariants. The ticket lock: its phases, which entries a pending call has still to add, and how
 -- words and phases agree with the queue.
 use Rattle.std.specs.Prelude.{◌≡◌, ℕ, ◌+◌, ◌%◌, ◌^◌, ◌<◌, List, [], ◌∷◌, length, slice_index}
-use Rattle.std.specs.Prelude.{Option, None, Some, Bool, true, false}
+use Rattle.std.specs.Prelude.{Option, None, Some, is_some, Bool, true, false}
 use Rattle.lk_locks.specs.State.{phase_at}
 use Rattle.lk_locks.specs.Change.{plus_one}
 use Rattle.lk_locks.specs.Acts.{acts}
 use Rattle.lk_locks.specs.Sequential.{has}
-use Rattle.lk_locks.specs.ticket.{next_ticket, now_serving}
+use Rattle.lk_locks.specs.ticket.{next_ticket, now_serving, operation}
 use Rattle.lk_locks.specs.invariants.Threads.{EachOnce}
 use Rattle.lk_locks.specs.Types.{Phase, Idle, TakeTicket, AwaitTurn, TicketInside, ReadServing}
 use Rattle.lk_locks.specs.Types.{PassOn, Acquire, Release, Entry, Returned}
 
+-- a thread is idle, inside, or before a step
 abbrev pub is_phase : Phase → Bool
 is_phase Idle = true
-is_phase TakeTicket = true
-is_phase (AwaitTurn t) = true
 is_phase (TicketInside t) = true
-is_phase (ReadServing t) = true
-is_phase (PassOn v) = true
-is_phase p = false
+is_phase p = is_some (operation 64 p)
 
 -- what the pending call of thread i has still to add to the history
 abbrev pub owed : ℕ → Phase → List Entry

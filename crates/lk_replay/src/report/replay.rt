@@ -4,7 +4,7 @@
 ghost use Rattle.std.specs.Prelude.{◌≡◌, ◌≤◌, length, take, ◌+◌, ◌++◌, [], IfSome, MatchOption};
 ghost use Rattle.std.specs.Prelude.{None, ◌<◌};
 ghost use Rattle.lk_locks.specs.Sequential.{nobody};
-ghost use Rattle.lk_locks.specs.invariants.Tracking.{IsTracked};
+ghost use Rattle.lk_locks.specs.invariants.Kept.{IsTracked};
 ghost use Rattle.lk_replay.specs.Printing.{next_refused, IsPrinting, Printing, printing};
 ghost use Rattle.lk_replay.specs.Replay.{start_of, replay_from, replay_of};
 ghost use Rattle.lk_replay.specs.Report.{move_text, replay_text};
