@@ -98,9 +98,7 @@ impl Log {
         ensures err { IfErr result (λ fault. fault ≡ LogFault.OutOfMemory) }
         ensures same { OnErr result (self.new ≡ self.old) }
     {
-        if self.lines.push(number).is_err() {
-            return Err(LogFault::OutOfMemory);
-        }
+        self.lines.push(number).map_err(|_| LogFault::OutOfMemory)?;
         if self.moves.push(line).is_err() {
             self.lines.pop();
             return Err(LogFault::OutOfMemory);
