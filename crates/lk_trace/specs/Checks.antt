@@ -58,9 +58,6 @@ abbrev pub part_other : {A : Type 0} → (A → Bool) → (A → Difference) →
 part_other agrees other None = None
 part_other agrees other (Some given) = if agrees given then None else Some (other given)
 
-abbrev pub same_outcome : Outcome → Outcome → Bool
-same_outcome = sameb the_type
-
 -- the value of a word, and its value after a move
 abbrev pub value_of : State → WordName → ℕ
 value_of s word = slice_index s.words (place_of s.kind word)
@@ -109,7 +106,7 @@ effect_other kind (Some effect) word found left wrote =
 abbrev pub section_other : ℕ → Outcome → Option ℕ → Option Outcome → Option Difference
 section_other last outcome count given =
     option_or (part_other (nat_lt last) (differs.CountNotAbove last) count)
-    (part_other (same_outcome outcome) (differs.OtherOutcome outcome) given)
+    (part_other (sameb the_type outcome) (differs.OtherOutcome outcome) given)
 
 -- what an accepted move differs in
 abbrev pub seen_other : Checked → ℕ → Move → Seen → Option Difference

@@ -72,9 +72,7 @@ pub(crate) fn first_word(text: Option<&[u8]>) -> Option<(&[u8], Option<&[u8]>)>
 fn thread_in(rest: Rest<'_>, next: Due) -> Part<'_, u8>
     ensures { part_of result ≡ word_in (number_of 0 255) next (remaining rest.entry) }
 {
-    let Some((word, after)) = first_word(rest.0) else {
-        return Err(rest);
-    };
+    let (word, after) = first_word(rest.0).ok_or(rest)?;
     let thread = number_of(word, 0, 255).ok_or(rest)?;
     Ok((thread, (after, next)))
 }
@@ -253,9 +251,7 @@ pub(crate) fn move_with(rest: Rest<'_>, thread: u8, on: Option<WordName>) -> Who
     ensures line { whole_of result ≡ move_with thread on (remaining rest.entry) }
     ensures own { IfOk result (λ line. line.thread ≡ thread) }
 {
-    let Some((word, after)) = first_word(rest.0) else {
-        return Err(rest);
-    };
+    let (word, after) = first_word(rest.0).ok_or(rest)?;
     let action = move_named(word).ok_or(rest)?;
     let seen = seen_of(after, thread, on, action)?;
     Ok(TraceLine {
