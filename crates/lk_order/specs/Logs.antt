@@ -46,18 +46,14 @@ infixl 10 ◌>>=◌
 abbrev pub ◌>>=◌ : {A B : Type 0} → Option A → (A → Option B) → Option B
 part >>= next = option_and_then next part
 
--- the header of a log: a trace's header, and `thread T` after it
-abbrev pub header_in : List ℕ → Option (Header × ℕ)
-header_in line = do
-  last ← cut_last line
+-- the header of a log, of at most 96 bytes: a trace's header, and `thread T` after it
+abbrev pub log_header_of : List ℕ → Option (Header × ℕ)
+log_header_of line = do
+  last ← if nat_lt 96 (length line) then None else cut_last line
   thread ← number_of 0 63 last.1
   front ← cut_last last.0
   header ← if bytes_eq front.1 (codes "thread") then result_ok (read_header_of front.0) else None
   if nat_lt thread header.threads then Some (header, thread) else None
-
--- of at most 96 bytes
-abbrev pub log_header_of : List ℕ → Option (Header × ℕ)
-log_header_of line = if nat_lt 96 (length line) then None else header_in line
 
 -- how many moves were dropped, if the line is the last of a log
 abbrev pub dropped_of : List ℕ → Option ℕ
