@@ -16,7 +16,7 @@ use Rattle.lk_trace.specs.declared.line.TraceLine.{TraceLine}
 use Rattle.lk_order.specs.Logs.{ThreadLog}
 use Rattle.lk_order.specs.Runs.{moves_of}
 use Rattle.lk_order.specs.Orders.{Ordered, IsOrder, placed_of, next_line, with_line, after_next}
-use Rattle.lk_order.specs.Orders.{unless_differs, AreIdle}
+use Rattle.lk_order.specs.Orders.{AreIdle}
 use Rattle.lk_order.specs.Picked.{no_line, line_at, picked, IsInside, IsKept, KeepsQuiet}
 use Rattle.lk_order.specs.declared.order.Place.{Place}
 use Rattle.lk_order.proofs.Placing.{order_more, counted_more}
@@ -123,11 +123,11 @@ pub after_placed : (o : Ordered) (t : ℕ) (line : TraceLine) (made : Made)
     → with_line o line ≡ after_next o (next_line o t)
 after_placed o t line made next is =
     sym (ap (after_next o) next
-    ∙ ap (λ d. unless_differs d (with_line o line) o) (agrees o.lock line made is))
+    ∙ ap (λ d. unless_other d (with_line o line) o) (agrees o.lock line made is))
 
 pub after_different : (o : Ordered) (t : ℕ) (line : TraceLine) (difference : Difference)
     → next_line o t ≡ Some line → Err difference ≡ answer_to o.lock line
     → o ≡ after_next o (next_line o t)
 after_different o t line difference next is =
     sym (ap (after_next o) next
-    ∙ ap (λ d. unless_differs d (with_line o line) o) (differs o.lock line difference is))
+    ∙ ap (λ d. unless_other d (with_line o line) o) (differs o.lock line difference is))

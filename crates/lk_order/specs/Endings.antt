@@ -2,13 +2,10 @@
 -- at the step that is most certainly wrong. This project's own.
 use Rattle.std.specs.Prelude.{◌≡◌, ◌≢◌, ℕ, ◌<◌, ◌≤◌, Option, Some, None, IsSomeAnd}
 use Rattle.std.specs.List.{All, slice_get}
-use Rattle.lk_trace.specs.Checks.{Checked, count_given, difference_of}
+use Rattle.std.specs.Option.{option_map_or}
+use Rattle.lk_trace.specs.Checks.{count_given, difference_of}
 use Rattle.lk_trace.specs.declared.difference.Difference.{Difference}
-use Rattle.lk_trace.specs.declared.difference.Difference.TheVariants.{Refused, OtherWord}
-use Rattle.lk_trace.specs.declared.difference.Difference.TheVariants.{FoundOther, LeftOther}
-use Rattle.lk_trace.specs.declared.difference.Difference.TheVariants.{WroteOther, CountNotAbove}
-use Rattle.lk_trace.specs.declared.difference.Difference.TheVariants.{OtherOutcome}
-use Rattle.lk_trace.specs.declared.line.TraceLine.{TraceLine}
+use Rattle.lk_trace.specs.declared.difference.Difference.TheVariants as differs
 use Rattle.lk_order.specs.Logs.{ThreadLog}
 use Rattle.lk_order.specs.Runs.{moves_of}
 use Rattle.lk_order.specs.Orders.{Ordered, lines_by, next_line, placed_of}
@@ -19,31 +16,22 @@ use Rattle.lk_order.specs.declared.find.Ending.TheVariants as ending
 
 -- how likely another step is to blame for a step that cannot be placed: 0 if it is surely this one
 abbrev pub doubt_of : Option Difference → ℕ
-doubt_of (Some (Refused refusal)) = 0
-doubt_of (Some (OtherWord word given)) = 0
-doubt_of (Some (LeftOther word left given)) = 0
-doubt_of (Some (OtherOutcome outcome given)) = 1
-doubt_of (Some (FoundOther word found given)) = 2
-doubt_of (Some (WroteOther wrote)) = 2
-doubt_of (Some (CountNotAbove last given)) = 2
+doubt_of (Some (differs.Refused refusal)) = 0
+doubt_of (Some (differs.OtherWord word given)) = 0
+doubt_of (Some (differs.LeftOther word left given)) = 0
+doubt_of (Some (differs.OtherOutcome outcome given)) = 1
+doubt_of (Some (differs.FoundOther word found given)) = 2
+doubt_of (Some (differs.WroteOther wrote)) = 2
+doubt_of (Some (differs.CountNotAbove last given)) = 2
 doubt_of None = 3
 
--- of what may be a thread's next line; 4 if none is left
-abbrev pub doubt_if : Checked → Option TraceLine → ℕ
-doubt_if lock None = 4
-doubt_if lock (Some line) = doubt_of (difference_of lock line)
+-- of thread t's next step; 4 if none is left
+abbrev pub doubt_at : Ordered → ℕ → ℕ
+doubt_at o t = option_map_or (λ line. doubt_of (difference_of o.lock line)) (next_line o t) 4
 
 -- the count of its section, or 0
-abbrev pub count_if : Option TraceLine → ℕ
-count_if None = 0
-count_if (Some line) = count_given 0 line.seen
-
--- of thread t's next step
-abbrev pub doubt_at : Ordered → ℕ → ℕ
-doubt_at o t = doubt_if o.lock (next_line o t)
-
 abbrev pub count_at : Ordered → ℕ → ℕ
-count_at o t = count_if (next_line o t)
+count_at o t = option_map_or (λ line. count_given 0 line.seen) (next_line o t) 0
 
 -- Of the first k threads none has a next step that is more certainly wrong than thread t's. Of
 -- those that are as doubtful, its section has the lowest count, and of these t is the first.

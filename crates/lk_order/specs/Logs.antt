@@ -1,8 +1,10 @@
 -- Definitions. The log of one thread, and how it is read line by line. This project's own.
 use Rattle.std.specs.Prelude.{◌≡◌, ◌<◌, ◌+◌, ◌==◌, ◌++◌, ◌∷◌, [], ℕ, List, length, drop}
 use Rattle.std.specs.Prelude.{Bool, Option, Some, None, Result, Ok, Err, is_some, nat_eq, nat_lt}
-use Rattle.std.specs.Prelude.{codes, if◌then◌else◌}
+use Rattle.std.specs.Prelude.{codes, if◌then◌else◌, ok_or, option_map}
 use Rattle.std.specs.List.{All, starts_with}
+use Rattle.std.specs.Option.{option_and_then}
+use Rattle.std.specs.Result.{result_ok}
 use Rattle.std.specs.Str.{bytes_eq}
 use Rattle.lk_replay.specs.Lines.{is_skipped}
 use Rattle.lk_replay.specs.Digits.{whole_number}
@@ -11,11 +13,8 @@ use Rattle.lk_replay.specs.Header.{Header}
 use Rattle.lk_trace.specs.Lines.{short_log_line_of}
 use Rattle.lk_trace.specs.Traces.{read_header_of}
 use Rattle.lk_trace.specs.declared.line.TraceLine.{TraceLine}
-use Rattle.lk_trace.specs.declared.trace.TextFault.{TextFault}
 use Rattle.lk_order.specs.declared.log.reader.LogFault.{LogFault}
-use Rattle.lk_order.specs.declared.log.reader.LogFault.TheVariants.{NoHeader, BadHeader, BadMove}
-use Rattle.lk_order.specs.declared.log.reader.LogFault.TheVariants.{AfterTheEnd, TooLong}
-use Rattle.lk_order.specs.declared.log.reader.LogFault.TheVariants.{OutOfMemory}
+use Rattle.lk_order.specs.declared.log.reader.LogFault.TheVariants as faults
 
 pub record ThreadLog : Type 0 where
   pub header : Header
@@ -43,26 +42,18 @@ unfoldable pub cut_last : List ℕ → Option (List ℕ × List ℕ)
 cut_last [] = None
 cut_last (b ∷ bs) = with_first b bs (cut_last bs)
 
-abbrev pub of_thread : ℕ → Result Header TextFault → Option (Header × ℕ)
-of_thread thread (Ok header) = if nat_lt thread header.threads then Some (header, thread) else None
-of_thread thread (Err fault) = None
-
-abbrev pub with_word : ℕ → Option (List ℕ × List ℕ) → Option (Header × ℕ)
-with_word thread (Some cut) =
-    if bytes_eq cut.1 (codes "thread") then of_thread thread (read_header_of cut.0) else None
-with_word thread None = None
-
-abbrev pub with_number : List ℕ → Option ℕ → Option (Header × ℕ)
-with_number front (Some thread) = with_word thread (cut_last front)
-with_number front None = None
-
-abbrev pub with_cut : Option (List ℕ × List ℕ) → Option (Header × ℕ)
-with_cut (Some cut) = with_number cut.0 (number_of 0 63 cut.1)
-with_cut None = None
+infixl 10 ◌>>=◌
+abbrev pub ◌>>=◌ : {A B : Type 0} → Option A → (A → Option B) → Option B
+part >>= next = option_and_then next part
 
 -- the header of a log, of at most 96 bytes: a trace's header, and `thread T` after it
 abbrev pub log_header_of : List ℕ → Option (Header × ℕ)
-log_header_of line = if nat_lt 96 (length line) then None else with_cut (cut_last line)
+log_header_of line = do
+  last ← if nat_lt 96 (length line) then None else cut_last line
+  thread ← number_of 0 63 last.1
+  front ← cut_last last.0
+  header ← if bytes_eq front.1 (codes "thread") then result_ok (read_header_of front.0) else None
+  if nat_lt thread header.threads then Some (header, thread) else None
 
 -- how many moves were dropped, if the line is the last of a log
 abbrev pub dropped_of : List ℕ → Option ℕ
@@ -70,14 +61,14 @@ dropped_of line =
     if starts_with nat_eq line (codes "dropped ") then whole_number (drop 8 line) else None
 
 -- a log without moves
-abbrev pub empty_log : Header → ℕ → ThreadLog
-empty_log header thread =
-    record { header = header; thread = thread; moves = []; lines = []; dropped = None }
+abbrev pub empty_log : Header × ℕ → ThreadLog
+empty_log read =
+    record { header = read.0; thread = read.1; moves = []; lines = []; dropped = None }
 
 abbrev pub with_move : ThreadLog → ℕ → Option TraceLine → Result ThreadLog LogFault
 with_move log number (Some line) =
     Ok (record log { moves = log.moves ++ line ∷ []; lines = log.lines ++ number ∷ [] })
-with_move log number None = Err BadMove
+with_move log number None = Err faults.BadMove
 
 -- a line after the header that does not say how many were dropped: a move whose line has no end
 -- was cut off, and is not looked at
@@ -89,15 +80,12 @@ with_dropped log number ended line None =
 abbrev pub after_header : ThreadLog → ℕ → Bool → List ℕ → Result ThreadLog LogFault
 after_header log number ended line =
     if is_some log.dropped
-    then Err AfterTheEnd
+    then Err faults.AfterTheEnd
     else with_dropped log number ended line (dropped_of line)
 
-abbrev pub begun : Option (Header × ℕ) → Result ThreadLog LogFault
-begun (Some header) = Ok (empty_log header.0 header.1)
-begun None = Err BadHeader
-
 abbrev pub unskipped : Option ThreadLog → ℕ → Bool → List ℕ → Result ThreadLog LogFault
-unskipped None number ended line = begun (log_header_of line)
+unskipped None number ended line =
+    ok_or (option_map empty_log (log_header_of line)) faults.BadHeader
 unskipped (Some log) number ended line = after_header log number ended line
 
 abbrev pub now_read : ℕ → Result ThreadLog LogFault → Result Reading LogFault
@@ -111,13 +99,12 @@ line_read reading ended line =
     then (if is_skipped line
     then Ok (record reading { number = reading.number + 1 })
     else now_read (reading.number + 1) (unskipped reading.log (reading.number + 1) ended line))
-    else Err TooLong
+    else Err faults.TooLong
 
 -- the fault is the text's, or memory was refused
 abbrev pub IsFaultOf : {A : Type 0} → Result A LogFault → LogFault → Type 0
-IsFaultOf read OutOfMemory = Unit {0}
+IsFaultOf read faults.OutOfMemory = Unit {0}
 IsFaultOf read fault = read ≡ Err fault
 
 abbrev pub log_read : Option ThreadLog → Result ThreadLog LogFault
-log_read (Some log) = Ok log
-log_read None = Err NoHeader
+log_read log = ok_or log faults.NoHeader

@@ -6,7 +6,7 @@ use Rattle.std.specs.List.{All, slice_get}
 use Rattle.lk_locks.specs.declared.kinds.Phase.TheVariants.{Idle}
 use Rattle.lk_replay.specs.Header.{Header}
 use Rattle.lk_trace.specs.Agreement.{Agrees}
-use Rattle.lk_trace.specs.Checks.{Checked, checked, difference_of, answer_to}
+use Rattle.lk_trace.specs.Checks.{Checked, checked, difference_of, answer_to, unless_other}
 use Rattle.lk_trace.specs.Traces.{new_checked}
 use Rattle.lk_trace.specs.declared.checker.Made.{Made as MadeMove}
 use Rattle.lk_trace.specs.declared.difference.Difference.{Difference}
@@ -74,14 +74,10 @@ order_of (first ∷ rest) = Some (new_order first.header (first ∷ rest))
 abbrev pub with_line : Ordered → TraceLine → Ordered
 with_line o line = record o { trace = o.trace ++ line ∷ []; lock = checked o.lock line }
 
-abbrev pub unless_differs : Option Difference → Ordered → Ordered → Ordered
-unless_differs None next o = next
-unless_differs (Some difference) next o = o
-
 -- a line is placed if it agrees with the lock
 abbrev pub after_next : Ordered → Option TraceLine → Ordered
 after_next o None = o
-after_next o (Some line) = unless_differs (difference_of o.lock line) (with_line o line) o
+after_next o (Some line) = unless_other (difference_of o.lock line) (with_line o line) o
 
 abbrev pub placed_as : Result MadeMove Difference → Placed
 placed_as (Ok made) = Made made.outcome

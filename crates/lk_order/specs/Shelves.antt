@@ -3,7 +3,7 @@
 use Rattle.std.specs.Prelude.{◌≡◌, ◌≢◌, ◌<◌, ℕ, List, replicate, slice_set, slice_index_or}
 use Rattle.std.specs.Prelude.{Option, Some, None, IfSome, IsSome, IsSomeAnd}
 use Rattle.std.specs.List.{flat_map}
-use Rattle.std.specs.Option.{option_to_list}
+use Rattle.std.specs.Option.{option_map_or, option_to_list}
 use Rattle.lk_replay.specs.Header.{Header}
 use Rattle.lk_order.specs.Logs.{ThreadLog}
 use Rattle.lk_order.specs.declared.shelf.Unfit.{Unfit}
@@ -40,8 +40,7 @@ pub record IsTaken (old new : Shelved) (log : ThreadLog) : Type 0 where
 
 -- how many threads have a log if none is missing
 abbrev pub threads_of : Option Header → ℕ
-threads_of (Some lock) = lock.threads
-threads_of None = 1
+threads_of lock = option_map_or (λ h. h.threads) lock 1
 
 abbrev pub HaveLogs : Shelved → ℕ → Type 0
 HaveLogs shelf n = (t : ℕ) → t < n → IsSome (log_at shelf t)

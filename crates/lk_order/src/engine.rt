@@ -223,10 +223,9 @@ impl Engine {
     /// The step that was proposed is placed.
     pub fn placed(&mut self, order: &Order, t: u8) {
         let thread = t as usize;
-        let Some(Some(next)) = self.next.get_mut(thread) else {
+        let Some(Some(made)) = self.next.get(thread).copied() else {
             return;
         };
-        let made = *next;
         match made.line.action {
             Move::Step(StepKind::Swap) => self.acquires.begin(thread),
             Move::Step(StepKind::Add) => self.tickets.take(),

@@ -28,10 +28,7 @@ use Rattle.lk_trace.specs.declared.line.Seen.{Seen}
 use Rattle.lk_trace.specs.declared.line.Seen.TheVariants.{Nothing, OnWord, InSection}
 use Rattle.lk_trace.specs.declared.line.TraceLine.{TraceLine}
 use Rattle.lk_trace.specs.declared.difference.Difference.{Difference}
-use Rattle.lk_trace.specs.declared.difference.Difference.TheVariants.{Refused, OtherWord}
-use Rattle.lk_trace.specs.declared.difference.Difference.TheVariants.{FoundOther, LeftOther}
-use Rattle.lk_trace.specs.declared.difference.Difference.TheVariants.{WroteOther, CountNotAbove}
-use Rattle.lk_trace.specs.declared.difference.Difference.TheVariants.{OtherOutcome}
+use Rattle.lk_trace.specs.declared.difference.Difference.TheVariants as differs
 
 -- a lock, and the greatest count of a section that was given so far
 pub record Checked : Type 0 where
@@ -54,15 +51,12 @@ is_word (Some word) given = same_word word given
 is_word None given = false
 
 abbrev pub other_word : Option WordName → WordName → Option Difference
-other_word word given = if is_word word given then None else Some (OtherWord word given)
+other_word word given = if is_word word given then None else Some (differs.OtherWord word given)
 
 -- how a part differs, if it is given and does not agree
 abbrev pub part_other : {A : Type 0} → (A → Bool) → (A → Difference) → Option A → Option Difference
 part_other agrees other None = None
 part_other agrees other (Some given) = if agrees given then None else Some (other given)
-
-abbrev pub same_outcome : Outcome → Outcome → Bool
-same_outcome = sameb the_type
 
 -- the value of a word, and its value after a move
 abbrev pub value_of : State → WordName → ℕ
@@ -97,21 +91,22 @@ word_of s t m = name_of s.kind (effect_of s t m)
 -- the values of a word before and after
 abbrev pub values_other : WordName → ℕ → ℕ → Option ℕ → Option ℕ → Option Bool → Option Difference
 values_other word found left given_found given_left given_wrote =
-    option_or (part_other (λ v. found == v) (FoundOther word found) given_found)
-    (option_or (part_other (λ v. left == v) (LeftOther word left) given_left)
-    (part_other (beq (not (found == left))) (λ w. WroteOther (not (found == left))) given_wrote))
+    option_or (part_other (λ v. found == v) (differs.FoundOther word found) given_found)
+    (option_or (part_other (λ v. left == v) (differs.LeftOther word left) given_left)
+    (part_other (beq (not (found == left))) (λ w. differs.WroteOther (not (found == left)))
+    given_wrote))
 
 abbrev pub effect_other : LockKind → Option Effect → WordName → Option ℕ → Option ℕ → Option Bool
     → Option Difference
-effect_other kind None word found left wrote = Some (OtherWord None word)
+effect_other kind None word found left wrote = Some (differs.OtherWord None word)
 effect_other kind (Some effect) word found left wrote =
     option_or (other_word (name_at kind effect.word) word)
     (values_other word effect.found effect.left found left wrote)
 
 abbrev pub section_other : ℕ → Outcome → Option ℕ → Option Outcome → Option Difference
 section_other last outcome count given =
-    option_or (part_other (nat_lt last) (CountNotAbove last) count)
-    (part_other (same_outcome outcome) (OtherOutcome outcome) given)
+    option_or (part_other (nat_lt last) (differs.CountNotAbove last) count)
+    (part_other (sameb the_type outcome) (differs.OtherOutcome outcome) given)
 
 -- what an accepted move differs in
 abbrev pub seen_other : Checked → ℕ → Move → Seen → Option Difference
@@ -124,7 +119,7 @@ seen_other c t m (InSection count outcome) =
 -- where a line of a trace differs from the machine first
 abbrev pub difference_of : Checked → TraceLine → Option Difference
 difference_of c l =
-    option_or (option_map Refused (refusal_of c.lock.state l.thread l.action))
+    option_or (option_map differs.Refused (refusal_of c.lock.state l.thread l.action))
     (seen_other c l.thread l.action l.seen)
 
 abbrev pub count_given : ℕ → Seen → ℕ
@@ -142,9 +137,10 @@ checked c l = record {
   sections = count_given c.sections l.seen;
 }
 
-abbrev pub unless_other : Option Difference → Checked → Checked → Checked
-unless_other None next c = next
-unless_other (Some difference) next c = c
+-- what comes next if nothing differs, and else what is now
+abbrev pub unless_other : {A : Type 0} → Option Difference → A → A → A
+unless_other None next now = next
+unless_other (Some difference) next now = now
 
 abbrev pub after_line : Checked → TraceLine → Checked
 after_line c l = unless_other (difference_of c l) (checked c l) c

@@ -14,10 +14,7 @@ use Rattle.lk_locks.specs.declared.kinds.Refusal.TheVariants.{NotHolder, Already
 use Rattle.lk_locks.specs.declared.kinds.Refusal.TheVariants.{WrongStep}
 use Rattle.lk_locks.specs.Refusals.{name_of}
 use Rattle.lk_trace.specs.declared.difference.Difference.{Difference}
-use Rattle.lk_trace.specs.declared.difference.Difference.TheVariants.{Refused, OtherWord}
-use Rattle.lk_trace.specs.declared.difference.Difference.TheVariants.{FoundOther, LeftOther}
-use Rattle.lk_trace.specs.declared.difference.Difference.TheVariants.{WroteOther, CountNotAbove}
-use Rattle.lk_trace.specs.declared.difference.Difference.TheVariants.{OtherOutcome}
+use Rattle.lk_trace.specs.declared.difference.Difference.TheVariants as differs
 use Rattle.lk_trace.specs.declared.trace.TextFault.{TextFault}
 use Rattle.lk_trace.specs.declared.trace.TextFault.TheVariants.{NoHeader, BadHeader, BadThreads}
 use Rattle.lk_trace.specs.declared.trace.TextFault.TheVariants.{WordsTooNarrow, BadLine}
@@ -71,10 +68,10 @@ fault_name BadLine = codes "BadLine"
 
 -- of a refusal it is the refusal's
 abbrev pub difference_name : Difference → List ℕ
-difference_name (Refused refusal) = name_of refusal
-difference_name (OtherWord word given) = codes "OtherWord"
-difference_name (FoundOther word found given) = codes "FoundOther"
-difference_name (LeftOther word left given) = codes "LeftOther"
-difference_name (WroteOther wrote) = codes "WroteOther"
-difference_name (CountNotAbove last given) = codes "CountNotAbove"
-difference_name (OtherOutcome outcome given) = codes "OtherOutcome"
+difference_name (differs.Refused refusal) = name_of refusal
+difference_name (differs.OtherWord word given) = codes "OtherWord"
+difference_name (differs.FoundOther word found given) = codes "FoundOther"
+difference_name (differs.LeftOther word left given) = codes "LeftOther"
+difference_name (differs.WroteOther wrote) = codes "WroteOther"
+difference_name (differs.CountNotAbove last given) = codes "CountNotAbove"
+difference_name (differs.OtherOutcome outcome given) = codes "OtherOutcome"

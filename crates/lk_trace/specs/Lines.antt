@@ -77,13 +77,10 @@ place_in thread kind (name ∷ rest, due) =
     then in_record thread Locked (owner_of kind (rest, Of kind)) else Err (name ∷ rest, due)))))
 place_in thread kind ([], due) = Ok (None, ([], due))
 
-abbrev pub wrote : List ℕ → Option Bool
-wrote word =
-    if bytes_eq word
-    (codes "done") then Some true else (if bytes_eq word (codes "failed") then Some false else None)
-
 abbrev pub result_alone : StepKind → List ℕ → Option Bool
-result_alone Cas word = wrote word
+result_alone Cas word =
+    if bytes_eq word (codes "done") then Some true
+    else (if bytes_eq word (codes "failed") then Some false else None)
 result_alone kind word = None
 
 -- nothing may follow

@@ -10,27 +10,25 @@ use Rattle.lk_replay.specs.declared.schedule.ReadFault.{ReadFault}
 use Rattle.lk_replay.specs.declared.schedule.ReadFault.TheVariants as reading
 use Rattle.lk_trace.specs.Lines.{short_line_of}
 use Rattle.lk_trace.specs.Checks.{Checked, new_lock, answer_to, after_line}
-use Rattle.lk_trace.specs.declared.checker.Made.{Made as MadeMove}
+use Rattle.lk_trace.specs.declared.checker.Made.{Made}
 use Rattle.lk_trace.specs.declared.line.TraceLine.{TraceLine}
 use Rattle.lk_trace.specs.declared.difference.Difference.{Difference}
 use Rattle.lk_trace.specs.declared.trace.Event.{Event}
-use Rattle.lk_trace.specs.declared.trace.Event.TheVariants.{Skipped, Began, Made, Differs}
-use Rattle.lk_trace.specs.declared.trace.Event.TheVariants.{Fault as FaultOf}
+use Rattle.lk_trace.specs.declared.trace.Event.TheVariants as event
 use Rattle.lk_trace.specs.declared.trace.TextFault.{TextFault}
-use Rattle.lk_trace.specs.declared.trace.TextFault.TheVariants.{BadHeader, BadThreads}
-use Rattle.lk_trace.specs.declared.trace.TextFault.TheVariants.{WordsTooNarrow, BadLine}
+use Rattle.lk_trace.specs.declared.trace.TextFault.TheVariants as faults
 
 -- a schedule's fault, without its line
 abbrev pub fault_of : Fault → TextFault
-fault_of (of_text.BadThreads line) = BadThreads
-fault_of (of_text.WordsTooNarrow line) = WordsTooNarrow
-fault_of fault = BadHeader
+fault_of (of_text.BadThreads line) = faults.BadThreads
+fault_of (of_text.WordsTooNarrow line) = faults.WordsTooNarrow
+fault_of fault = faults.BadHeader
 
 -- the same of what the program answers
 abbrev pub fault_named : ReadFault → TextFault
-fault_named (reading.BadThreads line) = BadThreads
-fault_named (reading.WordsTooNarrow line) = WordsTooNarrow
-fault_named fault = BadHeader
+fault_named (reading.BadThreads line) = faults.BadThreads
+fault_named (reading.WordsTooNarrow line) = faults.WordsTooNarrow
+fault_named fault = faults.BadHeader
 
 abbrev pub header_read : Result Header Fault → Result Header TextFault
 header_read (Ok header) = Ok header
@@ -39,23 +37,23 @@ header_read (Err fault) = Err (fault_of fault)
 -- the header that a line of at most 96 bytes is
 abbrev pub read_header_of : List ℕ → Result Header TextFault
 read_header_of line =
-    if nat_lt 96 (length line) then Err BadHeader else header_read (header_of 0 line)
+    if nat_lt 96 (length line) then Err faults.BadHeader else header_read (header_of 0 line)
 
 -- the lock of a header, on which nothing was done
 abbrev pub new_checked : Header → Checked
 new_checked header = new_lock header.kind header.threads header.bits
 
 abbrev pub header_event : Result Header TextFault → Event
-header_event (Ok header) = Began header
-header_event (Err fault) = FaultOf fault
+header_event (Ok header) = event.Began header
+header_event (Err fault) = event.Fault fault
 
-abbrev pub answer_event : TraceLine → Result MadeMove Difference → Event
-answer_event line (Ok made) = Made line made
-answer_event line (Err difference) = Differs line difference
+abbrev pub answer_event : TraceLine → Result Made Difference → Event
+answer_event line (Ok made) = event.Made line made
+answer_event line (Err difference) = event.Differs line difference
 
 abbrev pub move_event : Checked → Option TraceLine → Event
 move_event c (Some line) = answer_event line (answer_to c line)
-move_event c None = FaultOf BadLine
+move_event c None = event.Fault faults.BadLine
 
 -- what a line that is not skipped comes to, of a trace of which some lines were read
 abbrev pub unskipped_event : Option Checked → List ℕ → Event
@@ -63,7 +61,7 @@ unskipped_event None line = header_event (read_header_of line)
 unskipped_event (Some c) line = move_event c (short_line_of line)
 
 abbrev pub event_of : Option Checked → List ℕ → Event
-event_of reading line = if is_skipped line then Skipped else unskipped_event reading line
+event_of reading line = if is_skipped line then event.Skipped else unskipped_event reading line
 
 abbrev pub after_header : Result Header TextFault → Option Checked
 after_header (Ok header) = Some (new_checked header)

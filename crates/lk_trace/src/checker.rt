@@ -43,10 +43,7 @@ fn count_given(last: u64, seen: Seen) -> u64
     ensures { result ≡ count_given last seen }
 {
     match seen {
-        Seen::InSection {
-            count: Some(count),
-            ..
-        } => count,
+        Seen::InSection { count, .. } => count.unwrap_or(last),
         _ => last,
     }
 }
@@ -94,10 +91,7 @@ impl Checker {
         ensures value { result ≡ difference_of self.now line }
         ensures agrees { result ≡ None ↔ Agrees self.now line }
     {
-        match check_line(self.lock.machine(), self.sections, line) {
-            Ok(_) => None,
-            Err(difference) => Some(difference),
-        }
+        check_line(self.lock.machine(), self.sections, line).err()
     }
 
     /// Makes the move of a line. It is accepted exactly if the machine accepts it and each part

@@ -39,15 +39,9 @@ pub fn refusal_number(refusal: Refusal) -> u8
     }
 }
 
-/// The number of a text's fault, from 16.
+/// The number of a text's fault, from 16 in the order of the enum.
 pub fn fault_number(fault: TextFault) -> u8
     ensures { result ≡ fault_number fault }
 {
-    match fault {
-        TextFault::NoHeader => 16,
-        TextFault::BadHeader => 17,
-        TextFault::BadThreads => 18,
-        TextFault::WordsTooNarrow => 19,
-        TextFault::BadLine => 20,
-    }
+    16 + fault as u8
 }

@@ -49,7 +49,7 @@ pub enum Difference {
         given: u64,
     },
     /// The section has another outcome.
-    #[error("came to '{}', and the lock's to '{}'", word(.given), word(.outcome))]
+    #[error("came to '{}', and the lock's to '{}'", outcome_text(*.given), outcome_text(*.outcome))]
     OtherOutcome {
         outcome: Outcome,
         given: Outcome,
@@ -71,10 +71,6 @@ impl Difference {
             Difference::OtherOutcome { .. } => "OtherOutcome",
         }
     }
-}
-
-fn word(outcome: &Outcome) -> &'static str {
-    outcome_text(*outcome)
 }
 
 // How the run's compare-and-swap ended, and how the machine's.

@@ -101,18 +101,15 @@ impl fmt::Display for Due {
             Due::FoundValue(_) | Due::LeftValue(_) => { f.write_str("a number of at most 64 bits") }
             Due::AnyThread => f.write_str("'*', or a thread's number, from 0 to 255"),
             _ => {
-                let words = self.words();
                 f.write_str("the end")?;
-                for (at, word) in words.iter().enumerate() {
-                    let last = at.saturating_add(1) == words.len();
-                    f.write_str(match (last, words.len()) {
-                        (true, 1) => ", or",
-                        (true, _) => " or",
-                        _ => ",",
-                    })?;
-                    write!(f, " '{word}'")?;
+                let Some((last, others)) = self.words().split_last() else {
+                    return Ok(());
+                };
+                for word in others {
+                    write!(f, ", '{word}'")?;
                 }
-                Ok(())
+                let or = if others.is_empty() { ", or" } else { " or" };
+                write!(f, "{or} '{last}'")
             }
         }
     }

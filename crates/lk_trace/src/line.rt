@@ -55,6 +55,7 @@ pub(crate) type Whole<'a, T> = Result<T, Rest<'a>>;
 type Part<'a, T> = Result<(T, Rest<'a>), Rest<'a>>;
 
 // The next word, and what is left after it.
+#[inline(always)]
 pub(crate) fn first_word(text: Option<&[u8]>) -> Option<(&[u8], Option<&[u8]>)>
     ensures { MatchOption result (words_left text.entry ≡ [])
         (λ cut. words_left text.entry ≡ cut.0.now ∷ words_left cut.1) }
@@ -67,17 +68,17 @@ pub(crate) fn first_word(text: Option<&[u8]>) -> Option<(&[u8], Option<&[u8]>)>
 }
 
 // The thread whose number comes next, and then this is due.
+#[inline(always)]
 fn thread_in(rest: Rest<'_>, next: Due) -> Part<'_, u8>
     ensures { part_of result ≡ word_in (number_of 0 255) next (remaining rest.entry) }
 {
-    let Some((word, after)) = first_word(rest.0) else {
-        return Err(rest);
-    };
+    let (word, after) = first_word(rest.0).ok_or(rest)?;
     let thread = number_of(word, 0, 255).ok_or(rest)?;
     Ok((thread, (after, next)))
 }
 
 // Whose record it is, if that is said: `of J`.
+#[inline(always)]
 fn owner_of(rest: Rest<'_>, kind: StepKind) -> Part<'_, Option<u8>>
     ensures { part_of result ≡ owner_of kind (remaining rest.entry) }
 {
@@ -122,6 +123,7 @@ fn place_in(rest: Rest<'_>, thread: u8, kind: StepKind) -> Part<'_, Option<WordN
 
 // The number after this word, if this word is the next one. `value` is due after the word, and
 // `next` after the number.
+#[inline(always)]
 fn tagged<'a>(rest: Rest<'a>, tag: &[u8], value: Due, next: Due) -> Part<'a, Option<u64>>
     ensures { part_of result ≡ tagged tag.now whole_number value next (remaining rest.entry) }
 {
@@ -154,6 +156,7 @@ fn result_alone(kind: StepKind, word: &[u8]) -> Option<bool>
 }
 
 // Whether a compare-and-swap wrote, if that is said. Nothing may follow.
+#[inline(always)]
 fn result_of(rest: Rest<'_>, kind: StepKind) -> Whole<'_, Option<bool>>
     ensures { whole_of result ≡ result_of kind (remaining rest.entry) }
 {
@@ -168,6 +171,7 @@ fn result_of(rest: Rest<'_>, kind: StepKind) -> Whole<'_, Option<bool>>
 }
 
 // What a step saw of this word.
+#[inline(always)]
 fn values_on(rest: Rest<'_>, word: WordName, kind: StepKind) -> Whole<'_, Seen>
     ensures { whole_of result ≡ values_on kind word (remaining rest.entry) }
 {
@@ -237,8 +241,7 @@ fn seen_of(text: Option<&[u8]>, thread: u8, on: Option<WordName>, action: Move) 
         },
         (None, Move::Step(StepKind::Section)) => section_of(text),
         (None, Move::Step(kind)) => values_of((text, Due::Place(kind)), thread, kind),
-        (Some(_), Move::Call(_)) => Err((text, END)),
-        (Some(_), Move::Step(StepKind::Section)) => Err((text, END)),
+        (Some(_), Move::Call(_) | Move::Step(StepKind::Section)) => Err((text, END)),
         (Some(word), Move::Step(kind)) => values_on((text, Due::Found(kind)), word, kind),
     }
 }
@@ -248,9 +251,7 @@ pub(crate) fn move_with(rest: Rest<'_>, thread: u8, on: Option<WordName>) -> Who
     ensures line { whole_of result ≡ move_with thread on (remaining rest.entry) }
     ensures own { IfOk result (λ line. line.thread ≡ thread) }
 {
-    let Some((word, after)) = first_word(rest.0) else {
-        return Err(rest);
-    };
+    let (word, after) = first_word(rest.0).ok_or(rest)?;
     let action = move_named(word).ok_or(rest)?;
     let seen = seen_of(after, thread, on, action)?;
     Ok(TraceLine {

@@ -1,4 +1,3 @@
 pub mod Numbers
-pub mod Ends
 pub mod Records
 pub mod Texts

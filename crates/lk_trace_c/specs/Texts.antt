@@ -1,21 +1,19 @@
 -- Definitions. The text of a fault's number. This project's own.
 use Rattle.std.specs.Prelude.{ℕ, ◌==◌, List, codes, if◌then◌else◌}
 use Rattle.lk_locks.specs.Refusals.{text_of}
-use Rattle.lk_locks.specs.declared.kinds.Refusal.TheVariants.{NoSuchThread, WrongLock, Busy}
-use Rattle.lk_locks.specs.declared.kinds.Refusal.TheVariants.{NotHolder, AlreadyHolds, NoCall}
-use Rattle.lk_locks.specs.declared.kinds.Refusal.TheVariants.{WrongStep}
+use Rattle.lk_locks.specs.declared.kinds.Refusal.TheVariants as refused
 use Rattle.lk_locks.specs.declared.kinds.StepKind.TheVariants.{Read}
 
 abbrev pub text_of_number : ℕ → List ℕ
 text_of_number number =
     if number == 0 then codes "accepted"
-    else (if number == 1 then text_of NoSuchThread
-    else (if number == 2 then text_of WrongLock
-    else (if number == 3 then text_of Busy
-    else (if number == 4 then text_of NotHolder
-    else (if number == 5 then text_of AlreadyHolds
-    else (if number == 6 then text_of NoCall
-    else (if number == 7 then text_of (WrongStep Read)
+    else (if number == 1 then text_of refused.NoSuchThread
+    else (if number == 2 then text_of refused.WrongLock
+    else (if number == 3 then text_of refused.Busy
+    else (if number == 4 then text_of refused.NotHolder
+    else (if number == 5 then text_of refused.AlreadyHolds
+    else (if number == 6 then text_of refused.NoCall
+    else (if number == 7 then text_of (refused.WrongStep Read)
     else (if number == 8 then codes "OtherWord: the lock's step is on another word"
     else (if number == 9 then codes "FoundOther: the lock has another value in the word"
     else (if number == 10 then codes "LeftOther: the lock leaves another value in the word"

@@ -6,8 +6,8 @@ mod numbers;
 
 ghost use Rattle.std.specs.Prelude.{◌≡◌, ◌++◌, drop, length, take};
 ghost use Rattle.lk_trace.specs.Traces.{after_text_line, event_of};
-ghost use Rattle.lk_trace_c.specs.Ends.{end_number, event_number, fault_of_text};
-ghost use Rattle.lk_trace_c.specs.Records.{answer_by, nothing, record_of, steps_by, told_text};
+ghost use Rattle.lk_trace_c.specs.Records.{answer_by, end_of, nothing, record_of, steps_by};
+ghost use Rattle.lk_trace_c.specs.Records.{told_text};
 ghost use Rattle.lk_trace_c.specs.Texts.{text_of_number};
 
 use lk_replay::parts::cut_line;
@@ -41,16 +41,13 @@ pub struct LtAnswer {
     pub threads: u32,
 }
 
-const NO_WORD: u32 = u32::MAX;
-
 // The record of a move that was made. A lock has at most 129 words.
 fn step_of(line: u64, read: TraceLine, made: Made) -> LtStep
     ensures { result ≡ record_of line read made }
 {
-    let (found, left) = match made.effect {
-        Some(effect) => (effect.found, effect.left),
-        None => (0, 0),
-    };
+    let (found, left) = made
+        .effect
+        .map_or((0, 0), |effect| (effect.found, effect.left));
     LtStep {
         line,
         found,
@@ -60,54 +57,43 @@ fn step_of(line: u64, read: TraceLine, made: Made) -> LtStep
         outcome: u32::from(outcome_number(made.outcome)),
         word: match made.effect {
             Some(effect) if effect.word < 129 => effect.word as u32,
-            _ => NO_WORD,
+            _ => u32::MAX,
         },
     }
 }
 
-// Reads a line. Its number is that of its fault, 0 if it has none.
-fn take_line(
-    trace: &mut TraceReader,
-    line: &[u8],
-    steps: &mut [LtStep],
-    answer: &mut LtAnswer,
-) -> u32
-    ensures fault { result ≡ event_number (event_of trace.old line.now) }
+// Reads a line, and notes what it comes to.
+fn take_line(trace: &mut TraceReader, line: &[u8], steps: &mut [LtStep], answer: &mut LtAnswer)
     ensures after { trace.new ≡ after_text_line trace.old line.now }
     ensures answer { answer.new ≡ answer_by (event_of trace.old line.now) answer.old }
     ensures steps { steps.new ≡ steps_by (event_of trace.old line.now) answer.old steps.old }
 {
     match trace.line(line) {
-        Event::Skipped => 0,
-        Event::Began(header) => {
-            answer.threads = u32::from(header.threads());
-            0
-        }
+        Event::Skipped => {}
+        Event::Began(header) => answer.threads = u32::from(header.threads()),
         Event::Made(read, made) => {
             if answer.moves < steps.len() as u64 {
                 steps[answer.moves as usize] = step_of(answer.line, read, made);
             }
             answer.moves = answer.moves.saturating_add(1);
-            0
         }
-        Event::Differs(_, difference) => difference_number(difference),
-        Event::Fault(fault) => u32::from(fault_number(fault)),
+        Event::Differs(_, difference) => answer.fault = difference_number(difference),
+        Event::Fault(fault) => answer.fault = u32::from(fault_number(fault)),
     }
 }
 
-// What the end of a text is after the lines that were read: a fault, if there was no header.
-fn end_of(trace: &TraceReader) -> u32
-    ensures { result ≡ end_number trace.now }
+// Notes what the end of a text is: a fault in the line after its last, if it has no header.
+fn take_end(trace: &TraceReader, answer: &mut LtAnswer)
+    ensures { answer.new ≡ end_of trace.now answer.old }
 {
-    match trace.checker() {
-        Some(_) => 0,
-        None => u32::from(fault_number(TextFault::NoHeader)),
+    if let None = trace.checker() {
+        answer.line = answer.line.saturating_add(1);
+        answer.fault = u32::from(fault_number(TextFault::NoHeader));
     }
 }
 
-// The number of a text's first fault, 0 if it has none.
-fn fault_in(text: &[u8], steps: &mut [LtStep], answer: &mut LtAnswer) -> u32
-    ensures fault { result ≡ fault_of_text text.now }
+// Reads a text up to its first fault.
+fn take_text(text: &[u8], steps: &mut [LtStep], answer: &mut LtAnswer)
     ensures answer { answer.new ≡ (told_text answer.old steps.old text.now).answer }
     ensures steps { steps.new ≡ (told_text answer.old steps.old text.now).steps }
 {
@@ -116,26 +102,21 @@ fn fault_in(text: &[u8], steps: &mut [LtStep], answer: &mut LtAnswer) -> u32
     while !rest.is_empty() {
         let (line, after) = cut_line(rest);
         answer.line = answer.line.saturating_add(1);
-        let fault = take_line(&mut trace, line, steps, answer);
-        if fault != 0 {
-            return fault;
+        take_line(&mut trace, line, steps, answer);
+        if answer.fault != 0 {
+            return;
         }
         rest = after;
     }
-    let end = end_of(&trace);
-    if end != 0 {
-        answer.line = answer.line.saturating_add(1);
-    }
-    end
+    take_end(&trace, answer);
 }
 
 /// Checks a trace to its end, or up to the first line that ends it. Writes a record for each move
 /// that is made, as far as there is room.
 #[unsafe(no_mangle)]
 pub extern "C" fn lt_check(text: &[u8], steps: &mut [LtStep], answer: &mut LtAnswer) -> u32
-    ensures fault { result ≡ fault_of_text text.now }
-    ensures answer { answer.new
-        ≡ record (told_text nothing steps.old text.now).answer { fault = fault_of_text text.now } }
+    ensures fault { result ≡ answer.new.fault }
+    ensures answer { answer.new ≡ (told_text nothing steps.old text.now).answer }
     ensures records { steps.new ≡ (told_text nothing steps.old text.now).steps }
 {
     *answer = LtAnswer {
@@ -144,9 +125,8 @@ pub extern "C" fn lt_check(text: &[u8], steps: &mut [LtStep], answer: &mut LtAns
         fault: 0,
         threads: 0,
     };
-    let fault = fault_in(text, steps, answer);
-    answer.fault = fault;
-    fault
+    take_text(text, steps, answer);
+    answer.fault
 }
 
 /// Writes the text of a fault's number, without an end, as far as there is room, and returns how

@@ -53,10 +53,8 @@ fn cut_last_word(line: &[u8]) -> Option<(&[u8], &[u8])>
     ensures { MatchOption result (cut_last line.now ≡ None)
         (λ cut. cut_last line.now ≡ Some (cut.0.now, cut.1.now)) }
 {
-    match line.iter().rposition(|&b| b == b' ') {
-        Some(at) => Some((&line[..at], &line[at + 1..])),
-        None => None,
-    }
+    let at = line.iter().rposition(|&b| b == b' ')?;
+    Some((&line[..at], &line[at + 1..]))
 }
 
 // The header of a log: a trace's, and `thread T` after it.
@@ -98,9 +96,7 @@ impl Log {
         ensures err { IfErr result (λ fault. fault ≡ LogFault.OutOfMemory) }
         ensures same { OnErr result (self.new ≡ self.old) }
     {
-        if self.lines.push(number).is_err() {
-            return Err(LogFault::OutOfMemory);
-        }
+        self.lines.push(number).map_err(|_| LogFault::OutOfMemory)?;
         if self.moves.push(line).is_err() {
             self.lines.pop();
             return Err(LogFault::OutOfMemory);

@@ -6,15 +6,16 @@ use lk_trace::{Seen, TraceLine, WordName};
 use std::alloc::{AllocError, Global};
 
 /// What is known of a neighbor in the queue.
-#[derive(Clone, Copy, PartialEq, Eq, Debug)]
+#[derive(Clone, Copy, Default, PartialEq, Eq, Debug)]
 pub enum Neighbor {
+    #[default]
     Unknown,
     Nobody,
     Thread(u8),
 }
 
 /// An acquire with its release.
-#[derive(Clone, Copy)]
+#[derive(Clone, Copy, Default)]
 pub struct Instance {
     /// Whom the swap found.
     pub before: Neighbor,
@@ -33,16 +34,6 @@ pub struct Instance {
     /// The number of its chain.
     pub chain: Option<usize>,
 }
-
-const NEW: Instance = Instance {
-    before: Neighbor::Unknown,
-    after: Neighbor::Unknown,
-    unlinked: 0,
-    failed: None,
-    predecessor: None,
-    successor: None,
-    chain: None,
-};
 
 // The neighbor that a word of the lock names.
 fn named(value: u64) -> Neighbor {
@@ -89,7 +80,7 @@ pub fn instances_of(
     }
     for (at, line) in moves.iter().enumerate() {
         if let Move::Call(Op::Acquire) = line.action {
-            instances.push(NEW)?;
+            instances.push(Instance::default())?;
         } else if let Some(last) = instances.last_mut() {
             note(last, *line, at);
         }
