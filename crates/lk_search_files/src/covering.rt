@@ -3,8 +3,8 @@
 ghost use Rattle.std.specs.Prelude.{◌≡◌, max};
 ghost use Rattle.lk_search_files.specs.Statuses.{number_of};
 
-use crate::faults::put_unread;
 use crate::listing::{Format, put_coverage, put_missing};
+use crate::reading::put_unread;
 use lk_locks::LockKind;
 use lk_replay::parts::move_text;
 use lk_search::{Coverage, LOCKS, Observed};
