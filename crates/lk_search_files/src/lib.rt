@@ -7,18 +7,15 @@
 #![tactic(auto)]
 
 mod covering;
-mod drawing;
 mod finding;
-mod listing;
 mod numbers;
 mod reading;
 mod spaces;
 mod touring;
 mod writing;
 
-pub use covering::{CoverJob, cover_traces};
+pub use covering::{CoverJob, Format, cover_traces};
 pub use finding::find_run;
-pub use listing::Format;
 pub use lk_search::is_kind;
 pub use reading::Source;
 pub use spaces::{Asked, SpaceFormat, count_space};
