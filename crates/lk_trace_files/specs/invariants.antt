@@ -1,7 +1,7 @@
 -- Invariants: what was taken of an input so far, what its lines came to, and the logs on a shelf.
 -- No public contract rests on it.
 use Rattle.std.specs.Prelude.{◌≡◌, ℕ, ◌<◌, List, [], ◌++◌, length, take, Bool, true, false}
-use Rattle.std.specs.Prelude.{◌||◌, Option, None, Some, IfSome, IsSomeAnd}
+use Rattle.std.specs.Prelude.{◌||◌, Option, Some, IfSome, IsSomeAnd}
 use Rattle.std.specs.List.{All}
 use Rattle.std.specs.Io.KnownBytes.{Consumes}
 use Rattle.lk_order.specs.Logs.{Reading, ThreadLog}

@@ -3,9 +3,9 @@
 
 ghost use Rattle.std.specs.Prelude.{◌≡◌, IfOk, IfSome, None};
 ghost use Rattle.lk_trace.specs.Traces.{after_text_line, event_of};
-ghost use Rattle.lk_trace_files.specs.Verdicts.{greatest_status, status_of};
 ghost use Rattle.lk_trace_files.specs.Fates.{after_line, hangs_at};
-ghost use Rattle.lk_trace_files.specs.Verdicts.{IsOfText, at_end, if_hangs, verdict, verdict_in};
+ghost use Rattle.lk_trace_files.specs.Verdicts.{IsOfText, at_end, greatest_status, if_hangs};
+ghost use Rattle.lk_trace_files.specs.Verdicts.{status_of, verdict, verdict_in};
 ghost use Rattle.lk_trace_files.specs.invariants.{Follows};
 
 use crate::blame::{HANGS, put_blame, put_waits};
