@@ -1,6 +1,6 @@
--- Invariants: what was taken of an input so far, what its lines came to, and the logs on a shelf.
--- No public contract rests on it.
-use Rattle.std.specs.Prelude.{◌≡◌, ℕ, ◌<◌, List, [], ◌++◌, length, take, Bool, true, false}
+-- Invariants: what was taken of an input so far, what its lines came to, the endings of a job, and
+-- the logs on a shelf. No public contract rests on it.
+use Rattle.std.specs.Prelude.{◌≡◌, ℕ, ◌+◌, ◌<◌, List, [], ◌++◌, length, take, Bool, true, false}
 use Rattle.std.specs.Prelude.{◌||◌, Option, Some, IfSome, IsSomeAnd}
 use Rattle.std.specs.List.{All}
 use Rattle.std.specs.Io.KnownBytes.{Consumes}
@@ -15,8 +15,10 @@ use Rattle.lk_trace.specs.declared.trace.Event.TheVariants.{Differs, Fault}
 use Rattle.lk_trace_files.specs.Searches.{IsInFile, Reads}
 use Rattle.lk_trace_files.specs.Fates.{hangs_after}
 use Rattle.lk_trace_files.specs.Lines.{kept, with_end}
-use Rattle.lk_trace_files.specs.Verdicts.{if_hangs, verdict, verdict_from, verdict_in, verdict_of}
+use Rattle.lk_trace_files.specs.Verdicts.{EndsInput, if_hangs, verdict, verdict_from, verdict_in}
+use Rattle.lk_trace_files.specs.Verdicts.{verdict_of}
 use Rattle.lk_trace_files.specs.declared.course.Fate.{Fate}
+use Rattle.lk_trace_files.specs.declared.check.Ending.{Ending}
 use Rattle.lk_trace_files.specs.declared.check.Ending.TheVariants.{Refused, Faulty}
 use Rattle.lk_trace_files.specs.declared.check.Report.{Report}
 use Rattle.lk_trace_files.specs.declared.lines.Line.{Line}
@@ -59,6 +61,12 @@ ReadsText all left number reading fates =
     IfSome all (λ text. IsSomeAnd left (λ rest. verdict_of text
     ≡ if_hangs (hangs_after reading fates (lines_of rest))
     (verdict_from number reading (lines_of rest))))
+
+-- so many endings more, which are those of inputs if the others are
+pub record Adds {F S : Type 0} (of_file : F → Option (List ℕ)) (of_input : S → Option (List ℕ))
+    (count : ℕ) (old new : List Ending) : Type 0 where
+  pub one_each : length new ≡ length old + count
+  pub each : All (EndsInput of_file of_input) old → All (EndsInput of_file of_input) new
 
 -- so much of an input was read as a log's
 abbrev pub ReadsInput : Option (List ℕ) → Option (List ℕ) → Reading → Type 0
