@@ -6,24 +6,17 @@
 //! program `locktrace` gives them its words.
 #![tactic(auto)]
 
-mod asked;
 mod covering;
-mod drawing;
-mod faults;
 mod finding;
-mod listing;
 mod numbers;
 mod reading;
-mod sketches;
 mod spaces;
-mod tour_files;
 mod touring;
 mod writing;
 
-pub use asked::{Asked, Source};
-pub use covering::{CoverJob, cover_traces};
+pub use covering::{CoverJob, Format, cover_traces};
 pub use finding::find_run;
-pub use listing::Format;
 pub use lk_search::is_kind;
-pub use spaces::{SpaceFormat, count_space};
+pub use reading::Source;
+pub use spaces::{Asked, SpaceFormat, count_space};
 pub use touring::write_tour;

@@ -1,17 +1,139 @@
-//! A sketch, read from a file or from the words of a command.
+//! A sketch of a run, read line by line from a file or from the words of a command: a header, and
+//! lines of a trace in which parts are open.
 
-use crate::asked::Source;
-use crate::faults::{put_fault, put_unread};
-use crate::sketches::Sketch;
-use lk_replay::parts::Header;
-use lk_search::SketchFault;
-use lk_trace::TextFault;
-use lk_trace_files::{Status, take_lines};
+ghost use Rattle.std.specs.Prelude.{◌≡◌, ◌≤◌, vec_len, IfOk};
+
+use lk_replay::parts::{Header, is_skipped, number_of};
+use lk_search::{Admitted, SketchFault, admit};
+use lk_trace::{MOST_OF_A_LINE, TextFault, read_header, unreadable_sketch_line};
+use lk_trace_files::{Status, put_wrong, take_lines, wrong_in_header};
 use std::alloc::{AllocError, Global};
 use std::fmt::Write;
 use std::fs;
-use std::io::Read;
+use std::io::{Error, Read};
 use std::rt::Runtime;
+
+/// Where a sketch is.
+#[derive(Debug, Drop)]
+pub enum Source {
+    /// The name of a file. `-` is standard input.
+    File(String),
+    /// A header, and lines.
+    Words(Vec<String>),
+}
+
+// The most lines of a sketch.
+const MOST_LINES: usize = 255;
+
+// The comment that says how many rounds a thread has.
+const ROUNDS: &str = "#! rounds ";
+
+/// A sketch of which some lines were read.
+#[derive(Drop)]
+pub struct Sketch {
+    /// The lock, if the header was read.
+    pub header: Option<Header>,
+    /// How many rounds each thread has, if the sketch says it.
+    pub rounds: Option<u8>,
+    /// The lines that are to occur, in their order.
+    pub lines: Vec<String>,
+    /// What each line admits.
+    pub admitted: Vec<Admitted>,
+    ghost few: { vec_len lines ≤ 255 },
+}
+
+impl Sketch {
+    /// No line was read yet.
+    pub fn new(alloc: Global) -> Sketch {
+        Sketch {
+            header: None,
+            rounds: None,
+            lines: Vec::new(alloc),
+            admitted: Vec::new(alloc),
+        }
+    }
+
+    /// How many lines are to occur.
+    pub fn count(&self) -> u16
+        ensures { result ≡ vec_len self.now.lines }
+    {
+        self.lines.len() as u16
+    }
+
+    // Reads a comment.
+    fn comment(&mut self, line: &[u8]) -> Option<SketchFault> {
+        let rest = line.strip_prefix(ROUNDS.as_bytes())?;
+        match number_of(rest, 1, 255) {
+            Some(rounds) => {
+                self.rounds = Some(rounds);
+                None
+            }
+            None => Some(SketchFault::BadRounds),
+        }
+    }
+
+    /// Reads the next line, without its end. After a fault the sketch is as it was, or some of the
+    /// line's.
+    ///
+    /// # Errors
+    ///
+    /// A request for memory was refused.
+    pub fn line(&mut self, alloc: Global, line: &[u8]) -> Result<Option<SketchFault>, AllocError> {
+        if is_skipped(line) {
+            return Ok(self.comment(line));
+        }
+        let Some(header) = self.header else {
+            return match read_header(line) {
+                Ok(header) => {
+                    self.header = Some(header);
+                    Ok(None)
+                }
+                Err(fault) => Ok(Some(SketchFault::Header(fault))),
+            };
+        };
+        if self.lines.len() >= MOST_LINES {
+            return Ok(Some(SketchFault::TooManyLines));
+        }
+        let number = self.lines.len() as u8;
+        let Ok(text) = str::from_utf8(line) else {
+            return Ok(Some(SketchFault::BadLine));
+        };
+        let (kind, threads) = (header.kind(), header.threads());
+        if !admit(&mut self.admitted, kind, threads, number, line)? {
+            return Ok(Some(SketchFault::BadLine));
+        }
+        self.lines.push(String::from_str(alloc, text)?)?;
+        Ok(None)
+    }
+}
+
+/// Writes why the input of this name cannot be read, or not to its end.
+pub fn put_unread(errors: &mut String, name: &str, error: Error) -> Result<Status, AllocError>
+    ensures { IfOk result (λ status. status ≡ Status.Failed) }
+{
+    writeln!(errors, "{name}: {error}")?;
+    Ok(Status::Failed)
+}
+
+// Writes what is wrong with a line, after its name: the column, what is there, what could be there,
+// and the nearest word.
+fn put_fault(
+    text: &mut String,
+    alloc: Global,
+    line: &[u8],
+    fault: SketchFault,
+) -> Result<(), AllocError> {
+    writeln!(text, "{fault}")?;
+    if line.len() > MOST_OF_A_LINE {
+        return writeln!(text, "  no line has more than 96 bytes");
+    }
+    let wrong = match fault {
+        SketchFault::Header(_) => wrong_in_header(line),
+        SketchFault::BadLine => unreadable_sketch_line(line),
+        _ => return Ok(()),
+    };
+    put_wrong(text, alloc, line, wrong)
+}
 
 /// A sketch with its lock, or how the job ends without one.
 pub type Taken = Result<(Sketch, Header), Status>;

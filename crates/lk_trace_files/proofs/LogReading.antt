@@ -1,14 +1,13 @@
 -- The lines of a log's input are read one after another, up to its end or a line that is none.
 use Rattle.std.proofs.Common.{◌≡◌, ℕ, List, Option, None, Some, IfSome, Result, Ok, Err}
-use Rattle.std.proofs.Common.{MatchResult, IfOk, Bool, ap₂, sym, subst, subst₂, ◌∙◌}
+use Rattle.std.proofs.Common.{MatchResult, Bool, ap₂, sym, subst, subst₂, ◌∙◌}
 use Rattle.std.specs.Io.KnownBytes.{IsAtEnd, Keeps}
 use Rattle.lk_order.specs.Logs.{IsFaultOf, Reading, ThreadLog, line_read, log_read}
 use Rattle.lk_order.specs.declared.log.reader.LogFault.{LogFault}
-use Rattle.lk_trace_files.specs.BadLogs.{IsInFile, IsNoLog, IsText, Reads, at_end, at_line}
-use Rattle.lk_trace_files.specs.BadLogs.{begins, goes_on}
+use Rattle.lk_trace_files.specs.Searches.{IsNoLog, IsText, Reads, at_end, at_line, begins, goes_on}
 use Rattle.lk_trace_files.specs.Lines.{TakesLine, kept}
 use Rattle.lk_trace_files.specs.declared.lines.Line.{Line}
-use Rattle.lk_trace_files.specs.invariants.Shelves.{ReadsInput}
+use Rattle.lk_trace_files.specs.invariants.{ReadsInput}
 
 -- no line yet
 pub read_none : (all left : Option (List ℕ)) (reading : Reading) → Keeps all left
@@ -64,30 +63,3 @@ read_end log_of (Some text) (Some rest) reading (Ok log) reads end is = record {
 }
 read_end log_of (Some text) (Some rest) reading (Err fault) reads end is =
     at_end reading (subst (λ (l : List ℕ). Reads text l reading) end reads) is
-
--- a file that has the log, or the fault
-pub log_in : {A F E : Type 0} (log_of : A → ThreadLog) (of_file : F → Option (List ℕ)) (file : F)
-    (ended : Result (Result A LogFault) E) (log : A)
-    → IfOk ended (λ read. IfSome (of_file file)
-    (λ text. MatchResult read (λ log. IsText (log_of log) text) (λ fault. IsNoLog fault text)))
-    → ended ≡ Ok (Ok log) → IsInFile of_file (log_of log)
-log_in {A} {F} {E} log_of of_file file ended log known is = (
-  file,
-  subst
-      (λ (e : Result (Result A LogFault) E). IfOk e (λ read. IfSome (of_file file)
-      (λ text. MatchResult read (λ log. IsText (log_of log) text) (λ fault. IsNoLog fault text))))
-      is known,
-)
-
-pub fault_in : {A F E : Type 0} (log_of : A → ThreadLog) (of_file : F → Option (List ℕ)) (file : F)
-    (ended : Result (Result A LogFault) E) (fault : LogFault)
-    → IfOk ended (λ read. IfSome (of_file file)
-    (λ text. MatchResult read (λ log. IsText (log_of log) text) (λ fault. IsNoLog fault text)))
-    → ended ≡ Ok (Err fault) → (file : F) × IfSome (of_file file) (IsNoLog fault)
-fault_in {A} {F} {E} log_of of_file file ended fault known is = (
-  file,
-  subst
-      (λ (e : Result (Result A LogFault) E). IfOk e (λ read. IfSome (of_file file)
-      (λ text. MatchResult read (λ log. IsText (log_of log) text) (λ fault. IsNoLog fault text))))
-      is known,
-)

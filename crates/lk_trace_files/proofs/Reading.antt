@@ -25,7 +25,7 @@ use Rattle.lk_trace_files.specs.Fates.{after_comment, after_line, hangs_after, h
 use Rattle.lk_trace_files.specs.declared.course.Fate.{Fate}
 use Rattle.lk_trace_files.specs.Verdicts.{Verdict, IsOfText, at_end, if_hangs, unless_ended}
 use Rattle.lk_trace_files.specs.Verdicts.{verdict_from, verdict_in}
-use Rattle.lk_trace_files.specs.invariants.Following.{Follows, Reads}
+use Rattle.lk_trace_files.specs.invariants.{Follows, ReadsText}
 use Rattle.lk_trace_files.specs.declared.check.Ending.TheVariants.{Unread}
 use Rattle.lk_trace_files.specs.declared.check.Report.{Report}
 
@@ -137,11 +137,11 @@ goes_on number (Fault fault) on report behind follows is = absurd (cc (follows.0
 -- a line that does not end the text
 pub line_on : (all old new : Option (List ℕ)) (number : ℕ) (reading after : Option Checked)
     (fates told : List Fate) (line : Line) (bytes : List ℕ) (on : Bool) (report : Report)
-    → Reads all old number reading fates
+    → ReadsText all old number reading fates
     → TakesLine old new line → bytes ≡ kept line → Follows number (event_of reading bytes) on report
     → on ≡ true → after ≡ after_text_line reading bytes
     → told ≡ after_line fates (event_of reading bytes) bytes
-    → Reads all new (number + 1) after told
+    → ReadsText all new (number + 1) after told
 line_on None old new number reading after fates told line bytes on report reads taken same follows
     is now last = tt
 line_on (Some text) None new number reading after fates told line bytes on report reads taken same
@@ -172,7 +172,7 @@ ends_all true number (Fault fault) on report after follows is = sym follows.1
 
 pub line_last : (all old new : Option (List ℕ)) (number : ℕ) (reading : Option Checked)
     (fates : List Fate) (line : Line) (bytes : List ℕ) (on : Bool) (report : Report)
-    → Reads all old number reading fates
+    → ReadsText all old number reading fates
     → TakesLine old new line → bytes ≡ kept line → Follows number (event_of reading bytes) on report
     → on ≡ false → IfSome all (IsOfText report)
 line_last None old new number reading fates line bytes on report reads taken same follows is = tt
@@ -206,7 +206,7 @@ no_later reading fates = refl
 -- the end of the text
 pub reads_end : (all left : Option (List ℕ)) (number : ℕ) (reading : Option Checked)
     (fates : List Fate) (report : Report)
-    → Reads all left number reading fates → IsAtEnd left
+    → ReadsText all left number reading fates → IsAtEnd left
     → verdict_in report ≡ if_hangs (hangs_at reading fates) (at_end number reading)
     → IfSome all (IsOfText report)
 reads_end None left number reading fates report reads end is = tt

@@ -7,13 +7,13 @@ use Rattle.std.proofs.lemmas.Option.{none-some, same_Some, slice_get_past}
 use Rattle.std.proofs.lemmas.Result.{MatchResult-at_ok}
 use Rattle.lk_order.specs.Logs.{ThreadLog}
 use Rattle.lk_order.specs.Runs.{IsOneRun, IsRunOf}
-use Rattle.lk_order.specs.Shelves.{HaveLogs, IsFirstWithout, IsTaken, Shelved, empty_shelf}
+use Rattle.lk_order.specs.Shelves.{HaveLogs, IsTaken, Shelved, empty_shelf}
 use Rattle.lk_order.specs.Shelves.{logs_of, threads_of}
 use Rattle.lk_replay.specs.Header.{Header}
-use Rattle.lk_trace_files.specs.BadLogs.{HasThread, IsBad, IsInFile, OfOtherLocks}
-use Rattle.lk_trace_files.specs.declared.ordering.bad_log.BadLog.{BadLog}
-use Rattle.lk_trace_files.specs.declared.ordering.bad_log.BadLog.TheVariants as bad
-use Rattle.lk_trace_files.specs.invariants.Shelves.{IsBadBeside, IsKept, IsOfLog, IsOwn, Stands}
+use Rattle.lk_trace_files.specs.Searches.{IsBad, IsInFile, OfOtherLocks}
+use Rattle.lk_trace_files.specs.declared.ordering.search.BadLog.{BadLog}
+use Rattle.lk_trace_files.specs.declared.ordering.search.BadLog.TheVariants as bad
+use Rattle.lk_trace_files.specs.invariants.{IsBadBeside, IsKept, IsOfLog, IsOwn, Stands}
 
 none_there : {X : Type 0} (n t : ℕ) (x : X) → get_or (replicate n None) t None ≡ Some x → ⊥
 none_there zero t x at = none-some x at
@@ -89,25 +89,9 @@ bad_beside of_file shelf log bad.Unread kept here is = tt
 bad_beside of_file shelf log (bad.Fault fault) kept here is = absurd is
 bad_beside of_file shelf log bad.OtherLock kept here is =
     other_lock of_file shelf.lock log kept.lock here is
-bad_beside of_file shelf log (bad.OtherRun t) kept here is =
-    record { log = log; log_is = here; thread_is = is }
-bad_beside of_file shelf log (bad.SecondLog t) kept here is =
-    record { log = log; log_is = here; thread_is = is }
+bad_beside of_file shelf log (bad.OtherRun t) kept here is = (log, here, is)
+bad_beside of_file shelf log (bad.SecondLog t) kept here is = (log, here, is)
 bad_beside of_file shelf log (bad.Missing t) kept here is = absurd is
-
-missing_in : {F : Type 0} (of_file : F → Option (List ℕ)) (lock : Option Header) (t : ℕ)
-    → IfSome lock (IsOfLog of_file) → t < threads_of lock → (t ≡ 0) ⊎ HasThread of_file t
-missing_in of_file None t is below = inl (omega (arith, below))
-missing_in of_file (Some lock) t is below = inr (record {
-  log = is.log;
-  log_is = is.log_is;
-  few = subst (λ (h : Header). t < h.threads) (sym is.header_is) below;
-})
-
--- a thread without a log
-pub missing_is : {F : Type 0} (of_file : F → Option (List ℕ)) (shelf : Shelved) (t : ℕ)
-    → IsKept of_file shelf → IsFirstWithout shelf t → (t ≡ 0) ⊎ HasThread of_file t
-missing_is of_file shelf t kept first = missing_in of_file shelf.lock t kept.lock first.below
 
 some_is : {X : Type 0} (o : Option X) → IsSome o → (x : X) × (o ≡ Some x)
 some_is None is = absurd (let no : false ≡ true = is in cc)

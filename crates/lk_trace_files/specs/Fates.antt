@@ -14,18 +14,17 @@ use Rattle.lk_trace.specs.declared.trace.Event.TheVariants as event
 use Rattle.lk_trace_files.specs.declared.course.Fate.{Fate}
 use Rattle.lk_trace_files.specs.declared.course.Fate.TheVariants.{Moved, Polled, Ended, Hangs}
 
--- a thread's number, and whether it has ended
-abbrev pub said_with : Bool → Option ℕ → Option (ℕ × Bool)
-said_with has_ended number = option_map (λ t. (t, has_ended)) number
-
 -- the text before an end of so many bytes, as a thread's number
 abbrev pub number_before : ℕ → List ℕ → Option ℕ
 number_before size text = number_of 0 63 (take (length text - size) text)
 
+-- a thread's number, and whether it has ended
 abbrev pub said_before : List ℕ → Option (ℕ × Bool)
 said_before front =
-    if ends_with nat_eq front (codes " has") then said_with true (number_before 4 front)
-    else if ends_with nat_eq front (codes " has not") then said_with false (number_before 8 front)
+    if ends_with nat_eq front (codes " has")
+    then option_map (λ t. (t, true)) (number_before 4 front)
+    else if ends_with nat_eq front (codes " has not")
+    then option_map (λ t. (t, false)) (number_before 8 front)
     else None
 
 -- the number of a thread and `has ended`, or `has not ended`

@@ -1,6 +1,4 @@
 pub mod Accepted
-pub mod BadLogs
-pub mod Endings
 pub mod Fates
 pub mod Lines
 pub mod Searches

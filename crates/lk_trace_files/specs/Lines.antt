@@ -1,7 +1,7 @@
 -- Definitions. The lines of an input, taken one after another; of each its first 97 bytes are kept.
 -- This project's own.
-use Rattle.std.specs.Prelude.{◌≡◌, ℕ, List, [], ◌∷◌, ◌++◌, ⊤, take, slice_range}
-use Rattle.std.specs.Prelude.{Option, None, Some, Bool, true, false}
+use Rattle.std.specs.Prelude.{◌≡◌, ℕ, List, [], ◌∷◌, ◌++◌, take, slice_range}
+use Rattle.std.specs.Prelude.{Option, IfSome, IsSomeAnd, Bool, true, false}
 use Rattle.std.specs.Io.KnownBytes.{prepend_known}
 use Rattle.lk_replay.specs.Lines.{lines_of}
 use Rattle.lk_trace_files.specs.declared.lines.Line.{Line}
@@ -31,6 +31,4 @@ pub record IsFirstLine (text rest : List ℕ) (line : Line) : Type 0 where
 
 -- the first line of the bytes that were left is taken
 abbrev pub TakesLine : Option (List ℕ) → Option (List ℕ) → Line → Type 0
-TakesLine None new line = ⊤
-TakesLine (Some text) None line = ⊥
-TakesLine (Some text) (Some rest) line = IsFirstLine text rest line
+TakesLine old new line = IfSome old (λ text. IsSomeAnd new (λ rest. IsFirstLine text rest line))

@@ -1,7 +1,7 @@
 -- Definitions. How a whole text ends: its lines are read one after another, up to the first that
--- ends it. This project's own.
+-- ends it. And the status of the program by it. This project's own.
 use Rattle.std.specs.Prelude.{◌≡◌, ◌≢◌, ◌↔◌, ◌⊎◌, ◌+◌, ◌<◌, ℕ, List, [], ◌∷◌, length}
-use Rattle.std.specs.Prelude.{slice_index_or}
+use Rattle.std.specs.Prelude.{fold, max, slice_index_or}
 use Rattle.std.specs.Prelude.{Option, None, Some, IfSome, Result, IfOk, Bool, true, false}
 use Rattle.std.specs.declared.alloc.AllocError.{AllocError}
 use Rattle.lk_replay.specs.Lines.{lines_of}
@@ -15,6 +15,19 @@ use Rattle.lk_trace_files.specs.declared.check.Ending.{Ending}
 use Rattle.lk_trace_files.specs.declared.check.Ending.TheVariants.{Accepted, Refused, Unread}
 use Rattle.lk_trace_files.specs.declared.check.Ending.TheVariants.{Faulty, Hangs}
 use Rattle.lk_trace_files.specs.declared.check.Report.{Report}
+
+-- 1 if a move or a value is refused or the run hangs, 3 if the file could not be read, 4 if it is
+-- no trace
+abbrev pub status_of : Ending → ℕ
+status_of Accepted = 0
+status_of Refused = 1
+status_of Unread = 3
+status_of Faulty = 4
+status_of Hangs = 1
+
+-- the greatest status of so many endings
+abbrev pub greatest_status : List Ending → ℕ
+greatest_status endings = fold (λ worst ending. max (status_of ending) worst) 0 endings
 
 -- how a text ends, and the line that ends it, from 1; 0 if none does
 pub record Verdict : Type 0 where

@@ -1,5 +1,104 @@
--- Invariants. What the proofs carry from call to call. No public `ensures` rests on believing these
--- files.
-pub mod Taken
-pub mod Following
-pub mod Shelves
+-- Invariants: what was taken of an input so far, what its lines came to, the endings of a job, and
+-- the logs on a shelf. No public contract rests on it.
+use Rattle.std.specs.Prelude.{◌≡◌, ℕ, ◌+◌, ◌<◌, List, [], ◌++◌, length, take, Bool, true, false}
+use Rattle.std.specs.Prelude.{◌||◌, Option, Some, IfSome, IsSomeAnd}
+use Rattle.std.specs.List.{All}
+use Rattle.std.specs.Io.KnownBytes.{Consumes}
+use Rattle.lk_order.specs.Logs.{Reading, ThreadLog}
+use Rattle.lk_order.specs.Shelves.{IsUnfit, Shelved, log_at}
+use Rattle.lk_order.specs.declared.shelf.Unfit.TheVariants as unfit
+use Rattle.lk_replay.specs.Header.{Header}
+use Rattle.lk_replay.specs.Lines.{is_line_feed, lines_of}
+use Rattle.lk_trace.specs.Checks.{Checked}
+use Rattle.lk_trace.specs.declared.trace.Event.{Event}
+use Rattle.lk_trace.specs.declared.trace.Event.TheVariants.{Differs, Fault}
+use Rattle.lk_trace_files.specs.Searches.{IsInFile, Reads}
+use Rattle.lk_trace_files.specs.Fates.{hangs_after}
+use Rattle.lk_trace_files.specs.Lines.{kept, with_end}
+use Rattle.lk_trace_files.specs.Verdicts.{EndsInput, if_hangs, verdict, verdict_from, verdict_in}
+use Rattle.lk_trace_files.specs.Verdicts.{verdict_of}
+use Rattle.lk_trace_files.specs.declared.course.Fate.{Fate}
+use Rattle.lk_trace_files.specs.declared.check.Ending.{Ending}
+use Rattle.lk_trace_files.specs.declared.check.Ending.TheVariants.{Refused, Faulty}
+use Rattle.lk_trace_files.specs.declared.check.Report.{Report}
+use Rattle.lk_trace_files.specs.declared.lines.Line.{Line}
+use Rattle.lk_trace_files.specs.declared.ordering.search.BadLog.{BadLog}
+use Rattle.lk_trace_files.specs.declared.ordering.search.BadLog.TheVariants as bad
+
+-- none of the bytes is a line feed
+abbrev pub IsFlat : List ℕ → Type 0
+IsFlat bytes = All (λ b. is_line_feed b ≡ false) bytes
+
+-- what was read ahead was taken, up to the line's end or whole
+pub record TakesPart (ended : Bool) (old new : Option (List ℕ)) (before after : Line) : Type 0 where
+  pub bytes : List ℕ
+  pub flat : IsFlat bytes
+  pub taken : Consumes old new (with_end ended bytes)
+  pub kept_is : kept after ≡ take 97 (kept before ++ bytes)
+  pub whole_is : after.whole ≡ (ended || before.whole)
+  pub some : ended ≡ false → 0 < length bytes
+
+-- the bytes of a line so far
+pub record Taken (old new : Option (List ℕ)) (line : Line) (some : Bool) : Type 0 where
+  pub bytes : List ℕ
+  pub flat : IsFlat bytes
+  pub taken : Consumes old new bytes
+  pub kept_is : kept line ≡ take 97 bytes
+  pub whole_is : line.whole ≡ false
+  pub none : some ≡ false → bytes ≡ []
+  pub some_is : some ≡ true → 0 < length bytes
+
+-- a line that ends the text is reported, and no other line ends it
+abbrev pub Follows : ℕ → Event → Bool → Report → Type 0
+Follows number (Differs line difference) on report =
+    (on ≡ false) × (verdict_in report ≡ verdict Refused number)
+Follows number (Fault fault) on report = (on ≡ false) × (verdict_in report ≡ verdict Faulty number)
+Follows number event on report = on ≡ true
+
+-- what is left of a text ends as the text does
+abbrev pub ReadsText : Option (List ℕ) → Option (List ℕ) → ℕ → Option Checked → List Fate → Type 0
+ReadsText all left number reading fates =
+    IfSome all (λ text. IsSomeAnd left (λ rest. verdict_of text
+    ≡ if_hangs (hangs_after reading fates (lines_of rest))
+    (verdict_from number reading (lines_of rest))))
+
+-- so many endings more, which are those of inputs if the others are
+pub record Adds {F S : Type 0} (of_file : F → Option (List ℕ)) (of_input : S → Option (List ℕ))
+    (count : ℕ) (old new : List Ending) : Type 0 where
+  pub one_each : length new ≡ length old + count
+  pub each : All (EndsInput of_file of_input) old → All (EndsInput of_file of_input) new
+
+-- so much of an input was read as a log's
+abbrev pub ReadsInput : Option (List ℕ) → Option (List ℕ) → Reading → Type 0
+ReadsInput all left reading =
+    IfSome all (λ text. IsSomeAnd left (λ rest. Reads text rest reading))
+
+-- a log is of a thread of its lock, and so is each of its moves
+pub record IsOwn (log : ThreadLog) : Type 0 where
+  pub few : log.thread < log.header.threads
+  pub own : All (λ line. line.thread ≡ log.thread) log.moves
+
+-- a log at its thread's place, of the shelf's lock
+pub record Stands (lock : Option Header) (t : ℕ) (log : ThreadLog) : Type 0 where
+  pub lock_is : lock ≡ Some log.header
+  pub thread_is : log.thread ≡ t
+  pub is_own : IsOwn log
+
+-- the header of a log in a file
+pub record IsOfLog {F : Type 0} (of_file : F → Option (List ℕ)) (header : Header) : Type 0 where
+  pub log : ThreadLog
+  pub log_is : IsInFile of_file log
+  pub header_is : log.header ≡ header
+  pub some : 0 < header.threads
+
+-- the lock is that of a file's log, and each log stands at its place
+pub record IsKept {F : Type 0} (of_file : F → Option (List ℕ)) (shelf : Shelved) : Type 0 where
+  pub lock : IfSome shelf.lock (IsOfLog of_file)
+  pub each : (t : ℕ) (log : ThreadLog) → log_at shelf t ≡ Some log → Stands shelf.lock t log
+
+-- what is wrong with a log beside those on a shelf
+abbrev pub IsBadBeside : Shelved → ThreadLog → BadLog → Type 0
+IsBadBeside shelf log bad.OtherLock = IsUnfit shelf log unfit.OtherLock
+IsBadBeside shelf log (bad.SecondLog t) = log.thread ≡ t
+IsBadBeside shelf log (bad.OtherRun t) = log.thread ≡ t
+IsBadBeside shelf log other = ⊥

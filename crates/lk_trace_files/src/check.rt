@@ -3,20 +3,17 @@
 
 ghost use Rattle.std.specs.Prelude.{◌≡◌, IfOk, IfSome, None};
 ghost use Rattle.lk_trace.specs.Traces.{after_text_line, event_of};
-ghost use Rattle.lk_trace_files.specs.Endings.{greatest_status, status_of};
 ghost use Rattle.lk_trace_files.specs.Fates.{after_line, hangs_at};
-ghost use Rattle.lk_trace_files.specs.Verdicts.{IsOfText, at_end, if_hangs, verdict, verdict_in};
-ghost use Rattle.lk_trace_files.specs.invariants.Following.{Follows};
+ghost use Rattle.lk_trace_files.specs.Verdicts.{IsOfText, at_end, greatest_status, if_hangs};
+ghost use Rattle.lk_trace_files.specs.Verdicts.{status_of, verdict, verdict_in};
+ghost use Rattle.lk_trace_files.specs.invariants.{Follows};
 
-use crate::blame::put_blame;
+use crate::blame::{HANGS, put_blame, put_waits};
 use crate::course::Course;
-use crate::fields::{put_code, put_refused};
+use crate::formats::{put_code, put_refused};
 use crate::lines::{Line, Lines};
-use crate::notes::Notes;
 use crate::summary::Summary;
-use crate::texts::{Standing, Wrong};
-use crate::trail::Trail;
-use crate::waiting::{HANGS, put_waits};
+use crate::texts::{Notes, Standing, Wrong};
 use lk_replay::parts::Status;
 use lk_trace::{Checker, Difference, Event, TextFault, TraceLine, TraceReader};
 use std::alloc::{AllocError, Global};
@@ -114,18 +111,18 @@ impl Report {
     fn explain(
         &mut self,
         checker: &Checker,
-        trail: &Trail,
+        course: &Course,
         line: TraceLine,
         difference: Difference,
     ) -> Result<(), AllocError>
         ensures { IfOk result (λ _. verdict_in self.new ≡ verdict_in self.old) }
     {
         let lock = checker.lock();
-        let (wrong, standing) = (Wrong(lock, line, difference, &[]), Standing(lock));
+        let wrong = Wrong(lock, line, difference, &[]);
         write!(self.message, "refused: {wrong}")?;
-        put_refused(&mut self.fields, lock, trail, line, difference)?;
-        put_blame(&mut self.notes, lock, trail, line, difference)?;
-        write!(self.standing, "{standing}")
+        put_refused(&mut self.fields, lock, course, line, difference)?;
+        put_blame(&mut self.notes, lock, course, line, difference)?;
+        write!(self.standing, "{}", Standing(lock))
     }
 
     // Says who waits for what, and who holds.
@@ -133,11 +130,10 @@ impl Report {
         ensures { IfOk result (λ _. verdict_in self.new ≡ verdict_in self.old) }
     {
         let lock = checker.lock();
-        let standing = Standing(lock);
         self.message.push_str(HANGS)?;
         put_code(&mut self.fields, "Hangs")?;
         put_waits(&mut self.notes, lock, course, &[])?;
-        write!(self.standing, "{standing}")
+        write!(self.standing, "{}", Standing(lock))
     }
 
     // Says why the text is no trace.
@@ -208,7 +204,7 @@ fn take_line(
         Event::Differs(line, difference) => {
             report.settle(Ending::Refused, number);
             if let Some(checker) = trace.checker() {
-                report.explain(checker, course.trail(), *line, *difference)?;
+                report.explain(checker, course, *line, *difference)?;
             }
             Ok(false)
         }

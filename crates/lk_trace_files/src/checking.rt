@@ -2,8 +2,9 @@
 //! order of the files.
 
 ghost use Rattle.lk_trace_files.specs.Verdicts.{AreOfTexts, EndsInput};
+ghost use Rattle.lk_trace_files.specs.invariants.{Adds};
 ghost use Rattle.std.specs.List.{All};
-ghost use Rattle.std.specs.Prelude.{◌≡◌, ◌+◌, ◌++◌, ◌∷◌, [], IfOk, IfSome, OnOk, length, vec_len};
+ghost use Rattle.std.specs.Prelude.{◌≡◌, ◌++◌, ◌∷◌, [], IfOk, IfSome, OnOk, length, vec_len};
 
 use crate::check::{Ending, Report, check_input, unread};
 use crate::failures::Failure;
@@ -141,11 +142,8 @@ fn check_round<R: Runtime + Threads + Sync, O: Write>(
 ) -> Result<(), Failure>
 where
     R::File: Send,
-    ensures one_each { OnOk result
-        (length reports.new.endings.items ≡ length reports.old.endings.items + length names.now) }
-    ensures each { OnOk result
-        (All (EndsInput R.File.remaining R.Reader.remaining) reports.old.endings.items
-        → All (EndsInput R.File.remaining R.Reader.remaining) reports.new.endings.items) }
+    ensures { OnOk result (Adds R.File.remaining R.Reader.remaining (length names.now)
+        reports.old.endings.items reports.new.endings.items) }
 {
     let (inputs, early) = open_round(rt, alloc, names)?;
     let mut early = early.into_iter();
@@ -170,12 +168,8 @@ fn check_rounds<R: Runtime + Threads + Sync, O: Write>(
 ) -> Result<(), Failure>
 where
     R::File: Send,
-    ensures one_each { OnOk result
-        (length reports.new.endings.items
-        ≡ length reports.old.endings.items + length job.now.files.items) }
-    ensures each { OnOk result
-        (All (EndsInput R.File.remaining R.Reader.remaining) reports.old.endings.items
-        → All (EndsInput R.File.remaining R.Reader.remaining) reports.new.endings.items) }
+    ensures { OnOk result (Adds R.File.remaining R.Reader.remaining (length job.now.files.items)
+        reports.old.endings.items reports.new.endings.items) }
 {
     let mut rest = job.files.as_slice();
     while rest.len() > 0 {
@@ -195,11 +189,8 @@ fn check_each<R: Runtime, O: Write>(
     reports: &mut Reports<'_>,
     output: &mut O,
 ) -> Result<(), Failure>
-    ensures one_each { OnOk result
-        (length reports.new.endings.items ≡ length reports.old.endings.items + length files.now) }
-    ensures each { OnOk result
-        (All (EndsInput R.File.remaining R.Reader.remaining) reports.old.endings.items
-        → All (EndsInput R.File.remaining R.Reader.remaining) reports.new.endings.items) }
+    ensures { OnOk result (Adds R.File.remaining R.Reader.remaining (length files.now)
+        reports.old.endings.items reports.new.endings.items) }
 {
     for name in files {
         let report = check_file(rt, alloc, name, told)?;

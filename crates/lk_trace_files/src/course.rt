@@ -1,5 +1,6 @@
 //! How far each thread of a run has come: whether its last move was a failed poll, and what the
-//! text says of its end, in comments that a recorder writes after the last move.
+//! text says of its end, in comments that a recorder writes after the last move. And what is
+//! remembered for the words on how the run ended, which does not grow with it.
 
 ghost use Rattle.std.specs.Prelude.{◌≡◌, List, Some};
 ghost use Rattle.lk_trace_files.specs.Fates.{after_comment, after_line, hangs, is_hung, is_over};
@@ -7,10 +8,10 @@ ghost use Rattle.lk_trace_files.specs.Fates.{new_fates, said_before, said_of};
 ghost use Rattle.lk_trace_files.specs.declared.course.Fate.{Fate as OfThread};
 ghost use Rattle.std.specs.List.{list_all, list_any};
 
-use crate::trail::Trail;
-use lk_locks::Outcome;
+use lk_locks::{Move, Outcome, StepKind};
+use lk_order::MOST_THREADS;
 use lk_replay::parts::number_of;
-use lk_trace::Event;
+use lk_trace::{Event, Made, TraceLine};
 use std::marker::Model;
 
 /// How far a thread of a run has come.
@@ -69,11 +70,37 @@ pub fn said_of(line: &[u8]) -> Option<(u8, bool)>
     said_before(text.strip_suffix(b" ended".as_slice())?)
 }
 
+// The most words of a lock: those of an MCS lock.
+const MOST_WORDS: usize = 129;
+
+/// A move, and the line that it is in, from 1.
+#[derive(Clone, Copy)]
+pub struct Step {
+    pub number: u64,
+    pub line: TraceLine,
+    pub made: Made,
+}
+
+// The place of the word that a move writes, if it is one operation on one word.
+fn write_of(action: Move, made: Made) -> Option<usize> {
+    let effect = made.effect?;
+    match action {
+        Move::Step(StepKind::Read) | Move::Call(_) => None,
+        Move::Step(StepKind::Cas) if effect.found == effect.left => None,
+        _ => Some(effect.word),
+    }
+}
+
 /// How far each thread of a run has come. A contract sees a list with a place for each `u8`.
 #[derive(Drop)]
 pub struct Course {
     fates: [Fate; 256],
-    trail: Trail,
+    // of each thread the last moves, with the last one first
+    steps: [[Option<Step>; 3]; 64],
+    // the line of the first failed poll in a row; 0 if the last move was none
+    since: [u64; 64],
+    // the last write to each word
+    writes: [Option<Step>; 129],
 }
 
 impl Model for Course {
@@ -89,7 +116,9 @@ impl Course {
     {
         Course {
             fates: [Fate::Moved; 256],
-            trail: Trail::new(),
+            steps: [[None; 3]; 64],
+            since: [0; 64],
+            writes: [None; 129],
         }
     }
 
@@ -106,6 +135,29 @@ impl Course {
         };
     }
 
+    // A move was made, in the line of this number.
+    fn remember(&mut self, number: u64, line: TraceLine, made: Made)
+        ensures { self.new ≡ self.old }
+    {
+        let t = line.thread as usize;
+        if t >= MOST_THREADS {
+            return;
+        }
+        let (steps, since, writes) = (&mut self.steps, &mut self.since, &mut self.writes);
+        let step = Some(Step { number, line, made });
+        let [last, before, _] = steps[t];
+        steps[t] = [step, last, before];
+        since[t] = match (made.outcome, since[t]) {
+            (Outcome::Waits, 0) => number,
+            (Outcome::Waits, first) => first,
+            _ => 0,
+        };
+        match write_of(line.action, made) {
+            Some(place) if place < MOST_WORDS => writes[place] = step,
+            _ => {}
+        }
+    }
+
     /// The line of this number, from 1, was read, and came to this.
     pub fn take(&mut self, number: u64, line: &[u8], event: Event)
         ensures { self.new ≡ after_line self.old event line.now }
@@ -117,7 +169,7 @@ impl Course {
                 }
             }
             Event::Made(line, made) => {
-                self.trail.take(number, line, made);
+                self.remember(number, line, made);
                 let fate = match made.outcome {
                     Outcome::Waits => Fate::Polled,
                     _ => Fate::Moved,
@@ -129,9 +181,21 @@ impl Course {
         }
     }
 
-    /// What the threads did last.
-    pub fn trail(&self) -> &Trail {
-        &self.trail
+    /// The thread's last moves, the last one first.
+    pub fn steps(&self, thread: u8) -> [Option<Step>; 3] {
+        let steps = self.steps.get(thread as usize);
+        steps.copied().unwrap_or([None; 3])
+    }
+
+    /// The line since which each move of the thread was a failed poll.
+    pub fn since(&self, thread: u8) -> Option<u64> {
+        self.since.get(thread as usize).copied().filter(|n| *n > 0)
+    }
+
+    /// The last write to the word at this place, and what it left there.
+    pub fn written(&self, place: usize) -> Option<(Step, u64)> {
+        let step = (*self.writes.get(place)?)?;
+        Some((step, step.made.effect?.left))
     }
 
     /// How far a thread has come.

@@ -1,8 +1,15 @@
-//! The reports of a check in three forms: lines as compilers write them, TAP, and JSON.
+//! The reports of a check in three forms: lines as compilers write them, TAP, and JSON. What ended
+//! an input is said to programs by further fields of a JSON object. They are a code, and of a
+//! refusal the thread, its step, the word, what was expected and what was found.
 
 use crate::check::{Ending, Report};
 use crate::checking::CheckJob;
-use crate::notes::Notes;
+use crate::course::Course;
+use crate::sentences::{Awaited, polled_for};
+use crate::texts::{Lock, Notes};
+use lk_locks::{Move, Outcome, Phase, Refusal};
+use lk_replay::parts::{move_text, outcome_text};
+use lk_trace::{Difference, TraceLine, WordName, name_at};
 use std::alloc::AllocError;
 use std::fmt;
 use std::fmt::Write;
@@ -17,27 +24,8 @@ pub enum Format {
 
 const UNCONTENDED: &str = "no thread ever waited, so the run shows nothing of contention";
 
-// The colors of a terminal.
-const RED: &str = "\x1b[1;31m";
-
-const PURPLE: &str = "\x1b[1;35m";
-
-const CYAN: &str = "\x1b[1;36m";
-
-// Text in a color, if there are colors.
-#[derive(Clone, Copy)]
-struct Painted<'a>(bool, &'static str, &'a str);
-
-impl fmt::Display for Painted<'_> {
-    fn fmt<W: fmt::Write>(&self, f: &mut fmt::Formatter<W>) -> fmt::Result {
-        let Painted(colored, color, text) = *self;
-        if colored {
-            write!(f, "{color}{text}\x1b[0m")
-        } else {
-            f.write_str(text)
-        }
-    }
-}
+// How red, purple and cyan text begins on a terminal, and how it ends.
+const COLORS: [&str; 4] = ["\x1b[1;31m", "\x1b[1;35m", "\x1b[1;36m", "\x1b[0m"];
 
 // Writes a file's name, and the line in it that is meant, if one is.
 fn put_place(text: &mut String, name: &str, line: u64) -> Result<(), AllocError> {
@@ -71,24 +59,21 @@ fn put_text(
     counted: bool,
     colored: bool,
 ) -> Result<(), AllocError> {
-    let (line, standing) = (report.line, &report.standing);
-    let note = Painted(colored, CYAN, "note:");
+    let (line, message, standing) = (report.line, &report.message, &report.standing);
+    let [red, purple, cyan, end] = if colored { COLORS } else { [""; 4] };
     if report.ending != Ending::Accepted {
-        let message = Painted(colored, RED, report.message.as_str());
         put_place(text, name, line)?;
-        writeln!(text, "{message}")?;
+        writeln!(text, "{red}{message}{end}")?;
     }
-    put_noted(text, name, &report.notes, format_args!("{note} "))?;
+    put_noted(text, name, &report.notes, format_args!("{cyan}note:{end} "))?;
     if !standing.is_empty() {
         put_place(text, name, line)?;
-        writeln!(text, "{note} {standing}")?;
+        writeln!(text, "{cyan}note:{end} {standing}")?;
     }
     if counted {
-        let summary = &report.summary;
-        writeln!(text, "{name}: {summary}")?;
-        if !summary.is_contended() {
-            let warning = Painted(colored, PURPLE, "warning:");
-            writeln!(text, "{name}: {warning} {UNCONTENDED}")?;
+        writeln!(text, "{name}: {}", report.summary)?;
+        if !report.summary.is_contended() {
+            writeln!(text, "{name}: {purple}warning:{end} {UNCONTENDED}")?;
         }
     }
     Ok(())
@@ -131,9 +116,8 @@ fn put_tap(
         writeln!(text, "# {standing}")?;
     }
     if counted {
-        let summary = &report.summary;
-        writeln!(text, "# {summary}")?;
-        if !summary.is_contended() {
+        writeln!(text, "# {}", report.summary)?;
+        if !report.summary.is_contended() {
             writeln!(text, "# {UNCONTENDED}")?;
         }
     }
@@ -230,5 +214,95 @@ pub fn put_front(text: &mut String, job: &CheckJob) -> Result<(), AllocError> {
     match job.format {
         Format::Tap if !job.quiet => write!(text, "TAP version 14\n1..{count}\n"),
         _ => Ok(()),
+    }
+}
+
+/// Writes a code.
+pub fn put_code(text: &mut String, code: &str) -> Result<(), AllocError> {
+    write!(text, ",\"code\":\"{code}\"")
+}
+
+/// Writes in what a line differs from the lock. None of the words has a quote.
+pub fn put_refused(
+    text: &mut String,
+    lock: &Lock,
+    course: &Course,
+    line: TraceLine,
+    difference: Difference,
+) -> Result<(), AllocError> {
+    put_code(text, difference.name())?;
+    let (thread, step) = (line.thread, move_text(line.action));
+    write!(text, ",\"thread\":{thread},\"step\":\"{step}\"")?;
+    match difference {
+        Difference::Refused(Refusal::WrongStep { next }) => {
+            put_both(text, Quoted(move_text(Move::Step(next))), Quoted(step))
+        }
+        Difference::Refused(Refusal::Busy) => put_poll(text, lock, course, thread),
+        _ => put_value(text, difference),
+    }
+}
+
+// Writes what was expected and found.
+fn put_both<T: fmt::Display + Drop>(text: &mut String, own: T, given: T) -> Result<(), AllocError> {
+    write!(text, ",\"expected\":{own},\"found\":{given}")
+}
+
+// The word of a thread's last move, what it found and the phase before it, if that was a poll.
+fn last_poll(lock: &Lock, course: &Course, thread: u8) -> Option<(WordName, u64, Phase)> {
+    let made = course.steps(thread)[0]?.made;
+    let effect = made.effect?;
+    let word = name_at(lock.kind(), effect.word)?;
+    (made.outcome == Outcome::Waits).then_some((word, effect.found, made.from))
+}
+
+// Writes the last poll of a thread that went on all the same: its word, the value that it waits
+// for, if that is one, and what it found.
+fn put_poll(text: &mut String, lock: &Lock, course: &Course, thread: u8) -> Result<(), AllocError> {
+    let Some((word, found, phase)) = last_poll(lock, course, thread) else {
+        return Ok(());
+    };
+    write!(text, ",\"word\":\"{word}\"")?;
+    if let Some(Awaited::Ticket(due) | Awaited::Value(due)) = polled_for(lock.kind(), phase) {
+        write!(text, ",\"expected\":{due}")?;
+    }
+    write!(text, ",\"found\":{found}")
+}
+
+// Writes a value, a word or a result that is another than the lock's.
+fn put_value(text: &mut String, difference: Difference) -> Result<(), AllocError> {
+    match difference {
+        Difference::OtherWord { word, given } => {
+            if let Some(word) = word {
+                write!(text, ",\"word\":\"{word}\",\"expected\":\"{word}\"")?;
+            }
+            write!(text, ",\"found\":\"{given}\"")
+        }
+        Difference::FoundOther {
+            word,
+            found: own,
+            given,
+        }
+        | Difference::LeftOther {
+            word,
+            left: own,
+            given,
+        } => {
+            write!(text, ",\"word\":\"{word}\"")?;
+            put_both(text, own, given)
+        }
+        Difference::WroteOther { wrote } => {
+            let (own, given) = if wrote {
+                ("done", "failed")
+            } else {
+                ("failed", "done")
+            };
+            put_both(text, Quoted(own), Quoted(given))
+        }
+        Difference::CountNotAbove { last, given } => put_both(text, last.saturating_add(1), given),
+        Difference::OtherOutcome { outcome, given } => {
+            let (own, given) = (outcome_text(outcome), outcome_text(given));
+            put_both(text, Quoted(own), Quoted(given))
+        }
+        Difference::Refused(_) => Ok(()),
     }
 }

@@ -1,4 +1,5 @@
-//! The lines of an input, one after another, in memory that does not grow with it.
+//! The lines of an input, one after another, and a text that is written piece by piece, in memory
+//! that does not grow with either.
 //!
 //! Of each line the first 97 bytes are kept: no header and no move has more than 96, and of a
 //! comment nothing but its first byte matters.
@@ -10,7 +11,7 @@ ghost use Rattle.std.specs.Io.KnownBytes.{IsAtEnd, Keeps};
 use lk_trace::MOST_OF_A_LINE;
 use memchr::memchr;
 use std::alloc::{AllocError, Global};
-use std::io::{Error, ErrorKind, Read};
+use std::io::{Error, ErrorKind, Read, Write};
 
 /// The bytes of a line that are kept.
 const MOST_KEPT: usize = MOST_OF_A_LINE + 1;
@@ -91,7 +92,7 @@ pub struct Lines<R> {
 
 impl<R: Read + Drop> Lines<R> {
     ghost use Rattle.lk_trace_files.specs.Lines.{TakesLine, left};
-    ghost use Rattle.lk_trace_files.specs.invariants.Taken.{TakesPart};
+    ghost use Rattle.lk_trace_files.specs.invariants.{TakesPart};
 
     /// Nothing was read yet.
     pub fn new(alloc: Global, input: R) -> Result<Lines<R>, AllocError>
@@ -196,4 +197,16 @@ where
         }
     }
     Ok((u64::MAX, Err(Error::from(ErrorKind::FileTooLarge))))
+}
+
+// Bytes that wait before they are written.
+const MOST_WAITING: usize = 65_536;
+
+/// Writes what waits and empties it, if that is much.
+pub fn write_waiting<O: Write>(text: &mut String, output: &mut O) -> Result<(), Error> {
+    if text.len() > MOST_WAITING {
+        output.write_all(text.as_bytes())?;
+        text.clear();
+    }
+    Ok(())
 }

@@ -3,10 +3,7 @@
 ghost use Rattle.std.specs.Prelude.{IfOk};
 ghost use Rattle.lk_trace_files.specs.Searches.{IsSought};
 
-mod bad_log;
-mod hanging;
 mod reading;
-mod report;
 mod search;
 mod telling;
 mod writing;
@@ -16,16 +13,14 @@ use crate::failures::Failure;
 use crate::formats::Format;
 use crate::progress::Progress;
 use crate::summary::Count;
-pub use bad_log::BadLog;
 use lk_order::Order;
 use reading::take_logs;
-use report::OrderReport;
-pub use search::{Search, Sought, search_logs};
+pub use search::{BadLog, Search, Sought, search_logs};
 use std::alloc::Global;
 use std::fs;
 use std::io::{Eprint, Write};
 use std::rt::Files;
-use telling::{put_cut, put_hang, put_stuck};
+use telling::{OrderReport, put_cut, put_hang, put_stuck};
 use writing::{write_schedules, write_trace};
 
 /// What is to be put into one order, the folder for what is found, and what is said of it. For a

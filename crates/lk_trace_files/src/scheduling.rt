@@ -2,8 +2,7 @@
 //! line as it is kept.
 
 use crate::failures::Failure;
-use crate::lines::take_lines;
-use crate::written::write_waiting;
+use crate::lines::{take_lines, write_waiting};
 use lk_replay::parts::{is_skipped, move_text};
 use lk_trace::{TextFault, read_header, read_line};
 use std::alloc::{AllocError, Global};
@@ -23,11 +22,9 @@ fn put_line(
             return Ok(Some(fault));
         }
         *begun = true;
-        let header = str::from_utf8(line).unwrap_or("");
-        writeln!(text, "{header}")?;
+        writeln!(text, "{}", str::from_utf8(line).unwrap_or(""))?;
     } else if let Some(read) = read_line(line) {
-        let (thread, word) = (read.thread, move_text(read.action));
-        writeln!(text, "{thread} {word}")?;
+        writeln!(text, "{} {}", read.thread, move_text(read.action))?;
     } else {
         return Ok(Some(TextFault::BadLine));
     }

@@ -90,13 +90,11 @@ impl Summary {
 
     /// Writes the counts as further fields of a JSON object.
     pub fn put_fields(&self, text: &mut String) -> Result<(), AllocError> {
-        let (threads, moves, waits) = (self.seen.count_ones(), self.moves, self.waits);
+        let (moves, waits) = (self.moves, self.waits);
         let (failed, late) = (self.failed, self.late);
         let (longest, rounds) = (self.longest, self.rounds);
-        write!(
-            text,
-            ",\"threads\":{threads},\"moves\":{moves},\"waits\":{waits}"
-        )?;
+        write!(text, ",\"threads\":{}", self.seen.count_ones())?;
+        write!(text, ",\"moves\":{moves},\"waits\":{waits}")?;
         write!(text, ",\"failed_cas\":{failed},\"late_link_polls\":{late}")?;
         write!(text, ",\"longest_queue\":{longest},\"rounds\":{rounds}")
     }
@@ -110,9 +108,8 @@ impl fmt::Display for Summary {
         let cas = "failed compare-and-swap";
         let failed = Count(self.failed, cas, "failed compare-and-swaps");
         let late = Count(self.late, "poll of a late link", "polls of a late link");
-        let longest = self.longest;
         let rounds = Count(self.rounds, "round of the counter", "rounds of the counter");
         write!(f, "{threads}, {moves}, {waits}, {failed}, {late}, ")?;
-        write!(f, "longest queue {longest}, {rounds}")
+        write!(f, "longest queue {}, {rounds}", self.longest)
     }
 }

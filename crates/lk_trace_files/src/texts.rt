@@ -1,9 +1,11 @@
-//! What is said of a line that differs from the machine, and of who holds and who waits.
+//! What is said of a line that differs from the machine, of who holds and who waits, and beside a
+//! message: notes, each with the line that it is about.
 
 use lk_locks::{Holders, LockKind, Move, Refusal, Tracker};
 use lk_replay::parts::{lock_text, move_text, outcome_text};
 use lk_trace::{Difference, Seen, TraceLine, WordName};
 use lk_words::WordArray;
+use std::alloc::{AllocError, Global};
 use std::fmt;
 
 /// A lock that is followed along a trace.
@@ -52,8 +54,7 @@ impl fmt::Display for Shown<'_> {
                     write!(f, " {count}")?;
                 }
                 if let Some(outcome) = outcome {
-                    let outcome = outcome_text(outcome);
-                    write!(f, " {outcome}")?;
+                    write!(f, " {}", outcome_text(outcome))?;
                 }
             }
         }
@@ -87,10 +88,7 @@ impl fmt::Display for Standing<'_> {
         match self.0.holders() {
             Holders::Nobody => f.write_str("held by nobody")?,
             Holders::Holder(thread) => write!(f, "held by {thread}")?,
-            Holders::Readers(threads) => {
-                let threads = Threads(threads.as_slice());
-                write!(f, "read by {threads}")?;
-            }
+            Holders::Readers(threads) => write!(f, "read by {}", Threads(threads.as_slice()))?,
             Holders::Writer(thread) => write!(f, "written by {thread}")?,
         }
         let queue = self.0.queue();
@@ -151,8 +149,7 @@ impl Wrong<'_> {
                 write!(f, "{called}'s next step is '{next}'")?;
             }
         }
-        let name = refusal.name();
-        write!(f, " ({name})")
+        write!(f, " ({})", refusal.name())
     }
 }
 
@@ -165,5 +162,54 @@ impl fmt::Display for Wrong<'_> {
             Difference::OtherWord { .. } => write!(f, "{called}'s {step} is {difference}"),
             _ => write!(f, "{called}'s {step} {difference}"),
         }
+    }
+}
+
+/// A text about a line, from 1; 0 if it is about no line of its own.
+#[derive(Debug, Drop)]
+pub struct Note {
+    /// The file that the line is in; empty for the one that the message is about.
+    pub file: String,
+    pub line: u64,
+    pub text: String,
+}
+
+/// Notes, in the order in which they are said.
+#[derive(Debug, Drop)]
+pub struct Notes {
+    alloc: Global,
+    notes: Vec<Note>,
+}
+
+impl Notes {
+    /// Nothing is said.
+    pub fn new(alloc: Global) -> Notes {
+        Notes {
+            alloc,
+            notes: Vec::new(alloc),
+        }
+    }
+
+    /// Says this of a line of another file.
+    pub fn put_in<T: fmt::Display + Drop>(
+        &mut self,
+        file: &str,
+        line: u64,
+        said: T,
+    ) -> Result<(), AllocError> {
+        let file = String::from_str(self.alloc, file)?;
+        let text = format!(in self.alloc; "{said}")?;
+        self.notes.push(Note { file, line, text })?;
+        Ok(())
+    }
+
+    /// Says this of a line.
+    pub fn put<T: fmt::Display + Drop>(&mut self, line: u64, said: T) -> Result<(), AllocError> {
+        self.put_in("", line, said)
+    }
+
+    /// What is said.
+    pub fn as_slice(&self) -> &[Note] {
+        self.notes.as_slice()
     }
 }

@@ -1,9 +1,6 @@
 //! The words after the program's name, and the job that they ask for. `clap` reads the words.
 
-use crate::searches::{
-    SearchJob, cover_command, cover_given, find_command, find_given, space_command, space_given,
-    tour_command, tour_given,
-};
+use crate::searches::{self, SearchJob};
 use clap::error::ErrorKind;
 use clap::{Arg, ArgAction, ArgMatches, Command, value_parser};
 use lk_trace_files::{CheckJob, Format, OrderJob};
@@ -149,10 +146,10 @@ fn program_command<'a>(alloc: Global) -> Result<Command<'a>, AllocError> {
         .subcommand(check_command(alloc)?)?
         .subcommand(explain_command(alloc)?)?
         .subcommand(order_command(alloc)?)?
-        .subcommand(find_command(alloc)?)?
-        .subcommand(tour_command(alloc)?)?
-        .subcommand(space_command(alloc)?)?
-        .subcommand(cover_command(alloc)?)?
+        .subcommand(searches::find_command(alloc)?)?
+        .subcommand(searches::tour_command(alloc)?)?
+        .subcommand(searches::space_command(alloc)?)?
+        .subcommand(searches::cover_command(alloc)?)?
         .subcommand(schedule)
 }
 
@@ -274,10 +271,10 @@ pub fn parse_words(alloc: Global, words: &[String]) -> Result<Job, ParseFault> {
         b"check" => check_given(alloc, given),
         b"explain" => explain_given(alloc, given),
         b"order" => order_given(alloc, given),
-        b"find" => Ok(Job::Search(find_given(alloc, given)?)),
-        b"tour" => Ok(Job::Search(tour_given(alloc, given)?)),
-        b"space" => Ok(Job::Search(space_given(alloc, given)?)),
-        b"cover" => Ok(Job::Search(cover_given(alloc, given)?)),
+        b"find" => Ok(Job::Search(searches::find_given(alloc, given)?)),
+        b"tour" => Ok(Job::Search(searches::tour_given(alloc, given)?)),
+        b"space" => Ok(Job::Search(searches::space_given(alloc, given)?)),
+        b"cover" => Ok(Job::Search(searches::cover_given(alloc, given)?)),
         _ => Ok(Job::Schedule {
             file: file_given(alloc, given)?,
         }),

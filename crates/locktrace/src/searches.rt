@@ -33,15 +33,13 @@ pub enum SearchJob {
 
 fn with_bounds<'a>(alloc: Global, command: Command<'a>) -> Result<Command<'a>, AllocError> {
     let help = "How many times each thread takes the lock at most; 1 if it is not given";
-    let rounds = option_arg(alloc, "rounds", "R", help).value_parser(value_parser!(u8).range(
-        1..=255,
-    ));
+    let range = value_parser!(u8).range(1..=255);
+    let rounds = option_arg(alloc, "rounds", "R", help).value_parser(range);
     let help = "How many bits a word has; 64 if it is not given";
     let bits = option_arg(alloc, "bits", "B", help);
     let help = "How many states are searched at most; 1,000,000 if it is not given";
-    let limit = option_arg(alloc, "limit", "N", help).value_parser(value_parser!(u64).range(
-        1..=MOST_STATES,
-    ));
+    let range = value_parser!(u64).range(1..=MOST_STATES);
+    let limit = option_arg(alloc, "limit", "N", help).value_parser(range);
     command.arg(rounds)?.arg(bits)?.arg(limit)
 }
 

@@ -3,13 +3,13 @@
 ghost use Rattle.std.specs.Prelude.{◌≡◌, ◌⊎◌, IfErr, IfOk, IfSome, MatchResult, Ok, Err};
 ghost use Rattle.lk_order.specs.Logs.{log_read};
 ghost use Rattle.lk_order.specs.Shelves.{HaveLogs, IsTaken, threads_of};
-ghost use Rattle.lk_trace_files.specs.BadLogs.{IsBad, IsInFile, IsNoLog, IsText};
-ghost use Rattle.lk_trace_files.specs.invariants.Shelves.{IsBadBeside, IsKept, IsOwn};
+ghost use Rattle.lk_trace_files.specs.Searches.{IsBad, IsInFile, IsNoLog, IsText};
+ghost use Rattle.lk_trace_files.specs.invariants.{IsBadBeside, IsKept, IsOwn};
 
-use super::bad_log::BadLog;
+use super::search::BadLog;
 use crate::course::said_of;
 use crate::lines::{Line, Lines};
-use crate::notes::Notes;
+use crate::texts::Notes;
 use lk_order::{Log, LogFault, LogReader, MOST_THREADS, Shelf, Unfit};
 use std::alloc::{AllocError, Global};
 use std::io::{Error, ErrorKind, Read};
@@ -87,14 +87,10 @@ fn read_log<R: Files>(
     ensures { IfOk result (λ read. MatchResult read
         (λ log. IsInFile R.File.remaining log.0) (IsBad R.File.remaining)) }
 {
-    let input = match fs::open(rt, name) {
-        Ok(input) => input,
-        Err(error) => {
-            messages.put_in(name, 0, error)?;
-            return Ok(Err(BadLog::Unread));
-        }
+    let (number, ended) = match fs::open(rt, name) {
+        Ok(input) => read_input(alloc, input)?,
+        Err(error) => (0, Err(error)),
     };
-    let (number, ended) = read_input(alloc, input)?;
     match ended {
         Ok(Ok(read)) => Ok(Ok(read)),
         Ok(Err(LogFault::OutOfMemory)) => Err(AllocError),

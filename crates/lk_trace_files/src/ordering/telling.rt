@@ -1,27 +1,95 @@
-//! What is said of an order that does not reach the end of the logs, or whose run hangs.
+//! What is said of an order that does not reach the end of the logs, or whose run hangs. It is
+//! written as lines on standard error, or on standard output as TAP or JSON.
 
-use super::report::OrderReport;
+use crate::blame::{HANGS, put_waits};
+use crate::check::Ending;
 use crate::course::Course;
-use crate::fields::{put_code, put_refused};
+use crate::formats::{
+    Format, Quoted, put_code, put_comments, put_note_fields, put_noted, put_refused,
+};
 use crate::summary::Count;
-use crate::texts::{Called, Shown, Standing, Wrong};
-use crate::trail::Trail;
-use crate::waiting::{HANGS, put_waits};
+use crate::texts::{Called, Notes, Shown, Standing, Wrong};
 use lk_locks::{LockKind, Move, StepKind};
 use lk_order::{Log, Order, Stuck};
 use lk_trace::{Seen, TraceLine};
-use std::alloc::AllocError;
+use std::alloc::{AllocError, Global};
 use std::fmt;
+use std::fmt::Write;
 
-// How far an order came.
-#[derive(Clone, Copy)]
-struct Placed<'a>(&'a Order);
+/// What is said of an order. A text of no file is the program's own.
+#[derive(Drop)]
+pub struct OrderReport {
+    /// How many steps were placed.
+    pub placed: usize,
+    /// What is wrong.
+    pub messages: Notes,
+    /// The same for programs: further fields of its JSON object, each after a comma.
+    pub fields: String,
+    pub warnings: Notes,
+    pub notes: Notes,
+}
 
-impl fmt::Display for Placed<'_> {
-    fn fmt<W: fmt::Write>(&self, f: &mut fmt::Formatter<W>) -> fmt::Result {
-        let (placed, standing) = (self.0.len(), Standing(self.0.checker().lock()));
-        write!(f, "{placed} steps placed; {standing}")
+// How a text without a file begins.
+const OWN_NAME: &str = "locktrace";
+
+impl OrderReport {
+    /// Nothing is said.
+    pub fn new(alloc: Global) -> OrderReport {
+        OrderReport {
+            placed: 0,
+            messages: Notes::new(alloc),
+            fields: String::new(alloc),
+            warnings: Notes::new(alloc),
+            notes: Notes::new(alloc),
+        }
     }
+
+    /// Writes it, and how the job ends, in a form: what goes to standard output, or as text to
+    /// standard error.
+    pub fn put(
+        &self,
+        ending: Ending,
+        format: Format,
+        folder: &str,
+        output: &mut String,
+        errors: &mut String,
+    ) -> Result<(), AllocError> {
+        match format {
+            Format::Text => {
+                put_noted(errors, OWN_NAME, &self.messages, "")?;
+                put_noted(errors, OWN_NAME, &self.warnings, "warning: ")?;
+                put_noted(errors, OWN_NAME, &self.notes, "note: ")
+            }
+            Format::Tap => {
+                let is_ok = ending == Ending::Accepted;
+                let sign = if is_ok { "ok" } else { "not ok" };
+                writeln!(output, "TAP version 14\n1..1\n{sign} 1 - {folder}")?;
+                put_comments(output, &self.messages)?;
+                put_comments(output, &self.warnings)?;
+                put_comments(output, &self.notes)
+            }
+            Format::Json => {
+                let (folder, ending, placed) = (Quoted(folder), ending.text(), self.placed);
+                write!(output, "{{\"folder\":{folder},\"ending\":\"{ending}\"")?;
+                write!(output, ",\"moves\":{placed}")?;
+                output.push_str(&self.fields)?;
+                put_note_fields(output, "messages", &self.messages)?;
+                put_note_fields(output, "warnings", &self.warnings)?;
+                put_note_fields(output, "notes", &self.notes)?;
+                output.push_str("}\n")
+            }
+        }
+    }
+}
+
+// Says how far an order came, of a line of a file.
+fn put_placed(notes: &mut Notes, file: &str, line: u64, order: &Order) -> Result<(), AllocError> {
+    let (placed, standing) = (order.len(), Standing(order.checker().lock()));
+    notes.put_in(
+        file,
+        line,
+        format_args!("{placed} steps placed; {standing}"),
+    )
 }
 
 // Why a thread's next step cannot be placed.
@@ -69,8 +137,7 @@ fn put_missing(report: &mut OrderReport, log: &Log, name: &str) -> Result<(), Al
     for (at, line) in log.moves().iter().enumerate() {
         if let Some(part) = missing_in(log.header().kind(), *line) {
             let number = u64::from(log.line_of(at).unwrap_or(0));
-            let line = Shown(line);
-            let said = format_args!("'{line}' has no {part}, which an order needs");
+            let said = format_args!("'{}' has no {part}, which an order needs", Shown(line));
             return report.notes.put_in(name, number, said);
         }
     }
@@ -96,14 +163,17 @@ pub fn put_stuck(
     let number = next_number(order, stuck.thread);
     if let Some(line) = order.next(stuck.thread) {
         let (shown, why) = (Shown(&line), Why(order, line));
+        let messages = &mut report.messages;
         if let Some(difference) = stuck.difference {
-            let said = format_args!("cannot be placed: {why}");
-            report.messages.put_in(name, number, said)?;
+            messages.put_in(name, number, format_args!("cannot be placed: {why}"))?;
             let lock = order.checker().lock();
-            put_refused(&mut report.fields, lock, &Trail::new(), line, difference)?;
+            put_refused(&mut report.fields, lock, &Course::new(), line, difference)?;
         } else {
-            let said = format_args!("'{shown}' cannot be placed: {why}");
-            report.messages.put_in(name, number, said)?;
+            messages.put_in(
+                name,
+                number,
+                format_args!("'{shown}' cannot be placed: {why}"),
+            )?;
         }
     }
     for thread in 0..order.header().threads() {
@@ -120,7 +190,7 @@ pub fn put_stuck(
             put_missing(report, log, file)?;
         }
     }
-    report.notes.put_in(name, number, Placed(order))
+    put_placed(&mut report.notes, name, number, order)
 }
 
 /// Says that an order ends where a log was cut short. `open` has the threads that have not ended.
@@ -146,8 +216,9 @@ pub fn put_cut(
         }
     }
     let placed = order.len();
-    let said = format_args!("ordered up to there: {placed} steps");
-    report.notes.put(0, said)
+    report
+        .notes
+        .put(0, format_args!("ordered up to there: {placed} steps"))
 }
 
 /// Says that a run hangs, who waits for what, and who holds.
@@ -160,5 +231,5 @@ pub fn put_hang(
     put_code(&mut report.fields, "Hangs")?;
     report.messages.put(0, HANGS)?;
     put_waits(&mut report.notes, order.checker().lock(), course, names)?;
-    report.notes.put(0, Placed(order))
+    put_placed(&mut report.notes, "", 0, order)
 }

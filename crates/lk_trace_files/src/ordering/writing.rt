@@ -3,8 +3,8 @@
 
 use crate::course::{Course, Fate};
 use crate::failures::Failure;
+use crate::lines::write_waiting;
 use crate::texts::Shown;
-use crate::written::write_waiting;
 use lk_order::{Order, Piece, Pieces};
 use lk_replay::parts::{lock_text, move_text};
 use std::alloc::{AllocError, Global};
@@ -45,8 +45,7 @@ pub fn write_trace<O: Write>(
     put_header(&mut text, order)?;
     for k in 0..order.len() {
         if let Some(line) = order.line(k) {
-            let line = Shown(&line);
-            writeln!(text, "{line}")?;
+            writeln!(text, "{}", Shown(&line))?;
         }
         write_waiting(&mut text, output)?;
     }
@@ -64,8 +63,7 @@ fn schedule_of(alloc: Global, order: &Order, piece: Piece) -> Result<String, All
     put_header(&mut text, order)?;
     for k in piece.first..piece.first.saturating_add(piece.moves) {
         if let Some(line) = order.line(k) {
-            let (thread, word) = (line.thread, move_text(line.action));
-            writeln!(text, "{thread} {word}")?;
+            writeln!(text, "{} {}", line.thread, move_text(line.action))?;
         }
     }
     Ok(text)

@@ -11,8 +11,7 @@ use Rattle.lk_trace_files.proofs.checking.check_round.Goals.{in_default+in_ok-re
 
 pub loop-name-init : goal.loop-name-init
 loop-name-init g c = record {
-  one_each = omega arith;
-  each = λ all. all;
+  adds = record { one_each = omega arith; each = λ all. all };
   early =
       All-same (IsEarly g.R.File.Read.remaining g.R.Reader.Read.remaining)
       _ _ c.into_iter-early.ensures.rest c.in_ok-inputs.ensures;
@@ -36,35 +35,37 @@ loop-name-preserved g c =
     c.loop-name.early.rest.items c.next.new.self.rest.items c.next.result c.next.ensures.items
     c.loop-name.invariant.early in
     record {
-      one_each =
-          omega (
-            arith,
-            c.loop-name.invariant.one_each,
-            ap length c.in_ok-put.ensures,
-            length-append c.loop-name.reports.endings.items (c.match-next.report.ending ∷ []),
-          );
-      each = λ all.
-          one_more (EndsInput g.R.File.Read.remaining g.R.Reader.Read.remaining) _ _ _
-          c.in_ok-put.ensures (c.loop-name.invariant.each all)
-          (elim c.match-next.branch [
-            | in-Some-Some w ↦
-                subst (OfInput g.R.File.Read.remaining g.R.Reader.Read.remaining)
-                (sym w.report-is)
-                (some_some (OfInput g.R.File.Read.remaining g.R.Reader.Read.remaining)
-                c.next.result w.in-Some-Some.field-0 w.in-Some-Some.report next.0
-                w.in-Some-Some.is w.in-Some-Some.field-0-is)
-            | in_default+in_ok-report-in_default w ↦
-                subst (OfInput g.R.File.Read.remaining g.R.Reader.Read.remaining)
-                (sym w.report-is)
-                (IfOk-at_ok (OfInput g.R.File.Read.remaining g.R.Reader.Read.remaining)
-                (sym w.unwrap_or.ensures ∙ w.in_ok-report-in_default.was)
-                (or_error (OfInput g.R.File.Read.remaining g.R.Reader.Read.remaining)
-                w.next-in_default.result _
-                (next_of (IsLate g.R.File.Read.remaining g.R.Reader.Read.remaining)
-                c.loop-name.late.rest.items w.next-in_default.new.self.rest.items
-                w.next-in_default.result w.next-in_default.ensures.items
-                c.loop-name.invariant.late).0))
-          ]);
+      adds = record {
+        one_each =
+            omega (
+              arith,
+              c.loop-name.invariant.adds.one_each,
+              ap length c.in_ok-put.ensures,
+              length-append c.loop-name.reports.endings.items (c.match-next.report.ending ∷ []),
+            );
+        each = λ all.
+            one_more (EndsInput g.R.File.Read.remaining g.R.Reader.Read.remaining) _ _ _
+            c.in_ok-put.ensures (c.loop-name.invariant.adds.each all)
+            (elim c.match-next.branch [
+              | in-Some-Some w ↦
+                  subst (OfInput g.R.File.Read.remaining g.R.Reader.Read.remaining)
+                  (sym w.report-is)
+                  (some_some (OfInput g.R.File.Read.remaining g.R.Reader.Read.remaining)
+                  c.next.result w.in-Some-Some.field-0 w.in-Some-Some.report next.0
+                  w.in-Some-Some.is w.in-Some-Some.field-0-is)
+              | in_default+in_ok-report-in_default w ↦
+                  subst (OfInput g.R.File.Read.remaining g.R.Reader.Read.remaining)
+                  (sym w.report-is)
+                  (IfOk-at_ok (OfInput g.R.File.Read.remaining g.R.Reader.Read.remaining)
+                  (sym w.unwrap_or.ensures ∙ w.in_ok-report-in_default.was)
+                  (or_error (OfInput g.R.File.Read.remaining g.R.Reader.Read.remaining)
+                  w.next-in_default.result _
+                  (next_of (IsLate g.R.File.Read.remaining g.R.Reader.Read.remaining)
+                  c.loop-name.late.rest.items w.next-in_default.new.self.rest.items
+                  w.next-in_default.result w.next-in_default.ensures.items
+                  c.loop-name.invariant.late).0))
+            ]);
+      };
       early = next.1;
       late = elim c.match-next.branch [
         | in-Some-Some w ↦

@@ -1,6 +1,6 @@
 -- The bytes of the line so far.
 use Rattle.lk_trace_files.specs.Lines.{left}
-use Rattle.lk_trace_files.specs.invariants.Taken.{Taken}
+use Rattle.lk_trace_files.specs.invariants.{Taken}
 use Rattle.lk_trace_files.proofs.lines.Lines.next_line.Given as goal
 
 abbrev pub invariant-loop : goal.invariant-loop

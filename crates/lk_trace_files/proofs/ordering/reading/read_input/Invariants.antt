@@ -1,6 +1,6 @@
 -- So much of the log was read.
 use Rattle.lk_trace_files.specs.Lines.{left}
-use Rattle.lk_trace_files.specs.invariants.Shelves.{ReadsInput}
+use Rattle.lk_trace_files.specs.invariants.{ReadsInput}
 use Rattle.lk_trace_files.proofs.ordering.reading.read_input.Given as goal
 
 abbrev pub invariant-loop-number : goal.invariant-loop-number

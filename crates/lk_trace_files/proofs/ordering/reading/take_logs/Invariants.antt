@@ -1,7 +1,7 @@
 -- The logs so far are on the shelf, and what is wrong with one of them is so.
 use Rattle.std.proofs.Common.{IfSome}
-use Rattle.lk_trace_files.specs.BadLogs.{IsBad}
-use Rattle.lk_trace_files.specs.invariants.Shelves.{IsKept}
+use Rattle.lk_trace_files.specs.Searches.{IsBad}
+use Rattle.lk_trace_files.specs.invariants.{IsKept}
 use Rattle.lk_trace_files.proofs.ordering.reading.take_logs.Given as goal
 
 abbrev pub invariant-loop-name : goal.invariant-loop-name
