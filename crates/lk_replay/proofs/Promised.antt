@@ -27,7 +27,7 @@ use Rattle.lk_replay.specs.Replay.{replay_of, replayed_of, start_of, with_move}
 use Rattle.lk_replay.specs.Report.{plan_text, report_text}
 use Rattle.lk_replay.specs.Digits.{is_plain_number, value_from}
 use Rattle.lk_replay.specs.Vocabulary.{number_of}
-use Rattle.lk_replay.specs.Whole.{AppendsReport, EveryReportIsAsPromised, IsReportOfText}
+use Rattle.lk_replay.specs.Whole.{AppendsReport, IsReportOfText}
 use Rattle.lk_replay.specs.Whole.{IsHistoryOf, IsReportOf}
 use Rattle.lk_replay.specs.Schedule.{Plan, plan_from, plan_of, with_header}
 use Rattle.lk_replay.specs.declared.schedule.Line.{Line}
@@ -127,7 +127,7 @@ plan_fits bytes = elim (cases_Bool (nat_lt 1048576 (length bytes))) [
 
 -- ---- from bytes to bytes
 
-pub every_report_is_as_promised : EveryReportIsAsPromised
+pub every_report_is_as_promised : (bytes : List ℕ) → IsReportOfText bytes (report_text bytes)
 unfolding report_text
 every_report_is_as_promised bytes p is =
     let fits = IfOk-at_ok (λ (x : Plan). Fits x.threads x.bits) is (plan_fits bytes) in

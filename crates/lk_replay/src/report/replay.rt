@@ -5,7 +5,7 @@ ghost use Rattle.std.specs.Prelude.{◌≡◌, ◌≤◌, length, take, ◌+◌,
 ghost use Rattle.std.specs.Prelude.{None, ◌<◌};
 ghost use Rattle.lk_locks.specs.Sequential.{nobody};
 ghost use Rattle.lk_locks.specs.invariants.Tracking.{IsTracked};
-ghost use Rattle.lk_replay.specs.Printing.{next_refused, IsPrinting, Printing, printing};
+ghost use Rattle.lk_replay.specs.Printing.{next_refused, Printing, printing};
 ghost use Rattle.lk_replay.specs.Replay.{start_of, replay_from, replay_of};
 ghost use Rattle.lk_replay.specs.Report.{move_text, replay_text};
 ghost use Rattle.lk_replay.specs.Ending.{ending_of};
@@ -41,7 +41,8 @@ impl<'a> Model for Replay<'a> {
 
     ghost view = { λ a. printing a.status a.count (replay_from a.machine a.moves.now) };
 
-    ghost invariant = { λ a. IsPrinting a.status a.machine a.count a.moves.now };
+    ghost invariant = { λ a. (a.count + length a.moves.now ≤ 65536)
+        × IsTracked a.machine a.status.sequential };
 }
 
 // Writes `K T WORD OUTCOME hold ` of an accepted move, and returns where it ends.
