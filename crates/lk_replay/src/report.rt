@@ -17,10 +17,9 @@ mod text;
 mod words;
 
 use crate::ending::Ending;
-use crate::output_buffer::Source;
 use crate::{ReadFault, Schedule, read_schedule};
 use closings::{Closing, fault_text};
-pub use replay::Replay;
+pub use replay::{LEAST_PLACE, Replay};
 use std::alloc::{AllocError, Global};
 
 // The most bytes of a move's line without its longer list, of holders or of the queue, of a thread
