@@ -6,12 +6,13 @@ use Rattle.std.specs.List.{flat_map}
 use Rattle.lk_locks.specs.Holding.{Holding, Free, HeldBy, ReadBy, WrittenBy, holding_of, waiting_of}
 use Rattle.lk_locks.specs.declared.kinds.LockKind.{LockKind}
 use Rattle.lk_locks.specs.declared.kinds.Entry.{Entry}
+use Rattle.lk_locks.specs.declared.kinds.Move.TheVariants.{Step}
 use Rattle.lk_locks.specs.declared.kinds.Refusal.{Refusal}
 use Rattle.lk_locks.specs.declared.kinds.Refusal.TheVariants.{WrongStep}
 use Rattle.lk_locks.specs.Refusals.{name_of}
 use Rattle.lk_replay.specs.Faults.{Fault, TooLong, NoHeader, BadHeader, BadThreads, BadLine}
 use Rattle.lk_replay.specs.Faults.{TooManyMoves, WordsTooNarrow}
-use Rattle.lk_replay.specs.Vocabulary.{move_word, outcome_word, step_word}
+use Rattle.lk_replay.specs.Vocabulary.{move_word, outcome_word}
 use Rattle.lk_replay.specs.Schedule.{Plan, plan_of}
 use Rattle.lk_replay.specs.Replay.{Made, Replay, replay_of}
 use Rattle.lk_replay.specs.declared.played.Accepted.{Accepted}
@@ -54,7 +55,7 @@ move_text count a =
 
 -- its name, and ` next ` with the thread's next step if another was to be made
 unfoldable pub refusal_text : Refusal → List ℕ
-refusal_text (WrongStep next) = name_of (WrongStep next) ++ codes " next " ++ step_word next
+refusal_text (WrongStep next) = name_of (WrongStep next) ++ codes " next " ++ move_word (Step next)
 refusal_text refusal = name_of refusal
 
 -- `WHAT line L `
