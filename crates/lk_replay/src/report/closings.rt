@@ -1,11 +1,10 @@
 //! The last line of a report: its end, a refused move, or the fault of its text.
 
-ghost use Rattle.std.specs.Prelude.{◌≡◌, ◌≢◌, ◌≤◌, ◌++◌, length, Result, true};
+ghost use Rattle.std.specs.Prelude.{◌≡◌, ◌≤◌, ◌++◌, length, IfOk, List, OnErr, true, ℕ};
 ghost use Rattle.lk_replay.specs.Ending.{ending_of, is_line};
 ghost use Rattle.lk_replay.specs.Reads.{Fails};
-ghost use Rattle.lk_replay.specs.Report.{at_line, fault_line, last_line, plan_text, refusal_text};
-ghost use Rattle.lk_replay.specs.Faults.{Fault};
-ghost use Rattle.lk_replay.specs.Schedule.{Plan};
+ghost use Rattle.lk_replay.specs.Report.{at_line, fault_line, last_line, refusal_text, report_text};
+ghost use Rattle.lk_replay.specs.Schedule.{plan_of};
 
 use crate::ReadFault;
 use crate::ending::Ending;
@@ -13,6 +12,7 @@ use crate::report::text::Text;
 use crate::vocabulary::move_text;
 use itoa::Buffer;
 use lk_locks::{Move, Refusal};
+use std::alloc::AllocError;
 
 /// The last line of a report, and how the report ends by it.
 #[derive(Drop)]
@@ -92,19 +92,25 @@ fn fault_line(number: u32, name: &[u8]) -> Closing
     }
 }
 
-/// The line of a text's fault. There is none for `OutOfMemory`, which is no fault of a text.
-pub fn fault_text(fault: ReadFault) -> Closing
-    requires { fault ≢ ReadFault.OutOfMemory }
-    ensures { (read : Result Plan Fault) → Fails fault read → result.line ≡ plan_text read }
+/// The line of a text's fault, which is the whole report of the text.
+///
+/// # Errors
+///
+/// `OutOfMemory` is no fault of a text.
+#[tactic(auto, unfolding(crate::specs::Report::report_text))]
+pub fn fault_text(fault: ReadFault) -> Result<Closing, AllocError>
+    ensures line { IfOk result (λ closing.
+        (bytes : List ℕ) → Fails fault (plan_of bytes) → closing.line ≡ report_text bytes) }
+    ensures none { OnErr result (fault ≡ ReadFault.OutOfMemory) }
 {
-    match fault {
+    Ok(match fault {
         ReadFault::NoHeader(line) => fault_line(line, b"NoHeader"),
         ReadFault::BadHeader(line) => fault_line(line, b"BadHeader"),
         ReadFault::BadThreads(line) => fault_line(line, b"BadThreads"),
         ReadFault::BadLine(line) => fault_line(line, b"BadLine"),
         ReadFault::TooManyMoves(line) => fault_line(line, b"TooManyMoves"),
         ReadFault::WordsTooNarrow(line) => fault_line(line, b"WordsTooNarrow"),
-        ReadFault::TooLong | ReadFault::OutOfMemory => {
+        ReadFault::TooLong => {
             let mut line = Text::new();
             line.push(b"fault TooLong\n");
             Closing {
@@ -112,5 +118,6 @@ pub fn fault_text(fault: ReadFault) -> Closing
                 ending: Ending::Faulty,
             }
         }
-    }
+        ReadFault::OutOfMemory => return Err(AllocError),
+    })
 }
