@@ -49,15 +49,6 @@ impl OutputBuffer {
         })
     }
 
-    fn keep(&mut self, bytes: &[u8])
-        requires { length self.now + length bytes.now ≤ 65536 }
-        ensures { self.new ≡ self.old ++ bytes.now }
-    {
-        let end = self.len + bytes.len();
-        self.bytes[self.len..end].copy_from_slice(bytes);
-        self.len = end;
-    }
-
     /// Puts bytes after what waits, and writes first what has no room. It asks for no memory.
     ///
     /// # Errors
@@ -72,16 +63,16 @@ impl OutputBuffer {
             (self.old ++ bytes.now)) }
         ensures fault { IfErr result (λ e. e ≡ RunFault.Write) }
     {
-        if bytes.len() <= MOST_WAITING - self.len {
-            self.keep(bytes);
-            return Ok(());
+        if bytes.len() > MOST_WAITING - self.len {
+            write_whole(output, &self.bytes[..self.len])?;
+            self.len = 0;
+            if bytes.len() > MOST_WAITING {
+                return write_whole(output, bytes);
+            }
         }
-        write_whole(output, &self.bytes[..self.len])?;
-        self.len = 0;
-        if bytes.len() > MOST_WAITING {
-            return write_whole(output, bytes);
-        }
-        self.keep(bytes);
+        let end = self.len + bytes.len();
+        self.bytes[self.len..end].copy_from_slice(bytes);
+        self.len = end;
         Ok(())
     }
 
