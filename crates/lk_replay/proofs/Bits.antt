@@ -1,7 +1,7 @@
 -- An ascending list of threads as the bits of a number, and what counting bits tells of its text.
 use Rattle.std.proofs.Common.{◌≡◌, ℕ, suc, ◌+◌, ◌-◌, ◌*◌, ◌^◌, ◌%◌, ◌<◌, ◌≤◌, List, [], ◌∷◌, ◌++◌}
 use Rattle.std.proofs.Common.{length, decimal, count_ones, eqb, nat_lt, true, refl, ap, ◌∙◌}
-use Rattle.std.proofs.Common.{arith}
+use Rattle.std.proofs.Common.{arith, if◌then◌else◌}
 use Rattle.std.proofs.Common.{inl, inr, length-append, pow_pos, pow_mono, pow-add, shl_exact}
 use Rattle.std.specs.Int.Count.{ones}
 use Rattle.std.specs.List.{AllByRecursion}
@@ -10,12 +10,17 @@ use Rattle.std.proofs.lemmas.Bool.{cases_Bool, eqb-true, ltb-true, ltb-false}
 use Rattle.std.proofs.lemmas.Fmt.{decimal_digit}
 use Rattle.std.proofs.lemmas.Nat.{mod-mul-add, ones_cat, ones_le_self}
 use Rattle.lk_locks.specs.Sequential.{IsAscending, has, left_by}
-use Rattle.lk_replay.specs.Following.{below, not_below, bits_of}
+use Rattle.lk_replay.specs.Following.{below, bits_of}
 use Rattle.lk_replay.specs.Report.{later_numbers}
 use Rattle.lk_replay.proofs.Digits.{two_digits}
 use Rattle.lk_replay.proofs.Listing.{each, later_append, split}
 
 -- ---- a list cut at a number
+
+-- the threads that are not below it
+abbrev not_below : List ℕ → ℕ → List ℕ
+not_below [] t = []
+not_below (x ∷ xs) t = if nat_lt x t then not_below xs t else x ∷ xs
 
 -- what holds of all holds of both parts
 kept : (P : ℕ → Type 0) (xs : List ℕ) (t : ℕ) → AllByRecursion P xs

@@ -5,7 +5,7 @@ use Rattle.lk_locks.specs.declared.kinds.Move.{Move}
 use Rattle.lk_replay.specs.Lines.{words_of}
 use Rattle.std.specs.Option.{option_map_or, option_zip}
 use Rattle.lk_replay.specs.Schedule.{move_of, move_of_words}
-use Rattle.lk_replay.specs.Unreadable.{after_word, may_be, next_of, unreadable_from}
+use Rattle.lk_replay.specs.Unreadable.{after_word, next_of, unreadable_from}
 use Rattle.lk_replay.specs.Vocabulary.{move_named, number_of}
 use Rattle.lk_replay.specs.declared.unreadable.Expected.{Expected}
 use Rattle.lk_replay.specs.declared.unreadable.Expected.TheVariants.{Thread}
@@ -26,7 +26,7 @@ pub walks : (column : ℕ) (expected : Expected) (line word : List ℕ) (words :
 unfolding after_word
 walks column expected line word words after cut is =
     ap (unreadable_from column expected) cut
-    ∙ at_word (may_be expected word) (next_of expected) _ _
+    ∙ at_word (next_of expected word).0 (next_of expected word).1 _ _
     ∙ ap (λ a. option_map_or (λ next. unreadable_from (column + length word + 1) next words) a
     (Some (column, expected))) is
 

@@ -18,7 +18,8 @@ use Rattle.lk_locks.specs.declared.kinds.Entry.{Entry}
 use Rattle.lk_locks.specs.declared.kinds.Move.{Move}
 use Rattle.lk_locks.specs.declared.kinds.Refusal.{Refusal}
 use Rattle.lk_replay.specs.Faults.{Fault}
-use Rattle.lk_replay.specs.Header.{Header, Shape, header_of, header_of_shape, shape_of_words}
+use Rattle.lk_locks.specs.declared.kinds.LockKind.{LockKind}
+use Rattle.lk_replay.specs.Header.{Header, header_of, header_of_shape, shape_of_words}
 use Rattle.lk_replay.specs.Header.{with_threads}
 use Rattle.lk_replay.specs.Lines.{is_skipped, lines_of, words_of}
 use Rattle.lk_replay.specs.Replay.{Made, Replay, Replayed, made_by, refused_or, replay_from}
@@ -26,7 +27,7 @@ use Rattle.lk_replay.specs.Replay.{replay_of, replayed_of, start_of, with_move}
 use Rattle.lk_replay.specs.Report.{plan_text, report_text}
 use Rattle.lk_replay.specs.Digits.{is_plain_number, value_from}
 use Rattle.lk_replay.specs.Vocabulary.{number_of}
-use Rattle.lk_replay.specs.Whole.{AppendsReport, EveryReportIsAsPromised, IsReportOfText}
+use Rattle.lk_replay.specs.Whole.{AppendsReport, IsReportOfText}
 use Rattle.lk_replay.specs.Whole.{IsHistoryOf, IsReportOf}
 use Rattle.lk_replay.specs.Schedule.{Plan, plan_from, plan_of, with_header}
 use Rattle.lk_replay.specs.declared.schedule.Line.{Line}
@@ -87,17 +88,19 @@ number_most least most text =
       | inr h ↦ rw h tt
     ]
 
-threads_fit : (number : ℕ) (s : Shape) (threads : Option ℕ) → IfSome threads (λ n. n ≤ 64)
-    → HeaderFits (with_threads number s threads)
-threads_fit number s None few = tt
-threads_fit number s (Some n) few = elim (cases_Bool (nat_lt n (2 ^ s.size.bits))) [
+threads_fit : (number : ℕ) (kind : LockKind) (bits : ℕ) (threads : Option ℕ)
+    → IfSome threads (λ n. n ≤ 64) → HeaderFits (with_threads number kind bits threads)
+threads_fit number kind bits None few = tt
+threads_fit number kind bits (Some n) few = elim (cases_Bool (nat_lt n (2 ^ bits))) [
   | inl low ↦ rw low (record { few = few; narrow = ltb-true _ _ low })
   | inr high ↦ rw high tt
 ]
 
-shape_fits : (number : ℕ) (s : Option Shape) → HeaderFits (header_of_shape number s)
+shape_fits : (number : ℕ) (s : Option (LockKind × (List ℕ × ℕ)))
+    → HeaderFits (header_of_shape number s)
 shape_fits number None = tt
-shape_fits number (Some s) = threads_fit number s _ (number_most 1 64 s.size.count)
+shape_fits number (Some (kind, (count, bits))) =
+    threads_fit number kind bits _ (number_most 1 64 count)
 
 header_fits : (number : ℕ) (line : List ℕ) → HeaderFits (header_of number line)
 unfolding header_of
@@ -124,7 +127,7 @@ plan_fits bytes = elim (cases_Bool (nat_lt 1048576 (length bytes))) [
 
 -- ---- from bytes to bytes
 
-pub every_report_is_as_promised : EveryReportIsAsPromised
+pub every_report_is_as_promised : (bytes : List ℕ) → IsReportOfText bytes (report_text bytes)
 unfolding report_text
 every_report_is_as_promised bytes p is =
     let fits = IfOk-at_ok (λ (x : Plan). Fits x.threads x.bits) is (plan_fits bytes) in

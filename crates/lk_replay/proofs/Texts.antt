@@ -1,9 +1,9 @@
 -- A text at the front of an array, edited in place.
-use Rattle.std.proofs.Common.{◌≡◌, ℕ, ◌+◌, ◌-◌, ◌<◌, ◌≤◌, List, [], ◌∷◌, ◌++◌, length, take, drop}
+use Rattle.std.proofs.Common.{◌≡◌, ℕ, ◌+◌, ◌-◌, ◌<◌, ◌≤◌, List, ◌++◌, length, take, drop}
 use Rattle.std.proofs.Common.{sym, ap, ◌∙◌, arith, length-append, length-drop, length-take-le}
 use Rattle.std.proofs.Common.{append_assoc, take-append-drop, take_all}
 use Rattle.std.proofs.Math.Seq.{take-append-add}
-use Rattle.std.proofs.lemmas.List.{drop-take, drop_at, take-append-le, take-take, take_at}
+use Rattle.std.proofs.lemmas.List.{drop-take, drop_at, take-append-le, take-take}
 use lib.Seq.{paste, take-paste}
 use borrow.Rule.Slice.PartMut.{put_mid, post_of, Post-is}
 
@@ -105,18 +105,3 @@ inserted xs moved now text at wide len within most size is after =
       take-take at len xs within,
     )
     (ap (λ (ys : List ℕ). front ++ ys) (behind ∙ same))
-
--- the word between two spaces at the front of a block
-pub between : (block word : List ℕ) (len : ℕ) → len ≤ length block
-    → take len block ≡ 32 ∷ (word ++ 32 ∷ []) → take (len - 1 - 1) (drop 1 block) ≡ word
-between block word len within is =
-    let whole : block ≡ (32 ∷ (word ++ 32 ∷ [])) ++ drop len block = cc (take-append-drop len block)
-    in
-    let size : length word ≡ len - 1 - 1 = omega (
-      arith,
-      length-take-le len block within,
-      ap length is,
-      length-append word (32 ∷ []),
-    ) in
-    rw (whole, append_assoc word (32 ∷ []) (drop len block))
-    (take_at word (32 ∷ drop len block) (len - 1 - 1) size)

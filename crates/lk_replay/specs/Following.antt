@@ -35,14 +35,10 @@ followed_text f =
     shown_text (held_in (family_of f.kind) f.sequential f.holder)
     (waits_in (family_of f.kind) f.sequential)
 
--- the threads of an ascending list below this one, and the others
+-- the threads of an ascending list below this one
 abbrev pub below : List ℕ → ℕ → List ℕ
 below [] t = []
 below (x ∷ xs) t = if nat_lt x t then x ∷ below xs t else []
-
-abbrev pub not_below : List ℕ → ℕ → List ℕ
-not_below [] t = []
-not_below (x ∷ xs) t = if nat_lt x t then not_below xs t else x ∷ xs
 
 -- threads as the bits of a number
 abbrev pub bits_of : List ℕ → ℕ

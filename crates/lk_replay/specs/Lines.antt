@@ -10,15 +10,12 @@ is_line_feed b = b == 10
 abbrev pub is_space : ℕ → Bool
 is_space b = b == 32
 
-abbrev pub unless_empty : List ℕ → List (List ℕ)
-unless_empty [] = []
-unless_empty (b ∷ bs) = (b ∷ bs) ∷ []
-
 -- a last piece that is empty is no line
 abbrev pub without_empty_end : List (List ℕ) → List (List ℕ)
 without_empty_end [] = []
-without_empty_end (piece ∷ []) = unless_empty piece
 without_empty_end (piece ∷ next ∷ pieces) = piece ∷ without_empty_end (next ∷ pieces)
+without_empty_end ([] ∷ []) = []
+without_empty_end (piece ∷ []) = piece ∷ []
 
 -- the text, cut at each line feed
 unfoldable pub lines_of : List ℕ → List (List ℕ)

@@ -1,11 +1,10 @@
 -- Invariants: the lines of a report that are still to be printed, of moves that are played as they
 -- are printed.
-use Rattle.std.specs.Prelude.{ℕ, ◌+◌, ◌≤◌, List, [], ◌∷◌, ◌++◌, Option, None, length}
+use Rattle.std.specs.Prelude.{ℕ, ◌+◌, List, [], ◌∷◌, ◌++◌, Option, None, length}
 use Rattle.std.specs.Option.{option_map}
 use Rattle.lk_locks.specs.State.{State}
 use Rattle.lk_locks.specs.Steps.{refusal_of}
 use Rattle.lk_locks.specs.declared.kinds.Refusal.{Refusal}
-use Rattle.lk_locks.specs.invariants.Kept.{IsTracked}
 use Rattle.lk_replay.specs.Following.{Following, followed_by, followed_text}
 use Rattle.lk_replay.specs.Replay.{Made, Replay}
 use Rattle.lk_replay.specs.Report.{last_line, move_text}
@@ -36,8 +35,3 @@ printing f count rest = record {
   left = length rest.made;
   last = last_line (count + length rest.made) rest.refused;
 }
-
--- `count` moves were printed, and what is followed agrees with the lock
-pub record IsPrinting (f : Following) (s : State) (count : ℕ) (moves : List Line) : Type 0 where
-  pub few : count + length moves ≤ 65536
-  pub tracked : IsTracked s f.sequential

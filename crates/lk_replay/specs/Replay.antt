@@ -64,15 +64,12 @@ pub record Replayed : Type 0 where
   pub entries : List Entry
   pub refused : Option (ℕ × Refusal)
 
-abbrev pub replayed : LockKind → ℕ → Replay → Replayed
-replayed kind threads r = record {
-  kind = kind;
-  threads = threads;
-  accepted = map (λ m. m.accepted) r.made;
-  entries = flat_map (λ m. m.entries) r.made;
-  refused = r.refused;
-}
-
 -- what the replay of a plan shows
 abbrev pub replayed_of : Plan → Replayed
-replayed_of p = replayed p.kind p.threads (replay_of p)
+replayed_of p = record {
+  kind = p.kind;
+  threads = p.threads;
+  accepted = map (λ m. m.accepted) (replay_of p).made;
+  entries = flat_map (λ m. m.entries) (replay_of p).made;
+  refused = (replay_of p).refused;
+}

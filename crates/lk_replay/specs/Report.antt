@@ -6,12 +6,13 @@ use Rattle.std.specs.List.{flat_map}
 use Rattle.lk_locks.specs.Holding.{Holding, Free, HeldBy, ReadBy, WrittenBy, holding_of, waiting_of}
 use Rattle.lk_locks.specs.declared.kinds.LockKind.{LockKind}
 use Rattle.lk_locks.specs.declared.kinds.Entry.{Entry}
+use Rattle.lk_locks.specs.declared.kinds.Move.TheVariants.{Step}
 use Rattle.lk_locks.specs.declared.kinds.Refusal.{Refusal}
 use Rattle.lk_locks.specs.declared.kinds.Refusal.TheVariants.{WrongStep}
 use Rattle.lk_locks.specs.Refusals.{name_of}
 use Rattle.lk_replay.specs.Faults.{Fault, TooLong, NoHeader, BadHeader, BadThreads, BadLine}
 use Rattle.lk_replay.specs.Faults.{TooManyMoves, WordsTooNarrow}
-use Rattle.lk_replay.specs.Vocabulary.{move_word, outcome_word, step_word}
+use Rattle.lk_replay.specs.Vocabulary.{move_word, outcome_word}
 use Rattle.lk_replay.specs.Schedule.{Plan, plan_of}
 use Rattle.lk_replay.specs.Replay.{Made, Replay, replay_of}
 use Rattle.lk_replay.specs.declared.played.Accepted.{Accepted}
@@ -52,33 +53,26 @@ move_text count a =
     decimal count ++ codes " " ++ decimal a.thread ++ codes " " ++ move_word a.action ++ codes " "
     ++ outcome_word a.outcome ++ codes " hold "
 
--- the line of the accepted move number `count`, after which the entries are `es`
-abbrev pub line_text : LockKind → ℕ → List Entry → Accepted → List ℕ
-line_text kind count es a = move_text count a ++ state_text kind es
-
 -- its name, and ` next ` with the thread's next step if another was to be made
 unfoldable pub refusal_text : Refusal → List ℕ
-refusal_text (WrongStep next) = name_of (WrongStep next) ++ codes " next " ++ step_word next
+refusal_text (WrongStep next) = name_of (WrongStep next) ++ codes " next " ++ move_word (Step next)
 refusal_text refusal = name_of refusal
 
 -- `WHAT line L `
 abbrev pub at_line : List ℕ → ℕ → List ℕ
 at_line what number = what ++ codes " line " ++ decimal number ++ codes " "
 
--- `refused line L NAME`
-abbrev pub refused_line : ℕ → Refusal → List ℕ
-refused_line number refusal = at_line (codes "refused") number ++ refusal_text refusal ++ codes "\n"
-
--- the last line, after `count` accepted moves
+-- the last line, after `count` accepted moves: `end K`, or `refused line L NAME`
 abbrev pub last_line : ℕ → Option (ℕ × Refusal) → List ℕ
 last_line count None = codes "end " ++ decimal count ++ codes "\n"
-last_line count (Some refused) = refused_line refused.0 refused.1
+last_line count (Some refused) =
+    at_line (codes "refused") refused.0 ++ refusal_text refused.1 ++ codes "\n"
 
 -- the lines of these moves after `count` others that left the entries `es`, and the last line
 abbrev pub lines_text : LockKind → ℕ → List Entry → List Made → Option (ℕ × Refusal) → List ℕ
 lines_text kind count es [] refused = last_line count refused
 lines_text kind count es (m ∷ ms) refused =
-    line_text kind (count + 1) (es ++ m.entries) m.accepted
+    (move_text (count + 1) m.accepted ++ state_text kind (es ++ m.entries))
     ++ lines_text kind (count + 1) (es ++ m.entries) ms refused
 
 abbrev pub replay_text : LockKind → Replay → List ℕ

@@ -10,32 +10,21 @@ use Rattle.lk_replay.specs.declared.unreadable.Expected.TheVariants.{Lock, Name,
 use Rattle.lk_replay.specs.declared.unreadable.Expected.TheVariants.{Bits, Width, Thread, Action}
 use Rattle.lk_replay.specs.declared.unreadable.Expected.TheVariants.{End}
 
--- whether a word may be here
-abbrev pub may_be : Expected → List ℕ → Bool
-may_be Lock word = bytes_eq word (codes "lock")
-may_be Name word = is_some (lock_named word)
-may_be Threads word = bytes_eq word (codes "threads")
-may_be Count word = is_some (number_of 1 64 word)
-may_be Bits word = bytes_eq word (codes "bits")
-may_be Width word = is_some (number_of 2 64 word)
-may_be Thread word = is_some (number_of 0 255 word)
-may_be Action word = is_some (move_named word)
-may_be End word = false
-
--- what is expected after it
-abbrev pub next_of : Expected → Expected
-next_of Lock = Name
-next_of Name = Threads
-next_of Threads = Count
-next_of Count = Bits
-next_of Bits = Width
-next_of Width = End
-next_of Thread = Action
-next_of Action = End
-next_of End = End
+-- whether a word may be here, and what is expected after it
+abbrev pub next_of : Expected → List ℕ → Bool × Expected
+next_of Lock word = (bytes_eq word (codes "lock"), Name)
+next_of Name word = (is_some (lock_named word), Threads)
+next_of Threads word = (bytes_eq word (codes "threads"), Count)
+next_of Count word = (is_some (number_of 1 64 word), Bits)
+next_of Bits word = (bytes_eq word (codes "bits"), Width)
+next_of Width word = (is_some (number_of 2 64 word), End)
+next_of Thread word = (is_some (number_of 0 255 word), Action)
+next_of Action word = (is_some (move_named word), End)
+next_of End word = (false, End)
 
 unfoldable pub after_word : Expected → List ℕ → Option Expected
-after_word expected word = if may_be expected word then Some (next_of expected) else None
+after_word expected word =
+    if (next_of expected word).0 then Some (next_of expected word).1 else None
 
 -- a header ends after its threads or its bits, and a move after its word
 abbrev pub may_end : Expected → Bool
@@ -54,6 +43,6 @@ IsHeader (Err fault) = ⊥
 abbrev pub unreadable_from : ℕ → Expected → List (List ℕ) → Option (ℕ × Expected)
 unreadable_from column expected [] = if may_end expected then None else Some (column, expected)
 unreadable_from column expected (word ∷ words) =
-    if may_be expected word
-    then unreadable_from (column + length word + 1) (next_of expected) words
+    if (next_of expected word).0
+    then unreadable_from (column + length word + 1) (next_of expected word).1 words
     else Some (column, expected)

@@ -6,10 +6,8 @@ use Rattle.std.specs.Str.{bytes_eq}
 use Rattle.lk_replay.specs.Digits.{is_plain_number, value_from}
 use Rattle.lk_locks.specs.declared.kinds.LockKind.{LockKind}
 use Rattle.lk_locks.specs.declared.kinds.LockKind.TheVariants.{Ticket, Mcs, RwSimple, RwFifo}
-use Rattle.lk_locks.specs.declared.kinds.Op.{Op}
 use Rattle.lk_locks.specs.declared.kinds.Op.TheVariants.{Acquire, Release, ReadLock, ReadUnlock}
 use Rattle.lk_locks.specs.declared.kinds.Op.TheVariants.{WriteLock, WriteUnlock, Downgrade}
-use Rattle.lk_locks.specs.declared.kinds.StepKind.{StepKind}
 use Rattle.lk_locks.specs.declared.kinds.StepKind.TheVariants.{Read, Write, Swap, Cas, Add, Section}
 use Rattle.lk_locks.specs.declared.kinds.Outcome.{Outcome}
 use Rattle.lk_locks.specs.declared.kinds.Outcome.TheVariants.{Called, Moved, Waits, Entered, Left}
@@ -34,28 +32,21 @@ unfoldable pub lock_named : List ℕ → Option LockKind
 lock_named name =
     find (λ kind. bytes_eq name (lock_name kind)) (Ticket ∷ Mcs ∷ RwSimple ∷ RwFifo ∷ [])
 
--- the word of a call
-abbrev pub op_word : Op → List ℕ
-op_word Acquire = codes "acquire"
-op_word Release = codes "release"
-op_word ReadLock = codes "rlock"
-op_word ReadUnlock = codes "runlock"
-op_word WriteLock = codes "wlock"
-op_word WriteUnlock = codes "wunlock"
-op_word Downgrade = codes "downgrade"
-
--- the word of a step
-abbrev pub step_word : StepKind → List ℕ
-step_word Read = codes "read"
-step_word Write = codes "write"
-step_word Swap = codes "swap"
-step_word Cas = codes "cas"
-step_word Add = codes "add"
-step_word Section = codes "section"
-
+-- the word of a call or a step
 abbrev pub move_word : Move → List ℕ
-move_word (Call op) = op_word op
-move_word (Step kind) = step_word kind
+move_word (Call Acquire) = codes "acquire"
+move_word (Call Release) = codes "release"
+move_word (Call ReadLock) = codes "rlock"
+move_word (Call ReadUnlock) = codes "runlock"
+move_word (Call WriteLock) = codes "wlock"
+move_word (Call WriteUnlock) = codes "wunlock"
+move_word (Call Downgrade) = codes "downgrade"
+move_word (Step Read) = codes "read"
+move_word (Step Write) = codes "write"
+move_word (Step Swap) = codes "swap"
+move_word (Step Cas) = codes "cas"
+move_word (Step Add) = codes "add"
+move_word (Step Section) = codes "section"
 
 abbrev pub every_move : List Move
 every_move =

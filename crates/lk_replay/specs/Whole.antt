@@ -6,7 +6,7 @@ use Rattle.lk_locks.specs.MainTheorem.{IsAsPromised}
 use Rattle.lk_locks.specs.Runs.{entries_after}
 use Rattle.lk_locks.specs.declared.kinds.Entry.{Entry}
 use Rattle.lk_replay.specs.Replay.{replay_of, replayed_of, start_of}
-use Rattle.lk_replay.specs.Report.{lines_text, report_text}
+use Rattle.lk_replay.specs.Report.{lines_text}
 use Rattle.lk_replay.specs.Schedule.{Plan, plan_of}
 use Rattle.lk_replay.specs.declared.played.Accepted.{Accepted}
 
@@ -30,8 +30,3 @@ IsReportOfText text report = (p : Plan) → plan_of text ≡ Ok p → IsReportOf
 -- known bytes grew by such a report of this text
 abbrev pub AppendsReport : Option (List ℕ) → Option (List ℕ) → List ℕ → Type 0
 AppendsReport old new text = (report : List ℕ) × Appends old new report × IsReportOfText text report
-
--- of every text that is a schedule
-abbrev pub EveryReportIsAsPromised : Type 0
-EveryReportIsAsPromised = (bytes : List ℕ) (p : Plan) → plan_of bytes ≡ Ok p
-    → IsReportOf p (report_text bytes)

@@ -54,11 +54,9 @@ pub fn read_text<R: Read>(alloc: Global, input: &mut R) -> Result<Vec<u8>, RunFa
                 text.shrink_to_fit();
                 return Ok(text);
             }
-            Ok(n) => {
-                if text.extend_from_slice(&chunk[..n]).is_err() {
-                    return Err(RunFault::OutOfMemory);
-                }
-            }
+            Ok(n) => text
+                .extend_from_slice(&chunk[..n])
+                .or(Err(RunFault::OutOfMemory))?,
             Err(_) => return Err(RunFault::Read),
         }
     }
@@ -103,8 +101,5 @@ pub fn send<W: Write>(output: &mut W, bytes: &[u8]) -> Result<(), RunFault>
     ensures fault { IfErr result (λ e. e ≡ RunFault.Write) }
 {
     write_whole(output, bytes)?;
-    match output.flush() {
-        Ok(()) => Ok(()),
-        Err(_) => Err(RunFault::Write),
-    }
+    output.flush().or(Err(RunFault::Write))
 }

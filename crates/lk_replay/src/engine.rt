@@ -11,7 +11,8 @@ ghost use Rattle.lk_replay.specs.Whole.{AppendsReport};
 use crate::devices::{RunFault, read_text, send};
 use crate::ending::Ending;
 use crate::output_buffer::OutputBuffer;
-use crate::report::{Replay, read_or_fault};
+use crate::report::{Replay, fault_text};
+use crate::schedule::read_schedule;
 use crate::status::Status;
 use std::alloc::Global;
 use std::io::{Read, Write};
@@ -53,19 +54,15 @@ fn write_report<W: Write>(alloc: Global, output: &mut W, text: &[u8]) -> Result<
         (Keeps (W.contents output.old) (W.contents output.new)) }
     ensures fault { IfErr result (λ e. e ≢ RunFault.Read) }
 {
-    let Ok(read) = read_or_fault(alloc, text) else {
-        return Err(RunFault::OutOfMemory);
-    };
-    match read {
+    match read_schedule(alloc, text) {
         Ok(schedule) => {
-            let Ok(mut buffer) = OutputBuffer::new(alloc) else {
-                return Err(RunFault::OutOfMemory);
-            };
+            let mut buffer = OutputBuffer::new(alloc).or(Err(RunFault::OutOfMemory))?;
             print(output, &mut buffer, &mut Replay::new(&schedule))
         }
         Err(fault) => {
-            send(output, fault.line.as_slice())?;
-            Ok(fault.ending)
+            let closing = fault_text(fault).or(Err(RunFault::OutOfMemory))?;
+            send(output, closing.line.as_slice())?;
+            Ok(closing.ending)
         }
     }
 }

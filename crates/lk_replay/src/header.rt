@@ -1,11 +1,11 @@
 //! The header of a schedule text: `lock NAME threads N`, and `bits B` if words have fewer than
 //! 64 bits.
 
-ghost use Rattle.std.specs.Prelude.{◌≡◌, ◌<◌, ◌≤◌, ◌^◌, MatchOption, IfSome, IfOk, IfErr, None};
-ghost use Rattle.std.specs.Prelude.{Some};
+ghost use Rattle.std.specs.Prelude.{◌≡◌, ◌<◌, ◌≤◌, ◌^◌, MatchOption, IfSome, IfErr, None, Some};
+ghost use Rattle.std.specs.Option.{option_zip};
 ghost use Rattle.lk_replay.specs.Lines.{words_of};
 ghost use Rattle.lk_replay.specs.Header as said;
-ghost use Rattle.lk_replay.specs.Header.{size_of_words, shape_of_words, with_size, header_of};
+ghost use Rattle.lk_replay.specs.Header.{size_of_words, shape_of_words, header_of};
 ghost use Rattle.lk_replay.specs.Reads.{Gives};
 ghost use Rattle.lk_replay.specs.Reading.{IsOfText};
 
@@ -66,8 +66,7 @@ impl Header {
 // The word that counts the threads, and the bits of a word.
 fn size_of(words: &[u8]) -> Option<(&[u8], u8)>
     ensures size { MatchOption result (size_of_words (words_of words.now) ≡ None)
-        (λ size. size_of_words (words_of words.now)
-        ≡ Some (record { count = size.0.now; bits = size.1 })) }
+        (λ size. size_of_words (words_of words.now) ≡ Some (size.0.now, size.1)) }
     ensures least { IfSome result (λ size. 2 ≤ size.1) }
     ensures most { IfSome result (λ size. size.1 ≤ 64) }
 {
@@ -89,7 +88,7 @@ fn size_of(words: &[u8]) -> Option<(&[u8], u8)>
 fn named_lock(line: &[u8]) -> Option<(LockKind, &[u8])>
     ensures { MatchOption result (shape_of_words (words_of line.now) ≡ None)
         (λ lock. shape_of_words (words_of line.now)
-        ≡ with_size (Some lock.0) (size_of_words (words_of lock.1.now))) }
+        ≡ option_zip (Some lock.0) (size_of_words (words_of lock.1.now))) }
 {
     let (lock, rest) = cut_word(line)?;
     let (name, rest) = cut_word(rest)?;
@@ -111,15 +110,9 @@ pub fn header_of(line: &[u8], number: u32) -> Result<Header, ReadFault>
     ensures read { Gives (λ header. header) result (header_of number line.now) }
     ensures no_memory { IfErr result IsOfText }
 {
-    let Some((kind, words)) = named_lock(line) else {
-        return Err(ReadFault::BadHeader(number));
-    };
-    let Some((count, bits)) = size_of(words) else {
-        return Err(ReadFault::BadHeader(number));
-    };
-    let Some(threads) = number_of(count, 1, 64) else {
-        return Err(ReadFault::BadThreads(number));
-    };
+    let (kind, words) = named_lock(line).ok_or(ReadFault::BadHeader(number))?;
+    let (count, bits) = size_of(words).ok_or(ReadFault::BadHeader(number))?;
+    let threads = number_of(count, 1, 64).ok_or(ReadFault::BadThreads(number))?;
     if u128::from(threads) < 1u128 << bits {
         Ok(Header {
             kind,

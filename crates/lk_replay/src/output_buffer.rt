@@ -9,35 +9,13 @@ ghost use Rattle.std.specs.Io.KnownBytes.{Appends};
 ghost use Rattle.lk_replay.specs.Devices.{AppendsPrefix, Passes};
 
 use crate::devices::{RunFault, send, write_whole};
+use crate::report::{LEAST_PLACE, Replay};
 use std::alloc::{AllocError, Global};
 use std::io::Write;
 use std::marker::Model;
 
 // The most bytes that wait: as many as a pipe of Linux holds.
 const MOST_WAITING: usize = 65_536;
-
-/// The bytes of the smallest place that a source fills.
-pub(crate) const LEAST_PLACE: usize = 448;
-
-/// What gives lines, and then a last one, a place full at a time.
-pub(crate) trait Source {
-    /// The lines that are left, and how many they are.
-    ghost lines: { Self → List ℕ };
-
-    ghost left: { Self → ℕ };
-
-    /// The last line.
-    ghost last: { Self → List ℕ };
-
-    /// Puts the next lines into a place, and returns where they end: at 0 only if none is left.
-    fn fill(&mut self, place: &mut [u8]) -> usize
-        requires { 448 ≤ length place.old }
-        ensures lines { lines self.old ≡ take result place.new ++ lines self.new }
-        ensures fits { result ≤ length place.new }
-        ensures fewer { 0 < result → left self.new < left self.old }
-        ensures none { result ≡ 0 → (lines self.new ≡ []) × (left self.new ≡ 0) }
-        ensures last { last self.new ≡ last self.old };
-}
 
 /// Bytes on their way to an output. They wait until there are 65,536, since many small writes cost
 /// more than the bytes.
@@ -71,15 +49,6 @@ impl OutputBuffer {
         })
     }
 
-    fn keep(&mut self, bytes: &[u8])
-        requires { length self.now + length bytes.now ≤ 65536 }
-        ensures { self.new ≡ self.old ++ bytes.now }
-    {
-        let end = self.len + bytes.len();
-        self.bytes[self.len..end].copy_from_slice(bytes);
-        self.len = end;
-    }
-
     /// Puts bytes after what waits, and writes first what has no room. It asks for no memory.
     ///
     /// # Errors
@@ -94,16 +63,16 @@ impl OutputBuffer {
             (self.old ++ bytes.now)) }
         ensures fault { IfErr result (λ e. e ≡ RunFault.Write) }
     {
-        if bytes.len() <= MOST_WAITING - self.len {
-            self.keep(bytes);
-            return Ok(());
+        if bytes.len() > MOST_WAITING - self.len {
+            write_whole(output, &self.bytes[..self.len])?;
+            self.len = 0;
+            if bytes.len() > MOST_WAITING {
+                return write_whole(output, bytes);
+            }
         }
-        write_whole(output, &self.bytes[..self.len])?;
-        self.len = 0;
-        if bytes.len() > MOST_WAITING {
-            return write_whole(output, bytes);
-        }
-        self.keep(bytes);
+        let end = self.len + bytes.len();
+        self.bytes[self.len..end].copy_from_slice(bytes);
+        self.len = end;
         Ok(())
     }
 
@@ -125,15 +94,15 @@ impl OutputBuffer {
     }
 
     // Prints lines after what waits, as many as have room, and returns whether there are any.
-    pub(crate) fn print<S: Source>(&mut self, source: &mut S) -> bool
+    pub(crate) fn print(&mut self, replay: &mut Replay<'_>) -> bool
         requires { length self.old + 448 ≤ 65536 }
         ensures lines { (lines : List ℕ) × (self.new ≡ self.old ++ lines)
-            × (S.lines source.old ≡ lines ++ S.lines source.new) }
-        ensures left { MatchBool result (S.left source.new < S.left source.old)
-            ((S.lines source.new ≡ []) × (S.left source.new ≡ 0)) }
-        ensures last { S.last source.new ≡ S.last source.old }
+            × (replay.old.lines ≡ lines ++ replay.new.lines) }
+        ensures left { MatchBool result (replay.new.left < replay.old.left)
+            ((replay.new.lines ≡ []) × (replay.new.left ≡ 0)) }
+        ensures last { replay.new.last ≡ replay.old.last }
     {
-        let len = source.fill(&mut self.bytes[self.len..]);
+        let len = replay.fill(&mut self.bytes[self.len..]);
         self.len += len;
         len > 0
     }

@@ -3,10 +3,9 @@
 //! The whole text is read first. Then its moves are played, and each is printed as it is played, by
 //! one `Replay`: into a `Vec` here, and into a buffer that goes out in `run`.
 
-ghost use Rattle.std.specs.Prelude.{◌≡◌, ◌++◌, IfErr, IfOk, Ok, OnOk};
+ghost use Rattle.std.specs.Prelude.{◌≡◌, ◌++◌, IfOk, OnOk};
 ghost use Rattle.lk_replay.specs.Ending.{ending_of};
 ghost use Rattle.lk_replay.specs.Report.{report_text};
-ghost use Rattle.lk_replay.specs.Schedule.{plan_of};
 ghost use Rattle.lk_replay.specs.Whole.{IsReportOfText};
 
 mod closings;
@@ -17,10 +16,10 @@ mod text;
 mod words;
 
 use crate::ending::Ending;
-use crate::output_buffer::Source;
-use crate::{ReadFault, Schedule, read_schedule};
-use closings::{Closing, fault_text};
-pub use replay::Replay;
+use crate::read_schedule;
+use closings::Closing;
+pub use closings::fault_text;
+pub use replay::{LEAST_PLACE, Replay};
 use std::alloc::{AllocError, Global};
 
 // The most bytes of a move's line without its longer list, of holders or of the queue, of a thread
@@ -61,21 +60,6 @@ fn print_into(out: &mut Vec<u8>, replay: &mut Replay<'_>) -> Result<Closing, All
     }
 }
 
-/// The schedule of a text, or the line of its fault, which is its whole report.
-#[tactic(auto, unfolding(crate::specs::Report::report_text))]
-pub fn read_or_fault(alloc: Global, bytes: &[u8]) -> Result<Result<Schedule, Closing>, AllocError>
-    ensures schedule { IfOk result
-        (λ read. IfOk read (λ schedule. plan_of bytes.now ≡ Ok schedule)) }
-    ensures fault { IfOk result
-        (λ read. IfErr read (λ closing. closing.line ≡ report_text bytes.now)) }
-{
-    match read_schedule(alloc, bytes) {
-        Ok(schedule) => Ok(Ok(schedule)),
-        Err(ReadFault::OutOfMemory) => Err(AllocError),
-        Err(fault) => Ok(Err(fault_text(fault))),
-    }
-}
-
 impl Report {
     /// The report of a schedule text. A fault of the text is a report, not an error.
     ///
@@ -87,14 +71,14 @@ impl Report {
         ensures { IfOk result (λ report. report.text.items ≡ report_text bytes.now) }
     {
         let mut text = Vec::new(alloc);
-        let closing = match read_or_fault(alloc, bytes)? {
+        let closing = match read_schedule(alloc, bytes) {
             Ok(schedule) => {
                 let longest = LONGEST_LINE + LONGEST_LISTED * usize::from(schedule.threads());
                 let lines = schedule.moves().len().min(FIRST_LINES);
                 text.reserve(longest * lines + LONGEST_LAST)?;
                 print_into(&mut text, &mut Replay::new(&schedule))?
             }
-            Err(closing) => closing,
+            Err(fault) => fault_text(fault)?,
         };
         text.extend_from_slice(closing.line.as_slice())?;
         text.shrink_to_fit();

@@ -177,20 +177,17 @@ fn next_move(lines: &mut Lines<'_>, taken: usize) -> Result<Option<Line>, ReadFa
 }
 
 // The moves of these lines, for which there is room for `most` at first.
+#[tactic(auto, using(crate::proofs::Moves::moves_want))]
 fn read_moves(alloc: Global, lines: Lines<'_>, most: usize) -> Result<Vec<Line>, ReadFault>
     requires { most ≤ 65536 }
     ensures few { IfOk result (λ moves. length moves.items ≤ 65536) }
     ensures read { Gives (λ moves. moves.items) result
         (moves_from lines.entry.number 0 lines.entry.lines) }
 {
-    let Ok(mut moves) = Vec::with_capacity(alloc, most) else {
-        return Err(ReadFault::OutOfMemory);
-    };
+    let mut moves = Vec::with_capacity(alloc, most).or(Err(ReadFault::OutOfMemory))?;
     let mut lines = lines;
     while let Some(line) = next_move(&mut lines, moves.len())? {
-        if moves.push(line).is_err() {
-            return Err(ReadFault::OutOfMemory);
-        }
+        moves.push(line).or(Err(ReadFault::OutOfMemory))?;
     }
     Ok(moves)
 }

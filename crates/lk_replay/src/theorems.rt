@@ -4,11 +4,13 @@
 //! `report_of`, `run` and whatever calls them give the text `report_text` of their input, by
 //! their own contracts. Here is what that text says.
 
-ghost use Rattle.lk_replay.specs.Whole.{EveryReportIsAsPromised};
+ghost use Rattle.std.specs.Prelude.{ℕ, List};
+ghost use Rattle.lk_replay.specs.Report.{report_text};
+ghost use Rattle.lk_replay.specs.Whole.{IsReportOfText};
 
 /// The report of every byte text that is a schedule describes the history that its accepted moves
 /// leave on a new lock. That history is legal, and so exclusive and in order. Each line shows the
 /// holders and the queue of the history so far.
 pub fn every_report_is_as_promised()
-    ensures { EveryReportIsAsPromised }
+    ensures { (bytes : List ℕ) → IsReportOfText bytes (report_text bytes) }
 {}

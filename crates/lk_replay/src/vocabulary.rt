@@ -1,7 +1,7 @@
 //! What a word of a text means: a number, a lock, a call, a step or an outcome. Each word is
 //! written once, in a table that is read both ways and listed.
 
-ghost use Rattle.std.specs.Prelude.{◌≡◌, ◌≤◌, IfSome};
+ghost use Rattle.std.specs.Prelude.{◌≡◌, ◌≤◌, IfSome, length};
 ghost use Rattle.lk_replay.specs.Digits.{whole_number};
 ghost use Rattle.lk_replay.specs.Vocabulary.{lock_name, lock_named, move_named, move_word};
 ghost use Rattle.lk_replay.specs.Vocabulary.{number_of, outcome_named, outcome_word};
@@ -139,7 +139,8 @@ pub fn move_named(word: &[u8]) -> Option<Move>
 
 /// The word of a move.
 pub fn move_text(action: Move) -> &'static str
-    ensures { result.now ≡ move_word action }
+    ensures word { result.now ≡ move_word action }
+    ensures short { length result.now ≤ 14 }
 {
     move_words!(text, action)
 }

@@ -1,19 +1,18 @@
 //! The last line of a report: its end, a refused move, or the fault of its text.
 
-ghost use Rattle.std.specs.Prelude.{◌≡◌, ◌≢◌, ◌+◌, ◌≤◌, ◌++◌, ◌∷◌, [], length, decimal};
+ghost use Rattle.std.specs.Prelude.{◌≡◌, ◌≤◌, ◌++◌, length, IfOk, List, OnErr, true, ℕ};
 ghost use Rattle.lk_replay.specs.Ending.{ending_of, is_line};
 ghost use Rattle.lk_replay.specs.Reads.{Fails};
-ghost use Rattle.lk_replay.specs.Report.{at_line, fault_line, last_line, plan_text, refusal_text};
-ghost use Rattle.lk_replay.specs.Faults.{Fault};
-ghost use Rattle.lk_replay.specs.Schedule.{Plan};
-ghost use Rattle.std.specs.Prelude.{Result, true};
+ghost use Rattle.lk_replay.specs.Report.{at_line, fault_line, last_line, refusal_text, report_text};
+ghost use Rattle.lk_replay.specs.Schedule.{plan_of};
 
 use crate::ReadFault;
 use crate::ending::Ending;
-use crate::report::numerals::Numeral;
 use crate::report::text::Text;
-use crate::report::words::step_word;
-use lk_locks::Refusal;
+use crate::vocabulary::move_text;
+use itoa::Buffer;
+use lk_locks::{Move, Refusal};
+use std::alloc::AllocError;
 
 /// The last line of a report, and how the report ends by it.
 #[derive(Drop)]
@@ -31,11 +30,11 @@ fn at_line(what: &[u8], line: u32) -> Text
     ensures short { length result ≤ 64 }
     ensures whole { is_line result ≡ true }
 {
-    let number = Numeral::of(line);
+    let mut number = Buffer::new();
     let mut text = Text::new();
     text.push(what);
     text.push(b" line ");
-    text.push(number.digits());
+    text.push(number.format(line).as_bytes());
     text.push(b" ");
     text
 }
@@ -50,7 +49,7 @@ fn push_reason(text: &mut Text, refusal: Refusal)
     text.push(refusal.name().as_bytes());
     if let Refusal::WrongStep { next } = refusal {
         text.push(b" next ");
-        text.push(step_word(next));
+        text.push(move_text(Move::Step(next)).as_bytes());
     }
 }
 
@@ -67,10 +66,10 @@ pub fn last_line(count: u32, refused: Option<(u32, Refusal)>) -> Closing
             ending: Ending::Refused,
         };
     }
-    let number = Numeral::of(count);
+    let mut number = Buffer::new();
     let mut line = Text::new();
     line.push(b"end ");
-    line.push(number.digits());
+    line.push(number.format(count).as_bytes());
     line.push(b"\n");
     Closing {
         line,
@@ -93,19 +92,25 @@ fn fault_line(number: u32, name: &[u8]) -> Closing
     }
 }
 
-/// The line of a text's fault. There is none for `OutOfMemory`, which is no fault of a text.
-pub fn fault_text(fault: ReadFault) -> Closing
-    requires { fault ≢ ReadFault.OutOfMemory }
-    ensures { (read : Result Plan Fault) → Fails fault read → result.line ≡ plan_text read }
+/// The line of a text's fault, which is the whole report of the text.
+///
+/// # Errors
+///
+/// `OutOfMemory` is no fault of a text.
+#[tactic(auto, unfolding(crate::specs::Report::report_text))]
+pub fn fault_text(fault: ReadFault) -> Result<Closing, AllocError>
+    ensures line { IfOk result (λ closing.
+        (bytes : List ℕ) → Fails fault (plan_of bytes) → closing.line ≡ report_text bytes) }
+    ensures none { OnErr result (fault ≡ ReadFault.OutOfMemory) }
 {
-    match fault {
+    Ok(match fault {
         ReadFault::NoHeader(line) => fault_line(line, b"NoHeader"),
         ReadFault::BadHeader(line) => fault_line(line, b"BadHeader"),
         ReadFault::BadThreads(line) => fault_line(line, b"BadThreads"),
         ReadFault::BadLine(line) => fault_line(line, b"BadLine"),
         ReadFault::TooManyMoves(line) => fault_line(line, b"TooManyMoves"),
         ReadFault::WordsTooNarrow(line) => fault_line(line, b"WordsTooNarrow"),
-        ReadFault::TooLong | ReadFault::OutOfMemory => {
+        ReadFault::TooLong => {
             let mut line = Text::new();
             line.push(b"fault TooLong\n");
             Closing {
@@ -113,5 +118,6 @@ pub fn fault_text(fault: ReadFault) -> Closing
                 ending: Ending::Faulty,
             }
         }
-    }
+        ReadFault::OutOfMemory => return Err(AllocError),
+    })
 }

@@ -2,8 +2,7 @@
 //! Those of a thread's number are written where they belong: out of a `Buffer` they would have to
 //! be copied, which takes 12 to 40 % more instructions for a move.
 
-ghost use Rattle.std.specs.Prelude.{◌≡◌, ◌+◌, ◌≤◌, ◌++◌, ◌∷◌, [], decimal, length, take, ◌<◌, ℕ};
-ghost use Rattle.std.specs.Prelude.{◌^◌};
+ghost use Rattle.std.specs.Prelude.{◌≡◌, ◌+◌, ◌≤◌, ◌++◌, ◌∷◌, decimal, length, take, ◌<◌, ◌^◌, ℕ};
 
 use itoa::{Buffer, write_digits};
 use std::marker::Model;
@@ -64,14 +63,6 @@ impl Numeral {
         } else {
             *self = Numeral::of(self.number + 1);
         }
-    }
-
-    /// The digits.
-    pub fn digits(&self) -> &[u8]
-        ensures digits { result.now ≡ decimal self.now }
-        ensures few { length result.now ≤ 16 }
-    {
-        &self.block[..self.digits]
     }
 
     /// The block that begins with the digits, and how many they are.

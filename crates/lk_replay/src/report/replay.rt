@@ -5,12 +5,11 @@ ghost use Rattle.std.specs.Prelude.{◌≡◌, ◌≤◌, length, take, ◌+◌,
 ghost use Rattle.std.specs.Prelude.{None, ◌<◌};
 ghost use Rattle.lk_locks.specs.Sequential.{nobody};
 ghost use Rattle.lk_locks.specs.invariants.Kept.{IsTracked};
-ghost use Rattle.lk_replay.specs.Printing.{next_refused, IsPrinting, Printing, printing};
+ghost use Rattle.lk_replay.specs.Printing.{next_refused, Printing, printing};
 ghost use Rattle.lk_replay.specs.Replay.{start_of, replay_from, replay_of};
 ghost use Rattle.lk_replay.specs.Report.{move_text, replay_text};
 ghost use Rattle.lk_replay.specs.Ending.{ending_of};
 
-use crate::output_buffer::{LEAST_PLACE, Source};
 use crate::played::Accepted;
 use crate::report::closings::{Closing, last_line};
 use crate::report::numerals::{Numeral, put_number};
@@ -21,6 +20,9 @@ use crate::{Line, Schedule};
 use lk_locks::{Added, Machine, Refusal, words_needed};
 use lk_words::WordArray;
 use std::marker::Model;
+
+/// The bytes of the smallest place that lines are put into.
+pub const LEAST_PLACE: usize = 448;
 
 /// The moves of a schedule that are left, how many were printed, and the lock on which they were
 /// played: its words and phases, and who holds and who waits.
@@ -41,7 +43,8 @@ impl<'a> Model for Replay<'a> {
 
     ghost view = { λ a. printing a.status a.count (replay_from a.machine a.moves.now) };
 
-    ghost invariant = { λ a. IsPrinting a.status a.machine a.count a.moves.now };
+    ghost invariant = { λ a. (a.count + length a.moves.now ≤ 65536)
+        × IsTracked a.machine a.status.sequential };
 }
 
 // Writes `K T WORD OUTCOME hold ` of an accepted move, and returns where it ends.
@@ -139,19 +142,19 @@ impl<'a> Replay<'a> {
         let refused = next_refused(&self.machine, self.moves);
         last_line(self.count.number(), refused)
     }
-}
 
-impl<'a> Source for Replay<'a> {
-    ghost lines = { λ r. r.lines };
-
-    ghost left = { λ r. r.left };
-
-    ghost last = { λ r. r.last };
-
-    /// As many lines as have room whatever their length. None is left after the last move, or
-    /// before a refused one. A line has at most 64 bytes that describe the move, and 384 that show
-    /// who holds and who waits.
-    fn fill(&mut self, place: &mut [u8]) -> usize {
+    /// Puts the next lines into a place, as many as have room whatever their length, and returns
+    /// where they end: at 0 only if none is left. None is left after the last move, or before a
+    /// refused one. A line has at most 64 bytes that describe the move, and 384 that show who holds
+    /// and who waits.
+    pub fn fill(&mut self, place: &mut [u8]) -> usize
+        requires { 448 ≤ length place.old }
+        ensures lines { self.old.lines ≡ take result place.new ++ self.new.lines }
+        ensures fits { result ≤ length place.new }
+        ensures fewer { 0 < result → self.new.left < self.old.left }
+        ensures none { result ≡ 0 → (self.new.lines ≡ []) × (self.new.left ≡ 0) }
+        ensures last { self.new.last ≡ self.old.last }
+    {
         let mut len = 0;
         while place.len() - len >= LEAST_PLACE {
             let Some(more) = self.next(&mut place[len..]) else {

@@ -1,7 +1,7 @@
 //! The words of a report's line, each at the front of a block.
 
-ghost use Rattle.std.specs.Prelude.{◌≡◌, ◌≤◌, ◌++◌, codes, length, take};
-ghost use Rattle.lk_replay.specs.Vocabulary.{move_word, outcome_word, step_word};
+ghost use Rattle.std.specs.Prelude.{◌≡◌, ◌≤◌, ◌++◌, codes, take};
+ghost use Rattle.lk_replay.specs.Vocabulary.{move_word, outcome_word};
 
 use lk_locks::{Move, Op, Outcome, StepKind};
 
@@ -25,15 +25,6 @@ pub fn move_block(action: Move) -> (&'static [u8; 16], usize)
         Move::Step(StepKind::Add) => (b" add            ", 5),
         Move::Step(StepKind::Section) => (b" section        ", 9),
     }
-}
-
-/// The word of a step, as a move's line has it.
-pub fn step_word(kind: StepKind) -> &'static [u8]
-    ensures word { result.now ≡ step_word kind }
-    ensures short { length result.now ≤ 14 }
-{
-    let (block, len) = move_block(Move::Step(kind));
-    &block[1..len - 1]
 }
 
 /// The word of an outcome and ` hold `, and how long that is.

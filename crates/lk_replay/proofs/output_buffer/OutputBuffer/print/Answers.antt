@@ -5,7 +5,7 @@ use Rattle.lk_replay.proofs.output_buffer.OutputBuffer.print.Goals as goal
 use borrow.Rule.Slice.PartMut.{mid_len}
 
 pub returns-clause-lines : goal.returns-clause-lines
-returns-clause-lines g c =
+returns-clause-lines c =
     let inside = c.self.inside in
     let bytes = c.deref_mut.result.now in
     let lines = take c.fill-len.result c.fill-len.new.place in

@@ -1,5 +1,5 @@
 -- The last line begins with `refused ` or with `end `, and has no line feed in it.
-use Rattle.std.proofs.Common.{codes, refl, rules}
+use Rattle.std.proofs.Common.{codes, refl, rules, ◌∙◌}
 use Rattle.lk_replay.proofs.LastLines.{accepted_ending, marked_ending, reason_is}
 use Rattle.lk_replay.specs.Report.{refusal_text}
 use Rattle.lk_replay.specs.declared.ending.Ending.TheVariants.{Refused}
@@ -14,6 +14,6 @@ invariant_of-result c = record {
 
 pub invariant_of-result-2 : goal.invariant_of-result-2
 invariant_of-result-2 c = record {
-  told = accepted_ending _ c.digits.result.now c.args.count c.ranges.count.fits (search rules)
-      (search rules);
+  told = accepted_ending _ c.as_bytes.result.now c.args.count c.ranges.count.fits
+      (c.as_bytes.ensures.value ∙ c.format.ensures.text) (search rules);
 }

@@ -14,7 +14,8 @@ returns-in-WrongStep-clause-reason c =
       c.push-in-WrongStep-2.ensures,
       c.push-in-WrongStep.ensures,
       named,
-      c.step_word.ensures.word,
+      c.as_bytes-in-WrongStep.ensures.value,
+      c.move_text.ensures.word,
       c.in-WrongStep.is,
     )
     (simp append_assoc)

@@ -22,12 +22,11 @@ returns-clause-ending c =
     ∙ ap ending_of (returns-clause-text c)
 
 pub invariant_of-result : goal.invariant_of-result
-invariant_of-result c = record {
-  few = omega (arith, c.of.ensures, c.moves.ensures.few);
-  tracked =
-      rw (
-        c.new.ensures ∙ ap (λ k. following k []) c.kind.ensures,
-        c.new_machine.ensures.state,
-      )
-      c.new_machine.ensures.tracked;
-}
+invariant_of-result c = (
+  omega (arith, c.of.ensures, c.moves.ensures.few),
+  rw (
+    c.new.ensures ∙ ap (λ k. following k []) c.kind.ensures,
+    c.new_machine.ensures.state,
+  )
+      c.new_machine.ensures.tracked,
+)

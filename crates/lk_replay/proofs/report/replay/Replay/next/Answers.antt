@@ -12,23 +12,22 @@ follow-requires c =
     search rules in
     rw (c.as_slice.ensures.entries ∙ c.make-outcome.ensures.entries)
     (entries_may_come c.self.inside.machine c.self.inside.status.sequential _ _
-    c.self.invariant.tracked accepted)
+    c.self.invariant.1 accepted)
 
 pub invariant_of-self : goal.invariant_of-self
 invariant_of-self c =
     let line = c.in_ok-line.line.now in
     let accepted : refusal_of c.self.inside.machine line.thread line.action ≡ None =
-    search rules in
-    record {
-      few = omega (
+    search rules in (
+      omega (
         arith,
-        c.self.invariant.few,
+        c.self.invariant.0,
         c.count_on.ensures,
         c.in_ok-line.ensures.cases.1,
-      );
-      tracked = tracked_on c.self.inside.machine _ c.self.inside.status.sequential _
-          c.as_slice.result.now _ _ c.self.invariant.tracked accepted
+      ),
+      tracked_on c.self.inside.machine _ c.self.inside.status.sequential _
+          c.as_slice.result.now _ _ c.self.invariant.1 accepted
           (c.as_slice.ensures.entries ∙ c.make-outcome.ensures.entries)
           c.make-outcome.ensures.after
-          (ap (λ (f : Following). f.sequential) c.follow.ensures);
-    }
+          (ap (λ (f : Following). f.sequential) c.follow.ensures),
+    )

@@ -1,7 +1,7 @@
 -- The next line comes after those before it.
 use Rattle.std.proofs.Common.{◌≡◌, ◌-◌, ◌∙◌, append_assoc, arith, length, take}
 use Rattle.lk_replay.proofs.Texts.{written_after}
-use Rattle.lk_replay.proofs.report.replay.ReplaySource.fill.Goals as goal
+use Rattle.lk_replay.proofs.report.replay.Replay.fill.Goals as goal
 use borrow.Rule.Slice.PartMut.{mid_len, mid_of, post_of, put_mid, same_len_mid}
 
 pub loop-place-preserved : goal.loop-place-preserved

@@ -1,6 +1,6 @@
 -- What was printed, and then what is left, is all of it.
 use Rattle.std.proofs.Common.{◌≡◌, ◌<◌, ◌≤◌, ◌++◌, length, take}
-use Rattle.lk_replay.proofs.report.replay.ReplaySource.fill.Given as goal
+use Rattle.lk_replay.proofs.report.replay.Replay.fill.Given as goal
 
 abbrev pub invariant-loop-place : goal.invariant-loop-place
 invariant-loop-place l = record {
