@@ -1,6 +1,6 @@
 -- Invariants. The rule of the running ticket lock in counting form, and what follows from its
 -- steps.
-use Rattle.std.specs.Prelude.{◌≡◌, ℕ, ◌+◌, ◌^◌, ◌<◌, ◌≤◌, List, [], ◌∷◌, length, ⊤}
+use Rattle.std.specs.Prelude.{◌≡◌, ℕ, ◌+◌, ◌^◌, ◌≤◌, List, [], ◌∷◌, length, ⊤}
 use mathlib.Core.Option.{some}
 use lib.ListN.{get_elem?}
 use Rattle.atomic_table.specs.Table.{Me, Step}
@@ -55,18 +55,6 @@ pub record Running (takes : ℕ) (s : Table) : Type 0 where
   pub taken : sum_over_seats (λ r. r.taken) s.views ≡ next_of s
   pub left : next_of s + sum_over_seats (λ r. r.left) s.views ≤ 2 ^ 40
 
-abbrev pub TakeFinds : SeatState → ℕ → Type 0
-TakeFinds r found = (r.seen ≤ found) × (found < 2 ^ 40) × (r.taken < 2 ^ 40)
-
-abbrev pub LookFinds : SeatState → ℕ → Type 0
-LookFinds r found = r.seen ≤ found
-
-abbrev pub ReadFinds : SeatState → ℕ → Type 0
-ReadFinds r found = found ≡ r.ticket
-
-abbrev pub PassFinds : SeatState → ℕ → Type 0
-PassFinds r found = ⊤
-
 -- a step of the only seat of a view, with a note of the word and the operand that the table's own
 -- step has
 abbrev pub OfOne : LiveStep → (SeatState → ℕ → Type 0) → Step (Unit {0}) → Sees → ℕ → Sees → Type 0
@@ -74,13 +62,9 @@ OfOne live tells st v found w =
     (r : SeatState) → v.0 ≡ r ∷ []
     → (w ≡ (noted (operation st.word st.first) (live.next r found) ∷ [], v.1)) × tells r found
 
--- nothing changes, and what one seat has is few
+-- nothing changes, what one seat has is few, and two seats side by side are apart
 abbrev pub Counts : Step (Unit {0}) → Sees → ℕ → Sees → Type 0
 Counts st v found w =
     (w ≡ v) × (st.word ≡ 0)
     × ((r : SeatState) → v.0 ≡ r ∷ [] → (r.left ≤ 2 ^ 40) × (r.taken ≤ 2 ^ 40))
-
--- nothing changes, and two seats side by side are apart
-abbrev pub Compares : Step (Unit {0}) → Sees → ℕ → Sees → Type 0
-Compares st v found w =
-    (w ≡ v) × (st.word ≡ 0) × ((r q : SeatState) → v.0 ≡ r ∷ q ∷ [] → AreApart r q)
+    × ((r q : SeatState) → v.0 ≡ r ∷ q ∷ [] → AreApart r q)
