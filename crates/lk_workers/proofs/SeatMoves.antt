@@ -15,15 +15,11 @@ use Rattle.lk_workers.specs.Counting.{sum_over, indicator, once_below}
 use Rattle.lk_workers.specs.Seats.{seat_state, operation, noted, Table, sum_over_seats, next_of}
 use Rattle.lk_workers.specs.Seats.{serving_of, ticket_indicator, ticket_indicator_in, IsHolding}
 use Rattle.lk_workers.specs.SeatSteps.{LiveStep, take_step, look_step, read_step, pass_step, moved}
-use Rattle.lk_workers.specs.invariants.Running.{Sees, loads_of, made_of, FitsPhase, Fits, Each}
+use Rattle.lk_workers.specs.invariants.Running.{Sees, first_of, known, FitsPhase, Fits, Each}
 use Rattle.lk_workers.specs.invariants.Running.{ViewFits, Running, OfOne, Counts}
 use Rattle.lk_workers.proofs.Sums.{sum_over-set, at_most_sum}
 use Rattle.lk_workers.proofs.TwoWords.{w00, w01, w10, w11}
 use Rattle.lk_workers.proofs.Below.{below_suc, indicator_here, at_most_once, below_of, once_there}
-
-abbrev head_or : SeatState → List SeatState → SeatState
-head_or d [] = d
-head_or d (r ∷ rs) = r
 
 told : (live : LiveStep) (tells : SeatState → ℕ → Type 0) (st : Step (Unit {0})) (me : Sees)
     (found : ℕ) (r : SeatState)
@@ -31,18 +27,16 @@ told : (live : LiveStep) (tells : SeatState → ℕ → Type 0) (st : Step (Unit
     → OfOne live tells st me found
     (noted (operation st.word st.first) (live.next r found) ∷ [], me.1)
 told live tells st me found r is t r' is' =
-    let e : r ≡ r' = ap (head_or r) (sym is ∙ is') in (
+    let e : r ≡ r' = ap first_of (sym is ∙ is') in (
       ap (λ z. (noted (operation st.word st.first) (live.next z found) ∷ [], me.1)) e,
       subst (λ z. tells z found) e t,
     )
 
 -- a seat's view, as its struct keeps it
 pub view_of_seat : (me : Sees) (q : SeatState) (c : List (ℕ × Unit {0})) → me ≡ (q ∷ [], c) → c ≡ []
-    → me
-    ≡ (seat_state q.phase q.ticket q.left q.taken q.seen (loads_of me.0) (made_of me.0) ∷ [], [])
+    → me ≡ (known q.phase q.ticket q.left q.taken q.seen me.0 ∷ [], [])
 view_of_seat me q c e none_held = e ∙ (λ k. (
-  seat_state q.phase q.ticket q.left q.taken q.seen (loads_of (sym e k).0) (made_of (sym e k).0)
-      ∷ [],
+  known q.phase q.ticket q.left q.taken q.seen (sym e k).0 ∷ [],
   none_held k,
 ))
 
@@ -50,7 +44,7 @@ pub looked : (me : Sees) (p : LivePhase) (r : SeatState) (found : ℕ) (c : List
     (b : Bool)
     → me ≡ (moved look_step r found ∷ [], c) → c ≡ [] → (found == r.ticket) ≡ b
     → p ≡ (if b then Inside else Waiting)
-    → me ≡ (seat_state p r.ticket r.left r.taken found (loads_of me.0) (made_of me.0) ∷ [], [])
+    → me ≡ (known p r.ticket r.left r.taken found me.0 ∷ [], [])
 looked me p r found c b e none_held is same_phase =
     let is_p : (if (found == r.ticket) then Inside else Waiting) ≡ p =
     ap (λ d. if d then Inside else Waiting) is ∙ sym same_phase in

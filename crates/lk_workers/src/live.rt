@@ -21,7 +21,7 @@ ghost use Rattle.lk_workers.specs.LockState.{IsEnd};
 ghost use Rattle.lk_workers.specs.SeatSteps.{take_step, look_step, read_step, pass_step, moved};
 ghost use Rattle.lk_workers.specs.SeatSteps.{joined, rest_of, share_of};
 ghost use Rattle.atomic_table.specs.Seated.{TableId};
-ghost use Rattle.lk_workers.specs.invariants.Running.{loads_of, made_of};
+ghost use Rattle.lk_workers.specs.invariants.Running.{known};
 
 pub mod laws;
 mod rule;
@@ -76,15 +76,11 @@ impl Model for LiveSeat {
 
     ghost view = { λ s. record {
       table = s.seat.table_id;
-      state = seat_state s.phase s.ticket s.left s.taken s.seen (loads_of s.seat.me.0)
-          (made_of s.seat.me.0);
+      state = known s.phase s.ticket s.left s.taken s.seen s.seat.me.0;
     } };
 
-    ghost invariant = { λ s. (s.seat.me ≡ (
-      seat_state s.phase s.ticket s.left s.taken s.seen (loads_of s.seat.me.0)
-          (made_of s.seat.me.0) ∷ [],
-      [],
-    ))
+    ghost invariant = { λ s.
+        (s.seat.me ≡ (known s.phase s.ticket s.left s.taken s.seen s.seat.me.0 ∷ [], []))
         × (s.ticket < 2 ^ 40) };
 }
 

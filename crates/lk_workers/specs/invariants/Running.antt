@@ -6,11 +6,10 @@ use lib.ListN.{get_elem?}
 use Rattle.atomic_table.specs.Table.{Me, Step}
 use Rattle.lk_workers.specs.declared.live.LivePhase.{LivePhase}
 use Rattle.lk_workers.specs.declared.live.LivePhase.TheVariants.{Idle, Waiting}
-use Rattle.lk_workers.specs.declared.live.rule.Operation.{Operation}
 use Rattle.lk_workers.specs.declared.live.rule.SeatState.{SeatState}
 use Rattle.lk_workers.specs.Counting.{once_below}
 use Rattle.lk_workers.specs.Seats.{Table, operation, noted, next_of, serving_of, sum_over_seats}
-use Rattle.lk_workers.specs.Seats.{ticket_indicator, AreApart}
+use Rattle.lk_workers.specs.Seats.{seat_state, ticket_indicator, AreApart}
 use Rattle.lk_workers.specs.SeatSteps.{LiveStep}
 
 abbrev pub Sees : Type 0
@@ -21,15 +20,15 @@ FitsPhase serving Idle t taken = ⊤
 FitsPhase serving Waiting t taken = 1 ≤ taken
 FitsPhase serving phase t taken = (t ≡ serving) × (1 ≤ taken)
 
--- the loads of the first seat of a view
-abbrev pub loads_of : List SeatState → ℕ
-loads_of [] = 0
-loads_of (r ∷ rs) = r.loads
+-- the first seat of a view
+abbrev pub first_of : List SeatState → SeatState
+first_of [] = seat_state Idle 0 0 0 0 0 []
+first_of (r ∷ rs) = r
 
--- the operations of the first seat of a view
-abbrev pub made_of : List SeatState → List Operation
-made_of [] = []
-made_of (r ∷ rs) = r.made
+-- what is known of a seat: what it keeps itself, and the loads and operations of its view
+abbrev pub known : LivePhase → ℕ → ℕ → ℕ → ℕ → List SeatState → SeatState
+known phase ticket left taken seen v =
+    seat_state phase ticket left taken seen (first_of v).loads (first_of v).made
 
 -- one seat by itself, when this ticket is served
 abbrev pub Fits : ℕ → SeatState → Type 0
