@@ -2,7 +2,7 @@
 -- project's own; what a move does, who holds and who waits is said by the definitions of the locks
 -- and of the replay alone.
 use Rattle.std.specs.Prelude.{◌≡◌, ◌≢◌, ℕ, ◌<◌, List, [], ◌∷◌, ◌++◌, length, slice_index, Option}
-use Rattle.std.specs.Prelude.{None, Some, option_map, Bool, false, eqb}
+use Rattle.std.specs.Prelude.{None, Some, option_map, IfSome, IsSomeAnd, Bool, false, eqb}
 use Rattle.std.specs.Option.{option_map_or}
 use Rattle.lk_words.specs.Operations.{word_of}
 use Rattle.lk_locks.specs.State.{State, phase_at}
@@ -46,19 +46,15 @@ after_lines m (l ∷ ls) =
 
 -- a word that was touched, with its value before and after
 abbrev pub IsTouch : List ℕ → List ℕ → Option Touch → Type 0
-IsTouch before after None = Unit {0}
-IsTouch before after (Some t) =
-    (t.word < length before) × (t.found ≡ slice_index before t.word)
-    × (t.left ≡ slice_index after t.word)
+IsTouch before after touch = IfSome touch (λ t. (t.word < length before)
+    × (t.found ≡ slice_index before t.word) × (t.left ≡ slice_index after t.word))
 
 abbrev pub IsWord : Option Touch → ℕ → Type 0
-IsWord None i = ⊥
-IsWord (Some t) i = t.word ≡ i
+IsWord touch i = IsSomeAnd touch (λ t. t.word ≡ i)
 
 -- the values before and after differ
 abbrev pub IsChange : Option Touch → Type 0
-IsChange None = ⊥
-IsChange (Some t) = t.found ≢ t.left
+IsChange touch = IsSomeAnd touch (λ t. t.found ≢ t.left)
 
 -- The words that a move touched: all others stayed. They are two different words. The first of them
 -- stayed only if none changed, and a second one changed.
