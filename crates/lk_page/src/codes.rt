@@ -54,8 +54,7 @@ fn number_of(fault: TextFault) -> u32
 
 /// The number of a fault, and the line that it names.
 pub fn fault_codes(fault: ReadFault) -> (u32, u32)
-    ensures { IfSome (as_fault fault)
-        (λ f. (result.0 ≡ (fault_codes f).0) × (result.1 ≡ (fault_codes f).1)) }
+    ensures { IfSome (as_fault fault) (λ f. result ≡ fault_codes f) }
 {
     match fault {
         ReadFault::NoHeader(line) => (number_of(TextFault::NoHeader), line),

@@ -50,21 +50,17 @@ pub fn play_line(lock: &mut Tracker<WordArray>, line: &Line) -> Result<Record, R
     lock.machine().check(line.thread, line.action)?;
     let (first, second) = touches(lock.machine(), line.thread, line.action);
     let outcome = lock.make(line.thread, line.action, &mut Added::none());
-    let phase = lock.machine().phase(line.thread);
-    let due = lock.machine().next_step(line.thread);
     let standing = standing_of(lock, line.thread);
-    let calls = allowed_calls(lock.machine(), line.thread);
-    let waits = waits_after(lock.machine(), line.thread, outcome, standing.is_queued);
     Ok(Record {
         line: line.number,
         thread: line.thread,
         action: line.action,
         outcome,
-        phase,
-        due,
+        phase: lock.machine().phase(line.thread),
+        due: lock.machine().next_step(line.thread),
         standing,
-        calls,
-        waits,
+        calls: allowed_calls(lock.machine(), line.thread),
+        waits: waits_after(lock.machine(), line.thread, outcome, standing.is_queued),
         first,
         second,
     })
