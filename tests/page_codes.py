@@ -42,7 +42,7 @@ def read(path):
 
 def defined(text, definition, word=str):
     """The number of each name, by the equations of a definition."""
-    found = re.findall(rf"^{definition} \(?(\w+).*? = (\d+)$", text, re.MULTILINE)
+    found = re.findall(rf"^{definition} \(?(\w+).*? = \(?(\d+)(?:, \w+\))?$", text, re.MULTILINE)
     return {word(name): int(number) for name, number in found}
 
 
@@ -83,7 +83,7 @@ def compare_codes(tally, codes, page, table):
         due = defined(codes, definition, word)
         tally.check(f"{name} in codes.js", listed(page, name), due)
         tally.check(f"{row} in MODULE.md", in_table(table, row), due)
-    faults = {**defined(codes, "fault_number"), **defined(codes, "fault_code")}
+    faults = {**defined(codes, "fault_number"), **defined(codes, "fault_codes")}
     tally.check("FAULTS in codes.js", named(page, "FAULTS"), {**faults, **OF_THE_LIBRARY})
     tally.check("fault in MODULE.md", in_table(table, "fault"), faults)
     locks = defined(codes, "lock_code", LOCKS.get)

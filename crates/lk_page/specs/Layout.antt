@@ -4,6 +4,7 @@ use Rattle.std.specs.Prelude.{ℕ, zero, suc, ◌+◌, ◌-◌, ◌*◌, List, [
 use Rattle.std.specs.Prelude.{Option, None, Some, if◌then◌else◌, nat_lt}
 use Rattle.std.specs.Int.{to_le_bytes, w16, w32, w64}
 use Rattle.std.specs.List.{flat_map}
+use Rattle.std.specs.Option.{option_map_or}
 use Rattle.lk_locks.specs.State.{State, phase_at}
 use Rattle.lk_locks.specs.Locks.{step_due}
 use Rattle.lk_locks.specs.Holding.{Holding, Free, HeldBy, ReadBy, WrittenBy, holding_of, waiting_of}
@@ -11,8 +12,7 @@ use Rattle.lk_locks.specs.declared.kinds.Refusal.{Refusal}
 use Rattle.lk_replay.specs.Faults.{Fault}
 use Rattle.lk_search.specs.Phases.{phase_code, phase_number}
 use Rattle.lk_trace.specs.Codes.{move_number, outcome_number, refusal_number}
-use Rattle.lk_page.specs.Codes.{bit, lock_code, is_unlinked, due_code}
-use Rattle.lk_page.specs.Codes.{refusal_step, fault_code, fault_line}
+use Rattle.lk_page.specs.Codes.{bit, lock_code, is_unlinked, due_code, refusal_step, fault_codes}
 use Rattle.lk_page.specs.Next.{allowed_calls}
 use Rattle.lk_page.specs.Owned.{next_word, locked_word, record_name}
 use Rattle.lk_page.specs.Told.{Moment}
@@ -25,12 +25,10 @@ touched_word None = 65535
 touched_word (Some t) = t.word
 
 abbrev pub found_of : Option Touch → ℕ
-found_of None = 0
-found_of (Some t) = t.found
+found_of touch = option_map_or (λ t. t.found) touch 0
 
 abbrev pub left_of : Option Touch → ℕ
-left_of None = 0
-left_of (Some t) = t.left
+left_of touch = option_map_or (λ t. t.left) touch 0
 
 -- what a thread is after its move
 abbrev pub thread_code : Record → ℕ
@@ -87,17 +85,12 @@ abbrev pub stop_numbers : Option (ℕ × Refusal) → List ℕ
 stop_numbers None = 0 ∷ 0 ∷ 0 ∷ 0 ∷ []
 stop_numbers (Some r) = 1 ∷ refusal_number r.1 ∷ r.0 ∷ refusal_step r.1 ∷ []
 
--- of a lock in this state after `count` of `moves` moves
-abbrev pub numbers : ℕ → ℕ → Option (ℕ × Refusal) → State → Holding → List ℕ → List ℕ
-numbers moves count refused s held queue =
-    stop_numbers refused
-    ++ lock_code s.kind ∷ length s.phases ∷ s.bits ∷ count ∷ moves ∷ length s.words
-    ∷ holding_code held ∷ length (holder_list held) ∷ length queue ∷ 0 ∷ 0 ∷ 0 ∷ []
-
--- 2,304 bytes
+-- of a lock in this state after `count` of `moves` moves: 2,304 bytes
 unfoldable pub bytes_of_state : ℕ → ℕ → Option (ℕ × Refusal) → State → Holding → List ℕ → List ℕ
 bytes_of_state moves count refused s held queue =
-    flat_map (to_le_bytes w32) (numbers moves count refused s held queue)
+    flat_map (to_le_bytes w32) (stop_numbers refused
+    ++ lock_code s.kind ∷ length s.phases ∷ s.bits ∷ count ∷ moves ∷ length s.words
+    ∷ holding_code held ∷ length (holder_list held) ∷ length queue ∷ 0 ∷ 0 ∷ 0 ∷ [])
     ++ padded 64 (holder_list held) ++ padded 64 queue
     ++ threads_bytes s 0 64
     ++ flat_map (to_le_bytes w64) s.words ++ replicate (1088 - 8 * length s.words) 0
@@ -111,4 +104,4 @@ unfoldable pub bytes_of_fault : ℕ → ℕ → List ℕ
 bytes_of_fault code line = flat_map (to_le_bytes w32) (2 ∷ code ∷ line ∷ []) ++ replicate 2292 0
 
 abbrev pub fault_bytes : Fault → List ℕ
-fault_bytes f = bytes_of_fault (fault_code f) (fault_line f)
+fault_bytes f = bytes_of_fault (fault_codes f).0 (fault_codes f).1

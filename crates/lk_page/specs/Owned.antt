@@ -1,6 +1,7 @@
 -- Definitions: what is a thread's own in an MCS lock, by the operations of the steps in which it is
 -- used first. This project's own.
-use Rattle.std.specs.Prelude.{ℕ, Option, None, Some}
+use Rattle.std.specs.Prelude.{ℕ, Option}
+use Rattle.std.specs.Option.{option_map_or}
 use Rattle.lk_words.specs.Operations.{word_of, left_by}
 use Rattle.lk_words.specs.declared.operation.Operation.{Operation}
 use Rattle.lk_locks.specs.Locks.{operation_of}
@@ -8,13 +9,11 @@ use Rattle.lk_locks.specs.declared.kinds.LockKind.{LockKind}
 use Rattle.lk_locks.specs.declared.kinds.Phase.TheVariants.{ClearNext, AwaitGrant, SwapTail}
 
 abbrev pub word_or_0 : Option Operation → ℕ
-word_or_0 None = 0
-word_or_0 (Some o) = word_of o
+word_or_0 o = option_map_or word_of o 0
 
 -- what an operation leaves in a word that holds 0
 abbrev pub left_or_0 : ℕ → Option Operation → ℕ
-left_or_0 bits None = 0
-left_or_0 bits (Some o) = left_by bits 0 o
+left_or_0 bits o = option_map_or (left_by bits 0) o 0
 
 -- the word of a thread's `next`, which its first step clears
 abbrev pub next_word : LockKind → ℕ → ℕ → ℕ

@@ -1,20 +1,11 @@
--- Definitions: where a line stops being a header or a move, and what could be there, as numbers.
--- This project's own.
-use Rattle.std.specs.Prelude.{ℕ, ◌==◌, List, Option, None, Some, if◌then◌else◌}
+-- Definitions: where a line stops being a header or a move, and what could be there. This
+-- project's own.
+use Rattle.std.specs.Prelude.{ℕ, ◌==◌, List, Option, if◌then◌else◌}
 use Rattle.lk_replay.specs.Lines.{words_of}
 use Rattle.lk_replay.specs.Unreadable.{unreadable_from}
 use Rattle.lk_replay.specs.declared.unreadable.Expected.{Expected}
 use Rattle.lk_replay.specs.declared.unreadable.Expected.TheVariants.{Lock, Thread}
-use Rattle.lk_page.specs.Codes.{expected_code}
 
 -- of a header if the number is 0, and else of a move
 abbrev pub stop_of : ℕ → List ℕ → Option (ℕ × Expected)
 stop_of is_move line = unreadable_from 1 (if is_move == 0 then Lock else Thread) (words_of line)
-
-abbrev pub column_of : Option (ℕ × Expected) → ℕ
-column_of None = 0
-column_of (Some stop) = stop.0
-
-abbrev pub expected_at : Option (ℕ × Expected) → ℕ
-expected_at None = 0
-expected_at (Some stop) = expected_code stop.1

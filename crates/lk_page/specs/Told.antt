@@ -2,7 +2,8 @@
 -- project's own; what a move does, who holds and who waits is said by the definitions of the locks
 -- and of the replay alone.
 use Rattle.std.specs.Prelude.{◌≡◌, ◌≢◌, ℕ, ◌<◌, List, [], ◌∷◌, ◌++◌, length, slice_index, Option}
-use Rattle.std.specs.Prelude.{None, Some, option_map, Bool, false, eqb}
+use Rattle.std.specs.Prelude.{None, Some, option_map, IfSome, IsSomeAnd, Bool, false, eqb}
+use Rattle.std.specs.Option.{option_map_or}
 use Rattle.lk_words.specs.Operations.{word_of}
 use Rattle.lk_locks.specs.State.{State, phase_at}
 use Rattle.lk_locks.specs.Locks.{operation_of, step_due}
@@ -13,7 +14,6 @@ use Rattle.lk_locks.specs.Holding.{Holding, Free, HeldBy, ReadBy, WrittenBy, hol
 use Rattle.lk_locks.specs.declared.kinds.Move.{Move}
 use Rattle.lk_locks.specs.declared.kinds.Move.TheVariants.{Call, Step}
 use Rattle.lk_locks.specs.declared.kinds.Entry.{Entry}
-use Rattle.lk_locks.specs.declared.kinds.Refusal.{Refusal}
 use Rattle.lk_replay.specs.Schedule.{Plan}
 use Rattle.lk_replay.specs.Replay.{start_of, made_by}
 use Rattle.lk_replay.specs.declared.schedule.Line.{Line}
@@ -38,31 +38,23 @@ after_line m l = record {
   entries = m.entries ++ entries_of m.state l.thread l.action;
 }
 
-abbrev pub unless_stopped : Option Refusal → Moment → Moment → Moment
-unless_stopped None m next = next
-unless_stopped (Some r) m next = m
-
 -- after these moves, up to the first refused one
 abbrev pub after_lines : Moment → List Line → Moment
 after_lines m [] = m
 after_lines m (l ∷ ls) =
-    unless_stopped (refusal_of m.state l.thread l.action) m (after_lines (after_line m l) ls)
+    option_map_or (λ _. m) (refusal_of m.state l.thread l.action) (after_lines (after_line m l) ls)
 
 -- a word that was touched, with its value before and after
 abbrev pub IsTouch : List ℕ → List ℕ → Option Touch → Type 0
-IsTouch before after None = Unit {0}
-IsTouch before after (Some t) =
-    (t.word < length before) × (t.found ≡ slice_index before t.word)
-    × (t.left ≡ slice_index after t.word)
+IsTouch before after touch = IfSome touch (λ t. (t.word < length before)
+    × (t.found ≡ slice_index before t.word) × (t.left ≡ slice_index after t.word))
 
 abbrev pub IsWord : Option Touch → ℕ → Type 0
-IsWord None i = ⊥
-IsWord (Some t) i = t.word ≡ i
+IsWord touch i = IsSomeAnd touch (λ t. t.word ≡ i)
 
 -- the values before and after differ
 abbrev pub IsChange : Option Touch → Type 0
-IsChange None = ⊥
-IsChange (Some t) = t.found ≢ t.left
+IsChange touch = IsSomeAnd touch (λ t. t.found ≢ t.left)
 
 -- The words that a move touched: all others stayed. They are two different words. The first of them
 -- stayed only if none changed, and a second one changed.

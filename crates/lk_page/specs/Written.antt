@@ -1,6 +1,6 @@
 -- Definitions: what a page finds in the slices that it lent. This project's own.
 use Rattle.std.specs.Prelude.{◌≡◌, ℕ, ◌+◌, ◌*◌, List, [], ◌∷◌, ◌++◌, length, take, drop, Option}
-use Rattle.std.specs.Prelude.{None, Some, Result, Ok, Err, if◌then◌else◌, nat_le}
+use Rattle.std.specs.Prelude.{MatchOption, None, Some, Result, Ok, Err, if◌then◌else◌, nat_le}
 use Rattle.std.specs.List.{flat_map}
 use Rattle.lk_locks.specs.Steps.{refusal_of}
 use Rattle.lk_locks.specs.declared.kinds.Refusal.{Refusal}
@@ -18,18 +18,14 @@ placed old at bytes =
     if nat_le (at + length bytes) (length old) then take at old ++ bytes
     ++ drop (at + length bytes) old else old
 
-abbrev pub IsWrittenUnless : Option Refusal → Type 0 → Type 0 → Type 0
-IsWrittenUnless None next stopped = next
-IsWrittenUnless (Some r) next stopped = stopped
-
 -- `new` is `old` with the records of these moves up to the first refused one, after `count` others
 abbrev pub AreRecords : Moment → List Line → ℕ → List ℕ → List ℕ → Type 0
 AreRecords m [] count old new = new ≡ old
 AreRecords m (l ∷ ls) count old new =
-    IsWrittenUnless (refusal_of m.state l.thread l.action)
+    MatchOption (refusal_of m.state l.thread l.action)
     ((r : Record) × IsRecord m l r
     × AreRecords (after_line m l) ls (count + 1) (placed old (count * 56) (record_bytes r)) new)
-    (new ≡ old)
+    (λ _. new ≡ old)
 
 abbrev pub answer_of : Option (ℕ × Refusal) → ℕ
 answer_of None = 0
@@ -39,20 +35,17 @@ answer_of (Some r) = 1
 abbrev pub replay_of_first : Plan → ℕ → Replay
 replay_of_first p most = replay_from (start_of p) (take most p.moves)
 
--- the state after them, at the beginning of what the page lent
-abbrev pub state_after : Plan → ℕ → List ℕ → List ℕ
-state_after p most old =
-    state_bytes (length p.moves) (length (replay_of_first p most).made)
-    (replay_of_first p most).refused (after_lines (beginning p) (take most p.moves))
-    ++ drop 2304 old
-
 -- What is answered and written of a text that has this schedule. Who holds and who waits is read
 -- off the entries that the replay leaves.
 pub record Plays (p : Plan) (most answer : ℕ)
     (records_old records_new state_old state_new : List ℕ) : Type 0 where
   pub answer_is : answer ≡ answer_of (replay_of_first p most).refused
   pub records_are : AreRecords (beginning p) (take most p.moves) 0 records_old records_new
-  pub state_is : state_new ≡ state_after p most state_old
+  -- the state after them, at the beginning of what the page lent
+  pub state_is : state_new
+      ≡ state_bytes (length p.moves) (length (replay_of_first p most).made)
+      (replay_of_first p most).refused (after_lines (beginning p) (take most p.moves))
+      ++ drop 2304 state_old
   pub history_is : (after_lines (beginning p) (take most p.moves)).entries
       ≡ flat_map (λ m. m.entries) (replay_of_first p most).made
 

@@ -17,14 +17,8 @@ fn change_at(section: &SectionEffect, place: usize) -> Option<Touch>
     ensures { IsChangeAt section.now place result }
 {
     let (found, left) = (section.found[place], section.left[place]);
-    if left == found {
-        return None;
-    }
-    Some(Touch {
-        word: place as u8,
-        found,
-        left,
-    })
+    let word = place as u8;
+    (left != found).then_some(Touch { word, found, left })
 }
 
 // The words that a section changed: of the second and the third it changes one at most.

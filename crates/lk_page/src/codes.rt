@@ -5,8 +5,7 @@
 
 ghost use Rattle.std.specs.Prelude.{◌≡◌, IfSome};
 ghost use Rattle.lk_page.specs.Codes.{lock_code, is_unlinked, due_code};
-ghost use Rattle.lk_page.specs.Codes.{refusal_step, fault_code, fault_line, as_fault};
-ghost use Rattle.lk_page.specs.Codes.{expected_code};
+ghost use Rattle.lk_page.specs.Codes.{refusal_step, fault_codes, as_fault, expected_code};
 ghost use Rattle.lk_trace.specs.Codes.{fault_number};
 
 use lk_locks::{LockKind, Move, Phase, Refusal, StepKind};
@@ -55,7 +54,7 @@ fn number_of(fault: TextFault) -> u32
 
 /// The number of a fault, and the line that it names.
 pub fn fault_codes(fault: ReadFault) -> (u32, u32)
-    ensures { IfSome (as_fault fault) (λ f. (result.0 ≡ fault_code f) × (result.1 ≡ fault_line f)) }
+    ensures { IfSome (as_fault fault) (λ f. result ≡ fault_codes f) }
 {
     match fault {
         ReadFault::NoHeader(line) => (number_of(TextFault::NoHeader), line),

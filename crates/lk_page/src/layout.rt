@@ -1,7 +1,7 @@
 //! Numbers as the bytes that a page reads: little-endian, one after the other.
 
 ghost use Rattle.std.specs.Prelude.{◌≡◌, ◌+◌, ◌*◌, ◌≤◌, ◌++◌, length, replicate};
-ghost use Rattle.std.specs.Int.{to_le_bytes, w16, w32, w64};
+ghost use Rattle.std.specs.Int.{to_le_bytes, w32, w64};
 ghost use Rattle.std.specs.List.{flat_map};
 
 use arrayvec::ArrayVec;
@@ -13,24 +13,6 @@ pub fn put_bytes<const N: usize>(out: &mut ArrayVec<u8, N>, bytes: &[u8])
     ensures size { length out.new.items ≡ length out.old.items + length bytes.now }
 {
     let _fits = out.try_extend_from_slice(bytes);
-}
-
-/// Appends a number of 2 bytes.
-pub fn put_u16<const N: usize>(out: &mut ArrayVec<u8, N>, number: u16)
-    requires { length out.old.items + 2 ≤ N }
-    ensures bytes { out.new.items ≡ out.old.items ++ to_le_bytes w16 number }
-    ensures size { length out.new.items ≡ length out.old.items + 2 }
-{
-    put_bytes(out, &u16::to_le_bytes(number));
-}
-
-/// Appends a number of 4 bytes.
-pub fn put_u32<const N: usize>(out: &mut ArrayVec<u8, N>, number: u32)
-    requires { length out.old.items + 4 ≤ N }
-    ensures bytes { out.new.items ≡ out.old.items ++ to_le_bytes w32 number }
-    ensures size { length out.new.items ≡ length out.old.items + 4 }
-{
-    put_bytes(out, &u32::to_le_bytes(number));
 }
 
 /// Appends a number of 8 bytes.
@@ -49,7 +31,7 @@ pub fn put_u32s<const N: usize>(out: &mut ArrayVec<u8, N>, numbers: &[u32])
     ensures size { length out.new.items ≡ length out.old.items + 4 * length numbers.now }
 {
     for number in numbers {
-        put_u32(out, *number);
+        put_bytes(out, &u32::to_le_bytes(*number));
     }
 }
 

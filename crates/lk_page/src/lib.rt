@@ -8,11 +8,13 @@
 #![tactic(auto)]
 
 ghost use Rattle.std.specs.Prelude.{◌≡◌, ◌<◌, ◌≤◌, length};
+ghost use Rattle.std.specs.Option.{option_map_or};
 ghost use Rattle.lk_replay.specs.Schedule.{plan_of};
 ghost use Rattle.lk_search.specs.Kinds.{kind_count};
 ghost use Rattle.lk_page.specs.Asked.{IsAsked, asked_by, lock_of};
+ghost use Rattle.lk_page.specs.Codes.{expected_code};
 ghost use Rattle.lk_page.specs.Sought.{IsAnswered, states_within};
-ghost use Rattle.lk_page.specs.Stops.{column_of, expected_at, stop_of};
+ghost use Rattle.lk_page.specs.Stops.{stop_of};
 ghost use Rattle.lk_page.specs.Written.{IsTold};
 
 mod asking;
@@ -163,7 +165,7 @@ fn stop_of(line: &[u8], is_move: u64) -> Option<(usize, Expected)>
 /// It returns 0 if there is no such place.
 #[unsafe(no_mangle)]
 pub extern "C" fn stops_at(line: &[u8], is_move: u64) -> u64
-    ensures { result ≡ column_of (stop_of is_move line.now) }
+    ensures { result ≡ option_map_or (λ stop. stop.0) (stop_of is_move line.now) 0 }
 {
     stop_of(line, is_move).map_or(0, |stop| stop.0 as u64)
 }
@@ -171,7 +173,7 @@ pub extern "C" fn stops_at(line: &[u8], is_move: u64) -> u64
 /// The number of what is expected at that column, and 0 if there is no such place.
 #[unsafe(no_mangle)]
 pub extern "C" fn expected(line: &[u8], is_move: u64) -> u64
-    ensures { result ≡ expected_at (stop_of is_move line.now) }
+    ensures { result ≡ option_map_or (λ stop. expected_code stop.1) (stop_of is_move line.now) 0 }
 {
     stop_of(line, is_move).map_or(0, |stop| expected_code(stop.1))
 }

@@ -52,10 +52,8 @@ pub fn play_moves(
                 count += 1;
             }
             Err(refusal) => {
-                return Stopped {
-                    count,
-                    refused: Some((line.number, refusal)),
-                };
+                let refused = Some((line.number, refusal));
+                return Stopped { count, refused };
             }
         }
     }

@@ -10,7 +10,7 @@ ghost use Rattle.lk_page.specs.Layout.{thread_code};
 
 use crate::changes::touches;
 use crate::codes::{due_code, is_unlinked};
-use crate::layout::{put_bytes, put_u16, put_u32, put_u64};
+use crate::layout::{put_bytes, put_u64};
 use crate::next::{allowed_calls, waits_after};
 use crate::told::{Record, Standing, Touch};
 use arrayvec::ArrayVec;
@@ -50,21 +50,17 @@ pub fn play_line(lock: &mut Tracker<WordArray>, line: &Line) -> Result<Record, R
     lock.machine().check(line.thread, line.action)?;
     let (first, second) = touches(lock.machine(), line.thread, line.action);
     let outcome = lock.make(line.thread, line.action, &mut Added::none());
-    let phase = lock.machine().phase(line.thread);
-    let due = lock.machine().next_step(line.thread);
     let standing = standing_of(lock, line.thread);
-    let calls = allowed_calls(lock.machine(), line.thread);
-    let waits = waits_after(lock.machine(), line.thread, outcome, standing.is_queued);
     Ok(Record {
         line: line.number,
         thread: line.thread,
         action: line.action,
         outcome,
-        phase,
-        due,
+        phase: lock.machine().phase(line.thread),
+        due: lock.machine().next_step(line.thread),
         standing,
-        calls,
-        waits,
+        calls: allowed_calls(lock.machine(), line.thread),
+        waits: waits_after(lock.machine(), line.thread, outcome, standing.is_queued),
         first,
         second,
     })
@@ -104,7 +100,7 @@ pub fn record_bytes(told: &Record) -> ArrayVec<u8, 56>
     let (code, number) = phase_code(told.phase);
     let (found, left) = values_of(told.first);
     let (found_second, left_second) = values_of(told.second);
-    put_u32(&mut out, told.line);
+    put_bytes(&mut out, &u32::to_le_bytes(told.line));
     put_bytes(
         &mut out,
         &[
@@ -116,8 +112,8 @@ pub fn record_bytes(told: &Record) -> ArrayVec<u8, 56>
             thread_code(told),
         ],
     );
-    put_u16(&mut out, touched_word(told.first));
-    put_u16(&mut out, touched_word(told.second));
+    put_bytes(&mut out, &u16::to_le_bytes(touched_word(told.first)));
+    put_bytes(&mut out, &u16::to_le_bytes(touched_word(told.second)));
     put_bytes(&mut out, &[due_code(told.due), told.calls]);
     put_u64(&mut out, found);
     put_u64(&mut out, left);

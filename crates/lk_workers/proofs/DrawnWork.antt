@@ -13,7 +13,7 @@ use Rattle.lk_workers.proofs.Below.{indicator_here}
 use Rattle.lk_workers.proofs.Sums.{sum_over-append}
 use Rattle.lk_workers.specs.Drawing.{Counter, Drawer, drawer}
 use Rattle.lk_workers.specs.invariants.Collected.{bytes_of, IsDone, report_at, reports_of}
-use Rattle.lk_workers.specs.invariants.Collected.{IsThrough, IsWorkOf, IsEachOnce}
+use Rattle.lk_workers.specs.invariants.Collected.{IsThrough, IsEachOnce}
 
 pub past : (texts : List (List ℕ)) (drawn : List ℕ) (x : ℕ) → length texts ≤ x
     → reports_of texts (drawn ++ x ∷ []) ≡ reports_of texts drawn
@@ -72,12 +72,13 @@ drawn_below drawn word x each t = elim (cases_lt x word) [
 ]
 
 pub each_once : (texts : List (List ℕ)) (ps : List (ℕ × List ℕ)) (drawn : List ℕ) (word : ℕ)
-    → IsWorkOf texts drawn ps → IsEachBelow word drawn → IsEachOnce texts ps
-each_once texts ps drawn word work each = (
+    → ps ≡ reports_of texts drawn → IsThrough texts drawn → IsEachBelow word drawn
+    → IsEachOnce texts ps
+each_once texts ps drawn word reports through_all each = (
   drawn,
-  work.0,
+  reports,
   λ k below.
-      let (last, far, some) = work.1 in
+      let (last, far, some) = through_all in
       kept_occurrences (length texts) k drawn below
       ∙ each.0 k (omega (arith, drawn_below drawn word last each some, far, below)),
 )
@@ -95,12 +96,11 @@ done_both c texts workers half rest front back s ps qs all sum f b seat reports 
     let long = length-append front.drawn back.drawn in
     let whole : IsDone c texts workers
     (drawer c (front.drawn ++ back.drawn) (front.left + back.left)) (ps ++ qs) = (
-      ((refl, refl), omega (arith, k, long, f.0.1, b.0.1)),
-      (
-        together (λ p. (p.0, p.1.text.items))
-            (bytes_of texts) ps qs front.drawn back.drawn f.1.0 b.1.0,
-        through_both (bytes_of texts) front.drawn back.drawn f.1.1,
-      ),
+      (refl, refl),
+      omega (arith, k, long, f.1, b.1),
+      together (λ p. (p.0, p.1.text.items))
+          (bytes_of texts) ps qs front.drawn back.drawn f.2 b.2,
+      through_both (bytes_of texts) front.drawn back.drawn f.3,
     ) in rw (seat, reports) whole
 
 -- the draws of all workers are those of some and those of the others

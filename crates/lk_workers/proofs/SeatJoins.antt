@@ -1,7 +1,7 @@
 -- Splits and joins of seats keep the rule of the running ticket lock, and what it says of the last
 -- state.
-use Rattle.std.proofs.Common.{◌≡◌, ℕ, ◌+◌, ◌≤◌, max, List, [], ◌∷◌, ◌++◌, get_or, set}
-use Rattle.std.proofs.Common.{sym, refl, ap, ◌∙◌, subst, arith, ⊎_elim, inl, inr}
+use Rattle.std.proofs.Common.{◌≡◌, ℕ, ◌+◌, ◌≤◌, max, List, [], ◌∷◌, ◌++◌, get_or, set, map, take}
+use Rattle.std.proofs.Common.{drop, sym, refl, ap, ◌∙◌, subst, arith, ⊎_elim, inl, inr}
 use Rattle.std.proofs.lemmas.Bool.{cases_lt}
 use mathlib.Core.Option.{some}
 use lib.ListN.{get_elem?}
@@ -12,7 +12,7 @@ use Rattle.lk_workers.specs.declared.live.LivePhase.TheVariants.{Idle, Waiting}
 use Rattle.lk_workers.specs.declared.live.rule.SeatState.{SeatState}
 use Rattle.lk_workers.specs.Counting.{sum_over, once_below}
 use Rattle.lk_workers.specs.Seats.{next_of, serving_of, ticket_indicator, ticket_indicator_in}
-use Rattle.lk_workers.specs.SeatSteps.{cut_left, cut_right, glued, paired, first_of, second_of}
+use Rattle.lk_workers.specs.SeatSteps.{rest_of, share_of, glued, paired}
 use Rattle.lk_workers.specs.invariants.Running.{FitsPhase, Fits, Each, ViewFits, Running}
 use Rattle.lk_workers.proofs.Sums.{sum_over-cut, sum_over-two, at_most_sum, alone_at}
 use Rattle.lk_workers.proofs.Below.{none_there, once_there}
@@ -42,17 +42,17 @@ two_lists takes id v l b hs ts ls fits s h at =
     (omega (arith, sum_over-cut (sum_over (λ u. u.left)) vs id v l b at ls, h.left))
 
 pub splits : (takes id a : ℕ) (v : List SeatState) (r : SeatState) → v ≡ r ∷ [] → a ≤ r.left
-    → Splits (Running takes) id v (cut_left a v) (cut_right a v)
+    → Splits (Running takes) id v (map (rest_of a) v) (map (share_of a) v)
 splits takes id a v r is low =
-    subst (λ u. Splits (Running takes) id u (cut_left a u) (cut_right a u)) (sym is)
-    (two_lists takes id (r ∷ []) (cut_left a (r ∷ [])) (cut_right a (r ∷ []))
+    subst (λ u. Splits (Running takes) id u (map (rest_of a) u) (map (share_of a) u)) (sym is)
+    (two_lists takes id (r ∷ []) (rest_of a r ∷ []) (share_of a r ∷ [])
     (λ x. omega arith) (omega arith) (omega arith)
     (λ m old. (((old.0.0, tt), omega arith), (((tt, old.0.0.1), tt), omega arith))))
 
 pub unpairs : (takes id : ℕ) (v : List SeatState) (r q : SeatState) → v ≡ r ∷ q ∷ []
-    → Splits (Running takes) id v (first_of v) (second_of v)
+    → Splits (Running takes) id v (take 1 v) (drop 1 v)
 unpairs takes id v r q is =
-    subst (λ u. Splits (Running takes) id u (first_of u) (second_of u)) (sym is)
+    subst (λ u. Splits (Running takes) id u (take 1 u) (drop 1 u)) (sym is)
     (two_lists takes id (r ∷ q ∷ []) (r ∷ []) (q ∷ []) (λ x. omega arith) (omega arith)
     (omega arith) (λ m old. (((old.0.0, tt), omega arith), (old.0.1, omega arith))))
 

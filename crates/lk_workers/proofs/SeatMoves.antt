@@ -2,6 +2,7 @@
 use Rattle.std.proofs.Common.{◌≡◌, ◌≢◌, ℕ, ◌+◌, ◌%◌, ◌^◌, ◌<◌, ◌≤◌, ◌==◌, Bool, true}
 use Rattle.std.proofs.Common.{false, List, [], ◌∷◌, ◌++◌, length, if◌then◌else◌, set, sym, refl, ap}
 use Rattle.std.proofs.Common.{◌∙◌, subst, arith, length-set, ⊎_elim}
+use Rattle.std.specs.Prelude.{⊤}
 use mathlib.Core.Option.{none, some}
 use lib.ListN.{get_elem?}
 use Rattle.std.proofs.lemmas.List.{set-get_or}
@@ -14,16 +15,11 @@ use Rattle.lk_workers.specs.Counting.{sum_over, indicator, once_below}
 use Rattle.lk_workers.specs.Seats.{seat_state, operation, noted, Table, sum_over_seats, next_of}
 use Rattle.lk_workers.specs.Seats.{serving_of, ticket_indicator, ticket_indicator_in, IsHolding}
 use Rattle.lk_workers.specs.SeatSteps.{LiveStep, take_step, look_step, read_step, pass_step, moved}
-use Rattle.lk_workers.specs.invariants.Running.{Sees, loads_of, made_of, FitsPhase, Fits, Each}
-use Rattle.lk_workers.specs.invariants.Running.{ViewFits, Running, TakeFinds, LookFinds, ReadFinds}
-use Rattle.lk_workers.specs.invariants.Running.{PassFinds, OfOne, Counts, Compares}
+use Rattle.lk_workers.specs.invariants.Running.{Sees, first_of, known, FitsPhase, Fits, Each}
+use Rattle.lk_workers.specs.invariants.Running.{ViewFits, Running, OfOne, Counts}
 use Rattle.lk_workers.proofs.Sums.{sum_over-set, at_most_sum}
 use Rattle.lk_workers.proofs.TwoWords.{w00, w01, w10, w11}
 use Rattle.lk_workers.proofs.Below.{below_suc, indicator_here, at_most_once, below_of, once_there}
-
-abbrev head_or : SeatState → List SeatState → SeatState
-head_or d [] = d
-head_or d (r ∷ rs) = r
 
 told : (live : LiveStep) (tells : SeatState → ℕ → Type 0) (st : Step (Unit {0})) (me : Sees)
     (found : ℕ) (r : SeatState)
@@ -31,18 +27,16 @@ told : (live : LiveStep) (tells : SeatState → ℕ → Type 0) (st : Step (Unit
     → OfOne live tells st me found
     (noted (operation st.word st.first) (live.next r found) ∷ [], me.1)
 told live tells st me found r is t r' is' =
-    let e : r ≡ r' = ap (head_or r) (sym is ∙ is') in (
+    let e : r ≡ r' = ap first_of (sym is ∙ is') in (
       ap (λ z. (noted (operation st.word st.first) (live.next z found) ∷ [], me.1)) e,
       subst (λ z. tells z found) e t,
     )
 
 -- a seat's view, as its struct keeps it
 pub view_of_seat : (me : Sees) (q : SeatState) (c : List (ℕ × Unit {0})) → me ≡ (q ∷ [], c) → c ≡ []
-    → me
-    ≡ (seat_state q.phase q.ticket q.left q.taken q.seen (loads_of me.0) (made_of me.0) ∷ [], [])
+    → me ≡ (known q.phase q.ticket q.left q.taken q.seen me.0 ∷ [], [])
 view_of_seat me q c e none_held = e ∙ (λ k. (
-  seat_state q.phase q.ticket q.left q.taken q.seen (loads_of (sym e k).0) (made_of (sym e k).0)
-      ∷ [],
+  known q.phase q.ticket q.left q.taken q.seen (sym e k).0 ∷ [],
   none_held k,
 ))
 
@@ -50,7 +44,7 @@ pub looked : (me : Sees) (p : LivePhase) (r : SeatState) (found : ℕ) (c : List
     (b : Bool)
     → me ≡ (moved look_step r found ∷ [], c) → c ≡ [] → (found == r.ticket) ≡ b
     → p ≡ (if b then Inside else Waiting)
-    → me ≡ (seat_state p r.ticket r.left r.taken found (loads_of me.0) (made_of me.0) ∷ [], [])
+    → me ≡ (known p r.ticket r.left r.taken found me.0 ∷ [], [])
 looked me p r found c b e none_held is same_phase =
     let is_p : (if (found == r.ticket) then Inside else Waiting) ≡ p =
     ap (λ d. if d then Inside else Waiting) is ∙ sym same_phase in
@@ -90,6 +84,10 @@ change : (f : SeatState → ℕ) (vs : List (List SeatState)) (id : ℕ) (r q : 
     → get_elem? vs id ≡ some (r ∷ [])
     → sum_over_seats f (set vs id (q ∷ [])) + f r ≡ sum_over_seats f vs + f q
 change f vs id r q at = omega (arith, sum_over-set (sum_over f) vs id (r ∷ []) (q ∷ []) at)
+
+-- what a take finds
+abbrev TakeFinds : SeatState → ℕ → Type 0
+TakeFinds r found = (r.seen ≤ found) × (found < 2 ^ 40) × (r.taken < 2 ^ 40)
 
 module _ (takes slots id : ℕ) (me : Sees) (r : SeatState) (is : me.0 ≡ r ∷ []) where
   pub take : r.phase ≡ Idle → 0 < r.left
@@ -163,8 +161,8 @@ module _ (takes slots id : ℕ) (me : Sees) (r : SeatState) (is : me.0 ≡ r ∷
 
   pub look : r.phase ≡ Waiting
       → Allows (Running takes) slots id me 1 (λ n. n)
-      (OfOne look_step LookFinds (step slots 1 0 0 none) me)
-  look waiting = load look_step LookFinds
+      (OfOne look_step (λ q found. q.seen ≤ found) (step slots 1 0 0 none) me)
+  look waiting = load look_step (λ q found. q.seen ≤ found)
       (λ x m. look_indicator x r.ticket (m == r.ticket)
       ∙ sym (ap (λ (p : LivePhase). ticket_indicator_in x p r.ticket) waiting))
       (λ m. refl) (λ m. refl)
@@ -174,8 +172,8 @@ module _ (takes slots id : ℕ) (me : Sees) (r : SeatState) (is : me.0 ≡ r ∷
 
   pub read : r.phase ≡ Inside
       → Allows (Running takes) slots id me 1 (λ n. n)
-      (OfOne read_step ReadFinds (step slots 1 0 0 none) me)
-  read inside = load read_step ReadFinds
+      (OfOne read_step (λ q found. found ≡ q.ticket) (step slots 1 0 0 none) me)
+  read inside = load read_step (λ q found. found ≡ q.ticket)
       (λ x m. sym (ap (λ (p : LivePhase). ticket_indicator_in x p r.ticket) inside))
       (λ m. refl) (λ m. refl)
       (λ m old. let fits = subst (λ p. FitsPhase m p r.ticket r.taken) inside old.0 in
@@ -197,7 +195,7 @@ module _ (takes slots id : ℕ) (me : Sees) (r : SeatState) (is : me.0 ≡ r ∷
 
   pub pass : (new : ℕ) → r.phase ≡ Leaving → new ≡ r.ticket + 1
       → Allows (Running takes) slots id me 1 (λ _. new)
-      (λ _. OfOne pass_step PassFinds (step slots 1 new 0 none) me new)
+      (λ _. OfOne pass_step (λ q found. ⊤) (step slots 1 new 0 none) me new)
   pass new leaving is_next s h _ at0 _ =
       let at : get_elem? s.views id ≡ some (r ∷ []) = at0 ∙ ap some is in
       let n : ℕ = next_of s in
@@ -244,29 +242,7 @@ module _ (takes slots id : ℕ) (me : Sees) (r : SeatState) (is : me.0 ≡ r ∷
             (at_set vs id j (q ∷ []) u e))
             (omega (arith, change (λ u. u.taken) vs id r q at, h.taken))
             (omega (arith, change (λ u. u.left) vs id r q at, h.left)),
-        told pass_step PassFinds (step slots 1 new 0 none) me new r is tt,
-      )
-
-  pub count : Allows (Running takes) slots id me 0 (λ n. n) (Counts (step slots 0 0 0 none) me)
-  count s h _ at0 _ = let at : get_elem? s.views id ≡ some (r ∷ []) = at0 ∙ ap some is in
-      let a = at_most_sum (sum_over (λ u. u.taken)) s.views id (r ∷ []) at in
-      let b = at_most_sum (sum_over (λ u. u.left)) s.views id (r ∷ []) at in
-      let t = h.taken in
-      let l = h.left in (
-        me.0,
-        keeps,
-        tt,
-        subst (Running takes) (λ k. record {
-          words = sym (set-get_or s.words 0 0) k;
-          homes = s.homes;
-          views = sym (set_again s.views id me.0 at0) k;
-        }) h,
-        (
-          refl,
-          refl,
-          λ q is'. let e : r ≡ q = ap (head_or r) (sym is ∙ is') in
-              subst (λ z. (z.left ≤ 2 ^ 40) × (z.taken ≤ 2 ^ 40)) e (omega arith, omega arith),
-        ),
+        told pass_step (λ q found. ⊤) (step slots 1 new 0 none) me new r is tt,
       )
 
 module _ (takes slots id : ℕ) (me : Sees) where
@@ -276,8 +252,8 @@ module _ (takes slots id : ℕ) (me : Sees) where
   holds_it m Waiting t taken f h = absurd h
   holds_it m p t taken f h = ap (indicator m) f.0 ∙ indicator_here m
 
-  pub compare : Allows (Running takes) slots id me 0 (λ n. n) (Compares (step slots 0 0 0 none) me)
-  compare s h _ at _ = let m : ℕ = serving_of s in let n : ℕ = next_of s in (
+  pub count : Allows (Running takes) slots id me 0 (λ n. n) (Counts (step slots 0 0 0 none) me)
+  count s h _ at _ = let m : ℕ = serving_of s in let n : ℕ = next_of s in (
     me.0,
     keeps,
     tt,
@@ -289,6 +265,12 @@ module _ (takes slots id : ℕ) (me : Sees) where
     (
       refl,
       refl,
+      λ r is. let at' : get_elem? s.views id ≡ some (r ∷ []) = at ∙ ap some is in
+          let t = h.taken in
+          let l = h.left in (
+            omega (arith, at_most_sum (sum_over (λ u. u.left)) s.views id (r ∷ []) at'),
+            omega (arith, at_most_sum (sum_over (λ u. u.taken)) s.views id (r ∷ []) at'),
+          ),
       λ r q is. let at' : get_elem? s.views id ≡ some (r ∷ q ∷ []) = at ∙ ap some is in
           let once : (x : ℕ) → ticket_indicator x r + ticket_indicator x q ≤ 1 = λ x. omega (
             arith,

@@ -62,36 +62,18 @@ joined r q =
     (r.made ++ q.made)
 
 -- a seat from which takes are split off, and the new seat with them
-abbrev pub rest_of : SeatState → ℕ → SeatState
-rest_of r a = seat_state r.phase r.ticket (r.left - a) r.taken r.seen r.loads r.made
+abbrev pub rest_of : ℕ → SeatState → SeatState
+rest_of a r = seat_state r.phase r.ticket (r.left - a) r.taken r.seen r.loads r.made
 
-abbrev pub share_of : SeatState → ℕ → SeatState
-share_of r a = seat_state Idle 0 a 0 r.seen 0 []
+abbrev pub share_of : ℕ → SeatState → SeatState
+share_of a r = seat_state Idle 0 a 0 r.seen 0 []
 
--- the same for views
-abbrev pub cut_left : ℕ → List SeatState → List SeatState
-cut_left a [] = []
-cut_left a (r ∷ rs) = rest_of r a ∷ rs
-
-abbrev pub cut_right : ℕ → List SeatState → List SeatState
-cut_right a [] = []
-cut_right a (r ∷ rs) = share_of r a ∷ []
-
+-- the views of two idle seats made one
 abbrev pub glued : List SeatState → List SeatState → List SeatState
-glued [] w = w
-glued (r ∷ rs) [] = r ∷ rs
 glued (r ∷ rs) (q ∷ qs) = joined r q ∷ []
+glued v w = []
 
--- two seats side by side in one view, which know as much as each other, and in two views again
+-- two seats side by side in one view, which know as much as each other
 abbrev pub paired : List SeatState → List SeatState → List SeatState
-paired [] w = w
-paired (r ∷ rs) [] = r ∷ rs
 paired (r ∷ rs) (q ∷ qs) = with_seen (max r.seen q.seen) r ∷ with_seen (max r.seen q.seen) q ∷ []
-
-abbrev pub first_of : List SeatState → List SeatState
-first_of [] = []
-first_of (r ∷ rs) = r ∷ []
-
-abbrev pub second_of : List SeatState → List SeatState
-second_of [] = []
-second_of (r ∷ rs) = rs
+paired v w = []

@@ -3,7 +3,7 @@
 
 ghost use Rattle.std.specs.Prelude.{ℕ};
 
-use std::marker::Brand;
+use std::marker::{Brand, PhantomData};
 
 /// A type that represents a number.
 pub trait Amount {
@@ -13,4 +13,9 @@ pub trait Amount {
 
 impl Amount for Brand {
     ghost amount = { 0 };
+}
+
+/// A split of a view: so much of what its seat has left goes to a new seat.
+pub struct Cut<A> {
+    amount: PhantomData<A>,
 }

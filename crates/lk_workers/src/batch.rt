@@ -22,13 +22,10 @@ fn push_file_line(text: &mut Vec<u8>, number: usize) -> Result<(), AllocError>
 
 // Room for the text of all reports, so that it need not grow.
 fn room_for(reports: &[Vec<u8>]) -> usize {
-    let mut room: usize = 0;
-    for report in reports {
-        room = room
-            .saturating_add(LONGEST_FILE_LINE)
-            .saturating_add(report.len());
-    }
-    room
+    reports.iter().fold(0, |room: usize, report| {
+        room.saturating_add(LONGEST_FILE_LINE)
+            .saturating_add(report.len())
+    })
 }
 
 /// The reports in order, each after the line `file K`, K from 1.

@@ -4,18 +4,18 @@
 //! numbers that it drew, which no run keeps. The invariant counts: each number is as often in the
 //! lists of all seats as it is below the word.
 
-ghost use Rattle.std.specs.Prelude.{◌≡◌, ℕ, ◌+◌, ◌-◌, ◌^◌, ◌<◌, ◌≤◌, [], ◌∷◌, ◌++◌, length, All};
+ghost use Rattle.std.specs.Prelude.{◌≡◌, ◌+◌, ◌-◌, ◌^◌, ◌<◌, ◌≤◌, [], ◌∷◌, ◌++◌, length, All};
 ghost use Rattle.std.specs.Prelude.{IfOk};
 ghost use Rattle.lk_workers.specs.Counting.{IsEachBelow};
 ghost use Rattle.lk_workers.specs.Drawing.{Drawer, drawer, Counter, IsSeatOf, hand};
 ghost use Rattle.lk_workers.specs.DrawLaw.{EachNumberOnce, IsEnd};
 ghost use Rattle.lk_workers.specs.invariants.DrawRule.{Drawn, DrawFinds, CountFinds};
 
-use crate::amount::Amount;
+use crate::amount::{Amount, Cut};
 use atomic_table::{Join, Play, Seat, Shared, Split, Table, TableRule};
 use std::alloc::{AllocError, Global};
 use std::collections::LinkedList;
-use std::marker::{Brand, Model, PhantomData};
+use std::marker::{Brand, Model};
 
 /// The view of one seat. No value of it is made.
 pub struct Hand {
@@ -44,10 +44,6 @@ struct Count;
 
 impl Play<(), Hand> for Count {
     ghost then = { CountFinds };
-}
-
-struct Cut<A> {
-    amount: PhantomData<A>,
 }
 
 impl<A: Amount> Split<Hand> for Cut<A> {
@@ -170,10 +166,11 @@ impl Draws {
         ensures { seat.new
             ≡ drawer self.now (seat.old.drawn ++ other.drawn) (seat.old.left + other.left) }
     {
-        let DrawSeat { seat: other, left } = other;
-        self.table.shared.join_seat::<Glue>(&mut seat.seat, other);
+        self.table
+            .shared
+            .join_seat::<Glue>(&mut seat.seat, other.seat);
         self.table.shared.load::<Count>(&mut seat.seat, 0);
-        seat.left += left;
+        seat.left += other.left;
     }
 
     /// The word at the end. A seat to which all draws came back has drawn each number below it,
@@ -184,9 +181,7 @@ impl Draws {
         ensures word { IsEnd self.draws result seat.drawn seat.left }
         ensures each { length seat.drawn + seat.left ≡ self.draws → IsEachBelow result seat.drawn }
     {
-        let Draws { table } = self;
-        let DrawSeat { seat, left: _ } = seat;
-        let closed = table.close_with(seat);
+        let closed = self.table.close_with(seat.seat);
         let word = closed.word(0);
         closed.free();
         word

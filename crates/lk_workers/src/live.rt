@@ -8,29 +8,27 @@
 //! makes and `join` takes away. A waiting seat that is dropped keeps its ticket: no later one is
 //! served.
 
-ghost use Rattle.std.specs.Prelude.{◌≡◌, ℕ, ◌+◌, ◌-◌, ◌%◌, ◌^◌, ◌<◌, ◌≤◌, ◌==◌, max};
-ghost use Rattle.std.specs.Prelude.{if◌then◌else◌, [], ◌∷◌, ◌++◌, Option, IfOk};
+ghost use Rattle.std.specs.Prelude.{◌≡◌, ◌+◌, ◌%◌, ◌^◌, ◌<◌, ◌≤◌, ◌==◌, map, max};
+ghost use Rattle.std.specs.Prelude.{if◌then◌else◌, [], ◌∷◌, IfOk};
 ghost use Rattle.lk_locks.specs.declared.kinds.Outcome.TheVariants.{Moved, Waits, Entered, Left};
 ghost use Rattle.lk_workers.specs.TicketEvents.{event, take_event, look_event, read_event};
 ghost use Rattle.lk_workers.specs.TicketEvents.{pass_event};
 ghost use Rattle.lk_workers.specs.declared.live.LivePhase.TheVariants.{Idle, Waiting, Inside};
 ghost use Rattle.lk_workers.specs.declared.live.LivePhase.TheVariants.{Leaving};
-ghost use Rattle.lk_workers.specs.Seats.{Live, seat_state, operation, ticket_in, thread_of};
-ghost use Rattle.lk_workers.specs.Seats.{with_seen, AreApart};
+ghost use Rattle.lk_workers.specs.Seats.{Live, seat_state, ticket_in, thread_of, with_seen};
+ghost use Rattle.lk_workers.specs.Seats.{AreApart};
 ghost use Rattle.lk_workers.specs.LockState.{IsEnd};
 ghost use Rattle.lk_workers.specs.SeatSteps.{take_step, look_step, read_step, pass_step, moved};
-ghost use Rattle.lk_workers.specs.SeatSteps.{joined, rest_of, share_of, cut_left, cut_right};
+ghost use Rattle.lk_workers.specs.SeatSteps.{joined, rest_of, share_of};
 ghost use Rattle.atomic_table.specs.Seated.{TableId};
-ghost use Rattle.lk_workers.specs.invariants.Running.{loads_of, made_of};
+ghost use Rattle.lk_workers.specs.invariants.Running.{known};
 
 pub mod laws;
 mod rule;
 
-use crate::amount::Amount;
+use crate::amount::{Amount, Cut};
 use atomic_table::{Seat, Table};
-use rule::{
-    Compare, Count, Cut, Glue, LiveWords, Look, Pair, Pass, ReadServing, Take, TicketRule, View,
-};
+use rule::{Count, Glue, LiveWords, Look, Pair, Pass, ReadServing, Take, TicketRule, View};
 use std::alloc::{AllocError, Global};
 use std::marker::{Brand, Model};
 
@@ -78,15 +76,11 @@ impl Model for LiveSeat {
 
     ghost view = { λ s. record {
       table = s.seat.table_id;
-      state = seat_state s.phase s.ticket s.left s.taken s.seen (loads_of s.seat.me.0)
-          (made_of s.seat.me.0);
+      state = known s.phase s.ticket s.left s.taken s.seen s.seat.me.0;
     } };
 
-    ghost invariant = { λ s. (s.seat.me ≡ (
-      seat_state s.phase s.ticket s.left s.taken s.seen (loads_of s.seat.me.0)
-          (made_of s.seat.me.0) ∷ [],
-      [],
-    ))
+    ghost invariant = { λ s.
+        (s.seat.me ≡ (known s.phase s.ticket s.left s.taken s.seen s.seat.me.0 ∷ [], []))
         × (s.ticket < 2 ^ 40) };
 }
 
@@ -151,9 +145,9 @@ fn cut_off<A: Amount>(words: &LiveWords, seat: &mut Seat<(), View>, amount: u64)
     requires own { (seat.old.table_id ≡ words.now.table_id) × (0 < words.now.table_id.words) }
     requires left { (r : _) × (seat.old.me.0 ≡ r ∷ []) × (amount ≤ r.left) }
     ensures kept { (seat.new.table_id ≡ seat.old.table_id)
-        × (seat.new.me ≡ (cut_left amount seat.old.me.0, seat.old.me.1)) }
+        × (seat.new.me ≡ (map (rest_of amount) seat.old.me.0, seat.old.me.1)) }
     ensures given { (result.table_id ≡ seat.old.table_id)
-        × (result.me ≡ (cut_right amount seat.old.me.0, [])) }
+        × (result.me ≡ (map (share_of amount) seat.old.me.0, [])) }
 {
     words.split_seat::<Cut<A>>(seat)
 }
@@ -179,7 +173,6 @@ impl LiveTicket {
         requires idle { (seat.old.state.phase ≡ Idle) × (0 < seat.old.state.left) }
         ensures own { seat.new.table ≡ self.now }
         ensures seat { seat.new.state ≡ moved take_step seat.old.state result }
-        ensures operation { seat.new.state.made ≡ seat.old.state.made ++ operation 0 1 ∷ [] }
         ensures seen { seat.old.state.seen ≤ result }
         ensures event { take_event 64 result
             ≡ event ((result + 1) % 2 ^ 64) (thread_of seat.new.state) Moved }
@@ -198,7 +191,6 @@ impl LiveTicket {
         requires waiting { seat.old.state.phase ≡ Waiting }
         ensures own { seat.new.table ≡ self.now }
         ensures seat { seat.new.state ≡ moved look_step seat.old.state seat.new.state.seen }
-        ensures operation { seat.new.state.made ≡ seat.old.state.made ++ operation 1 0 ∷ [] }
         ensures later { seat.old.state.seen ≤ seat.new.state.seen }
         ensures answer { result ≡ (seat.new.state.seen == seat.old.state.ticket) }
         ensures event { look_event seat.old.state.ticket seat.new.state.seen
@@ -220,7 +212,6 @@ impl LiveTicket {
         requires inside { seat.old.state.phase ≡ Inside }
         ensures own { seat.new.table ≡ self.now }
         ensures seat { seat.new.state ≡ moved read_step seat.old.state seat.old.state.ticket }
-        ensures operation { seat.new.state.made ≡ seat.old.state.made ++ operation 1 0 ∷ [] }
         ensures event { read_event seat.new.state.seen
             ≡ event seat.new.state.seen (thread_of seat.new.state) Moved }
     {
@@ -235,8 +226,6 @@ impl LiveTicket {
         requires leaving { seat.old.state.phase ≡ Leaving }
         ensures own { seat.new.table ≡ self.now }
         ensures seat { seat.new.state ≡ moved pass_step seat.old.state seat.old.state.ticket }
-        ensures operation { seat.new.state.made
-            ≡ seat.old.state.made ++ operation 1 (seat.old.state.ticket + 1) ∷ [] }
         ensures event { pass_event 64 seat.old.state.ticket
             ≡ event seat.new.state.seen (thread_of seat.new.state) Left }
     {
@@ -252,8 +241,8 @@ impl LiveTicket {
         requires own { seat.old.table ≡ self.now }
         requires idle { (seat.old.state.phase ≡ Idle) × (left ≤ seat.old.state.left) }
         ensures kept { (seat.new.table ≡ self.now)
-            × (seat.new.state ≡ rest_of seat.old.state left) }
-        ensures given { (result.table ≡ self.now) × (result.state ≡ share_of seat.old.state left) }
+            × (seat.new.state ≡ rest_of left seat.old.state) }
+        ensures given { (result.table ≡ self.now) × (result.state ≡ share_of left seat.old.state) }
     {
         let other = cut_off::<Brand>(&self.table.shared, &mut seat.seat, left);
         seat.left -= left;
@@ -267,26 +256,20 @@ impl LiveTicket {
         ensures own { seat.new.table ≡ self.now }
         ensures seat { seat.new.state ≡ joined seat.old.state other.state }
     {
-        let LiveSeat {
-            seat: second,
-            phase: _,
-            ticket: _,
-            left,
-            taken,
-            seen,
-        } = other;
-        self.table.shared.join_seat::<Glue>(&mut seat.seat, second);
+        self.table
+            .shared
+            .join_seat::<Glue>(&mut seat.seat, other.seat);
         // A load only for the invariant's bound on the sums: it is available at an atomic step.
         self.table.shared.load::<Count>(&mut seat.seat, 0);
         seat.ticket = 0;
-        seat.left += left;
-        seat.taken += taken;
-        seat.seen = seat.seen.max(seen);
+        seat.left += other.left;
+        seat.taken += other.taken;
+        seat.seen = seat.seen.max(other.seen);
     }
 
     /// Compares two seats, and gives the second one back: not both hold the lock, and their tickets
     /// differ.
-    pub fn apart(&self, seat: &mut LiveSeat, other: LiveSeat) -> LiveSeat
+    pub fn apart(&self, seat: &mut LiveSeat, mut other: LiveSeat) -> LiveSeat
         requires own { (seat.old.table ≡ self.now) × (other.table ≡ self.now) }
         ensures own { (seat.new.table ≡ self.now) × (result.table ≡ self.now) }
         ensures first { seat.new.state
@@ -295,28 +278,13 @@ impl LiveTicket {
             ≡ with_seen (max seat.old.state.seen other.state.seen) other.state }
         ensures apart { AreApart seat.new.state result.state }
     {
-        let LiveSeat {
-            seat: second,
-            phase,
-            ticket,
-            left,
-            taken,
-            seen,
-        } = other;
         let words = &self.table.shared;
-        words.join_seat::<Pair>(&mut seat.seat, second);
-        words.load::<Compare>(&mut seat.seat, 0);
-        let second = words.split_seat::<Pair>(&mut seat.seat);
-        let seen = seat.seen.max(seen);
-        seat.seen = seen;
-        LiveSeat {
-            seat: second,
-            phase,
-            ticket,
-            left,
-            taken,
-            seen,
-        }
+        words.join_seat::<Pair>(&mut seat.seat, other.seat);
+        words.load::<Count>(&mut seat.seat, 0);
+        other.seat = words.split_seat::<Pair>(&mut seat.seat);
+        seat.seen = seat.seen.max(other.seen);
+        other.seen = seat.seen;
+        other
     }
 
     /// `next_ticket` and `now_serving` at the end. They are equal if the seat took all tickets.
@@ -329,9 +297,7 @@ impl LiveTicket {
         ensures taken { seat.state.taken ≤ result.0 }
         ensures all { seat.state.taken ≡ result.0 → result.1 ≡ result.0 }
     {
-        let LiveTicket { table } = self;
-        let LiveSeat { seat, .. } = seat;
-        let closed = table.close_with(seat);
+        let closed = self.table.close_with(seat.seat);
         let next = closed.word(0);
         let serving = closed.word(1);
         closed.free();

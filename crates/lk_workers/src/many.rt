@@ -25,21 +25,6 @@ type Numbered = (usize, Report);
 // A seat that comes back, and the reports of the texts whose numbers it drew.
 type Done = (DrawSeat, Vec<Numbered>);
 
-// The report of one text, between the gate's two calls. No `?` may come between them.
-fn replay_one<G: Gate>(
-    alloc: Global,
-    text: &[u8],
-    gate: &G,
-    number: u32,
-) -> Result<Report, AllocError>
-    ensures { IfOk result (λ report. report.text.items ≡ report_text text.now) }
-{
-    gate.begin(number);
-    let report = Report::of(alloc, text);
-    gate.end(number);
-    report
-}
-
 // One worker: the reports of the texts whose numbers its seat draws.
 fn work<G: Gate>(
     alloc: Global,
@@ -58,8 +43,11 @@ fn work<G: Gate>(
             return Ok((seat, reports));
         }
         let number = number as usize;
-        let report = replay_one(alloc, texts[number].as_slice(), gate, number as u32)?;
-        reports.push((number, report))?;
+        // No `?` may come between the gate's two calls.
+        gate.begin(number as u32);
+        let report = Report::of(alloc, texts[number].as_slice());
+        gate.end(number as u32);
+        reports.push((number, report?))?;
     }
     unreachable!()
 }

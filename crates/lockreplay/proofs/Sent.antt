@@ -41,4 +41,5 @@ cut_batch Write texts reports count old new size are prefix no_memory unread = (
   size,
   subst (λ (rs : List (List ℕ)). AppendsPrefix old new (batch_text_of rs)) are (prefix refl),
 )
-cut_batch OutOfMemory texts reports count old new size are prefix no_memory unread = no_memory refl
+cut_batch OutOfMemory texts reports count old new size are prefix no_memory unread =
+    (tt, no_memory refl)

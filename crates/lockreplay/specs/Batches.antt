@@ -26,21 +26,19 @@ IsBatchOf count old new status = (texts : List (List ℕ)) × (length texts ≡ 
     × Appends old new (batch_text_of (map report_text texts))
     × (status ≡ status_of_reports (map report_text texts))
 
--- if a fault ends a batch of so many files, a prefix of its text went out if the output failed,
--- and else nothing
-abbrev pub IsCutBatch : ℕ → Option (List ℕ) → Option (List ℕ) → ProgramFault → Type 0
-IsCutBatch count old new Output = (texts : List (List ℕ)) × (length texts ≡ count)
-    × AppendsPrefix old new (batch_text_of (map report_text texts))
-IsCutBatch count old new (File k) = (1 ≤ k) × (k ≤ count) × Keeps old new
-IsCutBatch count old new Memory = Keeps old new
-IsCutBatch count old new _ = ⊥
-
--- what a batch of so many files leaves
-abbrev pub EndsBatch : ℕ → Option (List ℕ) → Option (List ℕ) → Result ℕ ProgramFault → Type 0
-EndsBatch count old new r = MatchResult r (IsBatchOf count old new) (IsCutBatch count old new)
-
 -- the fault of reading files: one of these many, or memory
 abbrev pub IsFileFault : ℕ → ProgramFault → Type 0
 IsFileFault count (File k) = (1 ≤ k) × (k ≤ count)
 IsFileFault count Memory = Unit {0}
 IsFileFault count _ = ⊥
+
+-- if a fault ends a batch of so many files, a prefix of its text went out if the output failed,
+-- and else nothing
+abbrev pub IsCutBatch : ℕ → Option (List ℕ) → Option (List ℕ) → ProgramFault → Type 0
+IsCutBatch count old new Output = (texts : List (List ℕ)) × (length texts ≡ count)
+    × AppendsPrefix old new (batch_text_of (map report_text texts))
+IsCutBatch count old new fault = IsFileFault count fault × Keeps old new
+
+-- what a batch of so many files leaves
+abbrev pub EndsBatch : ℕ → Option (List ℕ) → Option (List ℕ) → Result ℕ ProgramFault → Type 0
+EndsBatch count old new r = MatchResult r (IsBatchOf count old new) (IsCutBatch count old new)

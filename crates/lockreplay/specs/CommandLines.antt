@@ -50,8 +50,3 @@ AnswersBatch workers files r =
 -- the digits that are no number of workers
 abbrev pub IsUnfit : ℕ → Type 0
 IsUnfit workers = (workers ≡ 0) ⊎ (workers ≡ 9)
-
--- there is no job
-abbrev pub AnswersNoJob : Result Job ParseFault → Type 0
-AnswersNoJob (Ok job) = ⊥
-AnswersNoJob (Err fault) = Unit {0}

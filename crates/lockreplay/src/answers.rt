@@ -35,9 +35,7 @@ fn help<W: Write>(output: &mut W, text: &str) -> Result<u8, ProgramFault>
     ensures cut { IfErr result (λ e. (e ≡ ProgramFault.Output)
         × AppendsPrefix (W.contents output.old) (W.contents output.new) text.now) }
 {
-    let Ok(()) = send(output, text.as_bytes()) else {
-        return Err(ProgramFault::Output);
-    };
+    send(output, text.as_bytes())?;
     Ok(Status::Accepted as u8)
 }
 

@@ -5,11 +5,11 @@
 //! FILE...` with no option among the files, is proved; every other line is read as `clap` reads it.
 
 ghost use Rattle.std.specs.Prelude.{◌≡◌, ℕ, ◌<◌, ◌≤◌, List, length, map, false, true, string_bytes};
-ghost use Rattle.std.specs.Prelude.{IfOk, Result};
+ghost use Rattle.std.specs.Prelude.{IfOk, IsErr, Result};
 ghost use Rattle.std.specs.List.{list_all};
 ghost use Rattle.clap.specs.Words.{app_of, found_of, kind_of, rows_of};
 ghost use Rattle.clap.specs.declared.builder.command.Command.TheViews.{out-Command};
-ghost use Rattle.lockreplay.specs.CommandLines.{AnswersBatch, AnswersNoJob, AsksFor, IsUnfit, Word};
+ghost use Rattle.lockreplay.specs.CommandLines.{AnswersBatch, AsksFor, IsUnfit, Word};
 ghost use Rattle.lockreplay.specs.CommandLines.{batch_line, is_plain, replay_line};
 ghost use Rattle.lockreplay.specs.Commands.{batch_app, batch_rows, program_app};
 ghost use Rattle.lockreplay.specs.Jobs.{FitsJob};
@@ -128,7 +128,7 @@ fn batch_given(alloc: Global, batch: &ArgMatches<'_>) -> Result<Job, ParseFault>
         → 1 ≤ workers → workers ≤ 8 → 0 < length files → AnswersBatch workers files result }
     ensures unfit { (workers : ℕ) → (files : List Word)
         → rows_of (found_of batch.now) ≡ batch_rows workers files
-        → IsUnfit workers → AnswersNoJob result }
+        → IsUnfit workers → IsErr result }
 {
     let workers = batch.get_one::<u8>("workers").unwrap_or(0);
     let given = batch.get_strs("files").unwrap_or(&[]);
@@ -171,7 +171,7 @@ pub fn parse_words(alloc: Global, words: &[String]) -> Result<Job, ParseFault>
     ensures unfit { (workers : ℕ) → (files : List Word)
         → map string_bytes words.now ≡ batch_line workers files
         → IsUnfit workers → 0 < length files → list_all is_plain files ≡ true
-        → AnswersNoJob result }
+        → IsErr result }
 {
     let command = program_command(alloc)?;
     let matches = match command.try_get_matches_from(words) {

@@ -27,26 +27,18 @@ reports_of texts drawn =
 abbrev pub IsThrough : List (List ℕ) → List ℕ → Type 0
 IsThrough texts drawn = (x : ℕ) × (length texts ≤ x) × (1 ≤ occurrences x drawn)
 
--- the reports of all texts whose numbers were drawn, until there was none
-abbrev pub IsWorkOf : List (List ℕ) → List ℕ → List (ℕ × List ℕ) → Type 0
-IsWorkOf texts drawn reports = (reports ≡ reports_of texts drawn) × IsThrough texts drawn
-
--- a seat that begins with this share, and one that comes back with the whole of it
-abbrev pub IsFresh : Counter → ℕ → Drawer → Type 0
-IsFresh c share s = IsSeatOf c s × (s.drawn ≡ []) × (s.left ≡ share)
-
-abbrev pub IsBack : Counter → ℕ → Drawer → Type 0
-IsBack c share s = IsSeatOf c s × (length s.drawn + s.left ≡ share)
-
 -- a seat with the draws of these many workers, each of whom may draw once more than there are texts
 abbrev pub MayWork : Counter → List (Vec ℕ Global) → ℕ → Drawer → Type 0
 MayWork c texts workers s =
-    IsFresh c (workers * (length texts + 1)) s × (1 ≤ workers) × (length texts ≤ 65536)
+    IsSeatOf c s × (s.drawn ≡ []) × (s.left ≡ workers * (length texts + 1))
+    × (1 ≤ workers) × (length texts ≤ 65536)
 
--- a seat that comes back from these many workers, with their reports
+-- a seat that comes back from these many workers, with the reports of all texts whose numbers they
+-- drew, until there was none
 abbrev pub IsDone : Counter → List (Vec ℕ Global) → ℕ → Drawer → List (ℕ × Report) → Type 0
 IsDone c texts workers s reports =
-    IsBack c (workers * (length texts + 1)) s × IsWorkOf (bytes_of texts) s.drawn (numbered reports)
+    IsSeatOf c s × (length s.drawn + s.left ≡ workers * (length texts + 1))
+    × (numbered reports ≡ reports_of (bytes_of texts) s.drawn) × IsThrough (bytes_of texts) s.drawn
 
 -- the number of each text is there once, with its report, and no other number
 abbrev pub IsEachOnce : List (List ℕ) → List (ℕ × List ℕ) → Type 0

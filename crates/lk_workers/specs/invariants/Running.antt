@@ -1,16 +1,15 @@
 -- Invariants. The rule of the running ticket lock in counting form, and what follows from its
 -- steps.
-use Rattle.std.specs.Prelude.{◌≡◌, ℕ, ◌+◌, ◌^◌, ◌<◌, ◌≤◌, List, [], ◌∷◌, length, ⊤}
+use Rattle.std.specs.Prelude.{◌≡◌, ℕ, ◌+◌, ◌^◌, ◌≤◌, List, [], ◌∷◌, length, ⊤}
 use mathlib.Core.Option.{some}
 use lib.ListN.{get_elem?}
 use Rattle.atomic_table.specs.Table.{Me, Step}
 use Rattle.lk_workers.specs.declared.live.LivePhase.{LivePhase}
 use Rattle.lk_workers.specs.declared.live.LivePhase.TheVariants.{Idle, Waiting}
-use Rattle.lk_workers.specs.declared.live.rule.Operation.{Operation}
 use Rattle.lk_workers.specs.declared.live.rule.SeatState.{SeatState}
 use Rattle.lk_workers.specs.Counting.{once_below}
 use Rattle.lk_workers.specs.Seats.{Table, operation, noted, next_of, serving_of, sum_over_seats}
-use Rattle.lk_workers.specs.Seats.{ticket_indicator, AreApart}
+use Rattle.lk_workers.specs.Seats.{seat_state, ticket_indicator, AreApart}
 use Rattle.lk_workers.specs.SeatSteps.{LiveStep}
 
 abbrev pub Sees : Type 0
@@ -21,15 +20,15 @@ FitsPhase serving Idle t taken = ⊤
 FitsPhase serving Waiting t taken = 1 ≤ taken
 FitsPhase serving phase t taken = (t ≡ serving) × (1 ≤ taken)
 
--- the loads of the first seat of a view
-abbrev pub loads_of : List SeatState → ℕ
-loads_of [] = 0
-loads_of (r ∷ rs) = r.loads
+-- the first seat of a view
+abbrev pub first_of : List SeatState → SeatState
+first_of [] = seat_state Idle 0 0 0 0 0 []
+first_of (r ∷ rs) = r
 
--- the operations of the first seat of a view
-abbrev pub made_of : List SeatState → List Operation
-made_of [] = []
-made_of (r ∷ rs) = r.made
+-- what is known of a seat: what it keeps itself, and the loads and operations of its view
+abbrev pub known : LivePhase → ℕ → ℕ → ℕ → ℕ → List SeatState → SeatState
+known phase ticket left taken seen v =
+    seat_state phase ticket left taken seen (first_of v).loads (first_of v).made
 
 -- one seat by itself, when this ticket is served
 abbrev pub Fits : ℕ → SeatState → Type 0
@@ -55,18 +54,6 @@ pub record Running (takes : ℕ) (s : Table) : Type 0 where
   pub taken : sum_over_seats (λ r. r.taken) s.views ≡ next_of s
   pub left : next_of s + sum_over_seats (λ r. r.left) s.views ≤ 2 ^ 40
 
-abbrev pub TakeFinds : SeatState → ℕ → Type 0
-TakeFinds r found = (r.seen ≤ found) × (found < 2 ^ 40) × (r.taken < 2 ^ 40)
-
-abbrev pub LookFinds : SeatState → ℕ → Type 0
-LookFinds r found = r.seen ≤ found
-
-abbrev pub ReadFinds : SeatState → ℕ → Type 0
-ReadFinds r found = found ≡ r.ticket
-
-abbrev pub PassFinds : SeatState → ℕ → Type 0
-PassFinds r found = ⊤
-
 -- a step of the only seat of a view, with a note of the word and the operand that the table's own
 -- step has
 abbrev pub OfOne : LiveStep → (SeatState → ℕ → Type 0) → Step (Unit {0}) → Sees → ℕ → Sees → Type 0
@@ -74,13 +61,9 @@ OfOne live tells st v found w =
     (r : SeatState) → v.0 ≡ r ∷ []
     → (w ≡ (noted (operation st.word st.first) (live.next r found) ∷ [], v.1)) × tells r found
 
--- nothing changes, and what one seat has is few
+-- nothing changes, what one seat has is few, and two seats side by side are apart
 abbrev pub Counts : Step (Unit {0}) → Sees → ℕ → Sees → Type 0
 Counts st v found w =
     (w ≡ v) × (st.word ≡ 0)
     × ((r : SeatState) → v.0 ≡ r ∷ [] → (r.left ≤ 2 ^ 40) × (r.taken ≤ 2 ^ 40))
-
--- nothing changes, and two seats side by side are apart
-abbrev pub Compares : Step (Unit {0}) → Sees → ℕ → Sees → Type 0
-Compares st v found w =
-    (w ≡ v) × (st.word ≡ 0) × ((r q : SeatState) → v.0 ≡ r ∷ q ∷ [] → AreApart r q)
+    × ((r q : SeatState) → v.0 ≡ r ∷ q ∷ [] → AreApart r q)

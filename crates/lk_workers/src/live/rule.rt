@@ -3,19 +3,17 @@
 //! A view is a list of what is known of seats, one as a rule. Nothing of it is kept when the lock
 //! runs.
 
-ghost use Rattle.std.specs.Prelude.{ℕ, [], ◌∷◌};
+ghost use Rattle.std.specs.Prelude.{[], ◌∷◌, ◌≡◌, ◌<◌, ◌≤◌, ◌^◌, ⊤, map, take, drop};
 ghost use Rattle.lk_workers.specs.declared.live.LivePhase.TheVariants.{Idle};
 ghost use Rattle.lk_workers.specs.Seats.{seat_state};
-ghost use Rattle.lk_workers.specs.invariants.Running.{Running, OfOne, TakeFinds, LookFinds};
-ghost use Rattle.lk_workers.specs.invariants.Running.{ReadFinds, PassFinds, Counts, Compares};
-ghost use Rattle.lk_workers.specs.SeatSteps.{take_step, look_step, read_step, pass_step, cut_left};
-ghost use Rattle.lk_workers.specs.SeatSteps.{cut_right, glued, paired, first_of, second_of};
+ghost use Rattle.lk_workers.specs.invariants.Running.{Running, OfOne, Counts};
+ghost use Rattle.lk_workers.specs.SeatSteps.{take_step, look_step, read_step, pass_step, rest_of};
+ghost use Rattle.lk_workers.specs.SeatSteps.{share_of, glued, paired};
 
 use super::LivePhase;
-use crate::amount::Amount;
+use crate::amount::{Amount, Cut};
 use atomic_table::{Join, Play, Shared, Split, TableRule};
 use std::collections::LinkedList;
-use std::marker::PhantomData;
 
 /// An atomic operation: its word, and what it adds or stores there. No value of it is made.
 pub struct Operation {
@@ -53,55 +51,44 @@ impl TableRule<(), View, u64> for TicketRule {
 pub struct Take;
 
 impl Play<(), View> for Take {
-    ghost then = { OfOne take_step TakeFinds };
+    ghost then = { OfOne take_step
+        (λ r found. (r.seen ≤ found) × (found < 2 ^ 40) × (r.taken < 2 ^ 40)) };
 }
 
 /// A load of `now_serving` by a seat that waits.
 pub struct Look;
 
 impl Play<(), View> for Look {
-    ghost then = { OfOne look_step LookFinds };
+    ghost then = { OfOne look_step (λ r found. r.seen ≤ found) };
 }
 
 /// The load of `now_serving` by a seat that releases.
 pub struct ReadServing;
 
 impl Play<(), View> for ReadServing {
-    ghost then = { OfOne read_step ReadFinds };
+    ghost then = { OfOne read_step (λ r found. found ≡ r.ticket) };
 }
 
 /// The store into `now_serving`.
 pub struct Pass;
 
 impl Play<(), View> for Pass {
-    ghost then = { OfOne pass_step PassFinds };
+    ghost then = { OfOne pass_step (λ r found. ⊤) };
 }
 
-// A load that changes nothing. It shows that the numbers of a joined seat are at most 2^40, which
-// the rule alone knows.
+// A load that changes nothing. It shows what the rule alone knows: that the numbers of a seat are
+// at most 2^40, and of two seats of one view that they do not both hold the lock, and that their
+// tickets differ.
 pub struct Count;
 
 impl Play<(), View> for Count {
     ghost then = { Counts };
 }
 
-// A load that changes nothing. It shows that two seats of one view do not both hold the lock, and
-// that their tickets differ, which the rule alone knows.
-pub struct Compare;
-
-impl Play<(), View> for Compare {
-    ghost then = { Compares };
-}
-
-/// A split: so many of a seat's takes go to a new seat.
-pub struct Cut<A> {
-    amount: PhantomData<A>,
-}
-
 impl<A: Amount> Split<View> for Cut<A> {
-    ghost left = { cut_left A.amount };
+    ghost left = { map (rest_of A.amount) };
 
-    ghost right = { cut_right A.amount };
+    ghost right = { map (share_of A.amount) };
 }
 
 /// A join: one seat has then what two had.
@@ -123,7 +110,7 @@ impl Join<View> for Pair {
 }
 
 impl Split<View> for Pair {
-    ghost left = { first_of };
+    ghost left = { take 1 };
 
-    ghost right = { second_of };
+    ghost right = { drop 1 };
 }

@@ -12,15 +12,15 @@ returns-clause-record c = λ es h.
     ∙ ap refused_with c.in_ok-check.was in
     is_told c.args.lock.now c.make-outcome.new.self es c.args.line.now _ _ _ _ _ _ _ _ h accepted
     (c.make-outcome.ensures.after ∙ sym (rw accepted refl)) c.make-outcome.ensures.outcome
-    (c.phase-phase.ensures
+    (c.phase.ensures
     ∙ ap (λ (s : State). phase_at s.phases c.args.line.now.thread) c.machine-3.ensures)
-    (c.next_step-due.ensures
+    (c.next_step.ensures
     ∙ ap (λ (s : State). step_due s.kind (phase_at s.phases c.args.line.now.thread))
     c.machine-4.ensures)
     c.standing_of-standing.ensures
-    (c.allowed_calls-calls.ensures
+    (c.allowed_calls.ensures
     ∙ ap (λ (s : State). allowed_calls s c.args.line.now.thread) c.machine-5.ensures)
-    (c.waits_after-waits.ensures
+    (c.waits_after.ensures
     ∙ ap (λ (s : State). waits_after s c.args.line.now.thread c.make-outcome.result
     c.standing_of-standing.result.is_queued) c.machine-6.ensures)
     (rw c.machine-2.ensures at c.touches-first.ensures.touched)

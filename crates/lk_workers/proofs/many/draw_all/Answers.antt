@@ -9,5 +9,5 @@ returns g c =
     let reports = c.in_ok-seat.reports.items in
     let done : IsDone c.in_ok-draws.draws c.args.texts.now c.args.workers seat reports =
     search rules in
-    each_once (bytes_of c.args.texts.now) _ seat.drawn c.close.result done.1
+    each_once (bytes_of c.args.texts.now) _ seat.drawn c.close.result done.2 done.3
     (c.close.ensures.each (search rules))

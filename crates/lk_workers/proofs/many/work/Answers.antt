@@ -14,6 +14,8 @@ returns-then-number-texts g c =
     (let t = c.if-number-texts.true in
     omega (arith, length-map c.args.texts.now (λ t. t.items))) in
     rw c.draw-number.ensures.seat (
-      ((refl, refl), (let long = length-append drawn (n ∷ []) in omega (arith, i.1, i.2, i.3))),
-      (i.4 ∙ sym (past texts drawn n far), through texts drawn n far),
+      (refl, refl),
+      (let long = length-append drawn (n ∷ []) in omega (arith, i.1, i.2, i.3)),
+      i.4 ∙ sym (past texts drawn n far),
+      through texts drawn n far,
     )

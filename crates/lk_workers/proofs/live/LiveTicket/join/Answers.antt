@@ -1,5 +1,4 @@
-use Rattle.std.proofs.Common.{rules, ap, ◌∙◌}
-use Rattle.lk_workers.specs.SeatSteps.{glued}
+use Rattle.std.proofs.Common.{rules, ap}
 use Rattle.lk_workers.proofs.SeatMoves.{count}
 use Rattle.lk_workers.proofs.SeatJoins.{glues}
 use Rattle.lk_workers.proofs.live.LiveTicket.join.Goals as goal
@@ -15,8 +14,4 @@ join_seat-requires c = (
 )
 
 pub load-requires : goal.load-requires
-load-requires c =
-    let is =
-    ap (λ m. m.0) c.join_seat.ensures.2
-    ∙ (λ k. glued (c.seat.invariant.0 k).0 (c.other.invariant.0 k).0) in
-    (search rules, search rules, count _ _ _ _ _ is)
+load-requires c = (search rules, search rules, count _ _ _ _)
