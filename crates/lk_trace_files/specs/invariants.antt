@@ -1,5 +1,5 @@
 -- Invariants: what was taken of an input so far, what its lines came to, the endings of a job, and
--- the logs on a shelf. No public contract rests on it.
+-- the logs on a shelf. No contract that the crate exports rests on it.
 use Rattle.std.specs.Prelude.{◌≡◌, ℕ, ◌+◌, ◌<◌, List, [], ◌++◌, length, take, Bool, true, false}
 use Rattle.std.specs.Prelude.{◌||◌, Option, Some, IfSome, IsSomeAnd}
 use Rattle.std.specs.List.{All}

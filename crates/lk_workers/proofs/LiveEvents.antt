@@ -6,6 +6,8 @@ use mathlib.Core.Option.{some, some-ne-none}
 use lib.ListN.{get_elem?}
 use Rattle.std.proofs.lemmas.List.{set-get_or}
 use Rattle.atomic_table.proofs.Lists.{set_here, set_else}
+use Rattle.lk_locks.specs.declared.kinds.Phase.{Phase}
+use Rattle.lk_locks.specs.declared.kinds.Outcome.{Outcome}
 use Rattle.lk_locks.specs.declared.kinds.Phase.TheVariants.{AwaitTurn, TicketInside, PassOn}
 use Rattle.lk_locks.specs.declared.kinds.Outcome.TheVariants.{Waits, Entered, Left}
 use Rattle.lk_workers.specs.TicketEvents.{Event, event, take_event, look_event, read_event}
@@ -69,7 +71,8 @@ seen_word found t true e = rw e refl
 seen_word found t false e = rw e refl
 
 looked : (ws : List ℕ) (found t : ℕ) (b : Bool)
-    → (if b then to ws (TicketInside t) Entered else to ws (AwaitTurn t) Waits)
+    → (let led : Phase × Outcome = if b then (TicketInside t, Entered) else (AwaitTurn t, Waits) in
+    to ws led.0 led.1)
     ≡ (let e : Event = if b then event found (TicketInside t) Entered
     else event found (AwaitTurn t) Waits in to ws e.phase e.outcome)
 looked ws found t true = refl
