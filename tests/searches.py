@@ -263,7 +263,8 @@ def covers(program):
     late, _, _ = program.run("find", "mcs", "2", "* cas failed")
     ticket = "lock ticket threads 1 bits 2\n" + 9 * ROUND.format(0)
     for name, text in (("late", late), ("ticket", ticket), ("none", "lock mcs threads 2\n"),
-                       ("refused", "lock mcs threads 2\n0 acquire\n0 swap\n")):
+                       ("refused", "lock mcs threads 2\n0 acquire\n0 swap\n"),
+                       ("differs", "lock mcs threads 2\n0 acquire\n0 write\n0 swap tail found 1\n")):
         (program.folder / name).write_text(text)
     program.case("rounds", ["cover", "ticket"], 0, TICKET)
     program.case("two locks", ["cover", "late", "ticket", "late"], 0,
@@ -278,6 +279,9 @@ def covers(program):
     program.case("a refused move", ["cover", "refused"], 1,
                  begins("mcs: 1 of 16 kinds of transition, in 1 move\n"),
                  begins("refused:3: refused: "))
+    program.case("another value", ["cover", "differs"], 1,
+                 begins("mcs: 2 of 16 kinds of transition, in 2 moves\n"),
+                 "differs:4: refused: swap found 1 in tail, and the lock has 0\n")
     program.case("no trace", ["cover"], 4, "", "-:2: not a header (BadHeader)\n", stdin="\nlock\n")
     program.case("the greatest wins", ["cover", "refused", "absent"], 3, len, begins("refused:3"))
 
