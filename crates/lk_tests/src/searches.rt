@@ -2,6 +2,8 @@
 //! many states and transitions locks have, their tours and what is found of a sketch, are rows of
 //! the built program.
 
+ghost use Rattle.std.specs.Prelude.{◌≡◌, [], IfOk};
+
 use crate::refusing::{MOST_REQUESTS, met_none, refuse, was_refused};
 use lk_locks::LockKind;
 use lk_search::{Bounds, Heap, Lent, NewLock, SearchFault, Space, TourFault, tour};
@@ -16,7 +18,9 @@ fn ticket_lock() -> NewLock {
     }
 }
 
-fn explored(alloc: Global) -> Result<Space<'static, Heap>, SearchFault> {
+fn explored(alloc: Global) -> Result<Space<'static, Heap>, SearchFault>
+    ensures { IfOk result (λ space. space.bounds.sketch ≡ []) }
+{
     Space::explore(Heap::new(alloc)?, ticket_lock(), Bounds::new(1, &[]), 41)
 }
 
