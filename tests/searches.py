@@ -261,10 +261,11 @@ TICKET = f"""ticket: 6 of 7 kinds of transition, in 54 moves
 
 def covers(program):
     late, _, _ = program.run("find", "mcs", "2", "* cas failed")
+    mcs = "lock mcs threads 2\n"
     ticket = "lock ticket threads 1 bits 2\n" + 9 * ROUND.format(0)
-    for name, text in (("late", late), ("ticket", ticket), ("none", "lock mcs threads 2\n"),
-                       ("refused", "lock mcs threads 2\n0 acquire\n0 swap\n"),
-                       ("differs", "lock mcs threads 2\n0 acquire\n0 write\n0 swap tail found 1\n")):
+    for name, text in (("late", late), ("ticket", ticket), ("none", mcs),
+                       ("refused", mcs + "0 acquire\n0 swap\n"),
+                       ("differs", mcs + "0 acquire\n0 write\n0 swap tail found 1\n")):
         (program.folder / name).write_text(text)
     program.case("rounds", ["cover", "ticket"], 0, TICKET)
     program.case("two locks", ["cover", "late", "ticket", "late"], 0,
