@@ -91,7 +91,7 @@ pub record IsOfLog {F : Type 0} (of_file : F → Option (List ℕ)) (header : He
   pub header_is : log.header ≡ header
   pub some : 0 < header.threads
 
--- the lock is that of a file's log, and each log stands at its place
+-- the lock is that of a file's log, and each log is at its place
 pub record IsKept {F : Type 0} (of_file : F → Option (List ℕ)) (shelf : Shelved) : Type 0 where
   pub lock : IfSome shelf.lock (IsOfLog of_file)
   pub each : (t : ℕ) (log : ThreadLog) → log_at shelf t ≡ Some log → Stands shelf.lock t log
