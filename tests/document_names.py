@@ -23,6 +23,7 @@ DEFINED = [re.compile(pattern, re.MULTILINE) for pattern in (
     r"^(?:pub )?([\w'-]+) :",
     r"^\s*(?:def|class) (\w+)",
     r"^(\w+) *:?=",
+    r"^mutant: (\w+)$",
     r"#\s*(?:define|ifdef|ifndef) (\w+)",
     r"^\s+(?:pub )?(\w+)\s*:[^:]",
     r"^\s+([A-Z]\w*)(?:\(|,| \{|$)",

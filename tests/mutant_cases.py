@@ -1,22 +1,21 @@
 #!/usr/bin/env python3
-"""What tests/mutants.py makes of a file of a mutant, and of what a check prints.
+"""What tests/mutants.py makes of a file of mutants, and of what a check prints.
 
     mutant_cases.py
 
-The output of checks is that of `rt check` and `rt ci`, shortened. No crate is checked. Each mutant
+The output of checks is that of `rt check`, shortened. No crate is checked. Each mutant
 and twin of the crates has to change the text as it is now.
 """
 import shutil
 import sys
 import tempfile
-import time
 from collections import defaultdict
-from concurrent.futures import ThreadPoolExecutor
+from dataclasses import replace
 from pathlib import Path
 
 from mutant_checks import Lab, unproved_below, verdict_on
-from mutant_edits import BadEdit, Edit
-from mutants import TRIES, Lanes, group_of, proved_in
+from mutant_edits import BadEdit, edits_in
+from mutants import TRIES, edits_of, group_of, verdict
 from mutants_kept import PARTS, SCRIPTS, Kept
 from rattle_functions import functions_of
 from rattle_words import TOP
@@ -100,50 +99,66 @@ not proved
 fn c::i: no proof: expected answers in ./p; `search` did not prove `r`
 fn c::j: no proof: it calls `c::k`, which is not proved
 """
-SAID_BY_CI = """fn lk_words::most: proved
-rt: lk_words proved
-rt: lk_locks is kept: an earlier run on this machine proved the same files
-rt: lk_page: its tests are proved
-rt: lk_order NOT PROVED
-"""
+LEAST = "function: c::pairs::least\nmutant: m\nold: 0\n"
 EDITS = {
-    "a value": ("function: c::pairs::least\nold: 0\nnew: 1\n", "    1\n"),
-    "a line that is twice in the file":
-        ("function: c::pairs::Pair::left\nold: self.left\nnew: 7\n", "        7\n    }\n}\n"),
-    "a line that begins as another": ("function: c::pairs::PairClone::clone\nold: Pair { left: "
-                                      "self.left }\nnew: Pair { left: 0 }\n", "Pair { left: 0 }"),
-    "a constant": ("file: src/lib.rt\nold: mod pairs;\nnew: mod pears;\nnoticed by: "
-                   "c::pairs::least\n", "mod pears;"),
-    "a contract": ("function: c::pairs::Pair::left\nold: ensures { result ≡ self.now.left }\n"
-                   "new: ensures { result ≡ 0 }\n", "ensures { result ≡ 0 }"),
-    "a constant that nobody has to notice": ("file: src/lib.rt\nold: mod pairs;\nnew: mod p;\n",
-                                             None),
+    "a value": (f"{LEAST}new: 1\n", "    1\n"),
+    "a comment and lines without text": (f"# A\n\n{LEAST}new: 1\n\n", "    1\n"),
+    "a line that is twice in the file": ("function: c::pairs::Pair::left\nmutant: m\n"
+                                         "old: self.left\nnew: 7\n", "        7\n    }\n}\n"),
+    "a line that begins as another": ("function: c::pairs::PairClone::clone\nmutant: m\nold: Pair "
+                                      "{ left: self.left }\nnew: Pair { left: 0 }\n",
+                                      "Pair { left: 0 }"),
+    "a constant": ("file: src/lib.rt\nnoticed by: c::pairs::least\nmutant: m\nold: mod pairs;\n"
+                   "new: mod pears;\n", "mod pears;"),
+    "a contract": ("function: c::pairs::Pair::left\nmutant: m\nold: ensures { result ≡ "
+                   "self.now.left }\nnew: ensures { result ≡ 0 }\n", "ensures { result ≡ 0 }"),
+    "a twin of an edit in must-fail": (f"{LEAST}twin: 0 + 0\n".replace("mutant", "twin of"),
+                                       "    0 + 0\n"),
+    "a constant that nobody has to notice": ("file: src/lib.rt\nmutant: m\nold: mod pairs;\n"
+                                             "new: mod p;\n", None),
     "a constant for a function that is not there":
-        ("file: src/lib.rt\nold: mod pairs;\nnew: mod p;\nnoticed by: c::most\n", None),
-    "a function that is not there": ("function: c::pairs::most\nold: 0\nnew: 1\n", None),
-    "a text that is not there": ("function: c::pairs::least\nold: 2\nnew: 1\n", None),
-    "a text that is there twice": ("function: c::pairs::Pair::left\nold: left\nnew: l\n", None),
-    "no function": ("old: 0\nnew: 1\n", None), "nothing": ("", None),
+        ("file: src/lib.rt\nnoticed by: c::most\nmutant: m\nold: mod pairs;\nnew: mod p;\n", None),
+    "a function that is not there": (f"{LEAST}new: 1\n".replace("least", "most"), None),
+    "a text that is not there": (f"{LEAST}new: 1\n".replace("old: 0", "old: 2"), None),
+    "a text that is there twice": ("function: c::pairs::Pair::left\nmutant: m\nold: left\n"
+                                   "new: l\n", None),
+    "no function": ("mutant: m\nold: 0\nnew: 1\n", None),
+    "no name": ("function: c::pairs::least\nold: 0\nnew: 1\n", None),
+    "no name in the second block": (f"{LEAST}new: 1\nfunction: c::pairs::Pair::zero\nold: 0\n"
+                                    "new: 1\n", None),
+    "no new text": (LEAST, None), "no old text": (LEAST.replace("old", "new"), None),
+    "two new texts": (f"{LEAST}new: 1\nnew: 2\n", None),
+    "a new text for a twin alone": (f"{LEAST}new: 1\ntwin: 0\n".replace("mutant", "twin of"), None),
+    "a name that is there twice": (f"{LEAST}new: 1\n{LEAST}new: 2\n", None),
+    "a key that nobody knows": (f"{LEAST}next: 1\n", None),
 }
-
-
 ALONE = {"a value": False, "a constant": True, "a contract": True}
+BESIDE = f"{LEAST}new: 1\ntwin: 0 * 1\nold: -> u8\nnew: -> u64\n"
 
 
-def edit_of(folder, text):
-    """An edit of this text."""
-    path = folder / "c" / "mutants" / "mistake.edit"
-    path.parent.mkdir(parents=True, exist_ok=True)
-    path.write_text(text)
-    return Edit(path)
-
-
-def outcome(folder, text):
-    """The texts with an edit put in, or None if it cannot be."""
+def outcome(text):
+    """The texts with the one edit of a file put in, or None if it cannot be."""
     try:
-        return "".join(edit_of(folder, text).put_in(FILES).values())
+        return "".join(edits_in("c", text)[0].put_in(FILES).values())
     except BadEdit:
         return None
+
+
+def try_file(tally):
+    """A twin is its mutant with other texts; what is in neither is that of the crate."""
+    mutant, twin = edits_in("c", BESIDE)
+    tally.check("mutant", [mutant.is_twin, mutant.pairs],
+                [False, (("0", "1"), ("-> u8", "-> u64"))])
+    tally.check("its twin", [twin.is_twin, twin.pairs],
+                [True, (("0", "0 * 1"), ("-> u8", "-> u64"))])
+    tally.check("twin of its mutant", mutant.twin, twin.pairs)
+    noticed = replace(twin, functions=frozenset("fg"))
+    said = "fn f: no holes\nfn g: could not tell"
+    tally.check("a twin is proved in each", verdict(noticed, said)[0], "unclear")
+    said = f"fn f: no holes\n{OWN.replace('c::f', 'g')}"
+    tally.check("a mutant in one", verdict(replace(noticed, is_twin=False), said)[0], "refused")
+    tally.check("no such mutant", edits_of(["lk_words/no_such"])[1],
+                ["lk_words/no_such: there is no such mutant"])
 
 
 class Named:
@@ -165,52 +180,35 @@ def try_groups(tally):
     tally.check("no callee", unproved_below("c::i", CHAIN), set())
 
 
-def order_of(*crates):
-    """The order in which these crates, which wait for the one lane, get it."""
-    lanes, order = Lanes(1), []
-
-    def take(crate):
-        with lanes.lane(crate):
-            order.append(crate)
-
-    with ThreadPoolExecutor(len(crates)) as pool:
-        with lanes.lane("lk_words"):
-            taken = [pool.submit(take, crate) for crate in crates]
-            while len(lanes.waiting) < len(crates):
-                time.sleep(0.01)
-            assert not order
-        for one in taken:
-            one.result()
-    return order
-
-
-def changes(path, files):
+def changes(edit, files):
     """Whether an edit of a crate can be put into its files, and changes one."""
     try:
-        return Edit(path).put_in(files) != files
+        return edit.put_in(files) != files
     except BadEdit:
         return False
 
 
 def try_edits(tally):
-    for source in sorted((TOP / "crates").glob("*/src")):
+    edits, faults = edits_of([])
+    tally.check("files", faults, [])
+    for crate, its in edits.items():
+        source = TOP / "crates" / crate / "src"
         files = {path.relative_to(source): path.read_text() for path in source.rglob("*.rt")}
-        for kind in ("mutants", "twins"):
-            for path in sorted((source.parent / kind).glob("*.edit")):
-                tally.check(str(path.relative_to(TOP)), changes(path, files), True)
+        for edit in its:
+            tally.check(str(edit), changes(edit, files), True)
 
 
 def try_kept(tally):
     """What was tried is known as long as nothing changes on which it rests."""
     with tempfile.TemporaryDirectory() as folder:
         top, crate = Path(folder, "top"), Path("crates", "lk_words")
-        for part in (*PARTS, "mutants"):
+        for part in PARTS:
             shutil.copytree(TOP / crate / part, top / crate / part)
         (top / "tests").mkdir()
         for script in SCRIPTS:
             for path in (TOP / "tests").glob(script):
                 shutil.copy(path, top / "tests")
-        one, other = map(Edit, sorted((top / crate / "mutants").glob("*.edit"))[:2])
+        one, other = edits_in("lk_words", BESIDE)
         kept = Kept("lk_words", top, Path(folder, "kept"))
         tally.check("not tried", one in kept, False)
         kept.add(one)
@@ -220,8 +218,9 @@ def try_kept(tally):
         source.write_text(source.read_text() + "\n")
         changed = Kept("lk_words", top, Path(folder, "kept"))
         tally.check("tried before a change", one in changed, False)
-        one.path.write_text(one.path.read_text() + "\n")
-        tally.check("tried before it changed", one in again, False)
+        for what, change in {"it": {"pairs": other.pairs}, "its twin": {"twin": one.pairs},
+                             "its place": {"place": ("file", "src/lib.rt")}}.items():
+            tally.check(f"tried before {what} changed", replace(one, **change) in again, False)
 
 
 def try_open_proofs(tally):
@@ -247,15 +246,12 @@ def main():
     tally.check("names", set(functions_of("c", FILES)), NAMES)
     for name, (said, due) in VERDICTS.items():
         tally.check(name, verdict_on("c::f", said)[0], due)
-    with tempfile.TemporaryDirectory() as folder:
-        for name, (text, part) in EDITS.items():
-            tally.check(name, outcome(Path(folder), text),
-                        lambda got, part=part: got is None if part is None else part in got)
-        for name, is_alone in ALONE.items():
-            tally.check(f"{name}, alone", edit_of(Path(folder), EDITS[name][0]).is_alone, is_alone)
-    tally.check("proved or kept", proved_in(SAID_BY_CI), {"lk_words", "lk_locks"})
-    tally.check("lanes", order_of("lk_locks", "lk_trace_files", "lk_replay"),
-                ["lk_trace_files", "lk_replay", "lk_locks"])
+    for name, (text, part) in EDITS.items():
+        tally.check(name, outcome(text),
+                    lambda got, part=part: got is None if part is None else part in got)
+    for name, is_alone in ALONE.items():
+        tally.check(f"{name}, alone", edits_in("c", EDITS[name][0])[0].is_alone, is_alone)
+    try_file(tally)
     try_groups(tally)
     try_kept(tally)
     try_open_proofs(tally)

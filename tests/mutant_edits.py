@@ -1,18 +1,26 @@
-"""A mutant or its right twin as a file, and the texts of a crate with it put in.
+"""The mutants of a crate and their right twins, and the texts of the crate with one put in.
 
-A file `crates/NAME/mutants/MISTAKE.edit` or `crates/NAME/twins/MISTAKE.edit` has lines
+The file `crates/NAME/mutants.txt` has blocks, and mutants in each:
 
     function: NAME::module::function
+
+    mutant: MISTAKE
     old: TEXT
     new: TEXT
+    twin: TEXT
 
-with further pairs, and further functions, as they are needed. The function is named as `rt check`
-names it, and TEXT is one line of it, or in it once; spaces around TEXT do not count. For what is in
-no function, as a constant, a line `file: src/FILE.rt` takes the place of the first, and TEXT is in
-that file once. A line `noticed by: NAME::module::function` then names the function, of those that
-use it, whose contract must refuse the mistake.
+The function is named as `rt check` names it. `old` is one line of it, or in it once, and becomes
+`new`; spaces around a text do not count. More such pairs can follow. The twin of a mutant is the
+same change with the text after `twin:` in the place of `new`; a pair without one is as in the
+mutant. No `twin:` at all, no twin.
+
+For what is in no function, as a constant, a block begins with `file: src/FILE.rt`, and `old` is in
+that file once. Lines `noticed by: NAME::module::function` then name the functions, of those that
+use it, one of which must refuse the mistake. `twin of: MISTAKE`, in the place of `mutant:`, begins
+the twin of an edit in the crate's folder `must-fail`. A line that begins with `#` is a comment.
 """
 import re
+from dataclasses import dataclass
 from pathlib import Path
 
 from rattle_functions import functions_of
@@ -24,60 +32,95 @@ class BadEdit(Exception):
     """Why an edit cannot be read or put in."""
 
 
+@dataclass(frozen=True)
 class Edit:
-    """One file: `functions` are those that it changes, or that notice what it changes outside of
-    functions; `is_alone` if it changes something there, or a contract, which callers read too."""
+    """A mutant or a twin. `functions` are those that it changes, or that notice what it changes
+    outside of functions; `twin` are the pairs of a mutant's twin, if it has one."""
 
-    def __init__(self, path):
-        self.path, self.name = path, path.stem
-        self.crate = path.parent.parent.name
-        self.is_twin = path.parent.name == "twins"
-        self.has_twin = (path.parent.parent / "twins" / path.name).exists() and not self.is_twin
-        self.pairs = list(pairs_of(path))
-        self.is_alone = any(key == "file" or old.startswith(CLAUSES)
-                            for key, _, old, _ in self.pairs)
-        self.functions = {place for key, place, _, _ in self.pairs if key == "function"}
-        self.functions |= set(re.findall(r"(?m)^noticed by: *(\S+)$", path.read_text()))
-        if not self.pairs:
-            raise BadEdit("it changes nothing")
-        if not self.functions:
-            raise BadEdit("it names no function whose contract must refuse it")
+    crate: str
+    name: str
+    is_twin: bool
+    place: tuple  # `function` or `file`, and which
+    functions: frozenset
+    pairs: tuple  # old text and new text of each
+    twin: tuple = ()
 
     def __str__(self):
-        return f"{self.crate}/{self.path.parent.name}/{self.name}"
+        return f"{self.crate}/{self.name}" + (", its twin" if self.is_twin else "")
 
-    def paths(self, files):
-        """The files that it changes, by their paths below `src`."""
-        homes = functions_of(self.crate, files)
-        return {Path(place).relative_to("src") if key == "file" else homes[place][0]
-                for key, place, _, _ in self.pairs}
+    @property
+    def is_alone(self):
+        """Whether it changes what is in no function, or a contract, which callers read too."""
+        return self.place[0] == "file" or any(old.startswith(CLAUSES) for old, _ in self.pairs)
+
+    def path(self, files):
+        """The file that it changes, by its path below `src`."""
+        key, place = self.place
+        if key == "file":
+            return Path(place).relative_to("src")
+        return functions_of(self.crate, files)[place][0]
 
     def put_in(self, files):
         """The texts of a crate's files, by their paths below `src`, with the edit in them."""
         missing = sorted(self.functions - set(functions_of(self.crate, files)))
         if missing:
             raise BadEdit(f"there is no function {missing[0]}")
-        for key, place, old, new in self.pairs:
-            change = in_function if key == "function" else in_file
+        key, place = self.place
+        change = in_function if key == "function" else in_file
+        for old, new in self.pairs:
             files = change(self.crate, files, place, old, new)
         return files
 
 
-def pairs_of(path):
-    """Key and place, old text and new text of each pair of lines."""
-    where = old = None
-    for line in path.read_text().splitlines():
-        key, _, text = line.partition(":")
-        text = text.strip()
+class Reader:
+    """Reads the lines of a file of mutants; `pairs` are those of the mutant that is open."""
+
+    def __init__(self):
+        self.place, self.functions, self.pairs, self.found = None, frozenset(), None, []
+
+    def read(self, line):
+        key, _, text = (part.strip() for part in line.partition(":"))
+        last = self.pairs[-1] if self.pairs else {}
         if key in ("function", "file"):
-            where = key, text
-        elif key == "old":
-            old = text
-        elif key == "new" and where and old:
-            yield *where, old, text
-            old = None
-        elif key != "noticed by":
+            self.place, self.pairs = (key, text), None
+            self.functions = frozenset([text] if key == "function" else [])
+        elif key == "noticed by" and self.place and self.pairs is None:
+            self.functions |= {text}
+        elif key in ("mutant", "twin of") and self.functions:
+            self.pairs = []
+            self.found.append((text, key == "mutant", self.place, self.functions, self.pairs))
+        elif key == "old" and self.pairs is not None:
+            self.pairs.append({key: text})
+        elif key in ("new", "twin") and last and key not in last:
+            last[key] = text
+        else:
             raise BadEdit(f"a line that has no place here: {line}")
+
+
+def edits_in(crate, text):
+    """The mutants and twins of a crate, by the text of its file."""
+    reader = Reader()
+    for line in text.splitlines():
+        if line.strip() and not line.startswith("#"):
+            reader.read(line)
+    names = [name for name, *_ in reader.found]
+    if twice := next((name for name in names if names.count(name) > 1), None):
+        raise BadEdit(f"{twice} is there twice")
+    return [edit for found in reader.found for edit in edits_of(crate, *found)]
+
+
+def edits_of(crate, name, is_mutant, place, functions, pairs):
+    """A mutant with its twin, or the twin of an edit in `must-fail`."""
+    keys = {"old", "new"} if is_mutant else {"old", "twin"}
+    if not pairs or any(pair.keys() - ({"twin"} - keys) != keys for pair in pairs):
+        raise BadEdit(f"{name} has no pairs, or one that is not whole")
+    has_twin = any("twin" in pair for pair in pairs)
+    twin = tuple((pair["old"], pair.get("twin", pair.get("new"))) for pair in pairs) * has_twin
+    if is_mutant:
+        mutant = tuple((pair["old"], pair["new"]) for pair in pairs)
+        yield Edit(crate, name, False, place, functions, mutant, twin)
+    if twin:
+        yield Edit(crate, name, True, place, functions, twin)
 
 
 def changed(text, old, new, place):

@@ -33,9 +33,8 @@ class Kept:
     def file_of(self, edit):
         """The file of an edit, which rests on its twin too: an edit with a twin may be refused for
         its shape."""
-        twin = edit.path.parent.parent / "twins" / edit.path.name
-        texts = [path.read_bytes() for path in (edit.path, twin) if path.exists()]
-        return self.folder / digest([self.sum.encode(), str(edit).encode(), *texts])
+        texts = [str(edit), repr(edit.place), repr(edit.pairs), repr(edit.twin)]
+        return self.folder / digest([self.sum.encode(), *(text.encode() for text in texts)])
 
 
 def sum_of(crate, top):
