@@ -22,7 +22,7 @@ from tally import Tally
 TOP = Path(__file__).resolve().parent.parent
 LIST = "packages.txt"
 INSTALLER = "tests/wanted.sh"
-CODE = {".sh", ".py", ".mk", ".mjs", ".c", ".h"}
+CODE = {".sh", ".py", ".mk", ".mjs", ".c", ".h", ".conf"}
 # How a group is asked for, in a shell or in `make`, and in Python.
 IN_SHELL = re.compile(r'^[^#\n]*\bwanted\.sh"?((?: [a-z][a-z-]*)+)', re.MULTILINE)
 IN_PYTHON = re.compile(r"\bwanted\.install\(([^)]*)\)")
