@@ -1,6 +1,21 @@
 # The commands of this repository: `make` lists them, from the lines that begin with ## beside them.
 # docs/CHECKING.md says how long each takes, and where the time goes.
 
+# A recipe sees none of the caller's variables but these, one language and one time zone, and what
+# neither git nor Python reads from a home. So a test does the same on each machine.
+KEPT := PATH HOME TMPDIR XDG_CACHE_HOME MAKE% MFLAGS %_proxy %_PROXY RT_% EVERY_MOVE
+unexport $(foreach it,$(filter-out $(KEPT),$(.VARIABLES)),$(if \
+	$(filter environment,$(origin $(it))),$(it)))
+export LC_ALL := C.UTF-8
+export TZ := UTC
+export PYTHONNOUSERSITE := 1
+export GIT_CONFIG_GLOBAL := /dev/null
+export GIT_CONFIG_NOSYSTEM := 1
+# Root may read a tree of another user.
+export GIT_CONFIG_COUNT := 1
+export GIT_CONFIG_KEY_0 := safe.directory
+export GIT_CONFIG_VALUE_0 := *
+
 # The files of crates, with the list that says which others each one uses; and those others.
 sources_of = crates.txt $(shell find $(addprefix crates/,$(1)) -name out -prune \
 	-o \( -name '*.rt' -o -name '*.antt' \) -print)
@@ -23,46 +38,62 @@ SOAK_SECONDS := 3600
 MISTAKE :=
 PROVE :=
 
-.PHONY: help packages test gate test-built test-parts clean-room
+# newer than the sources while `out` has the libraries that the gate proved of them
+PROVED := crates/lk_words/out/proved
+
+.PHONY: help packages test test-needs test-parts gate gate-built clean-room by-root
 .PHONY: check mutants demo programs library bench soak tools
 
 help:
 	@sed -n 's/^## //p' $(MAKEFILE_LIST) | awk -F ' [|] ' '{ printf "make %-43s%s\n", $$1, $$2 }'
 
-## demo | builds lockreplay, and replays a schedule of two threads
-demo: $(PROGRAM)
-	$(PROGRAM) replay < $(LESSON)
+## demo | replays a schedule of two threads, in a minute: nothing is proved
+demo:
+	@tests/wanted.sh rt
+	@cd crates/lockreplay && { said=$$(rt try -- replay < ../../$(LESSON) 2>&1 >&3) || \
+	    { echo "$$said" >&2; exit 1; }; } 3>&1
+	@echo 'Not proved: "make programs" proves and builds lockreplay and locktrace, in half an hour.'
 
-## test | the one test command: proves all from nothing, then tries what is built. Needs root
-test: by-root
-	tests/wanted.sh --all
-	+tests/parts.sh gate $(PARTS)
+# What the tests of `make test` need of Debian
+test-needs:
+	@tests/wanted.sh rt tools page browsers recording rust
 
-# release-checks, clean-room and test-reproducible install packages in Debian roots that they make.
-.PHONY: by-root
-by-root:
-	@[ "$$(id -u)" = 0 ] || \
-	    { echo 'only root may run make $(MAKECMDGOALS): it makes Debian roots' >&2; exit 1; }
+# What `make test` does after the proofs, in this order.
+PARTS := tried test-page test-refused test-library test-traces
 
-## gate | the proofs and mutants of `make test`. No root is needed
-gate:
-	tests/wanted.sh rt gate
-	tests/gate.sh
-
-# What `make test` does after the proofs, in this order. The module is then newer than the page, so
-# release-checks writes the page anew: test-page has to look at it before.
-PARTS := tried test-page release-checks test-refused test-library test-traces
-
-## test-built | what `make test` does after the proofs
-test-built: by-root
-	+tests/parts.sh $(PARTS)
+## test | the one test command: proves all from nothing, then tries what is built
+test: test-needs
+	+tests/parts.sh gate gate-built $(PARTS)
 
 test-parts:
 	@echo $(PARTS)
 
-## clean-room [PROVE=1] | demo and test-built in a minimal Debian; PROVE=1: without kept proofs
+# `rt ci` sets aside what `out` has, and gives the libraries of earlier checks back. So these are
+# deleted: those that are left then are what it has proved.
+## gate | the proofs, from nothing, and the stored runs
+gate:
+	tests/wanted.sh rt
+	rm -rf crates/*/out/rlib
+	rt ci
+	touch --no-create $(PROGRAM) $(TRACER) $(TESTS_BUILT)
+	touch $(PROVED)
+
+# The static libraries, which `rt ci` proves and does not build, over the libraries that it leaves
+gate-built: tools
+	BUILT=1 page/build-module.sh
+	tests/static_library.py lk_trace_c x86_64-unknown-linux-gnu out/liblk_trace_c.a
+
+$(PROVED): $(SOURCES)
+	$(MAKE) --no-print-directory gate
+
+# release-checks, clean-room and test-reproducible install packages in Debian roots that they make.
+by-root:
+	@[ "$$(id -u)" = 0 ] || \
+	    { echo 'only root may run make $(MAKECMDGOALS): it makes Debian roots' >&2; exit 1; }
+
+## clean-room [PROVE=1] | demo, programs and tests in a minimal Debian; PROVE=1: without kept proofs
 clean-room: by-root
-	tests/wanted.sh rt gate root
+	tests/wanted.sh rt tools root
 	tests/clean_room.sh $(if $(PROVE),--prove)
 
 ## packages | prints the command that installs what any target needs of Debian
@@ -182,11 +213,10 @@ ROUNDS  := 1
 conform: $(LIBRARY) $(TRACER) tools
 	tests/conform.py $(LIBRARY) $(TRACER) $(LOCK) --threads $(THREADS) --rounds $(ROUNDS)
 
-## mutants CRATE=NAME [MISTAKE=NAME] | a crate's mutants are refused, their right twins proved
-mutants: tools
-	$(if $(CRATE),,$(error which crate? make mutants CRATE=NAME))
+## mutants [CRATE=NAME [MISTAKE=NAME]] | mutants are refused, their right twins proved
+mutants: tools $(if $(CRATE),,$(PROVED))
 	tests/wanted.sh rt
-	cd crates/$(CRATE) && rt check
+	$(if $(CRATE),cd crates/$(CRATE) && rt check)
 	tests/mutants.py $(CRATE)$(addprefix /,$(MISTAKE))
 
 ## programs | builds lockreplay and locktrace
