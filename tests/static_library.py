@@ -16,8 +16,9 @@ from rattle_words import TOP, kit_folder, words_of
 def main(crate, target, file):
     folder = TOP / "crates" / crate
     (folder / "out").mkdir(exist_ok=True)
+    jobs = os.environ.get("JOBS") or str(len(os.sched_getaffinity(0)))
     how = ["--toolchain", kit_folder() / "toolchain", "--backend", "llvm", "--target", target,
-           "--links", f"{crate}=", "--jobs", os.environ.get("JOBS") or str(len(os.sched_getaffinity(0))), "-o", file]
+           "--links", f"{crate}=", "--jobs", jobs, "-o", file]
     words = words_of("build", crate, f"out/incremental_{target}")
     return subprocess.run([*words, *how], cwd=folder, check=False).returncode
 
