@@ -69,12 +69,13 @@ test-parts:
 	@echo $(PARTS)
 
 # `rt ci` sets aside what `out` has, and gives the libraries of earlier checks back. So these are
-# deleted: those that are left then are what it has proved.
+# deleted: those that are left then are what it has proved. Its copies take gigabytes, and in
+# Debian 13 /tmp is memory.
 ## gate | the proofs, from nothing, and the stored runs
 gate:
 	tests/wanted.sh rt
 	rm -rf crates/*/out/rlib
-	rt ci
+	TMPDIR=$${TMPDIR:-/var/tmp} rt ci
 	touch --no-create $(PROGRAM) $(TRACER) $(TESTS_BUILT)
 	touch $(PROVED)
 

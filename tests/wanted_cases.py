@@ -67,7 +67,8 @@ class Machine:
 
 
 def tried(user, brings, *words, says=SIMULATION):
-    with tempfile.TemporaryDirectory() as folder:
+    # Not in TMPDIR: a blank in its name would end what is used of a package.
+    with tempfile.TemporaryDirectory(dir="/tmp") as folder:
         machine = Machine(folder, user, brings.replace("FOLDER", folder), says)
         status, said, asked = machine.run(*words)
         return status, said.replace(folder, "FOLDER"), asked
