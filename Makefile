@@ -42,14 +42,13 @@ PROVE :=
 PROVED := crates/lk_words/out/proved
 
 .PHONY: help packages test test-needs test-parts gate gate-built clean-room by-root
-.PHONY: check mutants demo programs library bench soak tools
+.PHONY: check mutants demo programs library bench soak
 
 help:
 	@sed -n 's/^## //p' $(MAKEFILE_LIST) | awk -F ' [|] ' '{ printf "make %-43s%s\n", $$1, $$2 }'
 
 ## demo | replays a schedule of two threads, in a minute: nothing is proved
-demo:
-	@tests/wanted.sh rt
+demo: needs-rt
 	@cd crates/lockreplay && { said=$$(rt try -- replay < ../../$(LESSON) 2>&1 >&3) || \
 	    { echo "$$said" >&2; exit 1; }; } 3>&1
 	@echo 'Not proved: "make programs" proves and builds lockreplay and locktrace, in half an hour.'
@@ -72,15 +71,14 @@ test-parts:
 # deleted: those that are left then are what it has proved. Its copies take gigabytes, and in
 # Debian 13 /tmp is memory.
 ## gate | the proofs, from nothing, and the stored runs
-gate:
-	tests/wanted.sh rt
+gate: needs-rt
 	rm -rf crates/*/out/rlib
 	TMPDIR=$${TMPDIR:-/var/tmp} rt ci
 	touch --no-create $(PROGRAM) $(TRACER) $(TESTS_BUILT)
 	touch $(PROVED)
 
 # The static libraries, which `rt ci` proves and does not build, over the libraries that it leaves
-gate-built: tools
+gate-built: needs-tools
 	BUILT=1 page/build-module.sh
 	tests/static_library.py lk_trace_c x86_64-unknown-linux-gnu out/liblk_trace_c.a
 
@@ -93,8 +91,7 @@ by-root:
 	    { echo 'only root may run make $(MAKECMDGOALS): it makes Debian roots' >&2; exit 1; }
 
 ## clean-room [PROVE=1] | demo, programs and tests in a minimal Debian; PROVE=1: without kept proofs
-clean-room: by-root
-	tests/wanted.sh rt tools root
+clean-room: by-root needs-rt needs-tools needs-root
 	tests/clean_room.sh $(if $(PROVE),--prove)
 
 ## packages | prints the command that installs what any target needs of Debian
@@ -104,14 +101,13 @@ packages:
 .PHONY: test-refused
 
 ## test-refused | the tests of the libraries, with each request for memory refused in turn
-test-refused: $(TESTS_BUILT) tools
+test-refused: $(TESTS_BUILT) needs-tools
 	tests/refuse/run.sh request $(TESTS_BUILT)
 
 ## check | the quick check: builds the programs, and tries them without the long runs
 ## check CRATE=NAME | proves one crate; for lk_tests it also runs the tests
 ifdef CRATE
-check: tools
-	tests/wanted.sh rt
+check: needs-rt needs-tools
 	cd crates/$(CRATE) && rt check && rt test
 	$(if $(filter $(CRATE),$(TESTS)),$(MAKE) --no-print-directory test-refused)
 else
@@ -127,8 +123,7 @@ endif
 TRIED := rows oracle process refusals writes short_memory memory documents documents_fail layout \
 	spaces fuzz
 .PHONY: tried $(addprefix tried-,$(TRIED))
-tried: $(PROGRAM) $(TRACER) tools
-	tests/wanted.sh rt
+tried: $(PROGRAM) $(TRACER) needs-rt needs-tools
 	$(MAKE) --no-print-directory --jobs=$(shell nproc) --output-sync=target \
 	    $(addprefix tried-,$(TRIED)) FUZZ_SECONDS=$(FUZZ_SECONDS)
 
@@ -158,13 +153,11 @@ $(addprefix tried-,$(filter-out oracle layout spaces fuzz,$(TRIED))): tried-%:
 .PHONY: page test-page
 
 ## page | builds the page's module and page/lockreplay.html
-page: $(MODULE)
-	tests/wanted.sh page
+page: $(MODULE) needs-page
 	node page/build.mjs $(MODULE)
 
 ## test-page | the page is what its sources build to, and works in two browsers
-test-page: $(MODULE) $(PROGRAM) tools
-	tests/wanted.sh page browsers
+test-page: $(MODULE) $(PROGRAM) needs-tools needs-page needs-browsers
 	node page/build.mjs $(MODULE) --check
 	@[ "$$(git status --porcelain 2> /dev/null)" != ' M $(PAGE)' ] || \
 	    { echo 'only $(PAGE) differs from what is committed: commit it too' >&2; exit 1; }
@@ -177,7 +170,7 @@ test-page: $(MODULE) $(PROGRAM) tools
 .PHONY: test-library
 
 ## test-library | tries the static library for traces, from C and from Python
-test-library: $(LIBRARY) tools
+test-library: $(LIBRARY) needs-tools
 	tests/trace_library.py $(LIBRARY)
 
 # Side by side, those that take longest first. Each has a folder of its own.
@@ -186,7 +179,7 @@ TRACED := recording recording_rust conform order_search recording_modes locktrac
 .PHONY: test-traces $(addprefix traced-,$(TRACED))
 
 ## test-traces | tries locktrace on texts, random traces and logs, and recorded locks
-test-traces: $(TRACER) $(PROGRAM) $(LIBRARY) tools
+test-traces: $(TRACER) $(PROGRAM) $(LIBRARY) needs-tools
 	$(MAKE) --no-print-directory --jobs=$(shell nproc) --output-sync=target \
 	    $(addprefix traced-,$(TRACED))
 
@@ -204,19 +197,18 @@ $(addprefix traced-,locktrace search_counts search_sketches trace_values order_s
 .PHONY: test-planted conform
 
 ## test-planted | planted mistakes of recorded locks are noticed as the tables say
-test-planted: $(TRACER) $(LIBRARY) tools
+test-planted: $(TRACER) $(LIBRARY) needs-tools
 	tests/planted.py $(TRACER) $(LIBRARY)
 
 LOCK    :=
 THREADS := 3
 ROUNDS  := 1
 ## conform [LOCK=NAME] [THREADS=3] [ROUNDS=1] | recorded locks follow schedules that take every transition
-conform: $(LIBRARY) $(TRACER) tools
+conform: $(LIBRARY) $(TRACER) needs-tools
 	tests/conform.py $(LIBRARY) $(TRACER) $(LOCK) --threads $(THREADS) --rounds $(ROUNDS)
 
 ## mutants [CRATE=NAME [MISTAKE=NAME]] | mutants are refused, their right twins proved
-mutants: tools $(if $(CRATE),,$(PROVED))
-	tests/wanted.sh rt
+mutants: needs-rt needs-tools $(if $(CRATE),,$(PROVED))
 	$(if $(CRATE),cd crates/$(CRATE) && rt check)
 	tests/mutants.py $(CRATE)$(addprefix /,$(MISTAKE))
 
@@ -227,49 +219,41 @@ programs: $(PROGRAM) $(TRACER)
 library: $(LIBRARY)
 
 ## bench | measures lockreplay beside cat and a replayer written by hand
-bench: $(PROGRAM) tools
+bench: $(PROGRAM) needs-tools
 	bench/run.py $(PROGRAM)
 	bench/batch.py $(PROGRAM)
 
 .PHONY: bench-search bench-instructions
 
 ## bench-search | counts the states of the locks' schedules with SPIN, beside the worked rows
-bench-search: tools
-	tests/wanted.sh bench-search
+bench-search: needs-tools needs-bench-search
 	bench/count.py
 
 ## bench-instructions | counts what a move takes, beside the replayer written by hand
-bench-instructions: $(PROGRAM) tools
-	tests/wanted.sh bench-instructions
+bench-instructions: $(PROGRAM) needs-tools needs-bench-instructions
 	bench/instructions.py $(PROGRAM)
 
 ## soak [SOAK_SECONDS=3600] | each long run once, then the fuzzer for the rest of the time
-soak: $(PROGRAM) tools
-	tests/wanted.sh browsers
+soak: $(PROGRAM) needs-tools needs-browsers
 	tests/soak.sh $(PROGRAM) $(SOAK_SECONDS)
 
 include packaging/targets.mk
 
-$(PROGRAM): $(SOURCES)
-	tests/wanted.sh rt
+$(PROGRAM): $(SOURCES) | needs-rt
 	cd crates/lockreplay && rt run -- replay < ../../$(LESSON) > /dev/null
 
-$(TRACER): $(SOURCES)
-	tests/wanted.sh rt
+$(TRACER): $(SOURCES) | needs-rt
 	cd crates/locktrace && rt run -- check < stdin > /dev/null
 
-$(MODULE): $(MODULE_SOURCES) page/build-module.sh tests/static_library.py tests/rattle_words.py
-	tests/wanted.sh rt
+$(MODULE): $(MODULE_SOURCES) page/build-module.sh tests/static_library.py tests/rattle_words.py | needs-rt
 	page/build-module.sh
 
-$(LIBRARY): $(SOURCES)
-	tests/wanted.sh rt
+$(LIBRARY): $(SOURCES) | needs-rt
 	cd crates/lk_trace_c && rt lib
 
-$(TESTS_BUILT): $(TESTS_SOURCES)
-	tests/wanted.sh rt
+$(TESTS_BUILT): $(TESTS_SOURCES) | needs-rt
 	cd crates/$(TESTS) && rt test
 
-# Python 3, a C compiler and git, with which most tests work
-tools:
-	@tests/wanted.sh tools
+# installs what is missing of a group of packages.txt
+needs-%:
+	@tests/wanted.sh $*
