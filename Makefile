@@ -41,8 +41,9 @@ PROVE :=
 # newer than the sources while `out` has the libraries that the gate proved of them
 PROVED := crates/lk_words/out/proved
 
-.PHONY: help packages test test-needs test-parts gate gate-built clean-room by-root
-.PHONY: check mutants demo programs library bench soak
+# what is no file: what has a line ##, and these
+.PHONY: $(shell sed -n 's/^## \([a-z-]*\).*/\1/p' Makefile packaging/targets.mk) \
+	help test-needs test-parts gate-built by-root
 
 help:
 	@sed -n 's/^## //p' $(MAKEFILE_LIST) | awk -F ' [|] ' '{ printf "make %-43s%s\n", $$1, $$2 }'
@@ -98,8 +99,6 @@ clean-room: by-root needs-rt needs-tools needs-root
 packages:
 	@tests/wanted.sh --list
 
-.PHONY: test-refused
-
 ## test-refused | the tests of the libraries, with each request for memory refused in turn
 test-refused: $(TESTS_BUILT) needs-tools
 	tests/refuse/run.sh request $(TESTS_BUILT)
@@ -122,7 +121,7 @@ endif
 ## tried | the built programs and the rows, the documents and the layout, without a proof
 TRIED := rows oracle process refusals writes short_memory memory documents documents_fail layout \
 	spaces fuzz
-.PHONY: tried $(addprefix tried-,$(TRIED))
+.PHONY: $(addprefix tried-,$(TRIED))
 tried: $(PROGRAM) $(TRACER) needs-rt needs-tools
 	$(MAKE) --no-print-directory --jobs=$(shell nproc) --output-sync=target \
 	    $(addprefix tried-,$(TRIED)) FUZZ_SECONDS=$(FUZZ_SECONDS)
@@ -150,8 +149,6 @@ tried-fuzz:
 $(addprefix tried-,$(filter-out oracle layout spaces fuzz,$(TRIED))): tried-%:
 	tests/$*.py $(PROGRAM)
 
-.PHONY: page test-page
-
 ## page | builds the page's module and page/lockreplay.html
 page: $(MODULE) needs-page
 	node page/build.mjs $(MODULE)
@@ -167,8 +164,6 @@ test-page: $(MODULE) $(PROGRAM) needs-tools needs-page needs-browsers
 	tests/page/known.mjs $(MODULE)
 	tests/page/run.py $(PROGRAM)
 
-.PHONY: test-library
-
 ## test-library | tries the static library for traces, from C and from Python
 test-library: $(LIBRARY) needs-tools
 	tests/trace_library.py $(LIBRARY)
@@ -176,7 +171,7 @@ test-library: $(LIBRARY) needs-tools
 # Side by side, those that take longest first. Each has a folder of its own.
 TRACED := recording recording_rust conform order_search recording_modes locktrace searches \
 	search_sketches search_counts trace_values
-.PHONY: test-traces $(addprefix traced-,$(TRACED))
+.PHONY: $(addprefix traced-,$(TRACED))
 
 ## test-traces | tries locktrace on texts, random traces and logs, and recorded locks
 test-traces: $(TRACER) $(PROGRAM) $(LIBRARY) needs-tools
@@ -193,8 +188,6 @@ traced-conform:
 	tests/conform.py $(LIBRARY) $(TRACER)
 $(addprefix traced-,locktrace search_counts search_sketches trace_values order_search): traced-%:
 	tests/$*.py $(TRACER)
-
-.PHONY: test-planted conform
 
 ## test-planted | planted mistakes of recorded locks are noticed as the tables say
 test-planted: $(TRACER) $(LIBRARY) needs-tools
@@ -222,8 +215,6 @@ library: $(LIBRARY)
 bench: $(PROGRAM) needs-tools
 	bench/run.py $(PROGRAM)
 	bench/batch.py $(PROGRAM)
-
-.PHONY: bench-search bench-instructions
 
 ## bench-search | counts the states of the locks' schedules with SPIN, beside the worked rows
 bench-search: needs-tools needs-bench-search

@@ -9,8 +9,6 @@ TREE     = $(DESTDIR)$(PREFIX)
 PAGE  := page/lockreplay.html
 BUILT := $(PROGRAM) $(TRACER) $(LIBRARY) $(PAGE)
 
-.PHONY: install install-built uninstall dist deb release release-checks test-reproducible
-
 ## install [PREFIX=] [DESTDIR=] | builds and installs what packaging/contents.txt lists
 install: $(BUILT)
 	packaging/install.sh install '$(TREE)'
