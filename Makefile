@@ -1,6 +1,21 @@
 # The commands of this repository: `make` lists them, from the lines that begin with ## beside them.
 # docs/CHECKING.md says how long each takes, and where the time goes.
 
+# A recipe sees none of the caller's variables but these, one language and one time zone, and what
+# neither git nor Python reads from a home. So a test does the same on each machine.
+KEPT := PATH HOME TMPDIR XDG_CACHE_HOME MAKE% MFLAGS %_proxy %_PROXY RT_% EVERY_MOVE
+unexport $(foreach it,$(filter-out $(KEPT),$(.VARIABLES)),$(if \
+	$(filter environment,$(origin $(it))),$(it)))
+export LC_ALL := C.UTF-8
+export TZ := UTC
+export PYTHONNOUSERSITE := 1
+export GIT_CONFIG_GLOBAL := /dev/null
+export GIT_CONFIG_NOSYSTEM := 1
+# Root may read a tree of another user.
+export GIT_CONFIG_COUNT := 1
+export GIT_CONFIG_KEY_0 := safe.directory
+export GIT_CONFIG_VALUE_0 := *
+
 # The files of crates, with the list that says which others each one uses; and those others.
 sources_of = crates.txt $(shell find $(addprefix crates/,$(1)) -name out -prune \
 	-o \( -name '*.rt' -o -name '*.antt' \) -print)
@@ -23,63 +38,75 @@ SOAK_SECONDS := 3600
 MISTAKE :=
 PROVE :=
 
-.PHONY: help packages test gate test-built test-parts clean-room
-.PHONY: check mutants demo programs library bench soak tools
+# newer than the sources while `out` has the libraries that the gate proved of them
+PROVED := crates/lk_words/out/proved
+
+# what is no file: what has a line ##, and these
+.PHONY: $(shell sed -n 's/^## \([a-z-]*\).*/\1/p' Makefile packaging/targets.mk) \
+	help test-needs test-parts gate-built by-root
 
 help:
 	@sed -n 's/^## //p' $(MAKEFILE_LIST) | awk -F ' [|] ' '{ printf "make %-43s%s\n", $$1, $$2 }'
 
-## demo | builds lockreplay, and replays a schedule of two threads
-demo: $(PROGRAM)
-	$(PROGRAM) replay < $(LESSON)
+## demo | replays a schedule of two threads, in a minute: nothing is proved
+demo: needs-rt
+	@cd crates/lockreplay && { said=$$(rt try -- replay < ../../$(LESSON) 2>&1 >&3) || \
+	    { echo "$$said" >&2; exit 1; }; } 3>&1
+	@echo 'Not proved: "make programs" proves and builds lockreplay and locktrace, in half an hour.'
 
-## test | the one test command: proves all from nothing, then tries what is built. Needs root
-test: by-root
-	tests/wanted.sh --all
-	+tests/parts.sh gate $(PARTS)
+# What the tests of `make test` need of Debian
+test-needs:
+	@tests/wanted.sh rt tools page browsers recording rust
 
-# release-checks, clean-room and test-reproducible install packages in Debian roots that they make.
-.PHONY: by-root
-by-root:
-	@[ "$$(id -u)" = 0 ] || \
-	    { echo 'only root may run make $(MAKECMDGOALS): it makes Debian roots' >&2; exit 1; }
+# What `make test` does after the proofs, in this order.
+PARTS := tried test-page test-refused test-library test-traces
 
-## gate | the proofs and mutants of `make test`. No root is needed
-gate:
-	tests/wanted.sh rt gate
-	tests/gate.sh
-
-# What `make test` does after the proofs, in this order. The module is then newer than the page, so
-# release-checks writes the page anew: test-page has to look at it before.
-PARTS := tried test-page release-checks test-refused test-library test-traces
-
-## test-built | what `make test` does after the proofs
-test-built: by-root
-	+tests/parts.sh $(PARTS)
+## test | the one test command: proves all from nothing, then tries what is built
+test: test-needs
+	+tests/parts.sh gate gate-built $(PARTS)
 
 test-parts:
 	@echo $(PARTS)
 
-## clean-room [PROVE=1] | demo and test-built in a minimal Debian; PROVE=1: without kept proofs
-clean-room: by-root
-	tests/wanted.sh rt gate root
+# `rt ci` sets aside what `out` has, and gives the libraries of earlier checks back. So these are
+# deleted: those that are left then are what it has proved. Its copies take gigabytes, and in
+# Debian 13 /tmp is memory.
+## gate | the proofs, from nothing, and the stored runs
+gate: needs-rt
+	rm -rf crates/*/out/rlib
+	TMPDIR=$${TMPDIR:-/var/tmp} rt ci
+	touch --no-create $(PROGRAM) $(TRACER) $(TESTS_BUILT)
+	touch $(PROVED)
+
+# The static libraries, which `rt ci` proves and does not build, over the libraries that it leaves
+gate-built: needs-tools
+	BUILT=1 page/build-module.sh
+	tests/static_library.py lk_trace_c x86_64-unknown-linux-gnu out/liblk_trace_c.a
+
+$(PROVED): $(SOURCES)
+	$(MAKE) --no-print-directory gate
+
+# release-checks, clean-room and test-reproducible install packages in Debian roots that they make.
+by-root:
+	@[ "$$(id -u)" = 0 ] || \
+	    { echo 'only root may run make $(MAKECMDGOALS): it makes Debian roots' >&2; exit 1; }
+
+## clean-room [PROVE=1] | demo, programs and tests in a minimal Debian; PROVE=1: without kept proofs
+clean-room: by-root needs-rt needs-tools needs-root
 	tests/clean_room.sh $(if $(PROVE),--prove)
 
 ## packages | prints the command that installs what any target needs of Debian
 packages:
 	@tests/wanted.sh --list
 
-.PHONY: test-refused
-
 ## test-refused | the tests of the libraries, with each request for memory refused in turn
-test-refused: $(TESTS_BUILT) tools
+test-refused: $(TESTS_BUILT) needs-tools
 	tests/refuse/run.sh request $(TESTS_BUILT)
 
 ## check | the quick check: builds the programs, and tries them without the long runs
 ## check CRATE=NAME | proves one crate; for lk_tests it also runs the tests
 ifdef CRATE
-check: tools
-	tests/wanted.sh rt
+check: needs-rt needs-tools
 	cd crates/$(CRATE) && rt check && rt test
 	$(if $(filter $(CRATE),$(TESTS)),$(MAKE) --no-print-directory test-refused)
 else
@@ -94,9 +121,8 @@ endif
 ## tried | the built programs and the rows, the documents and the layout, without a proof
 TRIED := rows oracle process refusals writes short_memory memory documents documents_fail layout \
 	spaces fuzz
-.PHONY: tried $(addprefix tried-,$(TRIED))
-tried: $(PROGRAM) $(TRACER) tools
-	tests/wanted.sh rt
+.PHONY: $(addprefix tried-,$(TRIED))
+tried: $(PROGRAM) $(TRACER) needs-rt needs-tools
 	$(MAKE) --no-print-directory --jobs=$(shell nproc) --output-sync=target \
 	    $(addprefix tried-,$(TRIED)) FUZZ_SECONDS=$(FUZZ_SECONDS)
 
@@ -123,16 +149,12 @@ tried-fuzz:
 $(addprefix tried-,$(filter-out oracle layout spaces fuzz,$(TRIED))): tried-%:
 	tests/$*.py $(PROGRAM)
 
-.PHONY: page test-page
-
 ## page | builds the page's module and page/lockreplay.html
-page: $(MODULE)
-	tests/wanted.sh page
+page: $(MODULE) needs-page
 	node page/build.mjs $(MODULE)
 
 ## test-page | the page is what its sources build to, and works in two browsers
-test-page: $(MODULE) $(PROGRAM) tools
-	tests/wanted.sh page browsers
+test-page: $(MODULE) $(PROGRAM) needs-tools needs-page needs-browsers
 	node page/build.mjs $(MODULE) --check
 	@[ "$$(git status --porcelain 2> /dev/null)" != ' M $(PAGE)' ] || \
 	    { echo 'only $(PAGE) differs from what is committed: commit it too' >&2; exit 1; }
@@ -142,19 +164,17 @@ test-page: $(MODULE) $(PROGRAM) tools
 	tests/page/known.mjs $(MODULE)
 	tests/page/run.py $(PROGRAM)
 
-.PHONY: test-library
-
 ## test-library | tries the static library for traces, from C and from Python
-test-library: $(LIBRARY) tools
+test-library: $(LIBRARY) needs-tools
 	tests/trace_library.py $(LIBRARY)
 
 # Side by side, those that take longest first. Each has a folder of its own.
 TRACED := recording recording_rust conform order_search recording_modes locktrace searches \
 	search_sketches search_counts trace_values
-.PHONY: test-traces $(addprefix traced-,$(TRACED))
+.PHONY: $(addprefix traced-,$(TRACED))
 
 ## test-traces | tries locktrace on texts, random traces and logs, and recorded locks
-test-traces: $(TRACER) $(PROGRAM) $(LIBRARY) tools
+test-traces: $(TRACER) $(PROGRAM) $(LIBRARY) needs-tools
 	$(MAKE) --no-print-directory --jobs=$(shell nproc) --output-sync=target \
 	    $(addprefix traced-,$(TRACED))
 
@@ -169,24 +189,20 @@ traced-conform:
 $(addprefix traced-,locktrace search_counts search_sketches trace_values order_search): traced-%:
 	tests/$*.py $(TRACER)
 
-.PHONY: test-planted conform
-
 ## test-planted | planted mistakes of recorded locks are noticed as the tables say
-test-planted: $(TRACER) $(LIBRARY) tools
+test-planted: $(TRACER) $(LIBRARY) needs-tools
 	tests/planted.py $(TRACER) $(LIBRARY)
 
 LOCK    :=
 THREADS := 3
 ROUNDS  := 1
 ## conform [LOCK=NAME] [THREADS=3] [ROUNDS=1] | recorded locks follow schedules that take every transition
-conform: $(LIBRARY) $(TRACER) tools
+conform: $(LIBRARY) $(TRACER) needs-tools
 	tests/conform.py $(LIBRARY) $(TRACER) $(LOCK) --threads $(THREADS) --rounds $(ROUNDS)
 
-## mutants CRATE=NAME [MISTAKE=NAME] | a crate's mutants are refused, their right twins proved
-mutants: tools
-	$(if $(CRATE),,$(error which crate? make mutants CRATE=NAME))
-	tests/wanted.sh rt
-	cd crates/$(CRATE) && rt check
+## mutants [CRATE=NAME [MISTAKE=NAME]] | mutants are refused, their right twins proved
+mutants: needs-rt needs-tools $(if $(CRATE),,$(PROVED))
+	$(if $(CRATE),cd crates/$(CRATE) && rt check)
 	tests/mutants.py $(CRATE)$(addprefix /,$(MISTAKE))
 
 ## programs | builds lockreplay and locktrace
@@ -196,49 +212,39 @@ programs: $(PROGRAM) $(TRACER)
 library: $(LIBRARY)
 
 ## bench | measures lockreplay beside cat and a replayer written by hand
-bench: $(PROGRAM) tools
+bench: $(PROGRAM) needs-tools
 	bench/run.py $(PROGRAM)
 	bench/batch.py $(PROGRAM)
 
-.PHONY: bench-search bench-instructions
-
 ## bench-search | counts the states of the locks' schedules with SPIN, beside the worked rows
-bench-search: tools
-	tests/wanted.sh bench-search
+bench-search: needs-tools needs-bench-search
 	bench/count.py
 
 ## bench-instructions | counts what a move takes, beside the replayer written by hand
-bench-instructions: $(PROGRAM) tools
-	tests/wanted.sh bench-instructions
+bench-instructions: $(PROGRAM) needs-tools needs-bench-instructions
 	bench/instructions.py $(PROGRAM)
 
 ## soak [SOAK_SECONDS=3600] | each long run once, then the fuzzer for the rest of the time
-soak: $(PROGRAM) tools
-	tests/wanted.sh browsers
+soak: $(PROGRAM) needs-tools needs-browsers
 	tests/soak.sh $(PROGRAM) $(SOAK_SECONDS)
 
 include packaging/targets.mk
 
-$(PROGRAM): $(SOURCES)
-	tests/wanted.sh rt
+$(PROGRAM): $(SOURCES) | needs-rt
 	cd crates/lockreplay && rt run -- replay < ../../$(LESSON) > /dev/null
 
-$(TRACER): $(SOURCES)
-	tests/wanted.sh rt
+$(TRACER): $(SOURCES) | needs-rt
 	cd crates/locktrace && rt run -- check < stdin > /dev/null
 
-$(MODULE): $(MODULE_SOURCES) page/build-module.sh tests/static_library.py tests/rattle_words.py
-	tests/wanted.sh rt
+$(MODULE): $(MODULE_SOURCES) page/build-module.sh tests/static_library.py tests/rattle_words.py | needs-rt
 	page/build-module.sh
 
-$(LIBRARY): $(SOURCES)
-	tests/wanted.sh rt
+$(LIBRARY): $(SOURCES) | needs-rt
 	cd crates/lk_trace_c && rt lib
 
-$(TESTS_BUILT): $(TESTS_SOURCES)
-	tests/wanted.sh rt
+$(TESTS_BUILT): $(TESTS_SOURCES) | needs-rt
 	cd crates/$(TESTS) && rt test
 
-# Python 3, a C compiler and git, with which most tests work
-tools:
-	@tests/wanted.sh tools
+# installs what is missing of a group of packages.txt
+needs-%:
+	@tests/wanted.sh $*

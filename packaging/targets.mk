@@ -9,8 +9,6 @@ TREE     = $(DESTDIR)$(PREFIX)
 PAGE  := page/lockreplay.html
 BUILT := $(PROGRAM) $(TRACER) $(LIBRARY) $(PAGE)
 
-.PHONY: install install-built uninstall dist deb release release-checks test-reproducible
-
 ## install [PREFIX=] [DESTDIR=] | builds and installs what packaging/contents.txt lists
 install: $(BUILT)
 	packaging/install.sh install '$(TREE)'
@@ -29,23 +27,20 @@ dist: $(BUILT)
 	packaging/dist.sh
 
 ## deb | a Debian package of it, in dist/
-deb: $(BUILT)
-	tests/wanted.sh deb
+deb: $(BUILT) needs-deb
 	packaging/deb.sh
 
 ## release | source, tarball, package, SPDX list of contents and SHA256SUMS, in dist/
-release: $(BUILT) tools
-	tests/wanted.sh deb
+release: $(BUILT) needs-tools needs-deb
 	packaging/release.sh
 
 $(PAGE): $(MODULE) VERSION docs/LOCKS.md $(wildcard page/build.mjs page/build/* page/src/*.* \
-	page/src/style/* examples/*.schedule examples/README.md)
-	tests/wanted.sh page
+	page/src/style/* examples/*.schedule examples/README.md) | needs-page
 	node page/build.mjs $(MODULE)
 
 # Side by side. Debian packages that these need are installed by them if they are missing.
 ## release-checks | tries what is installed and packaged, and two hosts over ssh
-release-checks: by-root $(BUILT) tools
+release-checks: by-root $(BUILT) needs-tools
 	$(MAKE) --no-print-directory --jobs=$(shell nproc) --output-sync=target \
 	    release-packages release-installed release-first-runs release-hosts
 
@@ -61,5 +56,5 @@ release-hosts:
 
 # Makes the artifacts, and the programs over what is proved, again in other roots: the same bytes.
 ## test-reproducible | makes the artifacts again under two Debians, and compares the bytes
-test-reproducible: by-root $(BUILT) tools
+test-reproducible: by-root $(BUILT) needs-tools
 	tests/reproducible.py

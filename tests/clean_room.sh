@@ -4,18 +4,18 @@
 # The machine is a minimal Debian 12 with make, git and ca-certificates, which sees the kit and has
 # the committed tree. Shown is, with all set-up:
 #
-#   - `make demo` with nothing built. It is ended when the first crate is proved;
-#   - `make demo` over what this tree keeps of its proofs: the program is linked anew;
-#   - what `make test` does first: it installs what any test needs of Debian;
+#   - `make demo`, with nothing built;
+#   - `make programs` over what this tree keeps of its proofs: the programs are linked anew;
+#   - what `make test` does first: it installs what its tests need of Debian;
 #   - each part of what `make test` does after the proofs.
 #
 # `rt check` keeps proofs, and `make test` does not: the status is 2 if those of a library are not
 # there. With --prove none are kept, so all that these need is proved from nothing, which takes an
-# hour. The gate itself, which tries the mutants too, is not run. The first step that fails
-# ends the whole; nothing stays on the machine but what tests/root.sh keeps. Only root may do this.
+# hour. The proofs of `make test` itself are not made there. The first step that fails ends the
+# whole; nothing stays on the machine but what tests/root.sh keeps. Only root may do this.
 set -euo pipefail
 cd "$(dirname "$0")/.."
-readonly TREE=/root/lockreplay PATIENCE=900 # seconds, for the first crate
+readonly TREE=/root/lockreplay
 case $* in
 '' | --prove) prove=$* ;;
 *) echo "usage: tests/clean_room.sh [--prove]" >&2 && exit 2 ;;
@@ -52,15 +52,11 @@ end() {
 }
 trap end EXIT
 
-# begin WORD...: starts a command in the tree in the room
-begin() {
+# in_room WORD...: runs a command in the tree in the room
+in_room() {
+    local status=0
     tests/in_root.sh --see "$kit" "$root" env --chdir="$TREE" "$@" &
     child=$!
-}
-
-# finish: waits for it
-finish() {
-    local status=0
     wait "$child" || status=$?
     child=
     return "$status"
@@ -82,44 +78,24 @@ make_room() {
     git clone --quiet . "$root$TREE"
 }
 
-until_a_crate_is_proved() {
-    local last=$((SECONDS + PATIENCE))
-    begin make demo
-    until [ -e "$root$TREE/crates/lk_words/out/rlib/lk_words.rlib" ]; do
-        sleep 1
-        kill -0 "$child" 2> /dev/null || { finish && return 1; }
-        [ "$SECONDS" -lt "$last" ] || return 1
-    done
-    kill "$child"
-    finish || true
-    sleep 1
-    rm -rf "$root$TREE"/crates/*/out
-}
-
 copy_kept_proofs() {
     for out in crates/*/out; do
         cp -a "$out" "$root$TREE/$out"
     done
-    rm -f "$root$TREE/crates/lockreplay/out/lockreplay"
+    rm -f "$root$TREE"/crates/{lockreplay/out/lockreplay,locktrace/out/locktrace}
 }
 
 demo() {
-    begin make demo > "$room/demo"
-    finish
+    in_room make demo > "$room/demo"
     cat "$room/demo"
-    tail -n 11 "$room/demo" | diff examples/ticket-hand-over.report -
-}
-
-in_room() {
-    begin "$@"
-    finish
+    head -n -1 "$room/demo" | diff examples/ticket-hand-over.report -
 }
 
 step "a minimal root, with the committed tree" make_room
-step "make demo, with nothing built, until a crate is proved" until_a_crate_is_proved
+step "make demo, with nothing built" demo
 [ -n "$prove" ] || step "a copy of the kept proofs" copy_kept_proofs
-step "make demo" demo
-step "what make test needs of Debian" in_room tests/wanted.sh --all
+step "make programs" in_room make programs
+step "what make test needs of Debian" in_room make test-needs
 for name in $(make --silent test-parts); do
     step "make $name" in_room make "$name"
 done

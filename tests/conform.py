@@ -48,7 +48,8 @@ def tour_of(locktrace, lock, threads, rounds, folder):
 def follow(checks, name, folder, *flags):
     """The status, and how many schedules there were and how many were not followed."""
     ran = subprocess.run([RECORDED / "conform.sh", checks, name, folder, *flags], text=True,
-                         capture_output=True, check=False, env=wanted.environment())
+                         capture_output=True, check=False,
+                         env={**wanted.environment(), "CARGO_HOME": str(folder.parent / "cargo")})
     counts = re.search(r"(\d+) schedules of \d+ moves, (\d+) not followed", ran.stdout)
     print(f"{' '.join([name, *flags])}: {ran.stdout.strip() or ran.stderr.strip()}")
     return ran.returncode, *(map(int, counts.groups()) if counts else (0, 0))

@@ -22,9 +22,10 @@ from tally import Tally
 TOP = Path(__file__).resolve().parent.parent
 LIST = "packages.txt"
 INSTALLER = "tests/wanted.sh"
-CODE = {".sh", ".py", ".mk", ".mjs", ".c", ".h"}
-# How a group is asked for, in a shell or in `make`, and in Python.
+CODE = {".sh", ".py", ".mk", ".mjs", ".c", ".h", ".conf"}
+# How a group is asked for: in a shell, in `make`, and in Python.
 IN_SHELL = re.compile(r'^[^#\n]*\bwanted\.sh"?((?: [a-z][a-z-]*)+)', re.MULTILINE)
+IN_MAKE = re.compile(r"\bneeds-([a-z][a-z-]*)")
 IN_PYTHON = re.compile(r"\bwanted\.install\(([^)]*)\)")
 INSTALLS = re.compile(r"\b(apt-get|aptitude|apt +install|dpkg +(-i|--install))\b")
 # What a line of a shell calls: its first word, and the first one after what begins a command.
@@ -57,8 +58,9 @@ def scripts():
 def groups_asked_for(texts):
     """The groups that some script asks for."""
     in_shell = [words for text in texts for words in IN_SHELL.findall(text)]
+    in_make = [word for text in texts for word in IN_MAKE.findall(text)]
     in_python = [words for text in texts for words in IN_PYTHON.findall(text)]
-    return set(" ".join(in_shell).split()) | set(re.findall(r'"(\w+)"', " ".join(in_python)))
+    return {*" ".join(in_shell).split(), *in_make, *re.findall(r'"(\w+)"', " ".join(in_python))}
 
 
 def name_of(use):

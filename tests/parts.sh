@@ -1,22 +1,25 @@
 #!/usr/bin/env bash
 # Runs targets of the Makefile one after the other: tests/parts.sh TARGET...
 #
-# Ends with a table of how long each took. The first one that fails ends the whole. A script that
-# a target runs may add lines to the table, whose file is PARTS_TABLE.
+# Ends with a table of how long each took, and how many passed. The first that fails ends the whole.
 set -euo pipefail
 cd "$(dirname "$0")/.."
-PARTS_TABLE=$(mktemp)
-export PARTS_TABLE
+table=() failed=0
 
 end() {
     printf '\nSeconds  Part, on %s processors\n' "$(nproc)"
-    cat "$PARTS_TABLE"
-    rm "$PARTS_TABLE"
+    printf '%s\n' "${table[@]}"
+    echo "parts: $((${#table[@]} - failed)) passed, $failed failed"
 }
 trap end EXIT
 
 for target; do
     from=$SECONDS
-    "${MAKE:-make}" --no-print-directory "$target"
-    printf '%7d  %s\n' $((SECONDS - from)) "$target" >> "$PARTS_TABLE"
+    status=0
+    "${MAKE:-make}" --no-print-directory "$target" || status=$?
+    table+=("$(printf '%7d  %s' $((SECONDS - from)) "$target")")
+    if [ "$status" != 0 ]; then
+        failed=1
+        exit "$status"
+    fi
 done

@@ -19,9 +19,9 @@ from concurrent.futures import ThreadPoolExecutor
 from pathlib import Path
 
 import wanted
-from recording_builds import (EXAMPLES, ROOT, SANITIZERS, WARNINGS, all_builds, all_compiled,
-                              build, build_of_the_guide, compile_only, compilers, is_nothing_left,
-                              language, ran)
+from recording_builds import (COMPILERS, EXAMPLES, ROOT, SANITIZERS, WARNINGS, all_builds,
+                              all_compiled, build, build_of_the_guide, compile_only,
+                              is_nothing_left, language, ran)
 from mixed_runs import fault_of_mixed
 from recording_mistakes import MISTAKES, moves_of
 from tally import Tally
@@ -199,7 +199,7 @@ def object_code(cases, folder):
     def fault(one):
         return "" if is_nothing_left(*one, folder / "-".join(one)) else "LR_OFF leaves code"
     cases.many("object code", fault, [
-        (compiler, example, level) for compiler in compilers() if "++" not in compiler
+        (compiler, example, level) for compiler in COMPILERS if "++" not in compiler
         for example in EXAMPLES for level in ["-O0", "-O2"]])
 
 
@@ -217,7 +217,7 @@ def sanitizers(cases, runs):
 
 def header(cases, folder):
     """What the header writes, by a program that knows every line, in C and in C++."""
-    for compiler in compilers():
+    for compiler in COMPILERS:
         # What clang's sanitizers need is in a package of another name in each Debian.
         sanitizers = [] if compiler.startswith("clang") else ["-fsanitize=address,undefined"]
         said = ran(compiler, *language(compiler), *WARNINGS, "-g", "-pthread", *sanitizers,

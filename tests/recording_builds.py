@@ -1,6 +1,5 @@
 """Builds the examples of examples/recording, and sees what the header leaves in the object code."""
 import re
-import shutil
 import subprocess
 from pathlib import Path
 
@@ -8,6 +7,7 @@ ROOT = Path(__file__).resolve().parent.parent
 SOURCES = ROOT / "examples" / "recording"
 HEADER = ROOT / "record" / "lockreplay_record.h"
 EXAMPLES = sorted(path.stem for path in SOURCES.glob("*.c"))
+COMPILERS = ["gcc", "g++", "clang", "clang++"]
 ALSO_C_PLUS_PLUS = ["rw_simple", "rw_fifo"]
 # Which of a macro's arguments is done without the header.
 MONITOR = {"LR_LOCK": 1, "LR_UNLOCK": 1, "LR_WAIT": 3, "LR_SIGNAL": 2, "LR_BROADCAST": 2}
@@ -50,13 +50,9 @@ def build_of_the_guide(mode, folder, wrong):
                "-o", "try", "try.c", folder=folder).stderr
 
 
-def compilers():
-    return [name for name in ["gcc", "g++", "clang", "clang++"] if shutil.which(name)]
-
-
 def all_builds():
     """Every compiler, example and mode that go together."""
-    for compiler in compilers():
+    for compiler in COMPILERS:
         for example in ALSO_C_PLUS_PLUS if "++" in compiler else EXAMPLES:
             for mode in ["OFF", "VALUES", "SEED"]:
                 yield compiler, example, mode
@@ -66,7 +62,7 @@ def all_compiled():
     """Every compiler, standard, example, mode and options that go together."""
     options = {"OFF": [], "VALUES": ["-DLR_NOISE"], "SEED": ["-DLR_PCT=3", "-DLR_SPURIOUS=9"],
                "FOLLOW": ["-DLR_CHECK"], "EXPLORE": []}
-    for compiler in compilers():
+    for compiler in COMPILERS:
         for standard in ["17", "20"] if "++" in compiler else ["11"]:
             for example in ALSO_C_PLUS_PLUS if "++" in compiler else EXAMPLES:
                 for mode, more in options.items():

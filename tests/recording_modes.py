@@ -15,7 +15,7 @@ from pathlib import Path
 
 import wanted
 from planted_locks import mistakes_of, planted
-from recording_builds import ROOT, WARNINGS, build, compilers, language, ran
+from recording_builds import COMPILERS, ROOT, WARNINGS, build, language, ran
 from tally import Tally
 
 # What the command line defines, and what the compiler then says.
@@ -180,7 +180,7 @@ def try_races(tally, folder):
 
 
 def try_atomics(tally, folder):
-    for compiler in compilers():
+    for compiler in COMPILERS:
         source = ROOT / "tests" / f"recording_atomics.{'cc' if '++' in compiler else 'c'}"
         for standard in ["17", "20"] if "++" in compiler else ["11"]:
             said = ran(compiler, *language(compiler, standard), *WARNINGS, "-O2", "-pthread",

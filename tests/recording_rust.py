@@ -58,6 +58,7 @@ class Crate:
         shutil.copytree(CRATE, self.source, ignore=shutil.ignore_patterns("target"))
         self.environment = {**wanted.environment(), "PATH": f"{TOOLS}:/bin",
                             "RUSTC": str(TOOLS / "rustc"), "CARGO_TARGET_DIR": str(self.target),
+                            "CARGO_HOME": str(folder / "cargo"),
                             "RUSTFLAGS": f"-D warnings -L native={library.parent}",
                             "RUSTDOCFLAGS": f"-D warnings -L native={library.parent}"}
 

@@ -4,7 +4,7 @@
     static_library.py CRATE TARGET FILE
 
 Writes FILE, below the crate's folder. TARGET is the kit's name of a processor and a system. JOBS
-processors are used, one if it is not set. `rt lib` builds the libraries first.
+processors are used, all if it is not set. `rt lib` builds the libraries first.
 """
 import os
 import subprocess
@@ -16,8 +16,9 @@ from rattle_words import TOP, kit_folder, words_of
 def main(crate, target, file):
     folder = TOP / "crates" / crate
     (folder / "out").mkdir(exist_ok=True)
+    jobs = os.environ.get("JOBS") or str(len(os.sched_getaffinity(0)))
     how = ["--toolchain", kit_folder() / "toolchain", "--backend", "llvm", "--target", target,
-           "--links", f"{crate}=", "--jobs", os.environ.get("JOBS", "1"), "-o", file]
+           "--links", f"{crate}=", "--jobs", jobs, "-o", file]
     words = words_of("build", crate, f"out/incremental_{target}")
     return subprocess.run([*words, *how], cwd=folder, check=False).returncode
 

@@ -2,7 +2,6 @@
 # Installs what is missing of what packages.txt lists for some groups; says first what and how much.
 #
 #     tests/wanted.sh GROUP...
-#     tests/wanted.sh --all       for all groups but bench-*, which no test needs
 #     tests/wanted.sh --list      prints the command that installs all packages of the list
 #
 # Several may run at once: one waits for another. If root does not run it, it says what root would
@@ -60,11 +59,7 @@ if [ "$*" = --list ]; then
     echo "$INSTALL $(column 1 "$(lines | grep -v '^-')")"
     exit
 fi
-[ $# -gt 0 ] || fail "usage: tests/wanted.sh GROUP... | --all | --list" 2
-if [ "$*" = --all ]; then
-    # shellcheck disable=SC2046 # each group is a word
-    set -- $(awk 'NF && !/^(#|bench-)/ { print $1 }' "$LIST" | sort -u)
-fi
+[ $# -gt 0 ] || fail "usage: tests/wanted.sh GROUP... | --list" 2
 exec 9< "$LIST"
 flock 9
 lacks=$(missing "$@")

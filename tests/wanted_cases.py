@@ -66,11 +66,10 @@ class Machine:
         return done.returncode, done.stdout + done.stderr, words
 
 
-def tried(user, brings, *words, says=SIMULATION, has=()):
-    with tempfile.TemporaryDirectory() as folder:
+def tried(user, brings, *words, says=SIMULATION):
+    # Not in TMPDIR: a blank in its name would end what is used of a package.
+    with tempfile.TemporaryDirectory(dir="/tmp") as folder:
         machine = Machine(folder, user, brings.replace("FOLDER", folder), says)
-        for name in has:
-            machine.command(name, "#!/bin/sh\n")
         status, said, asked = machine.run(*words)
         return status, said.replace(folder, "FOLDER"), asked
 
@@ -86,10 +85,6 @@ def main():
     tally.check("root: said", said, "These Debian packages are missing, and are installed now: "
                 "tool-bin tool-dev\n2 newly installed\nNeed to get 7 kB\n"
                 "After this, 9 kB\n")
-    tally.check("all groups", tried(1000, brings, "--all"),
-                (1, "wanted.sh: not on the path: no-such-kit, a kit\n", []))
-    tally.check("all groups but those of benches",
-                tried(1000, brings, "--all", has=["no-such-kit"]), (1, lacking, []))
     status, said, asked = tried(0, "touch FOLDER/brought", "lacks")
     tally.check("brought nothing", (status, said.splitlines()[-1]),
                 (1, "wanted.sh: installed, and still not there: no-such-tool"))

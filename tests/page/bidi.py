@@ -10,6 +10,8 @@ import time
 
 import websocket
 
+from surroundings import surroundings
+
 PATIENCE = 120
 # How long one question waits for its answer while a page is being opened.
 ASKED_AGAIN = 3
@@ -132,6 +134,7 @@ def firefox(preferences=None):
             ],
             stdout=subprocess.DEVNULL,
             stderr=subprocess.PIPE,
+            env=surroundings(profile),
         )
         try:
             browser = Firefox(address_of(process))

@@ -8,6 +8,8 @@ from selenium.webdriver.chrome.options import Options
 from selenium.webdriver.chrome.service import Service
 from selenium.webdriver.support.ui import WebDriverWait
 
+from surroundings import surroundings
+
 TOP = pathlib.Path(__file__).resolve().parents[2]
 PAGE = TOP / "page" / "lockreplay.html"
 PATIENCE = 60
@@ -35,7 +37,8 @@ def chromium(width=1440, height=900, dark=False, arguments=()):
         ]:
             options.add_argument(argument)
         options.set_capability("goog:loggingPrefs", {"performance": "ALL", "browser": "ALL"})
-        driver = webdriver.Chrome(options=options, service=Service("/usr/bin/chromedriver"))
+        service = Service("/usr/bin/chromedriver", env=surroundings(folder))
+        driver = webdriver.Chrome(options=options, service=service)
         try:
             driver.set_script_timeout(PATIENCE * 3)
             driver.execute_cdp_cmd(
