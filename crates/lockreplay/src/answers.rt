@@ -1,11 +1,11 @@
-//! What the program leaves once it knows what it is asked for: a status, and a text on one of its
-//! two outputs.
+//! What the program leaves once it knows what it is asked for: bytes on standard output, a message
+//! for standard error, and a status. Which message is a value, so that a contract can say it
+//! exactly: whether a device takes bytes, no contract can say.
 
-ghost use Rattle.std.specs.Prelude.{◌≡◌, IfErr, IfOk, true};
+ghost use Rattle.std.specs.Prelude.{◌≡◌, IfErr, IfOk, OnOk};
 ghost use Rattle.std.specs.Io.KnownBytes.{Appends};
 ghost use Rattle.lk_replay.specs.Devices.{AppendsPrefix};
-ghost use Rattle.lockreplay.specs.Answers.{EndsProgram, ReportsStatus};
-ghost use Rattle.lockreplay.specs.Faults.{fault_line, fault_status};
+ghost use Rattle.lockreplay.specs.Answers.{EndsProgram, ended_by, message_bytes};
 ghost use Rattle.lockreplay.specs.Jobs.{FitsJob};
 
 use crate::command_line::{Job, ParseFault};
@@ -14,18 +14,49 @@ use crate::jobs::perform;
 use lk_replay::parts::Status;
 use lk_replay::send;
 use std::alloc::Global;
-use std::io::{Read, Write};
+use std::io::{self, Read, Write};
 use std::rt::Files;
 use std::thread::Threads;
 
+/// What the program says on standard error.
+#[derive(Debug, Drop)]
+pub enum Message {
+    /// Nothing: the job was done.
+    Nothing,
+    /// The line of a fault.
+    Fault(ProgramFault),
+    /// The text of the command line's parser, for words that ask for nothing.
+    Usage(String),
+}
+
+impl Message {
+    /// Writes the message.
+    ///
+    /// # Errors
+    ///
+    /// That of a write that failed. Some of the bytes may be written.
+    pub fn write<E: Write>(&self, errors: &mut E) -> io::Result<()>
+        ensures { OnOk result
+            (Appends (E.contents errors.old) (E.contents errors.new) (message_bytes self.now)) }
+    {
+        match self {
+            Message::Nothing => Ok(()),
+            Message::Fault(ProgramFault::File(number)) => {
+                writeln!(errors, "{}{number}", ProgramFault::File(*number).text())
+            }
+            Message::Fault(fault) => writeln!(errors, "{}", fault.text()),
+            Message::Usage(text) => errors.write_all(text.as_bytes()),
+        }
+    }
+}
+
 /// The end of the program.
-#[derive(Clone, Copy, PartialEq, Eq, Debug)]
+#[derive(Debug, Drop)]
 pub struct Ended {
     /// The status that it ends with.
     pub status: u8,
-    /// Whether standard error took all that was to be written there. If it did not, only the
-    /// status says how it ended.
-    pub told: bool,
+    /// What it says on standard error.
+    pub message: Message,
 }
 
 /// Writes the help, and gives the status of a job that was done.
@@ -39,64 +70,42 @@ fn help<W: Write>(output: &mut W, text: &str) -> Result<u8, ProgramFault>
     Ok(Status::Accepted as u8)
 }
 
-/// Says in one line what ends the program. The line is put together here, and not by `Display`,
-/// which is derived and has no contract.
-fn tell_fault<E: Write>(errors: &mut E, fault: ProgramFault) -> Ended
-    ensures status { result.status ≡ fault_status fault }
-    ensures line { result.told ≡ true
-        → Appends (E.contents errors.old) (E.contents errors.new) (fault_line fault) }
-{
-    let told = match fault {
-        ProgramFault::File(number) => writeln!(errors, "{}{number}", fault.text()),
-        _ => writeln!(errors, "{}", fault.text()),
-    };
-    Ended {
-        status: fault.status(),
-        told: told.is_ok(),
-    }
-}
-
-/// Gives the status of what was done, or says what ended it.
-fn finish<E: Write>(errors: &mut E, ending: Result<u8, ProgramFault>) -> Ended
-    ensures { ReportsStatus ending (E.contents errors.old) (E.contents errors.new) result }
+/// The end after what was done, or after what ended it.
+fn end_after(ending: Result<u8, ProgramFault>) -> Ended
+    ensures { result ≡ ended_by ending }
 {
     match ending {
-        Ok(status) => Ended { status, told: true },
-        Err(fault) => tell_fault(errors, fault),
-    }
-}
-
-/// Says why the words ask for nothing.
-fn tell_usage<E: Write>(errors: &mut E, text: &str) -> Ended
-    ensures status { result.status ≡ 2 }
-    ensures text { result.told ≡ true
-        → Appends (E.contents errors.old) (E.contents errors.new) text.now }
-{
-    let told = send(errors, text.as_bytes()).is_ok();
-    Ended {
-        status: Status::Misused as u8,
-        told,
+        Ok(status) => Ended {
+            status,
+            message: Message::Nothing,
+        },
+        Err(fault) => Ended {
+            status: fault.status(),
+            message: Message::Fault(fault),
+        },
     }
 }
 
 /// Does the job that was asked for, or says why there is none.
-pub fn answer<R: Files + Threads + Sync, I: Read, O: Write, E: Write>(
+pub fn answer<R: Files + Threads + Sync, I: Read, O: Write>(
     rt: &R,
     alloc: Global,
     asked: Result<Job, ParseFault>,
     input: &mut I,
     output: &mut O,
-    errors: &mut E,
 ) -> Ended
     requires { FitsJob asked }
     ensures { EndsProgram asked (I.remaining input.old) (O.contents output.old)
-        (O.contents output.new) (E.contents errors.old) (E.contents errors.new) result }
+        (O.contents output.new) result }
 {
     match asked {
-        Ok(job) => finish(errors, perform(rt, alloc, &job, input, output)),
-        Err(ParseFault::Help(text)) => finish(errors, help(output, &text)),
-        Err(ParseFault::Usage(text)) => tell_usage(errors, &text),
-        Err(ParseFault::TooManyFiles) => finish(errors, Err(ProgramFault::TooManyFiles)),
-        Err(ParseFault::OutOfMemory) => finish(errors, Err(ProgramFault::Memory)),
+        Ok(job) => end_after(perform(rt, alloc, &job, input, output)),
+        Err(ParseFault::Help(text)) => end_after(help(output, &text)),
+        Err(ParseFault::Usage(text)) => Ended {
+            status: Status::Misused as u8,
+            message: Message::Usage(text),
+        },
+        Err(ParseFault::TooManyFiles) => end_after(Err(ProgramFault::TooManyFiles)),
+        Err(ParseFault::OutOfMemory) => end_after(Err(ProgramFault::Memory)),
     }
 }

@@ -1,9 +1,9 @@
 //! `lockreplay`, the command line: one schedule from standard input, or many from files.
 //!
 //! Reports and help go to standard output, every other line to standard error. `main` hands its
-//! devices to `answer`, whose contract says what goes where, and hands back the status that it
-//! gives: by `?` out of `main` a fault would be printed in Rust's form, and end the program with
-//! the status of a refused schedule.
+//! devices to `answer`, whose contract says what goes where, writes the message and hands back the
+//! status that it gives: by `?` out of `main` a fault would be printed in Rust's form, and end the
+//! program with the status of a refused schedule.
 #![tactic(auto)]
 
 ghost use Rattle.lockreplay.specs.Jobs.{FitsJob};
@@ -43,7 +43,8 @@ fn main(rt: HostRuntime) -> ExitCode {
     let asked = job_given(&rt);
     let mut input = rt.stdin();
     let mut output = rt.stdout();
-    let mut errors = rt.stderr();
-    let ended = answer(&rt, rt.alloc(), asked, &mut input, &mut output, &mut errors);
+    let ended = answer(&rt, rt.alloc(), asked, &mut input, &mut output);
+    // If standard error fails, the status alone says how it ended.
+    let _ = ended.message.write(&mut rt.stderr());
     ExitCode::from(ended.status)
 }
