@@ -10,13 +10,25 @@
 #![tactic(auto)]
 
 #[cfg(test)]
+mod answers;
+#[cfg(test)]
+mod devices;
+#[cfg(test)]
 mod locks;
+#[cfg(test)]
+mod parts;
+#[cfg(test)]
+mod refusals;
+#[cfg(test)]
+mod refused_memory;
 #[cfg(test)]
 mod refusing;
 #[cfg(test)]
-mod replays;
+mod rows;
 #[cfg(test)]
 mod searches;
+#[cfg(test)]
+mod traces;
 #[cfg(test)]
 mod words;
 pub mod worked_histories;

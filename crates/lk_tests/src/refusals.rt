@@ -1,0 +1,177 @@
+//! Each refusal by library calls, and which of two is answered. A refused move changes nothing.
+//! tests/rows/refusals.txt has each pair on each lock.
+
+use crate::locks::{new_keeper, new_machine};
+use Refusal::{AlreadyHolds, Busy, NoCall, NoSuchThread, NotHolder, WrongLock, WrongStep};
+use lk_locks::{PlayFault, Refusal, StepKind};
+use lk_replay::{read_schedule, replay};
+use std::alloc::Global;
+use std::process::Abort;
+use std::test::Fail;
+
+// A schedule whose last line is refused, the number of that line, and the refusal.
+type Row = (&'static str, u32, Refusal);
+
+const READ: Refusal = WrongStep {
+    next: StepKind::Read,
+};
+
+const ADD: Refusal = WrongStep {
+    next: StepKind::Add,
+};
+
+const WRITE: Refusal = WrongStep {
+    next: StepKind::Write,
+};
+
+// Each refusal alone, when no other could be answered.
+const ALONE: [Row; 18] = [
+    ("lock ticket threads 2\n255 acquire", 2, NoSuchThread),
+    ("lock ticket threads 2\n0 downgrade", 2, WrongLock),
+    ("lock ticket threads 2\n0 acquire\n0 acquire", 3, Busy),
+    ("lock ticket threads 2\n0 release", 2, NotHolder),
+    (
+        "lock ticket threads 2\n0 acquire\n0 add\n0 read\n0 acquire",
+        5,
+        AlreadyHolds,
+    ),
+    ("lock ticket threads 2\n0 add", 2, NoCall),
+    (
+        "lock ticket threads 2\n0 acquire\n0 add\n0 read\n0 read",
+        5,
+        NoCall,
+    ),
+    ("lock ticket threads 2\n0 acquire\n0 read", 3, ADD),
+    ("lock mcs threads 2\n0 acquire\n0 swap", 3, WRITE),
+    (LINKED_LATE, 13, READ),
+    (
+        "lock rw-simple threads 2\n0 rlock\n0 section\n0 wunlock",
+        4,
+        NotHolder,
+    ),
+    (
+        "lock rw-simple threads 2\n0 rlock\n0 section\n0 downgrade",
+        4,
+        NotHolder,
+    ),
+    (
+        "lock rw-simple threads 2\n0 rlock\n0 section\n0 wlock",
+        4,
+        AlreadyHolds,
+    ),
+    (
+        "lock rw-simple threads 2\n0 wlock\n0 section\n0 runlock",
+        4,
+        NotHolder,
+    ),
+    (
+        "lock rw-fifo threads 2\n0 rlock\n0 section\n0 downgrade",
+        4,
+        NotHolder,
+    ),
+    (
+        "lock rw-fifo threads 2\n0 wlock\n0 section\n0 rlock",
+        4,
+        AlreadyHolds,
+    ),
+    (DOWNGRADED, 6, NotHolder),
+    (
+        "# x\nlock rw-fifo threads 2 bits 9\n0 wlock\n\n0 section\n0 wlock",
+        6,
+        AlreadyHolds,
+    ),
+];
+
+// A release that looked for its link waits for it, and does not grant yet.
+const LINKED_LATE: &str = "lock mcs threads 2\n0 acquire\n0 write\n0 swap\n1 acquire\n1 write\n\
+     0 release\n0 read\n1 swap\n0 cas\n0 read\n0 read\n0 write";
+
+const DOWNGRADED: &str =
+    "lock rw-fifo threads 2\n0 wlock\n0 section\n0 downgrade\n0 section\n0 wunlock";
+
+// Of each two that can meet, the one that is answered.
+const FIRST_OF_TWO: [Row; 10] = [
+    ("lock ticket threads 2\n2 rlock", 2, NoSuchThread),
+    ("lock mcs threads 2\n2 release", 2, NoSuchThread),
+    ("lock rw-fifo threads 2\n2 section", 2, NoSuchThread),
+    ("lock mcs threads 2\n0 acquire\n0 rlock", 3, WrongLock),
+    ("lock rw-simple threads 2\n0 release", 2, WrongLock),
+    (
+        "lock rw-fifo threads 2\n0 rlock\n0 section\n0 acquire",
+        4,
+        WrongLock,
+    ),
+    ("lock ticket threads 2\n0 section", 2, WrongLock),
+    ("lock mcs threads 2\n0 acquire\n0 section", 3, WrongLock),
+    (
+        "lock rw-fifo threads 2\n0 wlock\n0 section\n0 downgrade\n0 wunlock",
+        5,
+        Busy,
+    ),
+    (
+        "lock ticket threads 2\n0 acquire\n0 add\n0 read\n0 release\n0 acquire",
+        6,
+        Busy,
+    ),
+];
+
+// A machine, a keeper and a replay accept all lines but the last, which each of them refuses.
+fn refuses(rt: &impl Abort, alloc: Global, (text, last, refusal): Row) -> Result<(), Fail> {
+    let schedule = read_schedule(alloc, text.as_bytes())?;
+    let (kind, threads, bits) = (schedule.kind(), schedule.threads(), schedule.bits());
+    let mut machine = new_machine(kind, threads, bits);
+    let mut keeper = new_keeper(alloc, kind, threads, bits);
+    for line in schedule.moves() {
+        let (thread, action) = (line.thread, line.action);
+        let (count, entries) = (machine.words().count(), keeper.entries().len());
+        let checked = machine.check(thread, action);
+        let applied = machine.apply(thread, action);
+        let played = keeper.play(thread, action);
+        if line.number != last {
+            assert!(rt;
+                checked.is_ok() && applied.is_ok() && played.is_ok(),
+                "{text}"
+            );
+            continue;
+        }
+        assert!(rt;
+            checked == Err(refusal) && applied == Err(refusal),
+            "{text}"
+        );
+        assert!(rt; played == Err(PlayFault::Refused(refusal)), "{text}");
+        assert!(rt; keeper.entries().len() == entries, "{text}");
+        assert!(rt; machine.words().count() == count, "{text}");
+    }
+    let replayed = replay(alloc, &schedule)?;
+    assert!(rt; replayed.refused() == Some((last, refusal)), "{text}");
+    Ok(())
+}
+
+#[test]
+fn refusals(rt: HostRuntime) -> Result<(), Fail> {
+    for row in ALONE.iter().chain(&FIRST_OF_TWO) {
+        refuses(&rt, rt.alloc(), *row)?;
+    }
+    Ok(())
+}
+
+#[test]
+fn texts_of_refusals(rt: HostRuntime) -> Result<(), Fail> {
+    let alloc = rt.alloc();
+    for (refusal, text) in [
+        (NoSuchThread, "no such thread"),
+        (WrongLock, "the lock has no such operation or step"),
+        (Busy, "the thread has a pending call"),
+        (NotHolder, "the thread does not hold the lock in that mode"),
+        (AlreadyHolds, "the thread holds the lock already"),
+        (NoCall, "the thread has no pending call"),
+        (ADD, "the thread's next step is a different one"),
+    ] {
+        assert_eq!(rt; format!(in alloc; "{refusal}")?.as_str(), text);
+        let fault = PlayFault::Refused(refusal);
+        assert_eq!(rt; format!(in alloc; "{fault}")?.as_str(), text);
+    }
+    let memory = PlayFault::OutOfMemory;
+    assert_eq!(rt; format!(in alloc; "{memory}")?.as_str(), "out of memory");
+    Ok(())
+}

@@ -1,0 +1,40 @@
+//! What a search of a small lock and a tour of it answer if memory is refused.
+
+ghost use Rattle.std.specs.Prelude.{◌≡◌, [], IfOk};
+
+use crate::refusing::{refuse, was_refused};
+use crate::searches::ticket_lock;
+use lk_search::{Bounds, Heap, SearchFault, Space, TourFault, tour};
+use std::alloc::Global;
+use std::process::Abort;
+
+fn explored(alloc: Global) -> Result<Space<'static, Heap>, SearchFault>
+    ensures { IfOk result (λ space. space.bounds.sketch ≡ []) }
+{
+    Space::explore(Heap::new(alloc)?, ticket_lock(), Bounds::new(1, &[]), 41)
+}
+
+pub fn explore(rt: &impl Abort, alloc: Global, number: usize) -> bool {
+    refuse(alloc, number);
+    let found = explored(alloc);
+    let refused = was_refused(alloc);
+    match found {
+        Ok(space) => assert!(rt; space.states() == 41),
+        Err(fault) => assert!(rt; refused && fault == SearchFault::OutOfMemory),
+    }
+    refused
+}
+
+pub fn take_tour(rt: &impl Abort, alloc: Global, number: usize) -> bool {
+    let Ok(space) = explored(alloc) else {
+        panic!(rt; "41 states")
+    };
+    refuse(alloc, number);
+    let found = tour(alloc, &space);
+    let refused = was_refused(alloc);
+    match found {
+        Ok(runs) => assert!(rt; !runs.is_empty()),
+        Err(fault) => assert!(rt; refused && fault == TourFault::OutOfMemory),
+    }
+    refused
+}
