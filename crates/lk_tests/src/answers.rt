@@ -1,6 +1,6 @@
 //! What no report shows: endings of other texts, and the moves before a refusal.
 
-use lk_locks::{Entry, Move, Op, Outcome, Refusal, StepKind};
+use lk_locks::{Entry, LockKind, Move, Op, Outcome, Refusal, StepKind};
 use lk_replay::{Accepted, Ending, ending_of, read_schedule, replay};
 use std::test::Fail;
 
@@ -54,6 +54,7 @@ const ENTRIES: [Entry; 4] = [
 fn moves_before_a_refusal(rt: HostRuntime) -> Result<(), Fail> {
     let text = b"# x\nlock rw-fifo threads 2 bits 9\n0 wlock\n\n0 section\n0 wlock\n";
     let schedule = read_schedule(rt.alloc(), text)?;
+    assert!(rt; schedule.kind() == LockKind::RwFifo && schedule.threads() == 2);
     assert!(rt; schedule.bits() == 9 && schedule.moves().len() == 3);
     let played = replay(rt.alloc(), &schedule)?;
     assert!(rt; played.accepted() == ACCEPTED.as_slice());

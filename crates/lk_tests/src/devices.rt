@@ -43,9 +43,7 @@ struct Endless {
 impl Read for Endless {
     fn read(&mut self, buf: &mut [u8]) -> io::Result<usize> {
         let count = buf.len().min(self.most);
-        for byte in &mut buf[..count] {
-            *byte = b'#';
-        }
+        buf[..count].fill(b'#');
         self.taken = self.taken.wrapping_add(count as u64);
         self.calls = self.calls.wrapping_add(1);
         Ok(count)

@@ -3,6 +3,7 @@
 
 ghost use Rattle.std.specs.Prelude.{◌≡◌, ◌<◌, ◌≤◌, ◌^◌, length};
 
+use crate::holding::holds;
 use crate::rows::{ROWS, Row};
 use lk_locks::{
     Entry, Holders, Keeper, LockKind, Machine, Move, Op, Outcome, StepKind, words_needed,
@@ -160,11 +161,14 @@ fn made(
         }
         None => None,
     };
-    assert_eq!(rt; machine.check(thread, action), Ok(()));
-    assert_eq!(rt; machine.apply(thread, action), Ok(outcome));
+    let checked = machine.check(thread, action);
+    let applied = machine.apply(thread, action);
+    let is_made = checked == Ok(()) && applied == Ok(outcome);
+    holds(rt, is_made, move_text(action));
     let due = count.saturating_add(u64::from(said.is_some()));
     let is_section = action == Move::Step(StepKind::Section);
-    assert!(rt; is_section || machine.words().count() == due);
+    let is_counted = is_section || machine.words().count() == due;
+    holds(rt, is_counted, "one operation");
     said
 }
 
@@ -173,10 +177,11 @@ fn records(rt: &impl Abort, entries: &[Entry], count: usize, line: &[u8], thread
     let mut rest = line;
     for entry in entries.iter().skip(count) {
         let (word, after) = first_word(rest);
-        assert_eq!(rt; Some(*entry), entry_named(word, thread, op));
+        let due = entry_named(word, thread, op);
+        holds(rt, due == Some(*entry), "an entry");
         rest = after;
     }
-    assert!(rt; rest.is_empty());
+    holds(rt, rest.is_empty(), "as many entries");
 }
 
 // Plays a line on both. `op` is the thread's last call.
@@ -195,22 +200,25 @@ fn play_line(
         }
         _ => (None, line),
     };
-    assert_eq!(rt; said, due);
+    holds(rt, said == due, "the operation");
     let count = keeper.entries().len();
-    assert_eq!(rt; keeper.play(thread, action), Ok(outcome));
+    let played = keeper.play(thread, action);
+    holds(rt, played == Ok(outcome), "the keeper's outcome");
     records(rt, keeper.entries(), count, rest, thread, op);
-    assert!(rt; agrees(&keeper.holders(), thread, outcome));
+    holds(rt, agrees(&keeper.holders(), thread, outcome), "who holds");
     Some(())
 }
 
 // The words are those that the row leaves.
 fn leaves(rt: &impl Abort, machine: &Machine<CountingWords<WordArray>>, row: &Row) {
     let words = machine.words();
-    assert!(rt; row.operations == 0 || words.count() == row.operations);
+    let count = words.count();
+    let are_all = row.operations == 0 || count == row.operations;
+    holds(rt, are_all, row.header);
     assert!(rt; row.words.len() <= words.size());
     for i in 0..words.size() {
         let due = row.words.get(i).copied().unwrap_or(0);
-        assert_eq!(rt; words.inner().get(i), due, "{}: word {i}", row.header);
+        holds(rt, words.inner().get(i) == due, row.header);
     }
 }
 
@@ -250,10 +258,9 @@ pub fn lines_of<'a>(rt: &impl Abort, lines: &'a str) -> Lines<'a> {
 fn push_move(text: &mut Vec<u8>, line: &[u8]) -> Result<(), AllocError> {
     let (thread, rest) = first_word(line);
     let (action, _) = first_word(rest);
-    text.extend_from_slice(thread)?;
-    text.push(b' ')?;
-    text.extend_from_slice(action)?;
-    text.push(b'\n')?;
+    for word in [thread, b" ", action, b"\n"] {
+        text.extend_from_slice(word)?;
+    }
     Ok(())
 }
 
@@ -279,8 +286,9 @@ fn replays(rt: &impl Abort, alloc: Global, row: &Row, entries: &[Entry]) -> Resu
     }
     let schedule = read_schedule(alloc, &text)?;
     let replayed = replay(alloc, &schedule)?;
-    assert!(rt; replayed.accepted() == due.as_slice(), "{}", row.header);
-    assert!(rt; replayed.entries() == entries && replayed.refused() == None);
+    holds(rt, replayed.accepted() == due.as_slice(), row.header);
+    holds(rt, replayed.entries() == entries, row.header);
+    holds(rt, replayed.refused() == None, row.header);
     Ok(())
 }
 

@@ -37,10 +37,11 @@ const BY_A_WRITER: [(Act, bool); 4] = [
 
 fn acts(rt: &impl Abort, lock: &mut SeqLock, acts: &[(Act, bool)]) {
     for (act, allowed) in acts {
-        assert!(rt; lock.allows(*act) == *allowed, "{act:?}");
-        if lock.allows(*act) {
+        let may = lock.allows(*act);
+        if may {
             lock.act(*act);
         }
+        assert!(rt; may == *allowed, "{act:?}");
     }
 }
 

@@ -1,6 +1,7 @@
 //! Each refusal by library calls, and which of two is answered. A refused move changes nothing.
 //! tests/rows/refusals.txt has each pair on each lock.
 
+use crate::holding::holds;
 use crate::locks::{new_keeper, new_machine};
 use Refusal::{AlreadyHolds, Busy, NoCall, NoSuchThread, NotHolder, WrongLock, WrongStep};
 use lk_locks::{PlayFault, Refusal, StepKind};
@@ -128,22 +129,18 @@ fn refuses(rt: &impl Abort, alloc: Global, (text, last, refusal): Row) -> Result
         let applied = machine.apply(thread, action);
         let played = keeper.play(thread, action);
         if line.number != last {
-            assert!(rt;
-                checked.is_ok() && applied.is_ok() && played.is_ok(),
-                "{text}"
-            );
+            let are_made = checked.is_ok() && applied.is_ok() && played.is_ok();
+            holds(rt, are_made, text);
             continue;
         }
-        assert!(rt;
-            checked == Err(refusal) && applied == Err(refusal),
-            "{text}"
-        );
-        assert!(rt; played == Err(PlayFault::Refused(refusal)), "{text}");
-        assert!(rt; keeper.entries().len() == entries, "{text}");
-        assert!(rt; machine.words().count() == count, "{text}");
+        holds(rt, checked == Err(refusal), text);
+        holds(rt, applied == Err(refusal), text);
+        holds(rt, played == Err(PlayFault::Refused(refusal)), text);
+        holds(rt, keeper.entries().len() == entries, text);
+        holds(rt, machine.words().count() == count, text);
     }
     let replayed = replay(alloc, &schedule)?;
-    assert!(rt; replayed.refused() == Some((last, refusal)), "{text}");
+    holds(rt, replayed.refused() == Some((last, refusal)), text);
     Ok(())
 }
 
@@ -167,11 +164,11 @@ fn texts_of_refusals(rt: HostRuntime) -> Result<(), Fail> {
         (NoCall, "the thread has no pending call"),
         (ADD, "the thread's next step is a different one"),
     ] {
-        assert_eq!(rt; format!(in alloc; "{refusal}")?.as_str(), text);
+        assert!(rt; format!(in alloc; "{refusal}")?.as_str() == text);
         let fault = PlayFault::Refused(refusal);
-        assert_eq!(rt; format!(in alloc; "{fault}")?.as_str(), text);
+        assert!(rt; format!(in alloc; "{fault}")?.as_str() == text);
     }
     let memory = PlayFault::OutOfMemory;
-    assert_eq!(rt; format!(in alloc; "{memory}")?.as_str(), "out of memory");
+    assert!(rt; format!(in alloc; "{memory}")?.as_str() == "out of memory");
     Ok(())
 }

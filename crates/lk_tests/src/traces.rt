@@ -1,6 +1,7 @@
 //! Traces by library calls: the names of words, and that a line which differs from the lock changes
 //! nothing, as after it a checker goes on. The program `locktrace` ends at the first such line.
 
+use crate::holding::holds;
 use Difference::{CountNotAbove, FoundOther, LeftOther, OtherOutcome, OtherWord, WroteOther};
 use Outcome::{Called, Entered, Left, Moved};
 use lk_locks::{LockKind, Outcome, Phase, Refusal, operation_of};
@@ -97,8 +98,11 @@ fn makes(rt: &impl Abort, mut checker: Checker, lines: &[Made]) {
         let Some(line) = read_line(text.as_bytes()) else {
             panic!(rt; "{text}")
         };
-        let came = checker.step(line).map(|made| made.outcome);
-        assert!(rt; came == *due, "{text}");
+        let came = match checker.step(line) {
+            Ok(made) => Ok(made.outcome),
+            Err(difference) => Err(difference),
+        };
+        holds(rt, came == *due, text);
     }
 }
 

@@ -26,17 +26,17 @@ fn five_operations(rt: HostRuntime) {
 fn each_operation_is_passed_on_once(rt: HostRuntime) {
     let mut words = CountingWords::new(CountingWords::new(WordArray::new(1)));
     let _ = words.read(0);
-    assert_eq!(rt; (words.count(), words.inner().count()), (1, 1));
+    assert!(rt; (words.count(), words.inner().count()) == (1, 1));
     words.write(0, 5);
-    assert_eq!(rt; (words.count(), words.inner().count()), (2, 2));
+    assert!(rt; (words.count(), words.inner().count()) == (2, 2));
     let _ = words.swap(0, 6);
-    assert_eq!(rt; (words.count(), words.inner().count()), (3, 3));
+    assert!(rt; (words.count(), words.inner().count()) == (3, 3));
     let _ = words.compare_and_swap(0, 6, 7);
-    assert_eq!(rt; (words.count(), words.inner().count()), (4, 4));
+    assert!(rt; (words.count(), words.inner().count()) == (4, 4));
     let _ = words.compare_and_swap(0, 6, 8);
-    assert_eq!(rt; (words.count(), words.inner().count()), (5, 5));
+    assert!(rt; (words.count(), words.inner().count()) == (5, 5));
     let _ = words.fetch_and_add(0, 1);
-    assert_eq!(rt; (words.count(), words.inner().count()), (6, 6));
+    assert!(rt; (words.count(), words.inner().count()) == (6, 6));
 }
 
 // Makes the operation, which is one, and does what its effect said before: what the word holds
@@ -61,10 +61,10 @@ fn does(
         left,
         answer,
     };
-    assert_eq!(rt; words.inner().effect(operation), effect);
-    assert_eq!(rt; perform(words, operation), answer);
-    assert_eq!(rt; words.inner().get(word), left);
-    assert_eq!(rt; words.count(), count.saturating_add(1));
+    assert!(rt; words.inner().effect(operation) == effect);
+    assert!(rt; perform(words, operation) == answer);
+    assert!(rt; words.inner().get(word) == left);
+    assert!(rt; words.count() == count.saturating_add(1));
 }
 
 // On two words of two bits, in which 3 is the greatest value.

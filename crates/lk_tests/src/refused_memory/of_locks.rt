@@ -1,5 +1,6 @@
 //! What a history and a keeper answer if memory is refused.
 
+use crate::holding::holds;
 use crate::locks::{lines_of, new_keeper, played, told};
 use crate::refusing::{refuse, was_refused};
 use crate::rows::{ANNOUNCED_WRITER_ENTRIES, ANNOUNCED_WRITER_FIRST};
@@ -13,8 +14,16 @@ pub fn make_room(rt: &impl Abort, alloc: Global, number: usize) -> bool {
     refuse(alloc, number);
     let answer = history.make_room();
     let refused = was_refused(alloc);
-    assert!(rt; answer.is_err() == refused && history.entries().is_empty());
-    assert!(rt; refused || history.room() >= 3);
+    holds(
+        rt,
+        answer.is_err() == refused && history.entries().is_empty(),
+        "the row of an announced writer",
+    );
+    holds(
+        rt,
+        refused || history.room() >= 3,
+        "the row of an announced writer",
+    );
     refused
 }
 
@@ -46,11 +55,19 @@ fn play_at_last(rt: &impl Abort, keeper: &mut Keeper<WordArray>, line: &[u8]) {
     let waiting = keeper.queue();
     let mut answer = keeper.play(thread, action);
     if answer == Err(PlayFault::OutOfMemory) {
-        assert!(rt; keeper.entries().len() == count && told(&keeper.holders()) == holders);
-        assert!(rt; keeper.queue().as_slice() == waiting.as_slice());
+        holds(
+            rt,
+            keeper.entries().len() == count && told(&keeper.holders()) == holders,
+            "the row of an announced writer",
+        );
+        holds(
+            rt,
+            keeper.queue().as_slice() == waiting.as_slice(),
+            "the row of an announced writer",
+        );
         answer = keeper.play(thread, action);
     }
-    assert!(rt; answer == Ok(outcome));
+    holds(rt, answer == Ok(outcome), "the row of an announced writer");
 }
 
 /// Plays the row of an announced writer.
@@ -63,10 +80,22 @@ pub fn play(rt: &impl Abort, alloc: Global, number: usize) -> bool {
             panic!(rt; "a line for each")
         };
         play_at_last(rt, &mut keeper, line);
-        assert!(rt; told(&keeper.holders()) == held);
+        holds(
+            rt,
+            told(&keeper.holders()) == held,
+            "the row of an announced writer",
+        );
     }
     let refused = was_refused(alloc);
-    assert!(rt; keeper.entries() == ANNOUNCED_WRITER_ENTRIES.as_slice());
-    assert!(rt; keeper.queue().is_empty());
+    holds(
+        rt,
+        keeper.entries() == ANNOUNCED_WRITER_ENTRIES.as_slice(),
+        "the row of an announced writer",
+    );
+    holds(
+        rt,
+        keeper.queue().is_empty(),
+        "the row of an announced writer",
+    );
     refused
 }

@@ -1,5 +1,6 @@
 //! What reading a text, playing and reporting answer if memory is refused.
 
+use crate::holding::holds;
 use crate::refusing::{refuse, was_refused};
 use lk_replay::{
     Ending, ReadFault, RunFault, ending_of, read_schedule, read_text, replay, report_of, run,
@@ -44,9 +45,9 @@ pub fn read(rt: &impl Abort, alloc: Global, number: usize, (text, _, _): Text) -
     let answer = read_schedule(alloc, text.as_bytes());
     let refused = was_refused(alloc);
     match (&answer, &whole) {
-        (Ok(found), Ok(whole)) => assert!(rt; found.moves() == whole.moves()),
-        (Err(ReadFault::OutOfMemory), _) => assert!(rt; refused),
-        (Err(fault), Err(_)) => assert!(rt; *fault == ReadFault::BadLine(3)),
+        (Ok(found), Ok(whole)) => holds(rt, found.moves() == whole.moves(), text),
+        (Err(ReadFault::OutOfMemory), _) => holds(rt, refused, text),
+        (Err(fault), Err(_)) => holds(rt, *fault == ReadFault::BadLine(3), text),
         _ => assert!(rt; false, "{text}"),
     }
     refused
@@ -65,11 +66,11 @@ pub fn play_all(rt: &impl Abort, alloc: Global, number: usize, (text, _, _): Tex
     let refused = was_refused(alloc);
     match answer {
         Ok(played) => {
-            assert!(rt; played.accepted() == whole.accepted());
-            assert!(rt; played.entries() == whole.entries());
-            assert!(rt; played.refused() == whole.refused());
+            holds(rt, played.accepted() == whole.accepted(), text);
+            holds(rt, played.entries() == whole.entries(), text);
+            holds(rt, played.refused() == whole.refused(), text);
         }
-        Err(_) => assert!(rt; refused),
+        Err(_) => holds(rt, refused, text),
     }
     refused
 }
@@ -80,10 +81,10 @@ pub fn report(rt: &impl Abort, alloc: Global, number: usize, (text, due, ending)
     let refused = was_refused(alloc);
     match answer {
         Ok(found) => {
-            assert!(rt; found.as_slice() == due.as_bytes());
-            assert!(rt; ending_of(&found) == ending);
+            holds(rt, found.as_slice() == due.as_bytes(), text);
+            holds(rt, ending_of(&found) == ending, text);
         }
-        Err(_) => assert!(rt; refused),
+        Err(_) => holds(rt, refused, text),
     }
     refused
 }
@@ -94,8 +95,8 @@ pub fn read_input(rt: &impl Abort, alloc: Global, number: usize, (text, _, _): T
     let answer = read_text(alloc, &mut input);
     let refused = was_refused(alloc);
     match answer {
-        Ok(found) => assert!(rt; found.as_slice() == text.as_bytes()),
-        Err(fault) => assert!(rt; refused && fault == RunFault::OutOfMemory),
+        Ok(found) => holds(rt, found.as_slice() == text.as_bytes(), text),
+        Err(fault) => holds(rt, refused && fault == RunFault::OutOfMemory, text),
     }
     refused
 }
@@ -133,12 +134,16 @@ pub fn run_all(rt: &impl Abort, alloc: Global, number: usize, (text, due, ending
     let status = status_of(&answer);
     match answer {
         Ok(ended) => {
-            assert!(rt; ended == ending && output.rest.is_empty());
-            assert!(rt; (status == 0) == (ending == Ending::Accepted) && status <= 1);
+            holds(rt, ended == ending && output.rest.is_empty(), text);
+            holds(
+                rt,
+                (status == 0) == (ending == Ending::Accepted) && status <= 1,
+                text,
+            );
         }
         Err(fault) => {
-            assert!(rt; refused && fault == RunFault::OutOfMemory);
-            assert!(rt; output.rest.len() == due.len());
+            holds(rt, refused && fault == RunFault::OutOfMemory, text);
+            holds(rt, output.rest.len() == due.len(), text);
         }
     }
     refused

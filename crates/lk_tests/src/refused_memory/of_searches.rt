@@ -2,6 +2,7 @@
 
 ghost use Rattle.std.specs.Prelude.{◌≡◌, [], IfOk};
 
+use crate::holding::holds;
 use crate::refusing::{refuse, was_refused};
 use crate::searches::ticket_lock;
 use lk_search::{Bounds, Heap, SearchFault, Space, TourFault, tour};
@@ -19,8 +20,8 @@ pub fn explore(rt: &impl Abort, alloc: Global, number: usize) -> bool {
     let found = explored(alloc);
     let refused = was_refused(alloc);
     match found {
-        Ok(space) => assert!(rt; space.states() == 41),
-        Err(fault) => assert!(rt; refused && fault == SearchFault::OutOfMemory),
+        Ok(space) => holds(rt, space.states() == 41, "a search"),
+        Err(fault) => holds(rt, refused && fault == SearchFault::OutOfMemory, "a search"),
     }
     refused
 }
@@ -33,8 +34,8 @@ pub fn take_tour(rt: &impl Abort, alloc: Global, number: usize) -> bool {
     let found = tour(alloc, &space);
     let refused = was_refused(alloc);
     match found {
-        Ok(runs) => assert!(rt; !runs.is_empty()),
-        Err(fault) => assert!(rt; refused && fault == TourFault::OutOfMemory),
+        Ok(runs) => holds(rt, !runs.is_empty(), "a search"),
+        Err(fault) => holds(rt, refused && fault == TourFault::OutOfMemory, "a search"),
     }
     refused
 }

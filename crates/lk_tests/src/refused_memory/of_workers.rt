@@ -1,5 +1,6 @@
 //! What draws, the running lock and batches answer if memory is refused.
 
+use crate::holding::holds;
 use crate::refusing::{refuse, was_refused};
 use crate::workers::batches::{Counts, FIVE, REPORTS, texts_of};
 use lk_workers::{Draws, LiveTicket, OpenGate, batch_text, replay_many};
@@ -11,10 +12,10 @@ pub fn open_draws(rt: &impl Abort, alloc: Global, number: usize) -> bool {
     refuse(alloc, number);
     let answer = Draws::open(alloc, 3);
     let refused = was_refused(alloc);
-    assert!(rt; answer.is_err() == refused);
+    holds(rt, answer.is_err() == refused, "workers");
     if let Ok((draws, seat)) = answer {
-        assert!(rt; seat.left() == 3);
-        assert!(rt; draws.close(seat) == 0);
+        holds(rt, seat.left() == 3, "workers");
+        holds(rt, draws.close(seat) == 0, "workers");
     }
     refused
 }
@@ -23,10 +24,10 @@ pub fn open_lock(rt: &impl Abort, alloc: Global, number: usize) -> bool {
     refuse(alloc, number);
     let answer = LiveTicket::open(alloc, 5);
     let refused = was_refused(alloc);
-    assert!(rt; answer.is_err() == refused);
+    holds(rt, answer.is_err() == refused, "workers");
     if let Ok((lock, seat)) = answer {
-        assert!(rt; seat.left() == 5);
-        assert!(rt; lock.close(seat) == (0, 0));
+        holds(rt, seat.left() == 5, "workers");
+        holds(rt, lock.close(seat) == (0, 0), "workers");
     }
     refused
 }
@@ -37,18 +38,22 @@ pub fn batch<R: Abort + Threads + Sync>(rt: &R, alloc: Global, number: usize) ->
     let (Ok(texts), Ok(gate)) = (texts_of(alloc, &FIVE), Counts::new(alloc, 5)) else {
         panic!(rt; "there is memory")
     };
-    assert!(rt; texts.len() == 5);
+    holds(rt, texts.len() == 5, "workers");
     refuse(alloc, number);
     let answer = replay_many(rt, alloc, &texts, 8, &gate);
     let refused = was_refused(alloc);
-    assert!(rt; gate.agree());
+    holds(rt, gate.agree(None), "workers");
     match answer {
         Ok(reports) => {
-            assert!(rt; gate.all_are(1));
+            holds(rt, gate.agree(Some(1)), "workers");
             let text = batch_text(alloc, &reports);
-            assert!(rt; text.is_ok_and(|text| text.as_slice() == REPORTS.as_bytes()));
+            holds(
+                rt,
+                text.is_ok_and(|text| text.as_slice() == REPORTS.as_bytes()),
+                "workers",
+            );
         }
-        Err(_) => assert!(rt; refused),
+        Err(_) => holds(rt, refused, "workers"),
     }
     refused
 }
@@ -57,16 +62,16 @@ pub fn text<R: Abort + Threads + Sync>(rt: &R, alloc: Global, number: usize) -> 
     let Ok(texts) = texts_of(alloc, &FIVE) else {
         panic!(rt; "there is memory")
     };
-    assert!(rt; texts.len() == 5);
+    holds(rt, texts.len() == 5, "workers");
     let Ok(reports) = replay_many(rt, alloc, &texts, 1, &OpenGate) else {
         panic!(rt; "there is memory")
     };
     refuse(alloc, number);
     let answer = batch_text(alloc, &reports);
     let refused = was_refused(alloc);
-    assert!(rt; answer.is_err() == refused);
+    holds(rt, answer.is_err() == refused, "workers");
     if let Ok(text) = answer {
-        assert!(rt; text.as_slice() == REPORTS.as_bytes());
+        holds(rt, text.as_slice() == REPORTS.as_bytes(), "workers");
     }
     refused
 }

@@ -142,8 +142,8 @@ fn eight_seats_in_four_threads(rt: HostRuntime) -> Result<(), Fail> {
     };
     lock.join(&mut all, seat);
     // four seats came back with 100 tickets each taken, and three left
-    assert_eq!(rt; all.taken(), 400);
-    assert_eq!(rt; all.left(), 12);
+    assert!(rt; all.taken() == 400);
+    assert!(rt; all.left() == 12);
     // the four that were dropped took 101 each, and the first of their last tickets is served for
     // ever
     assert!(rt; lock.close(all) == (804, 800));
