@@ -1,5 +1,6 @@
 //! What no report shows: endings of other texts, and the moves before a refusal.
 
+use crate::holding::holds;
 use lk_locks::{Entry, LockKind, Move, Op, Outcome, Refusal, StepKind};
 use lk_replay::{Accepted, Ending, ending_of, read_schedule, replay};
 use std::test::Fail;
@@ -22,8 +23,8 @@ const ENDINGS: [(&str, Ending); 13] = [
 
 #[test]
 fn endings_of_other_texts(rt: HostRuntime) {
-    for (report, ending) in ENDINGS {
-        assert!(rt; ending_of(report.as_bytes()) == ending, "{report}");
+    for (report, ending) in &ENDINGS {
+        holds(&rt, ending_of(report.as_bytes()) == *ending, report);
     }
 }
 
@@ -54,11 +55,11 @@ const ENTRIES: [Entry; 4] = [
 fn moves_before_a_refusal(rt: HostRuntime) -> Result<(), Fail> {
     let text = b"# x\nlock rw-fifo threads 2 bits 9\n0 wlock\n\n0 section\n0 wlock\n";
     let schedule = read_schedule(rt.alloc(), text)?;
-    assert!(rt; schedule.kind() == LockKind::RwFifo && schedule.threads() == 2);
-    assert!(rt; schedule.bits() == 9 && schedule.moves().len() == 3);
+    let is_read = schedule.kind() == LockKind::RwFifo && schedule.threads() == 2;
+    assert!(rt; is_read && schedule.bits() == 9 && schedule.moves().len() == 3);
     let played = replay(rt.alloc(), &schedule)?;
-    assert!(rt; played.accepted() == ACCEPTED.as_slice());
-    assert!(rt; played.entries() == ENTRIES.as_slice());
-    assert!(rt; played.refused() == Some((6, Refusal::AlreadyHolds)));
+    let is_refused = played.refused() == Some((6, Refusal::AlreadyHolds));
+    let is_kept = played.entries() == ENTRIES.as_slice();
+    assert!(rt; is_refused && is_kept && played.accepted() == ACCEPTED.as_slice());
     Ok(())
 }

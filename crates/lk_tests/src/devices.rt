@@ -4,71 +4,83 @@ use lk_replay::{Ending, OutputBuffer, RunFault, read_text, report_of, run, send,
 use std::alloc::{AllocError, Global};
 use std::io;
 use std::io::{ErrorKind, Read, Write};
+use std::process::Abort;
 use std::test::Fail;
 
 const TEXT: &[u8] = b"lock ticket threads 2\n0 acquire\n0 add\n0 read\n1 acquire\n1 add\n1 read\n\
       0 release\n0 read\n0 write\n1 read\n";
 
-/// Gives one byte a call, and fails in place of the byte after the last.
+/// Gives its bytes, at most so many a call. In place of the byte after the last it fails, or if it
+/// has no failure, it begins again without end.
 #[derive(Drop)]
-struct FailingReader<'a> {
+struct Input<'a> {
+    all: &'a [u8],
     rest: &'a [u8],
-    kind: ErrorKind,
-    calls: u32,
-}
-
-impl<'a> Read for FailingReader<'a> {
-    fn read(&mut self, buf: &mut [u8]) -> io::Result<usize> {
-        self.calls = self.calls.wrapping_add(1);
-        let Some((first, rest)) = self.rest.split_first() else {
-            return Err(io::Error::from(self.kind));
-        };
-        if buf.is_empty() {
-            return Ok(0);
-        }
-        buf[0] = *first;
-        self.rest = rest;
-        Ok(1)
-    }
-}
-
-/// Gives `#` for ever, at most so many a call.
-#[derive(Drop)]
-struct Endless {
     most: usize,
+    failure: Option<ErrorKind>,
     taken: u64,
     calls: u64,
 }
 
-impl Read for Endless {
+impl<'a> Read for Input<'a> {
     fn read(&mut self, buf: &mut [u8]) -> io::Result<usize> {
-        let count = buf.len().min(self.most);
-        buf[..count].fill(b'#');
-        self.taken = self.taken.wrapping_add(count as u64);
         self.calls = self.calls.wrapping_add(1);
+        if self.rest.is_empty() {
+            match self.failure {
+                Some(kind) => return Err(io::Error::from(kind)),
+                None => self.rest = self.all,
+            }
+        }
+        let count = buf.len().min(self.most).min(self.rest.len());
+        let (first, rest) = self.rest.split_at(count);
+        buf[..count].copy_from_slice(first);
+        self.rest = rest;
+        self.taken = self.taken.wrapping_add(count as u64);
         Ok(count)
     }
 }
 
-/// Takes so many bytes, at most `most` a call, and then fails.
+/// Takes the bytes that it expects, and no memory. It fails after so many bytes or writes, by an
+/// error or by taking 0.
 #[derive(Drop)]
-struct FullWriter {
-    taken: Vec<u8>,
+pub struct Output<'a> {
+    pub rest: &'a [u8],
     room: usize,
     most: usize,
+    writes: usize,
     by_zero: bool,
     flushes: bool,
 }
 
-impl Write for FullWriter {
+impl<'a> Output<'a> {
+    /// One that takes all.
+    pub fn new(rest: &'a [u8]) -> Output<'a> {
+        Output {
+            rest,
+            room: 9_999_999,
+            most: 9_999_999,
+            writes: 9_999_999,
+            by_zero: false,
+            flushes: true,
+        }
+    }
+}
+
+impl<'a> Write for Output<'a> {
     fn write(&mut self, buf: &[u8]) -> io::Result<usize> {
         let count = buf.len().min(self.room).min(self.most);
-        if count == 0 && !self.by_zero {
+        if self.writes == 0 || (count == 0 && !self.by_zero) {
             return Err(io::Error::from(ErrorKind::Other));
         }
-        self.taken.extend_from_slice(&buf[..count])?;
-        self.room -= count;
-        Ok(count)
+        match self.rest.strip_prefix(&buf[..count]) {
+            Some(rest) => {
+                self.rest = rest;
+                self.room -= count;
+                self.writes -= 1;
+                Ok(count)
+            }
+            None => Ok(0),
+        }
     }
 
     fn flush(&mut self) -> io::Result<()> {
@@ -80,117 +92,94 @@ impl Write for FullWriter {
     }
 }
 
+// Whether a run of the text answers that the device failed.
+fn fails(answer: &Result<Ending, RunFault>, fault: RunFault) -> bool {
+    *answer == Err(fault) && status_of(answer) == 3
+}
+
+// After the first `count` bytes, of which each is a call.
+fn reads_no_more(rt: &impl Abort, alloc: Global, count: usize, kind: ErrorKind) {
+    let mut input = Input {
+        all: TEXT,
+        rest: &TEXT[..count.min(TEXT.len())],
+        most: 1,
+        failure: Some(kind),
+        taken: 0,
+        calls: 0,
+    };
+    let mut output = Output::new(b"");
+    let answer = run(alloc, &mut input, &mut output);
+    assert!(rt; fails(&answer, RunFault::Read) && input.calls == (count as u64).wrapping_add(1));
+}
+
 #[test]
 fn readers_that_fail(rt: HostRuntime) -> Result<(), Fail> {
-    let alloc = rt.alloc();
-    for kind in [ErrorKind::Other, ErrorKind::Interrupted] {
-        for k in 0..=TEXT.len() {
-            let mut input = FailingReader {
-                rest: &TEXT[..k],
-                kind,
-                calls: 0,
-            };
-            let mut output = Vec::new(alloc);
-            let ran = run(alloc, &mut input, &mut output);
-            assert!(rt; ran == Err(RunFault::Read) && output.is_empty() && status_of(&ran) == 3);
-            assert!(rt; usize::try_from(input.calls)? == k + 1);
-        }
+    for count in 0..=TEXT.len() {
+        reads_no_more(&rt, rt.alloc(), count, ErrorKind::Other);
+        reads_no_more(&rt, rt.alloc(), count, ErrorKind::Interrupted);
     }
     let mut input = b"lock ticket threads 1\n".as_slice();
-    assert!(rt; read_text(alloc, &mut input)?.len() == 22);
+    assert!(rt; read_text(rt.alloc(), &mut input)?.len() == 22);
     Ok(())
 }
 
 #[test]
 fn readers_without_end(rt: HostRuntime) -> Result<(), Fail> {
-    let alloc = rt.alloc();
+    let all = Vec::from_elem(rt.alloc(), b'#', 1_000_000)?;
     for most in [1, 1_000, 1_000_000] {
-        let mut input = Endless {
+        let mut input = Input {
+            all: &all,
+            rest: &all,
             most,
+            failure: None,
             taken: 0,
             calls: 0,
         };
-        let mut output = Vec::new(alloc);
-        let ran = run(alloc, &mut input, &mut output);
-        assert!(rt; output.as_slice() == b"fault TooLong\n".as_slice());
-        assert!(rt; ran == Ok(Ending::Faulty) && status_of(&ran) == 1);
+        let mut output = Output::new(b"fault TooLong\n");
+        let answer = run(rt.alloc(), &mut input, &mut output);
+        let is_faulty = answer == Ok(Ending::Faulty) && status_of(&answer) == 1;
+        assert!(rt; is_faulty && output.rest.is_empty());
         assert!(rt; input.taken == 1_048_577 && input.calls <= 1_048_578);
     }
     Ok(())
 }
 
+// A writer of a report that takes all but the last so many bytes.
+fn writes_no_more(rt: &impl Abort, alloc: Global, report: &[u8], left: usize, by_zero: bool) {
+    let mut input = TEXT;
+    let mut output = Output::new(report);
+    output.room = report.len().saturating_sub(left);
+    output.most = 9;
+    output.by_zero = by_zero;
+    let answer = run(alloc, &mut input, &mut output);
+    assert!(rt; fails(&answer, RunFault::Write) && output.rest.len() == left);
+}
+
 #[test]
 fn writers_that_fail(rt: HostRuntime) -> Result<(), Fail> {
-    let alloc = rt.alloc();
-    let report = report_of(alloc, TEXT)?;
-    for by_zero in [false, true] {
-        for room in 0..report.len() {
-            let mut input = TEXT;
-            let mut output = FullWriter {
-                taken: Vec::new(alloc),
-                room,
-                most: 9,
-                by_zero,
-                flushes: true,
-            };
-            let ran = run(alloc, &mut input, &mut output);
-            assert!(rt; ran == Err(RunFault::Write) && status_of(&ran) == 3);
-            assert!(rt; output.taken.as_slice() == &report[..room]);
-        }
+    let report = report_of(rt.alloc(), TEXT)?;
+    for left in 1..=report.len() {
+        writes_no_more(&rt, rt.alloc(), &report, left, false);
+        writes_no_more(&rt, rt.alloc(), &report, left, true);
     }
     Ok(())
 }
 
 #[test]
 fn writers_of_one_byte(rt: HostRuntime) -> Result<(), Fail> {
-    let alloc = rt.alloc();
-    let report = report_of(alloc, TEXT)?;
+    let report = report_of(rt.alloc(), TEXT)?;
     for flushes in [false, true] {
         let mut input = TEXT;
-        let mut output = FullWriter {
-            taken: Vec::new(alloc),
-            room: 9_999,
-            most: 1,
-            by_zero: false,
-            flushes,
-        };
-        let ran = run(alloc, &mut input, &mut output);
-        let wanted = if flushes {
-            Ok(Ending::Accepted)
-        } else {
-            Err(RunFault::Write)
-        };
-        assert!(rt; ran == wanted && output.taken.as_slice() == report.as_slice());
+        let mut output = Output::new(&report);
+        output.most = 1;
+        output.flushes = flushes;
+        let answer = run(rt.alloc(), &mut input, &mut output);
+        let is_whole = answer == Ok(Ending::Accepted);
+        assert!(rt; output.rest.is_empty() && is_whole == flushes);
+        assert!(rt; flushes || fails(&answer, RunFault::Write));
         assert!(rt; send(&mut output, b"").is_ok() == flushes);
     }
     Ok(())
-}
-
-/// Takes whole writes of the bytes that it expects, and then fails.
-#[derive(Drop)]
-struct FailsLater<'a> {
-    rest: &'a [u8],
-    writes: usize,
-}
-
-impl<'a> Write for FailsLater<'a> {
-    fn write(&mut self, buf: &[u8]) -> io::Result<usize> {
-        if self.writes == 0 {
-            return Err(io::Error::from(ErrorKind::Other));
-        }
-        self.writes -= 1;
-        match self.rest.strip_prefix(buf) {
-            Some(rest) => {
-                self.rest = rest;
-                Ok(buf.len())
-            }
-            None => Ok(0),
-        }
-    }
-
-    fn flush(&mut self) -> io::Result<()> {
-        Ok(())
-    }
 }
 
 // A thread waits and polls up to the limit of moves: a report of 2.3 MB.
@@ -203,56 +192,59 @@ fn long_text(alloc: Global) -> Result<Vec<u8>, AllocError> {
     Ok(text)
 }
 
-// What was written if a write fails is a prefix of the report, of as many writes as went before.
-#[test]
-fn each_write_of_a_long_report_fails(rt: HostRuntime) -> Result<(), Fail> {
-    let alloc = rt.alloc();
-    let text = long_text(alloc)?;
-    let report = report_of(alloc, &text)?;
-    assert!(rt; report.len() > 2_000_000);
-    let mut whole = false;
-    for writes in 0..100usize {
-        let mut input = text.as_slice();
-        let mut output = FailsLater {
-            rest: &report,
-            writes,
-        };
-        let ran = run(alloc, &mut input, &mut output);
-        let written = report.len().saturating_sub(output.rest.len());
-        assert!(rt; written <= writes.saturating_mul(65_536));
-        if ran == Ok(Ending::Accepted) {
-            assert!(rt; output.rest.is_empty() && writes > 30);
-            whole = true;
-            break;
-        }
-        assert!(rt; ran == Err(RunFault::Write) && output.writes == 0);
-        assert!(rt; written >= writes.saturating_mul(65_000));
+// Whether the report is whole after so many writes. What was written if a write fails is a prefix
+// of it, of as many writes as went before.
+fn is_written(rt: &impl Abort, alloc: Global, text: &[u8], report: &[u8], writes: usize) -> bool {
+    let mut input = text;
+    let mut output = Output::new(report);
+    output.writes = writes;
+    let answer = run(alloc, &mut input, &mut output);
+    let written = report.len().saturating_sub(output.rest.len());
+    assert!(rt; written <= writes.saturating_mul(65_536));
+    if answer == Ok(Ending::Accepted) {
+        assert!(rt; output.rest.is_empty() && writes > 30);
+        return true;
     }
-    assert!(rt; whole);
-    Ok(())
+    assert!(rt; answer == Err(RunFault::Write) && output.writes == 0);
+    assert!(rt; written >= writes.saturating_mul(65_000));
+    false
 }
 
 #[test]
-fn buffers_pass_texts_in_order(rt: HostRuntime) -> Result<(), Fail> {
-    let alloc = rt.alloc();
-    let mut output = Vec::new(alloc);
-    let mut due = Vec::new(alloc);
-    let mut buffer = OutputBuffer::new(alloc)?;
-    for (byte, len) in [
-        (b'a', 0),
-        (b'b', 65_536),
-        (b'c', 1),
-        (b'd', 65_536),
-        (b'e', 65_537),
-        (b'f', 3),
-    ] {
-        let text = Vec::from_elem(alloc, byte, len)?;
-        buffer.push(&mut output, &text)?;
-        due.extend_from_slice(&text)?;
-        assert!(rt; due.as_slice().starts_with(&output));
+fn each_write_of_a_long_report_fails(rt: HostRuntime) -> Result<(), Fail> {
+    let text = long_text(rt.alloc())?;
+    let report = report_of(rt.alloc(), &text)?;
+    assert!(rt; report.len() > 2_000_000);
+    for writes in 0..100usize {
+        if is_written(&rt, rt.alloc(), &text, &report, writes) {
+            return Ok(());
+        }
     }
-    assert!(rt; output.len() == 196_610);
+    panic!(rt; "the report is longer than that")
+}
+
+const PIECES: [(u8, usize); 6] = [
+    (b'a', 0),
+    (b'b', 65_536),
+    (b'c', 1),
+    (b'd', 65_536),
+    (b'e', 65_537),
+    (b'f', 3),
+];
+
+#[test]
+fn buffers_pass_texts_in_order(rt: HostRuntime) -> Result<(), Fail> {
+    let mut due = Vec::new(rt.alloc());
+    for (byte, len) in PIECES {
+        due.extend_from_slice(&Vec::from_elem(rt.alloc(), byte, len)?)?;
+    }
+    let mut output = Output::new(&due);
+    let mut buffer = OutputBuffer::new(rt.alloc())?;
+    for (byte, len) in PIECES {
+        buffer.push(&mut output, &Vec::from_elem(rt.alloc(), byte, len)?)?;
+    }
+    assert!(rt; output.rest.len() == 3);
     buffer.send_whole(&mut output)?;
-    assert!(rt; output.as_slice() == due.as_slice());
+    assert!(rt; output.rest.is_empty());
     Ok(())
 }

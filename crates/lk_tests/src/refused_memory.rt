@@ -119,20 +119,24 @@ const HEADERS: [(&str, ReadFault); 5] = [
     ),
 ];
 
-fn asks_for_none(rt: &impl Abort, alloc: Global, text: &[u8], fault: ReadFault) {
+fn asks_for_none(rt: &impl Abort, alloc: Global, text: &[u8], fault: &ReadFault) {
     refuse(alloc, 1);
-    let answer = read_schedule(alloc, text).err();
-    assert!(rt; !was_refused(alloc));
-    assert!(rt; answer == Some(fault));
+    let answer = read_schedule(alloc, text);
+    let refused = was_refused(alloc);
+    let is_right = match &answer {
+        Ok(_) => false,
+        Err(found) => found == fault,
+    };
+    assert!(rt; is_right && !refused, "{fault}");
 }
 
 #[test]
 fn no_request_in_a_faulty_header(rt: HostRuntime) -> Result<(), Fail> {
     let alloc = rt.alloc();
-    for (text, fault) in HEADERS {
+    for (text, fault) in &HEADERS {
         asks_for_none(&rt, alloc, text.as_bytes(), fault);
     }
     let long = Vec::from_elem(alloc, b'#', 1_048_577)?;
-    asks_for_none(&rt, alloc, &long, ReadFault::TooLong);
+    asks_for_none(&rt, alloc, &long, &ReadFault::TooLong);
     Ok(())
 }

@@ -10,15 +10,23 @@ use std::process::Abort;
 #[test]
 fn five_operations(rt: HostRuntime) {
     let mut words = WordArray::new(2);
-    assert!(rt; words.fetch_and_add(0, u64::MAX) == 0);
-    assert!(rt; words.fetch_and_add(0, 1) == u64::MAX);
-    assert!(rt; words.read(0) == 0);
-    assert!(rt; words.swap(1, 7) == 0);
-    assert!(rt; words.compare_and_swap(1, 7, 9));
-    assert!(rt; !words.compare_and_swap(1, 7, 8));
-    assert!(rt; words.read(1) == 9);
+    let (first, second) = (words.fetch_and_add(0, u64::MAX), words.fetch_and_add(0, 1));
+    let are_added = first == 0 && second == u64::MAX && words.read(0) == 0;
+    let swapped = words.swap(1, 7);
+    let (done, failed) = (
+        words.compare_and_swap(1, 7, 9),
+        words.compare_and_swap(1, 7, 8),
+    );
+    let are_swapped = swapped == 0 && done && !failed && words.read(1) == 9;
     words.write(1, 3);
+    assert!(rt; are_added && are_swapped);
     assert!(rt; words.get(0) == 0 && words.get(1) == 3);
+}
+
+type Twice = CountingWords<CountingWords<WordArray>>;
+
+fn both_count(words: &Twice, count: u64) -> bool {
+    words.count() == count && words.inner().count() == count
 }
 
 // Words that count inside words that count: each operation is passed on once.
@@ -26,17 +34,17 @@ fn five_operations(rt: HostRuntime) {
 fn each_operation_is_passed_on_once(rt: HostRuntime) {
     let mut words = CountingWords::new(CountingWords::new(WordArray::new(1)));
     let _ = words.read(0);
-    assert!(rt; (words.count(), words.inner().count()) == (1, 1));
+    let mut are_counted = both_count(&words, 1);
     words.write(0, 5);
-    assert!(rt; (words.count(), words.inner().count()) == (2, 2));
+    are_counted = are_counted && both_count(&words, 2);
     let _ = words.swap(0, 6);
-    assert!(rt; (words.count(), words.inner().count()) == (3, 3));
+    are_counted = are_counted && both_count(&words, 3);
     let _ = words.compare_and_swap(0, 6, 7);
-    assert!(rt; (words.count(), words.inner().count()) == (4, 4));
+    are_counted = are_counted && both_count(&words, 4);
     let _ = words.compare_and_swap(0, 6, 8);
-    assert!(rt; (words.count(), words.inner().count()) == (5, 5));
+    are_counted = are_counted && both_count(&words, 5);
     let _ = words.fetch_and_add(0, 1);
-    assert!(rt; (words.count(), words.inner().count()) == (6, 6));
+    assert!(rt; are_counted && both_count(&words, 6));
 }
 
 // Makes the operation, which is one, and does what its effect said before: what the word holds
@@ -61,10 +69,11 @@ fn does(
         left,
         answer,
     };
-    assert!(rt; words.inner().effect(operation) == effect);
-    assert!(rt; perform(words, operation) == answer);
-    assert!(rt; words.inner().get(word) == left);
-    assert!(rt; words.count() == count.saturating_add(1));
+    let is_said = words.inner().effect(operation) == effect;
+    let is_answered = perform(words, operation) == answer;
+    let is_left = words.inner().get(word) == left;
+    let is_one = words.count() == count.saturating_add(1);
+    assert!(rt; is_said && is_answered && is_left && is_one);
 }
 
 // On two words of two bits, in which 3 is the greatest value.

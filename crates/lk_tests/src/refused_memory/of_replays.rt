@@ -1,14 +1,13 @@
 //! What reading a text, playing and reporting answer if memory is refused.
 
+use crate::devices::Output;
 use crate::holding::holds;
 use crate::refusing::{refuse, was_refused};
 use lk_replay::{
-    Ending, ReadFault, RunFault, ending_of, read_schedule, read_text, replay, report_of, run,
-    status_of,
+    Ending, Played, ReadFault, RunFault, Schedule, ending_of, read_schedule, read_text, replay,
+    report_of, run, status_of,
 };
 use std::alloc::Global;
-use std::io;
-use std::io::Write;
 use std::process::Abort;
 
 /// A text, its report, and how that ends.
@@ -38,41 +37,53 @@ end 3
     ),
 ];
 
-/// Of a faulty text, the fault is after a move.
+// Whether both are read alike. Of the faulty text, the fault is after a move.
+fn are_alike(found: &Result<Schedule, ReadFault>, due: &Result<Schedule, ReadFault>) -> bool {
+    match (found, due) {
+        (Ok(found), Ok(due)) => found.moves() == due.moves(),
+        (Err(fault), Err(_)) => *fault == ReadFault::BadLine(3),
+        _ => false,
+    }
+}
+
 pub fn read(rt: &impl Abort, alloc: Global, number: usize, (text, _, _): Text) -> bool {
-    let whole = read_schedule(alloc, text.as_bytes());
+    let due = read_schedule(alloc, text.as_bytes());
     refuse(alloc, number);
     let answer = read_schedule(alloc, text.as_bytes());
     let refused = was_refused(alloc);
-    match (&answer, &whole) {
-        (Ok(found), Ok(whole)) => holds(rt, found.moves() == whole.moves(), text),
-        (Err(ReadFault::OutOfMemory), _) => holds(rt, refused, text),
-        (Err(fault), Err(_)) => holds(rt, *fault == ReadFault::BadLine(3), text),
-        _ => assert!(rt; false, "{text}"),
-    }
+    let is_memory = matches!(&answer, Err(ReadFault::OutOfMemory));
+    holds(rt, refused && is_memory || are_alike(&answer, &due), text);
+    refused
+}
+
+fn is_replayed(played: &Played, due: &Played) -> bool {
+    played.accepted() == due.accepted()
+        && played.entries() == due.entries()
+        && played.refused() == due.refused()
+}
+
+// Whether a request was refused. The other replay is one with ample memory.
+fn replay_as(rt: &impl Abort, alloc: Global, number: usize, read: &Schedule, due: &Played) -> bool {
+    refuse(alloc, number);
+    let answer = replay(alloc, read);
+    let refused = was_refused(alloc);
+    let is_right = match &answer {
+        Ok(played) => is_replayed(played, due),
+        Err(_) => refused,
+    };
+    holds(rt, is_right, "a replay");
     refused
 }
 
 /// A text that is no schedule has nothing to play.
 pub fn play_all(rt: &impl Abort, alloc: Global, number: usize, (text, _, _): Text) -> bool {
     let Ok(schedule) = read_schedule(alloc, text.as_bytes()) else {
-        return number == 1;
+        return false;
     };
-    let Ok(whole) = replay(alloc, &schedule) else {
-        panic!(rt; "there is memory")
-    };
-    refuse(alloc, number);
-    let answer = replay(alloc, &schedule);
-    let refused = was_refused(alloc);
-    match answer {
-        Ok(played) => {
-            holds(rt, played.accepted() == whole.accepted(), text);
-            holds(rt, played.entries() == whole.entries(), text);
-            holds(rt, played.refused() == whole.refused(), text);
-        }
-        Err(_) => holds(rt, refused, text),
+    match replay(alloc, &schedule) {
+        Ok(due) => replay_as(rt, alloc, number, &schedule, &due),
+        Err(_) => panic!(rt; "there is memory"),
     }
-    refused
 }
 
 pub fn report(rt: &impl Abort, alloc: Global, number: usize, (text, due, ending): Text) -> bool {
@@ -101,50 +112,26 @@ pub fn read_input(rt: &impl Abort, alloc: Global, number: usize, (text, _, _): T
     refused
 }
 
-/// Takes the bytes that it expects, and no memory.
-#[derive(Drop)]
-struct Expecting<'a> {
-    rest: &'a [u8],
-}
-
-impl<'a> Write for Expecting<'a> {
-    fn write(&mut self, buf: &[u8]) -> io::Result<usize> {
-        match self.rest.strip_prefix(buf) {
-            Some(rest) => {
-                self.rest = rest;
-                Ok(buf.len())
-            }
-            None => Ok(0),
-        }
-    }
-
-    fn flush(&mut self) -> io::Result<()> {
-        Ok(())
+// Whether all was written and it ended so, or memory was refused and nothing was written.
+fn ended_as(
+    answer: &Result<Ending, RunFault>,
+    rest: &[u8],
+    (_, due, ending): Text,
+    refused: bool,
+) -> bool {
+    let status = if ending == Ending::Accepted { 0 } else { 1 };
+    match answer {
+        Ok(found) => *found == ending && rest.is_empty() && status_of(answer) == status,
+        Err(fault) => refused && *fault == RunFault::OutOfMemory && rest.len() == due.len(),
     }
 }
 
-pub fn run_all(rt: &impl Abort, alloc: Global, number: usize, (text, due, ending): Text) -> bool {
-    let mut input = text.as_bytes();
-    let mut output = Expecting {
-        rest: due.as_bytes(),
-    };
+pub fn run_all(rt: &impl Abort, alloc: Global, number: usize, text: Text) -> bool {
+    let mut input = text.0.as_bytes();
+    let mut output = Output::new(text.1.as_bytes());
     refuse(alloc, number);
     let answer = run(alloc, &mut input, &mut output);
     let refused = was_refused(alloc);
-    let status = status_of(&answer);
-    match answer {
-        Ok(ended) => {
-            holds(rt, ended == ending && output.rest.is_empty(), text);
-            holds(
-                rt,
-                (status == 0) == (ending == Ending::Accepted) && status <= 1,
-                text,
-            );
-        }
-        Err(fault) => {
-            holds(rt, refused && fault == RunFault::OutOfMemory, text);
-            holds(rt, output.rest.len() == due.len(), text);
-        }
-    }
+    holds(rt, ended_as(&answer, output.rest, text, refused), text.0);
     refused
 }

@@ -7,7 +7,7 @@ use std::test::Fail;
 
 const NO_MOVES: &str = "lock ticket threads 1\n";
 
-const ONE_ENTERS: &str = "lock ticket threads 2\n0 acquire\n0 add\n0 read\n";
+pub const ONE_ENTERS: &str = "lock ticket threads 2\n0 acquire\n0 add\n0 read\n";
 
 const NOT_HOLDER: &str = "lock ticket threads 2\n0 release\n";
 
@@ -43,15 +43,6 @@ pub fn texts_of(alloc: Global, texts: &[&str]) -> Result<Vec<Vec<u8>>, AllocErro
     let mut all = Vec::new(alloc);
     for i in 0..texts.len() {
         all.push(Vec::from_slice(alloc, texts[i].as_bytes())?)?;
-    }
-    Ok(all)
-}
-
-/// So many texts of three moves.
-pub fn many_texts(alloc: Global, count: usize) -> Result<Vec<Vec<u8>>, AllocError> {
-    let mut all = Vec::new(alloc);
-    for _ in 0..count {
-        all.push(Vec::from_slice(alloc, ONE_ENTERS.as_bytes())?)?;
     }
     Ok(all)
 }
@@ -125,7 +116,7 @@ fn batches_of_five_and_of_none(rt: HostRuntime) -> Result<(), Fail> {
 
 #[test]
 fn each_text_once(rt: HostRuntime) -> Result<(), Fail> {
-    let texts = many_texts(rt.alloc(), 100)?;
+    let texts = texts_of(rt.alloc(), &[ONE_ENTERS; 100])?;
     assert!(rt; texts.len() == 100);
     for workers in [1u8, 2, 8] {
         let gate = Counts::new(rt.alloc(), 100)?;
