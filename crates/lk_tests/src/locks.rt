@@ -55,25 +55,34 @@ pub fn played(line: &[u8]) -> Option<Played> {
     ))
 }
 
-// What a line says of a step of this kind, and the rest of it.
-fn done(kind: StepKind, thread: u8, line: &[u8]) -> Option<(Done, &[u8])> {
-    let (word, line) = first_word(line);
-    let (found, line) = first_word(line);
-    let (left, rest) = first_word(line);
-    let word = usize::from(number_of(word, 0, 128)?);
-    let (found, left) = (whole_number(found)?, whole_number(left)?);
-    let operation = match kind {
-        StepKind::Read => Operation::Read { word },
-        StepKind::Write => Operation::Write { word, value: left },
-        StepKind::Swap => Operation::Swap { word, value: left },
-        StepKind::Cas => Operation::CompareAndSwap {
+// The number that a line begins with, and the rest of it.
+fn first_number(line: &[u8]) -> Option<(u64, &[u8])> {
+    let (word, rest) = first_word(line);
+    Some((whole_number(word)?, rest))
+}
+
+// The operation of a step of this kind, which leaves this value if it writes.
+fn operation_on(kind: StepKind, thread: u8, word: usize, left: u64) -> Option<Operation> {
+    match kind {
+        StepKind::Read => Some(Operation::Read { word }),
+        StepKind::Write => Some(Operation::Write { word, value: left }),
+        StepKind::Swap => Some(Operation::Swap { word, value: left }),
+        StepKind::Cas => Some(Operation::CompareAndSwap {
             word,
             old: u64::from(thread) + 1,
             new: 0,
-        },
-        StepKind::Add => Operation::FetchAndAdd { word, addend: 1 },
-        StepKind::Section => return None,
-    };
+        }),
+        StepKind::Add => Some(Operation::FetchAndAdd { word, addend: 1 }),
+        StepKind::Section => None,
+    }
+}
+
+// What a line says of a step of this kind, and the rest of it.
+fn done(kind: StepKind, thread: u8, line: &[u8]) -> Option<(Done, &[u8])> {
+    let (word, line) = first_number(line)?;
+    let (found, line) = first_number(line)?;
+    let (left, rest) = first_number(line)?;
+    let operation = operation_on(kind, thread, usize::try_from(word).ok()?, left)?;
     Some(((operation, found, left), rest))
 }
 

@@ -4,9 +4,10 @@
 use crate::holding::holds;
 use crate::locks::{new_keeper, new_machine};
 use Refusal::{AlreadyHolds, Busy, NoCall, NoSuchThread, NotHolder, WrongLock, WrongStep};
-use lk_locks::{PlayFault, Refusal, StepKind};
-use lk_replay::{read_schedule, replay};
-use std::alloc::Global;
+use lk_locks::{Keeper, Machine, PlayFault, Refusal, StepKind};
+use lk_replay::{Line, read_schedule, replay};
+use lk_words::{CountingWords, WordArray};
+use std::alloc::{AllocError, Global};
 use std::process::Abort;
 use std::test::Fail;
 
@@ -116,6 +117,23 @@ const FIRST_OF_TWO: [Row; 10] = [
     ),
 ];
 
+// The refusal of a machine and a keeper, if they refuse the line. Then nothing has changed.
+fn refusal_of(
+    rt: &impl Abort,
+    machine: &mut Machine<CountingWords<WordArray>>,
+    keeper: &mut Keeper<WordArray>,
+    line: &Line,
+) -> Option<Refusal> {
+    let (count, entries) = (machine.words().count(), keeper.entries().len());
+    let checked = machine.check(line.thread, line.action).err();
+    let applied = machine.apply(line.thread, line.action).err();
+    let played = keeper.play(line.thread, line.action).err();
+    let is_kept = machine.words().count() == count && keeper.entries().len() == entries;
+    assert!(rt; checked == applied && played == applied.map(PlayFault::Refused));
+    assert!(rt; applied == None || is_kept);
+    applied
+}
+
 // A machine, a keeper and a replay accept all lines but the last, which each of them refuses.
 fn refuses(rt: &impl Abort, alloc: Global, (text, last, refusal): Row) -> Result<(), Fail> {
     let schedule = read_schedule(alloc, text.as_bytes())?;
@@ -123,21 +141,13 @@ fn refuses(rt: &impl Abort, alloc: Global, (text, last, refusal): Row) -> Result
     let mut machine = new_machine(kind, threads, bits);
     let mut keeper = new_keeper(alloc, kind, threads, bits);
     for line in schedule.moves() {
-        let (thread, action) = (line.thread, line.action);
-        let (count, entries) = (machine.words().count(), keeper.entries().len());
-        let checked = machine.check(thread, action);
-        let applied = machine.apply(thread, action);
-        let played = keeper.play(thread, action);
-        if line.number != last {
-            let are_made = checked.is_ok() && applied.is_ok() && played.is_ok();
-            holds(rt, are_made, text);
-            continue;
-        }
-        holds(rt, checked == Err(refusal), text);
-        holds(rt, applied == Err(refusal), text);
-        holds(rt, played == Err(PlayFault::Refused(refusal)), text);
-        holds(rt, keeper.entries().len() == entries, text);
-        holds(rt, machine.words().count() == count, text);
+        let found = refusal_of(rt, &mut machine, &mut keeper, line);
+        let due = if line.number == last {
+            Some(refusal)
+        } else {
+            None
+        };
+        holds(rt, found == due, text);
     }
     let replayed = replay(alloc, &schedule)?;
     holds(rt, replayed.refused() == Some((last, refusal)), text);
@@ -152,23 +162,31 @@ fn refusals(rt: HostRuntime) -> Result<(), Fail> {
     Ok(())
 }
 
+const TEXTS: [(Refusal, &str); 7] = [
+    (NoSuchThread, "no such thread"),
+    (WrongLock, "the lock has no such operation or step"),
+    (Busy, "the thread has a pending call"),
+    (NotHolder, "the thread does not hold the lock in that mode"),
+    (AlreadyHolds, "the thread holds the lock already"),
+    (NoCall, "the thread has no pending call"),
+    (ADD, "the thread's next step is a different one"),
+];
+
+fn is_text(told: Result<String, AllocError>, text: &str) -> bool {
+    match told {
+        Ok(told) => told.as_str() == text,
+        Err(_) => false,
+    }
+}
+
 #[test]
-fn texts_of_refusals(rt: HostRuntime) -> Result<(), Fail> {
+fn texts_of_refusals(rt: HostRuntime) {
     let alloc = rt.alloc();
-    for (refusal, text) in [
-        (NoSuchThread, "no such thread"),
-        (WrongLock, "the lock has no such operation or step"),
-        (Busy, "the thread has a pending call"),
-        (NotHolder, "the thread does not hold the lock in that mode"),
-        (AlreadyHolds, "the thread holds the lock already"),
-        (NoCall, "the thread has no pending call"),
-        (ADD, "the thread's next step is a different one"),
-    ] {
-        assert!(rt; format!(in alloc; "{refusal}")?.as_str() == text);
+    for (refusal, text) in TEXTS {
+        holds(&rt, is_text(format!(in alloc; "{refusal}"), text), text);
         let fault = PlayFault::Refused(refusal);
-        assert!(rt; format!(in alloc; "{fault}")?.as_str() == text);
+        holds(&rt, is_text(format!(in alloc; "{fault}"), text), text);
     }
     let memory = PlayFault::OutOfMemory;
-    assert!(rt; format!(in alloc; "{memory}")?.as_str() == "out of memory");
-    Ok(())
+    assert!(rt; is_text(format!(in alloc; "{memory}"), "out of memory"));
 }

@@ -21,11 +21,11 @@ use std::thread::Threads;
 enum Call {
     MakeRoom,
     Play,
-    ReadSchedule(Text),
-    Replay(Text),
-    ReportOf(Text),
-    ReadText(Text),
-    Run(Text),
+    ReadSchedule,
+    Replay,
+    ReportOf,
+    ReadText,
+    Run,
     OpenDraws,
     OpenLock,
     ReplayMany,
@@ -34,16 +34,40 @@ enum Call {
     Tour,
 }
 
+const WITHOUT_A_TEXT: [Call; 8] = [
+    Call::MakeRoom,
+    Call::Play,
+    Call::OpenDraws,
+    Call::OpenLock,
+    Call::ReplayMany,
+    Call::BatchText,
+    Call::Explore,
+    Call::Tour,
+];
+
+const OF_EACH_TEXT: [Call; 4] = [
+    Call::ReadSchedule,
+    Call::ReportOf,
+    Call::ReadText,
+    Call::Run,
+];
+
 // Makes the call with this request refused, and says whether one was.
-fn once<R: Abort + Threads + Sync>(rt: &R, alloc: Global, call: Call, number: usize) -> bool {
+fn once<R: Abort + Threads + Sync>(
+    rt: &R,
+    alloc: Global,
+    call: Call,
+    text: Text,
+    number: usize,
+) -> bool {
     match call {
         Call::MakeRoom => of_locks::make_room(rt, alloc, number),
         Call::Play => of_locks::play(rt, alloc, number),
-        Call::ReadSchedule(text) => of_replays::read(rt, alloc, number, text),
-        Call::Replay(text) => of_replays::play_all(rt, alloc, number, text),
-        Call::ReportOf(text) => of_replays::report(rt, alloc, number, text),
-        Call::ReadText(text) => of_replays::read_input(rt, alloc, number, text),
-        Call::Run(text) => of_replays::run_all(rt, alloc, number, text),
+        Call::ReadSchedule => of_replays::read(rt, alloc, number, text),
+        Call::Replay => of_replays::play_all(rt, alloc, number, text),
+        Call::ReportOf => of_replays::report(rt, alloc, number, text),
+        Call::ReadText => of_replays::read_input(rt, alloc, number, text),
+        Call::Run => of_replays::run_all(rt, alloc, number, text),
         Call::OpenDraws => of_workers::open_draws(rt, alloc, number),
         Call::OpenLock => of_workers::open_lock(rt, alloc, number),
         Call::ReplayMany => of_workers::batch(rt, alloc, number),
@@ -53,9 +77,9 @@ fn once<R: Abort + Threads + Sync>(rt: &R, alloc: Global, call: Call, number: us
     }
 }
 
-fn each_request<R: Abort + Threads + Sync>(rt: &R, alloc: Global, call: Call) {
+fn each_request<R: Abort + Threads + Sync>(rt: &R, alloc: Global, call: Call, text: Text) {
     for number in 1..MOST_REQUESTS {
-        if !once(rt, alloc, call, number) {
+        if !once(rt, alloc, call, text, number) {
             return met_none(rt, alloc, number);
         }
     }
@@ -65,26 +89,17 @@ fn each_request<R: Abort + Threads + Sync>(rt: &R, alloc: Global, call: Call) {
 #[test]
 fn each_request_refused_in_each_call(rt: HostRuntime) {
     let alloc = rt.alloc();
-    for call in [
-        Call::MakeRoom,
-        Call::Play,
-        Call::Replay(TEXTS[0]),
-        Call::Replay(TEXTS[1]),
-        Call::OpenDraws,
-        Call::OpenLock,
-        Call::ReplayMany,
-        Call::BatchText,
-        Call::Explore,
-        Call::Tour,
-    ] {
-        each_request(&rt, alloc, call);
+    for call in WITHOUT_A_TEXT {
+        each_request(&rt, alloc, call, TEXTS[0]);
     }
     for text in TEXTS {
-        each_request(&rt, alloc, Call::ReadSchedule(text));
-        each_request(&rt, alloc, Call::ReportOf(text));
-        each_request(&rt, alloc, Call::ReadText(text));
-        each_request(&rt, alloc, Call::Run(text));
+        for call in OF_EACH_TEXT {
+            each_request(&rt, alloc, call, text);
+        }
     }
+    // the third is no schedule
+    each_request(&rt, alloc, Call::Replay, TEXTS[0]);
+    each_request(&rt, alloc, Call::Replay, TEXTS[1]);
 }
 
 #[test]
