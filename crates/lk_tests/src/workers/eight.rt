@@ -1,5 +1,5 @@
-//! Eight seats in four threads. Half of them are dropped while they wait, and the others are joined
-//! again.
+//! Eight seats in four threads. Then half of them are dropped while they wait, and the others are
+//! joined again.
 
 ghost use Rattle.std.specs.Prelude.{◌≡◌, ◌+◌, ◌*◌, IfSome};
 ghost use Rattle.std.specs.Thread.{IsSync};
@@ -108,10 +108,12 @@ fn eight_seats_in_four_threads(rt: HostRuntime) -> Result<(), Fail> {
     let Some((a, b)) = in_four_threads(&rt, &lock, a, b) else {
         panic!(rt; "a turn never came")
     };
-    for seats in [a.0, a.1, b.0, b.1] {
-        let seat = drop_one(&lock, seats);
-        lock.join(&mut all, seat);
-    }
+    let (first, second) = (drop_one(&lock, a.0), drop_one(&lock, a.1));
+    let (third, fourth) = (drop_one(&lock, b.0), drop_one(&lock, b.1));
+    lock.join(&mut all, first);
+    lock.join(&mut all, second);
+    lock.join(&mut all, third);
+    lock.join(&mut all, fourth);
     // four seats came back with 100 tickets each taken, and three left
     assert!(rt; all.taken() == 400);
     assert!(rt; all.left() == 12);
