@@ -9,7 +9,7 @@ use lk_locks::{
     Entry, Holders, Keeper, LockKind, Machine, Move, Op, Outcome, StepKind, words_needed,
 };
 use lk_replay::parts::{
-    Lines, cut_word, header_of, move_named, move_text, number_of, outcome_named, whole_number,
+    Lines, cut_word, header_of, move_named, number_of, outcome_named, whole_number,
 };
 use lk_replay::{Accepted, read_schedule, replay};
 use lk_words::{CountingWords, Operation, WordArray, Words};
@@ -152,16 +152,17 @@ pub fn new_keeper(alloc: Global, kind: LockKind, threads: u8, bits: u8) -> Keepe
     Keeper::new(alloc, kind, threads, words)
 }
 
-// Makes the move, and gives the operation that it was, as the machine said it before. A call is
-// none.
+// Makes the move, and gives the operation that it was, as the machine said it before, and whether
+// that was one and came to this. A call is none.
 fn made(
-    rt: &impl Abort,
     machine: &mut Machine<CountingWords<WordArray>>,
     thread: u8,
     action: Move,
     outcome: Outcome,
-) -> Option<Done> {
-    assert!(rt; thread < machine.threads());
+) -> (Option<Done>, bool) {
+    if thread >= machine.threads() {
+        return (None, false);
+    }
     let count = machine.words().count();
     let said = match machine.operation(thread) {
         Some(operation) => {
@@ -172,36 +173,36 @@ fn made(
     };
     let checked = machine.check(thread, action);
     let applied = machine.apply(thread, action);
-    let is_made = checked == Ok(()) && applied == Ok(outcome);
-    holds(rt, is_made, move_text(action));
     let due = count.saturating_add(u64::from(said.is_some()));
     let is_section = action == Move::Step(StepKind::Section);
     let is_counted = is_section || machine.words().count() == due;
-    holds(rt, is_counted, "one operation");
-    said
+    (
+        said,
+        is_counted && checked == Ok(()) && applied == Ok(outcome),
+    )
 }
 
-// The entries after the first `count` are those that the rest of a line names.
-fn records(rt: &impl Abort, entries: &[Entry], count: usize, line: &[u8], thread: u8, op: Op) {
+// Whether the entries after the first `count` are those that the rest of a line names.
+fn are_recorded(entries: &[Entry], count: usize, line: &[u8], thread: u8, op: Op) -> bool {
     let mut rest = line;
     for entry in entries.iter().skip(count) {
         let (word, after) = first_word(rest);
-        let due = entry_named(word, thread, op);
-        holds(rt, due == Some(*entry), "an entry");
+        if entry_named(word, thread, op) != Some(*entry) {
+            return false;
+        }
         rest = after;
     }
-    holds(rt, rest.is_empty(), "as many entries");
+    rest.is_empty()
 }
 
-// Plays a line on both. `op` is the thread's last call.
+// Plays a line on both, and says whether both did what it says. `op` is the thread's last call.
 fn play_line(
-    rt: &impl Abort,
     machine: &mut Machine<CountingWords<WordArray>>,
     keeper: &mut Keeper<WordArray>,
     (thread, action, outcome, line): Played,
     op: Op,
-) -> Option<()> {
-    let said = made(rt, machine, thread, action, outcome);
+) -> Option<bool> {
+    let (said, is_made) = made(machine, thread, action, outcome);
     let (due, rest) = match action {
         Move::Step(kind) if kind != StepKind::Section => {
             let (due, rest) = done(kind, thread, line)?;
@@ -209,13 +210,11 @@ fn play_line(
         }
         _ => (None, line),
     };
-    holds(rt, said == due, "the operation");
     let count = keeper.entries().len();
-    let played = keeper.play(thread, action);
-    holds(rt, played == Ok(outcome), "the keeper's outcome");
-    records(rt, keeper.entries(), count, rest, thread, op);
-    holds(rt, agrees(&keeper.holders(), thread, outcome), "who holds");
-    Some(())
+    let is_played = keeper.play(thread, action) == Ok(outcome);
+    let is_kept = are_recorded(keeper.entries(), count, rest, thread, op)
+        && agrees(&keeper.holders(), thread, outcome);
+    Some(is_made && said == due && is_played && is_kept)
 }
 
 // The words are those that the row leaves.
@@ -250,8 +249,8 @@ fn plays(rt: &impl Abort, alloc: Global, row: &Row) -> Result<Keeper<WordArray>,
         if let Move::Call(op) = played.1 {
             ops[place] = op;
         }
-        let told = play_line(rt, &mut machine, &mut keeper, played, ops[place]);
-        assert!(rt; told.is_some(), "{}: line {number}", row.header);
+        let told = play_line(&mut machine, &mut keeper, played, ops[place]);
+        assert!(rt; told == Some(true), "{}: line {number}", row.header);
     }
     leaves(rt, &machine, row);
     Ok(keeper)
