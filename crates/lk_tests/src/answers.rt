@@ -2,7 +2,7 @@
 
 use crate::holding::holds;
 use lk_locks::{Entry, LockKind, Move, Op, Outcome, Refusal, StepKind};
-use lk_replay::{Accepted, Ending, ending_of, read_schedule, replay};
+use lk_replay::{Accepted, Ending, Played, ending_of, read_schedule, replay};
 use std::test::Fail;
 
 const ENDINGS: [(&str, Ending); 13] = [
@@ -51,6 +51,12 @@ const ENTRIES: [Entry; 4] = [
     Entry::Returned(0, Op::WriteLock),
 ];
 
+fn is_as_due(played: &Played) -> bool {
+    played.accepted() == ACCEPTED.as_slice()
+        && played.entries() == ENTRIES.as_slice()
+        && played.refused() == Some((6, Refusal::AlreadyHolds))
+}
+
 #[test]
 fn moves_before_a_refusal(rt: HostRuntime) -> Result<(), Fail> {
     let text = b"# x\nlock rw-fifo threads 2 bits 9\n0 wlock\n\n0 section\n0 wlock\n";
@@ -58,8 +64,6 @@ fn moves_before_a_refusal(rt: HostRuntime) -> Result<(), Fail> {
     let is_read = schedule.kind() == LockKind::RwFifo && schedule.threads() == 2;
     assert!(rt; is_read && schedule.bits() == 9 && schedule.moves().len() == 3);
     let played = replay(rt.alloc(), &schedule)?;
-    let is_refused = played.refused() == Some((6, Refusal::AlreadyHolds));
-    let is_kept = played.entries() == ENTRIES.as_slice();
-    assert!(rt; is_refused && is_kept && played.accepted() == ACCEPTED.as_slice());
+    assert!(rt; is_as_due(&played));
     Ok(())
 }

@@ -272,31 +272,47 @@ fn push_move(text: &mut Vec<u8>, line: &[u8]) -> Result<(), AllocError> {
     Ok(())
 }
 
-// As a schedule, the row is accepted, with these entries.
-fn replays(rt: &impl Abort, alloc: Global, row: &Row, entries: &[Entry]) -> Result<(), Fail> {
+// The text of the row's schedule.
+fn text_of(rt: &impl Abort, alloc: Global, row: &Row) -> Result<Vec<u8>, AllocError> {
     let mut text = Vec::from_slice(alloc, row.header.as_bytes())?;
     text.push(b'\n')?;
-    let mut due = Vec::new(alloc);
     let mut lines = lines_of(rt, row.lines);
     for _ in 0..MOST_LINES {
-        let Some((number, line)) = lines.next_line() else {
+        let Some((_, line)) = lines.next_line() else {
             break;
         };
         push_move(&mut text, line)?;
-        if let Some((thread, action, outcome, _)) = played(line) {
-            due.push(Accepted {
-                line: number.saturating_add(1),
-                thread,
-                action,
-                outcome,
-            })?;
-        }
     }
-    let schedule = read_schedule(alloc, &text)?;
+    Ok(text)
+}
+
+// Whether this is the move of a line of the row, which is a line after it in the schedule.
+fn is_accepted(accepted: &Accepted, number: u32, line: &[u8]) -> bool {
+    let place = (accepted.line, accepted.thread);
+    match played(line) {
+        Some((thread, action, outcome, _)) => {
+            place == (number.saturating_add(1), thread)
+                && accepted.action == action
+                && accepted.outcome == outcome
+        }
+        None => false,
+    }
+}
+
+// As a schedule, the row is accepted, with these entries.
+fn replays(rt: &impl Abort, alloc: Global, row: &Row, entries: &[Entry]) -> Result<(), Fail> {
+    let schedule = read_schedule(alloc, &text_of(rt, alloc, row)?)?;
     let replayed = replay(alloc, &schedule)?;
-    holds(rt, replayed.accepted() == due.as_slice(), row.header);
-    holds(rt, replayed.entries() == entries, row.header);
-    holds(rt, replayed.refused() == None, row.header);
+    let mut lines = lines_of(rt, row.lines);
+    for accepted in replayed.accepted() {
+        let is_next = match lines.next_line() {
+            Some((number, line)) => is_accepted(accepted, number, line),
+            None => false,
+        };
+        holds(rt, is_next, row.header);
+    }
+    let is_whole = lines.next_line() == None && replayed.refused() == None;
+    holds(rt, is_whole && replayed.entries() == entries, row.header);
     Ok(())
 }
 

@@ -27,11 +27,17 @@ pub fn explore(rt: &impl Abort, alloc: Global, number: usize) -> bool {
 }
 
 pub fn take_tour(rt: &impl Abort, alloc: Global, number: usize) -> bool {
-    let Ok(space) = explored(alloc) else {
-        panic!(rt; "41 states")
-    };
+    match explored(alloc) {
+        Ok(space) => tour_of(rt, alloc, number, &space),
+        Err(_) => panic!(rt; "41 states"),
+    }
+}
+
+fn tour_of(rt: &impl Abort, alloc: Global, number: usize, space: &Space<'static, Heap>) -> bool
+    requires { space.now.bounds.sketch ≡ [] }
+{
     refuse(alloc, number);
-    let found = tour(alloc, &space);
+    let found = tour(alloc, space);
     let refused = was_refused(alloc);
     match found {
         Ok(runs) => holds(rt, !runs.is_empty(), "a search"),
