@@ -75,6 +75,7 @@ TEXTS = [
     ("half a move without its end", "acquire\nadd next_ti", 0, MORE.format("1.log", 4)),
     ("half a move", "acquire\nadd next_ti\n", 4, BAD_MOVE.format(3)),
     ("a last line without its end", "acquire\ndropped 0", 0, ""),
+    ("a move with its thread", "1 acquire\n", 4, BAD_MOVE.format(2)),
     ("dropped moves", "acquire\ndropped 18446744073709551615\n", 0,
      "1.log: warning: 18446744073709551615 moves were dropped\n"
      "locktrace: note: ordered up to there: 4 steps\n"),

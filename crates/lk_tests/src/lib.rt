@@ -1,22 +1,37 @@
-//! Tests of the libraries `lk_words`, `lk_locks`, `lk_replay`, `lk_search` and `lk_workers`, and
-//! nothing else. Those in `worked_histories` are contracts, which are proved and not run.
+//! Tests of the libraries: what only a call of a library shows. Those in `worked_histories` are
+//! contracts, which are proved and not run.
 //!
 //! A crate that has tests is proved twice, with and without them. So the tests are in a crate
 //! of their own: it uses what the others make public, as any crate does, and none of them is
-//! proved anew for its tests. What the built programs show as well is not tried here: the worked
-//! rows, and each request for memory refused on each of them (tests/rows.py, tests/refusals.py);
-//! the sizes, sketches and tours of small locks (tests/searches.py, tests/search_counts.py,
-//! tests/search_sketches.py).
+//! proved anew for its tests. A test is proved before it is run, so few functions go through many
+//! rows. What the built programs show is not tried here: reports, and each request for memory
+//! refused on each worked row (tests/rows.py, tests/refusals.py); traces and orders
+//! (tests/rows/locktrace); the sizes, sketches and tours of small locks (tests/searches.py,
+//! tests/search_counts.py, tests/search_sketches.py).
 #![tactic(auto)]
 
 #[cfg(test)]
+mod answers;
+#[cfg(test)]
+mod devices;
+#[cfg(test)]
+mod holding;
+#[cfg(test)]
 mod locks;
+#[cfg(test)]
+mod parts;
+#[cfg(test)]
+mod refusals;
+#[cfg(test)]
+mod refused_memory;
 #[cfg(test)]
 mod refusing;
 #[cfg(test)]
-mod replays;
+mod rows;
 #[cfg(test)]
 mod searches;
+#[cfg(test)]
+mod traces;
 #[cfg(test)]
 mod words;
 pub mod worked_histories;

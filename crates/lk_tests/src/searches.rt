@@ -1,16 +1,12 @@
-//! Searches of a small lock in lent memory, and with each request for memory refused in turn. How
-//! many states and transitions locks have, their tours and what is found of a sketch, are rows of
-//! the built program.
+//! Searches of a small lock in lent memory. How many states and transitions locks have, their tours
+//! and what is found of a sketch, are rows of the built program.
 
-ghost use Rattle.std.specs.Prelude.{◌≡◌, [], IfOk};
-
-use crate::refusing::{MOST_REQUESTS, met_none, refuse, was_refused};
 use lk_locks::LockKind;
-use lk_search::{Bounds, Heap, Lent, NewLock, SearchFault, Space, TourFault, tour};
-use std::alloc::Global;
+use lk_search::{Bounds, Lent, NewLock, SearchFault, Space};
+use std::process::Abort;
 
-// A row of it has 10 cells.
-fn ticket_lock() -> NewLock {
+/// It has 41 states, and a row of it has 10 cells.
+pub fn ticket_lock() -> NewLock {
     NewLock {
         kind: LockKind::Ticket,
         threads: 2,
@@ -18,67 +14,17 @@ fn ticket_lock() -> NewLock {
     }
 }
 
-fn explored(alloc: Global) -> Result<Space<'static, Heap>, SearchFault>
-    ensures { IfOk result (λ space. space.bounds.sketch ≡ []) }
-{
-    Space::explore(Heap::new(alloc)?, ticket_lock(), Bounds::new(1, &[]), 41)
-}
-
 #[test]
 fn states_in_lent_memory(rt: HostRuntime) {
     let (mut cells, mut slots) = ([0; 410], [0; 82]);
-    let store = Lent::new(&mut cells, &mut slots);
-    match Space::explore(store, ticket_lock(), Bounds::new(1, &[]), 1000) {
-        Ok(space) => assert_eq!(&rt; space.states(), 41),
-        Err(fault) => assert!(&rt; false, "{fault}"),
+    for (lent, due) in [(410, Some(41)), (409, None)] {
+        let store = Lent::new(&mut cells[..lent], &mut slots);
+        let found = Space::explore(store, ticket_lock(), Bounds::new(1, &[]), 1000);
+        let states = match found {
+            Ok(space) => Some(space.states()),
+            Err(SearchFault::OutOfMemory) => None,
+            Err(_) => Some(0),
+        };
+        assert!(rt; states == due);
     }
-}
-
-#[test]
-fn lent_memory_is_too_small_by_a_cell(rt: HostRuntime) {
-    let (mut cells, mut slots) = ([0; 409], [0; 82]);
-    let store = Lent::new(&mut cells, &mut slots);
-    match Space::explore(store, ticket_lock(), Bounds::new(1, &[]), 1000) {
-        Err(fault) => assert_eq!(&rt; fault, SearchFault::OutOfMemory),
-        Ok(_) => assert!(&rt; false, "there are more rows than fit"),
-    }
-}
-
-#[test]
-fn each_request_refused_in_a_search(rt: HostRuntime) {
-    let alloc = rt.alloc();
-    for number in 1..MOST_REQUESTS {
-        refuse(alloc, number);
-        let found = explored(alloc);
-        let refused = was_refused(alloc);
-        match found {
-            Ok(space) => assert_eq!(rt; space.states(), 41),
-            Err(fault) => assert_eq!(rt; fault, SearchFault::OutOfMemory),
-        }
-        if !refused {
-            return met_none(&rt, alloc, number);
-        }
-    }
-    assert!(rt; false, "a request was refused each time");
-}
-
-#[test]
-fn each_request_refused_in_a_tour(rt: HostRuntime) {
-    let alloc = rt.alloc();
-    let Ok(space) = explored(alloc) else {
-        return assert!(rt; false, "41 states");
-    };
-    for number in 1..MOST_REQUESTS {
-        refuse(alloc, number);
-        let found = tour(alloc, &space);
-        let refused = was_refused(alloc);
-        match found {
-            Ok(runs) => assert!(rt; !runs.is_empty()),
-            Err(fault) => assert_eq!(rt; fault, TourFault::OutOfMemory),
-        }
-        if !refused {
-            return met_none(&rt, alloc, number);
-        }
-    }
-    assert!(rt; false, "a request was refused each time");
 }

@@ -1,6 +1,6 @@
 //! What no clause says: worked rows, and that threads really run side by side.
 
-mod batches;
+pub mod batches;
 mod drawn;
 mod eight;
 mod gates;

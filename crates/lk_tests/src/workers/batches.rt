@@ -7,7 +7,7 @@ use std::test::Fail;
 
 const NO_MOVES: &str = "lock ticket threads 1\n";
 
-const ONE_ENTERS: &str = "lock ticket threads 2\n0 acquire\n0 add\n0 read\n";
+pub const ONE_ENTERS: &str = "lock ticket threads 2\n0 acquire\n0 add\n0 read\n";
 
 const NOT_HOLDER: &str = "lock ticket threads 2\n0 release\n";
 
@@ -47,15 +47,6 @@ pub fn texts_of(alloc: Global, texts: &[&str]) -> Result<Vec<Vec<u8>>, AllocErro
     Ok(all)
 }
 
-/// So many texts of three moves.
-pub fn many_texts(alloc: Global, count: usize) -> Result<Vec<Vec<u8>>, AllocError> {
-    let mut all = Vec::new(alloc);
-    for _ in 0..count {
-        all.push(Vec::from_slice(alloc, ONE_ENTERS.as_bytes())?)?;
-    }
-    Ok(all)
-}
-
 // The begins and ends of each text.
 #[derive(Drop)]
 pub struct Counts {
@@ -88,19 +79,12 @@ impl Counts {
         }
     }
 
-    // Each text began and ended this often, and no other did.
-    pub fn all_are(&self, times: u32) -> bool {
-        self.strangers.load(Ordering::SeqCst) == 0
-            && self.begun.iter().all(|n| n.load(Ordering::SeqCst) == times)
-            && self.ended.iter().all(|n| n.load(Ordering::SeqCst) == times)
-    }
-
-    // Each begin has its end.
-    pub fn agree(&self) -> bool {
-        let mut agree = self.strangers.load(Ordering::SeqCst) == 0
-            && self.begun.len() == self.ended.len();
+    /// Each text ended as often as it began, and this often if that is told. No other did.
+    pub fn agree(&self, times: Option<u32>) -> bool {
+        let mut agree = self.strangers.load(Ordering::SeqCst) == 0;
         for (begun, ended) in self.begun.iter().zip(self.ended.iter()) {
-            agree = agree && begun.load(Ordering::SeqCst) == ended.load(Ordering::SeqCst);
+            let (begun, ended) = (begun.load(Ordering::SeqCst), ended.load(Ordering::SeqCst));
+            agree = agree && begun == ended && begun == times.unwrap_or(begun);
         }
         agree
     }
@@ -117,38 +101,30 @@ impl Gate for Counts {
 }
 
 #[test]
-fn five_schedules(rt: HostRuntime) -> Result<(), Fail> {
+fn batches_of_five_and_of_none(rt: HostRuntime) -> Result<(), Fail> {
     let texts = texts_of(rt.alloc(), &FIVE)?;
     assert!(rt; texts.len() == 5);
     for workers in [1u8, 2, 8] {
-        let reports = replay_many(&rt, rt.alloc(), &texts, workers, &OpenGate)?;
-        assert_eq!(rt; reports.len(), 5);
-        let text = batch_text(rt.alloc(), &reports)?;
-        assert!(rt;
-            text.as_slice() == REPORTS.as_bytes(),
-            "with {workers} workers"
-        );
+        for (texts, due) in [(texts.as_slice(), REPORTS), (&[], "")] {
+            let reports = replay_many(&rt, rt.alloc(), texts, workers, &OpenGate)?;
+            let text = batch_text(rt.alloc(), &reports)?;
+            assert!(rt; text.as_slice() == due.as_bytes(), "{workers} workers");
+        }
     }
     Ok(())
 }
 
 #[test]
-fn no_schedules(rt: HostRuntime) -> Result<(), Fail> {
-    let reports = replay_many(&rt, rt.alloc(), &[], 8, &OpenGate)?;
-    assert!(rt; reports.is_empty());
-    assert!(rt; batch_text(rt.alloc(), &reports)?.is_empty());
-    Ok(())
-}
-
-#[test]
 fn each_text_once(rt: HostRuntime) -> Result<(), Fail> {
-    let texts = many_texts(rt.alloc(), 100)?;
+    let texts = texts_of(rt.alloc(), &[ONE_ENTERS; 100])?;
     assert!(rt; texts.len() == 100);
     for workers in [1u8, 2, 8] {
         let gate = Counts::new(rt.alloc(), 100)?;
         let reports = replay_many(&rt, rt.alloc(), &texts, workers, &gate)?;
-        assert_eq!(rt; reports.len(), 100);
-        assert!(rt; gate.all_are(1), "with {workers} workers");
+        assert!(rt;
+            reports.len() == 100 && gate.agree(Some(1)),
+            "{workers} workers"
+        );
     }
     Ok(())
 }

@@ -1,5 +1,5 @@
-//! Eight seats in four threads. Half of them are dropped while they wait, and the others are joined
-//! again.
+//! Eight seats in four threads. Then half of them are dropped while they wait, and the others are
+//! joined again.
 
 ghost use Rattle.std.specs.Prelude.{◌≡◌, ◌+◌, ◌*◌, IfSome};
 ghost use Rattle.std.specs.Thread.{IsSync};
@@ -71,25 +71,6 @@ fn drop_one(lock: &LiveTicket, seats: Two) -> LiveSeat
     second
 }
 
-fn drop_two<R: Threads + Sync>(rt: &R, lock: &LiveTicket, a: Two, b: Two) -> LiveSeat
-    requires { AreIdleOf lock.now 3 a × AreIdleOf lock.now 3 b }
-    ensures { IsIdleOf lock.now 3 result }
-{
-    let (mut a, b) = join(
-        rt,
-        move || -> LiveSeat
-            requires { AreIdleOf lock.now 3 a }
-            ensures { IsIdleOf lock.entry.now 3 result }
-        { drop_one(lock, a) },
-        move || -> LiveSeat
-            requires { AreIdleOf lock.now 3 b }
-            ensures { IsIdleOf lock.entry.now 3 result }
-        { drop_one(lock, b) },
-    );
-    lock.join(&mut a, b);
-    a
-}
-
 type Four = (Two, Two);
 
 fn in_four_threads<R: Threads + Sync>(
@@ -97,10 +78,11 @@ fn in_four_threads<R: Threads + Sync>(
     lock: &LiveTicket,
     a: Four,
     b: Four,
-) -> Option<LiveSeat>
+) -> Option<(Four, Four)>
     requires { AreIdleOf lock.now TAKES a.0 × AreIdleOf lock.now TAKES a.1
         × AreIdleOf lock.now TAKES b.0 × AreIdleOf lock.now TAKES b.1 }
-    ensures { IfSome result (λ s. IsIdleOf lock.now 3 s) }
+    ensures { IfSome result (λ p. AreIdleOf lock.now 3 p.0.0 × AreIdleOf lock.now 3 p.0.1
+        × AreIdleOf lock.now 3 p.1.0 × AreIdleOf lock.now 3 p.1.1) }
 {
     let (a, b) = join(
         rt,
@@ -115,21 +97,7 @@ fn in_four_threads<R: Threads + Sync>(
                 (λ p. AreIdleOf lock.entry.now 3 p.0 × AreIdleOf lock.entry.now 3 p.1) }
         { in_two_threads(rt, lock, b.0, b.1) },
     );
-    let a = a?;
-    let b = b?;
-    let (mut a, b) = join(
-        rt,
-        move || -> LiveSeat
-            requires { IsSync R.row × AreIdleOf lock.now 3 a.0 × AreIdleOf lock.now 3 a.1 }
-            ensures { IsIdleOf lock.entry.now 3 result }
-        { drop_two(rt, lock, a.0, a.1) },
-        move || -> LiveSeat
-            requires { IsSync R.row × AreIdleOf lock.now 3 b.0 × AreIdleOf lock.now 3 b.1 }
-            ensures { IsIdleOf lock.entry.now 3 result }
-        { drop_two(rt, lock, b.0, b.1) },
-    );
-    lock.join(&mut a, b);
-    Some(a)
+    Some((a?, b?))
 }
 
 #[test]
@@ -137,13 +105,18 @@ fn eight_seats_in_four_threads(rt: HostRuntime) -> Result<(), Fail> {
     let (lock, mut all) = LiveTicket::open(rt.alloc(), 8 * TAKES)?;
     let a = (two_shares(&lock, &mut all), two_shares(&lock, &mut all));
     let b = (two_shares(&lock, &mut all), two_shares(&lock, &mut all));
-    let Some(seat) = in_four_threads(&rt, &lock, a, b) else {
+    let Some((a, b)) = in_four_threads(&rt, &lock, a, b) else {
         panic!(rt; "a turn never came")
     };
-    lock.join(&mut all, seat);
+    let (first, second) = (drop_one(&lock, a.0), drop_one(&lock, a.1));
+    let (third, fourth) = (drop_one(&lock, b.0), drop_one(&lock, b.1));
+    lock.join(&mut all, first);
+    lock.join(&mut all, second);
+    lock.join(&mut all, third);
+    lock.join(&mut all, fourth);
     // four seats came back with 100 tickets each taken, and three left
-    assert_eq!(rt; all.taken(), 400);
-    assert_eq!(rt; all.left(), 12);
+    assert!(rt; all.taken() == 400);
+    assert!(rt; all.left() == 12);
     // the four that were dropped took 101 each, and the first of their last tickets is served for
     // ever
     assert!(rt; lock.close(all) == (804, 800));

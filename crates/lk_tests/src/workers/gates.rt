@@ -2,7 +2,7 @@
 
 ghost use Rattle.std.specs.Prelude.{◌≤◌};
 
-use super::batches::many_texts;
+use super::batches::{ONE_ENTERS, texts_of};
 use lk_workers::{Gate, replay_many};
 use std::alloc::Global;
 use std::sync::atomic::{AtomicBool, AtomicU32, Ordering};
@@ -55,46 +55,33 @@ impl Gate for Gathering {
     fn end(&self, _number: u32) {}
 }
 
-// Whether as many texts as workers all begin before any of them goes on. A worker that waits draws
-// no other text.
-fn all_meet<R: Threads + Sync>(rt: &R, alloc: Global, workers: u8) -> Result<bool, Fail>
+// Whether the workers pass a gate at which as many texts as there are wait for each other, or the
+// first for all others. A worker that waits draws no other text.
+fn pass<R: Threads + Sync>(
+    rt: &R,
+    alloc: Global,
+    texts: usize,
+    workers: u8,
+    all_wait: bool,
+) -> Result<bool, Fail>
     requires { (1 ≤ workers) × (workers ≤ 8) }
 {
-    let texts = many_texts(alloc, usize::from(workers))?;
-    if texts.len() != usize::from(workers) {
+    let texts = texts_of(alloc, &[ONE_ENTERS; 8][..texts.min(8)])?;
+    if texts.len() > 8 {
         return Ok(false);
     }
-    let gate = Gathering::new(u32::from(workers), true);
+    let gate = Gathering::new(texts.len() as u32, all_wait);
     let reports = replay_many(rt, alloc, &texts, workers, &gate)?;
-    Ok(reports.len() == usize::from(workers) && !gate.failed())
+    Ok(reports.len() == texts.len() && !gate.failed())
 }
 
 #[test]
-fn two_texts_wait_for_each_other(rt: HostRuntime) -> Result<(), Fail> {
-    assert!(rt; all_meet(&rt, rt.alloc(), 2)?);
-    Ok(())
-}
-
-#[test]
-fn four_texts_wait_for_each_other(rt: HostRuntime) -> Result<(), Fail> {
-    assert!(rt; all_meet(&rt, rt.alloc(), 4)?);
-    Ok(())
-}
-
-#[test]
-fn eight_texts_wait_for_each_other(rt: HostRuntime) -> Result<(), Fail> {
-    assert!(rt; all_meet(&rt, rt.alloc(), 8)?);
-    Ok(())
-}
-
-// So the texts are drawn, and not cut into parts beforehand.
-#[test]
-fn the_first_waits_for_three_others(rt: HostRuntime) -> Result<(), Fail> {
-    let texts = many_texts(rt.alloc(), 4)?;
-    assert!(rt; texts.len() == 4);
-    let gate = Gathering::new(4, false);
-    let reports = replay_many(&rt, rt.alloc(), &texts, 2, &gate)?;
-    assert_eq!(rt; reports.len(), 4);
-    assert!(rt; !gate.failed());
+fn texts_wait_for_each_other(rt: HostRuntime) -> Result<(), Fail> {
+    for workers in [2, 4, 8] {
+        let passed = pass(&rt, rt.alloc(), usize::from(workers), workers, true)?;
+        assert!(rt; passed, "{workers} workers");
+    }
+    // the first waits for three others: so texts are drawn, and not cut into parts beforehand
+    assert!(rt; pass(&rt, rt.alloc(), 4, 2, false)?);
     Ok(())
 }
