@@ -68,32 +68,48 @@ fn quiet_arg<'a>(alloc: Global) -> Arg<'a> {
         .action(ArgAction::SetTrue)
 }
 
-fn check_command<'a>(alloc: Global) -> Result<Command<'a>, AllocError> {
-    let help = "auto, always or never: auto is on a terminal alone";
-    let color = option_arg(alloc, "color", "WHEN", help);
-    let summary = Arg::new(alloc, "summary")
+fn format_arg<'a>(alloc: Global) -> Arg<'a> {
+    option_arg(alloc, "format", "FORMAT", "text, tap or json")
+}
+
+fn summary_arg<'a>(alloc: Global) -> Arg<'a> {
+    Arg::new(alloc, "summary")
         .long("summary")
         .help(
             "Counts threads, moves, waits, failed compare-and-swaps, polls of a late link, the \
              longest queue, and wrap-arounds of the counter",
         )
-        .action(ArgAction::SetTrue);
-    let workers = option_arg(alloc, "jobs", "N", "How many threads share the files")
+        .action(ArgAction::SetTrue)
+}
+
+fn color_arg<'a>(alloc: Global) -> Arg<'a> {
+    let help = "auto, always or never: auto is on a terminal alone";
+    option_arg(alloc, "color", "WHEN", help)
+}
+
+fn workers_arg<'a>(alloc: Global) -> Arg<'a> {
+    option_arg(alloc, "jobs", "N", "How many threads share the files")
         .short('j')
-        .value_parser(value_parser!(u8).range(1..=MOST_WORKERS as i64));
+        .value_parser(value_parser!(u8).range(1..=MOST_WORKERS as i64))
+}
+
+fn files_arg<'a>(alloc: Global) -> Arg<'a> {
     let help =
         "Traces or schedules, or folders of them; - is standard input, also if none is named";
-    let files = value_arg(alloc, "files", "FILE", help)
+    value_arg(alloc, "files", "FILE", help)
         .num_args(0..)
-        .action(ArgAction::Append);
+        .action(ArgAction::Append)
+}
+
+fn check_command<'a>(alloc: Global) -> Result<Command<'a>, AllocError> {
     Command::new(alloc, "check")
         .about("Checks each move, and each value that is given, with the lock's machine")
-        .arg(option_arg(alloc, "format", "FORMAT", "text, tap or json"))?
-        .arg(summary)?
+        .arg(format_arg(alloc))?
+        .arg(summary_arg(alloc))?
         .arg(quiet_arg(alloc))?
-        .arg(color)?
-        .arg(workers)?
-        .arg(files)
+        .arg(color_arg(alloc))?
+        .arg(workers_arg(alloc))?
+        .arg(files_arg(alloc))
 }
 
 fn file_arg<'a>(alloc: Global) -> Arg<'a> {
@@ -102,55 +118,72 @@ fn file_arg<'a>(alloc: Global) -> Arg<'a> {
 }
 
 fn explain_command<'a>(alloc: Global) -> Result<Command<'a>, AllocError> {
-    let help = "Only the moves in these lines, as 5..10, 5.. or 5";
-    let moves = option_arg(alloc, "moves", "FIRST..LAST", help);
-    let help = "What the threads are called, from thread 0 on";
-    let names = option_arg(alloc, "names", "NAME,NAME", help);
+    let (moves, names) = (
+        "Only the moves in these lines, as 5..10, 5.. or 5",
+        "What the threads are called, from thread 0 on",
+    );
     Command::new(alloc, "explain")
         .about("Says of each move what it found and left, and why the first wrong one is wrong")
-        .arg(moves)?
-        .arg(names)?
+        .arg(option_arg(alloc, "moves", "FIRST..LAST", moves))?
+        .arg(option_arg(alloc, "names", "NAME,NAME", names))?
         .arg(file_arg(alloc))
 }
 
-fn order_command<'a>(alloc: Global) -> Result<Command<'a>, AllocError> {
+fn trace_folder_arg<'a>(alloc: Global) -> Arg<'a> {
     let help = "Where the trace and the schedules are written; - is standard output, for the trace";
-    let folder = value_arg(alloc, "folder", "DIR", help)
+    value_arg(alloc, "folder", "DIR", help)
         .short('o')
-        .required(true);
-    let logs = value_arg(alloc, "logs", "LOG", "The log of each thread")
+        .required(true)
+}
+
+fn logs_arg<'a>(alloc: Global) -> Arg<'a> {
+    value_arg(alloc, "logs", "LOG", "The log of each thread")
         .required(true)
         .num_args(1..)
-        .action(ArgAction::Append);
+        .action(ArgAction::Append)
+}
+
+fn order_command<'a>(alloc: Global) -> Result<Command<'a>, AllocError> {
     Command::new(alloc, "order")
         .about(
             "Puts the logs of a run's threads into one order in which each step finds what \
              it found",
         )
-        .arg(folder)?
-        .arg(option_arg(alloc, "format", "FORMAT", "text, tap or json"))?
+        .arg(trace_folder_arg(alloc))?
+        .arg(format_arg(alloc))?
         .arg(quiet_arg(alloc))?
-        .arg(logs)
+        .arg(logs_arg(alloc))
+}
+
+fn schedule_command<'a>(alloc: Global) -> Result<Command<'a>, AllocError> {
+    Command::new(alloc, "schedule")
+        .about("Writes a trace without its values")
+        .arg(file_arg(alloc))
+}
+
+// The program with one more command.
+fn with<'a>(
+    program: Command<'a>,
+    command: Result<Command<'a>, AllocError>,
+) -> Result<Command<'a>, AllocError> {
+    program.subcommand(command?)
 }
 
 fn program_command<'a>(alloc: Global) -> Result<Command<'a>, AllocError> {
-    let schedule = Command::new(alloc, "schedule")
-        .about("Writes a trace without its values")
-        .arg(file_arg(alloc))?;
-    Command::new(alloc, "locktrace")
+    let program = Command::new(alloc, "locktrace")
         .about("Checks runs of locks, explains and orders them, and searches all runs of a lock")
         .version(VERSION)
         .bin_name("locktrace")?
         .no_binary_name(true)
-        .subcommand_required(true)
-        .subcommand(check_command(alloc)?)?
-        .subcommand(explain_command(alloc)?)?
-        .subcommand(order_command(alloc)?)?
-        .subcommand(searches::find_command(alloc)?)?
-        .subcommand(searches::tour_command(alloc)?)?
-        .subcommand(searches::space_command(alloc)?)?
-        .subcommand(searches::cover_command(alloc)?)?
-        .subcommand(schedule)
+        .subcommand_required(true);
+    let program = with(program, check_command(alloc))?;
+    let program = with(program, explain_command(alloc))?;
+    let program = with(program, order_command(alloc))?;
+    let program = with(program, searches::find_command(alloc))?;
+    let program = with(program, searches::tour_command(alloc))?;
+    let program = with(program, searches::space_command(alloc))?;
+    let program = with(program, searches::cover_command(alloc))?;
+    with(program, schedule_command(alloc))
 }
 
 /// Copies of texts.
@@ -258,14 +291,16 @@ fn fault_of(alloc: Global, error: &clap::Error) -> ParseFault {
 /// texts.
 pub fn parse_words(alloc: Global, words: &[String]) -> Result<Job, ParseFault> {
     let command = program_command(alloc)?;
-    let matches = match command.try_get_matches_from(words) {
-        Ok(matches) => matches,
-        Err(error) => return Err(fault_of(alloc, &error)),
-    };
+    match command.try_get_matches_from(words) {
+        Ok(matches) => job_of(alloc, &matches),
+        Err(error) => Err(fault_of(alloc, &error)),
+    }
+}
+
+// The job of the command among the words. There is one, since the parser asks for it.
+fn job_of(alloc: Global, matches: &ArgMatches<'_>) -> Result<Job, ParseFault> {
     let Some((name, given)) = matches.subcommand() else {
-        return Ok(Job::Schedule {
-            file: String::from_str(alloc, "-")?,
-        });
+        return usage(alloc, "error: a command is missing\n");
     };
     match name.as_bytes() {
         b"check" => check_given(alloc, given),

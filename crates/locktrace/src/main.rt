@@ -12,7 +12,8 @@ use command_line::{Job, ParseFault, parse_words};
 use folders::files_named;
 use lk_search_files::{count_space, cover_traces, find_run, write_tour};
 use lk_trace_files::{
-    Asked, Ending, Failure, Status, check_files, explain_input, order_logs, worst, write_schedule,
+    Asked, CheckJob, Ending, Failure, OrderJob, Status, check_files, explain_input, order_logs,
+    worst, write_schedule,
 };
 use searches::SearchJob;
 use std::alloc::{AllocError, Global};
@@ -116,6 +117,38 @@ fn search<R: Runtime, O: Write>(
     Ok(status as u8)
 }
 
+// Checks traces, with colors if the job asks for them or is on a terminal.
+fn check<R: Runtime + Threads + Sync + Clone + Drop, O: Write + IsTerminal>(
+    rt: &R,
+    alloc: Global,
+    mut job: CheckJob,
+    colored: Option<bool>,
+    told: bool,
+    output: &mut O,
+) -> Result<u8, Failure>
+where
+    R::File: Send,
+{
+    job.colored = colored.unwrap_or_else(|| output.is_terminal());
+    job.files = files_named(rt, alloc, &job.files)?;
+    let told = told && !job.quiet;
+    Ok(worst(&check_files(rt, alloc, &job, told, output)?))
+}
+
+// Orders the logs of a run.
+fn order<R: Runtime, O: Write>(
+    rt: &R,
+    alloc: Global,
+    job: &OrderJob,
+    told: bool,
+    output: &mut O,
+) -> Result<u8, Failure> {
+    let mut errors = String::new(alloc);
+    let ended = order_logs(rt, alloc, job, told, output, &mut errors);
+    let _ = eprint!(rt; "{errors}");
+    Ok(ended?.ending().status())
+}
+
 // Does a job, and gives the status that the program ends with. `told` if standard error is a
 // terminal.
 fn perform<R: Runtime + Threads + Sync + Clone + Drop, O: Write + IsTerminal>(
@@ -129,12 +162,7 @@ where
     R::File: Send,
 {
     match job {
-        Job::Check { mut job, colored } => {
-            job.colored = colored.unwrap_or_else(|| output.is_terminal());
-            job.files = files_named(rt, alloc, &job.files)?;
-            let told = told && !job.quiet;
-            Ok(worst(&check_files(rt, alloc, &job, told, output)?))
-        }
+        Job::Check { job, colored } => check(rt, alloc, job, colored, told, output),
         Job::Schedule { file } => Ok(write_file(rt, alloc, &file, output)?.status()),
         Job::Explain { file, lines, names } => {
             let asked = Asked {
@@ -144,12 +172,7 @@ where
             Ok(explain_file(rt, alloc, &file, asked, output)?.status())
         }
         Job::Search(job) => search(rt, alloc, &job, output),
-        Job::Order(job) => {
-            let mut errors = String::new(alloc);
-            let ended = order_logs(rt, alloc, &job, told, output, &mut errors);
-            let _ = eprint!(rt; "{errors}");
-            Ok(ended?.ending().status())
-        }
+        Job::Order(job) => order(rt, alloc, &job, told, output),
     }
 }
 
