@@ -1,8 +1,8 @@
 # The commands of this repository: `make` lists them, from the lines that begin with ## beside them.
 # docs/CHECKING.md says how long each takes, and where the time goes.
 
-# A recipe sees none of the caller's variables but these, one language and one time zone, and what
-# neither git nor Python reads from a home. So a test does the same on each machine.
+# A recipe sees these variables of the caller, and no others. Language and time zone are fixed, and
+# neither git nor Python reads a user's settings. So a test does the same on each machine.
 KEPT := PATH HOME TMPDIR XDG_CACHE_HOME MAKE% MFLAGS %_proxy %_PROXY RT_% EVERY_MOVE
 unexport $(foreach it,$(filter-out $(KEPT),$(.VARIABLES)),$(if \
 	$(filter environment,$(origin $(it))),$(it)))
@@ -38,10 +38,10 @@ SOAK_SECONDS := 3600
 MISTAKE :=
 PROVE :=
 
-# newer than the sources while `out` has the libraries that the gate proved of them
+# This file is newer than the sources while `out` has the libraries that the gate proved of them.
 PROVED := crates/lk_words/out/proved
 
-# what is no file: what has a line ##, and these
+# Targets that are no files: those with a line ##, and these
 .PHONY: $(shell sed -n 's/^## \([a-z-]*\).*/\1/p' Makefile packaging/targets.mk) \
 	help test-needs test-parts gate-built by-root
 
@@ -54,7 +54,7 @@ demo: needs-rt
 	    { echo "$$said" >&2; exit 1; }; } 3>&1
 	@echo 'Not proved: "make programs" proves and builds lockreplay and locktrace, in half an hour.'
 
-# What the tests of `make test` need of Debian
+# The Debian packages that the tests of `make test` need
 test-needs:
 	@tests/wanted.sh rt tools page browsers recording rust
 
@@ -68,9 +68,9 @@ test: test-needs
 test-parts:
 	@echo $(PARTS)
 
-# `rt ci` sets aside what `out` has, and gives the libraries of earlier checks back. So these are
-# deleted: those that are left then are what it has proved. Its copies take gigabytes, and in
-# Debian 13 /tmp is memory.
+# `rt ci` sets `out` aside, and in the end puts the libraries of earlier checks back. They are deleted
+# first, so that `out` has the libraries that it proved. Its copies take gigabytes, and in Debian 13
+# /tmp is memory.
 ## gate | the proofs, from nothing, and the stored runs
 gate: needs-rt
 	rm -rf crates/*/out/rlib

@@ -1,6 +1,6 @@
 //! What the program leaves once it knows what it is asked for: bytes on standard output, a message
-//! for standard error, and a status. Which message is a value, so that a contract can say it
-//! exactly: whether a device takes bytes, no contract can say.
+//! for standard error, and a status. The message is a value, so that a contract says exactly which
+//! one it is: no contract can say whether a device takes bytes.
 
 ghost use Rattle.std.specs.Prelude.{◌≡◌, IfErr, IfOk, OnOk};
 ghost use Rattle.std.specs.Io.KnownBytes.{Appends};
