@@ -6,10 +6,10 @@ ghost use Rattle.lk_search_files.specs.Statuses.{number_of};
 
 use crate::reading::put_unread;
 use lk_locks::LockKind;
-use lk_replay::parts::{lock_text, move_text};
+use lk_replay::parts::{Status, lock_text, move_text};
 use lk_search::{Coverage, Kind, LOCKS, Observed, kinds_of};
+use lk_text::{Count, Summary, has_counter, take_lines};
 use lk_trace::{Difference, Event, Made, TextFault, TraceLine, TraceReader};
-use lk_trace_files::{Count, Status, Summary, has_counter, take_lines};
 use std::alloc::{AllocError, Global};
 use std::fmt::Write;
 use std::io::Read;

@@ -1,6 +1,6 @@
 //! Numbers as a reader writes them.
 
-use lk_trace_files::Count;
+use lk_text::Count;
 use std::fmt;
 
 /// A number with a comma before each three digits, as in 1,018.

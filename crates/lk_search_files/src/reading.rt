@@ -3,10 +3,10 @@
 
 ghost use Rattle.std.specs.Prelude.{◌≡◌, ◌≤◌, vec_len, IfOk};
 
-use lk_replay::parts::{Header, is_skipped, number_of};
+use lk_replay::parts::{Header, Status, is_skipped, number_of};
 use lk_search::{Admitted, SketchFault, admit};
+use lk_text::{put_wrong, take_lines, wrong_in_header};
 use lk_trace::{MOST_OF_A_LINE, TextFault, read_header, unreadable_sketch_line};
-use lk_trace_files::{Status, put_wrong, take_lines, wrong_in_header};
 use std::alloc::{AllocError, Global};
 use std::fmt::Write;
 use std::fs;

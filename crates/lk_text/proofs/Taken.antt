@@ -15,9 +15,9 @@ use Rattle.std.proofs.lemmas.Bool.{false_from_ne_true, eqb-true}
 use Rattle.memchr.specs.Find.{Nowhere, NoneBefore, Passes, is_byte}
 use Rattle.lk_replay.proofs.Cuts.{line_first, line_last}
 use Rattle.lk_replay.specs.Lines.{lines_of, is_line_feed}
-use Rattle.lk_trace_files.specs.Lines.{TakesLine, kept, with_end}
-use Rattle.lk_trace_files.specs.declared.lines.Line.{Line}
-use Rattle.lk_trace_files.specs.invariants.{TakesPart, Taken}
+use Rattle.lk_text.specs.Lines.{TakesLine, kept, with_end}
+use Rattle.lk_text.specs.declared.lines.Line.{Line}
+use Rattle.lk_text.specs.invariants.{TakesPart, Taken}
 
 take_again : (n : ℕ) (xs ys : List ℕ) → take n (take n xs ++ ys) ≡ take n (xs ++ ys)
 take_again zero xs ys = refl

@@ -4,8 +4,8 @@ use Rattle.std.specs.Prelude.{◌≡◌, ℕ, List, [], ◌∷◌, ◌++◌, tak
 use Rattle.std.specs.Prelude.{Option, IfSome, IsSomeAnd, Bool, true, false}
 use Rattle.std.specs.Io.KnownBytes.{prepend_known}
 use Rattle.lk_replay.specs.Lines.{lines_of}
-use Rattle.lk_trace_files.specs.declared.lines.Line.{Line}
-use Rattle.lk_trace_files.specs.declared.lines.Lines.{Lines}
+use Rattle.lk_text.specs.declared.lines.Line.{Line}
+use Rattle.lk_text.specs.declared.lines.Lines.{Lines}
 
 -- the bytes of a line that are kept
 abbrev pub kept : Line → List ℕ

@@ -1,5 +1,4 @@
-//! The lines of an input, one after another, and a text that is written piece by piece, in memory
-//! that does not grow with either.
+//! The lines of an input, one after another, in memory that does not grow with it.
 //!
 //! Of each line the first 97 bytes are kept: no header and no move has more than 96, and of a
 //! comment nothing but its first byte matters.
@@ -11,7 +10,7 @@ ghost use Rattle.std.specs.Io.KnownBytes.{IsAtEnd, Keeps};
 use lk_trace::MOST_OF_A_LINE;
 use memchr::memchr;
 use std::alloc::{AllocError, Global};
-use std::io::{Error, ErrorKind, Read, Write};
+use std::io::{Error, ErrorKind, Read};
 
 /// The bytes of a line that are kept.
 const MOST_KEPT: usize = MOST_OF_A_LINE + 1;
@@ -30,7 +29,7 @@ pub struct Line {
 }
 
 impl Line {
-    ghost use Rattle.lk_trace_files.specs.Lines.{kept};
+    ghost use Rattle.lk_text.specs.Lines.{kept};
 
     /// Nothing is kept.
     pub fn new() -> Line
@@ -91,8 +90,8 @@ pub struct Lines<R> {
 }
 
 impl<R: Read + Drop> Lines<R> {
-    ghost use Rattle.lk_trace_files.specs.Lines.{TakesLine, left};
-    ghost use Rattle.lk_trace_files.specs.invariants.{TakesPart};
+    ghost use Rattle.lk_text.specs.Lines.{TakesLine, left};
+    ghost use Rattle.lk_text.specs.invariants.{TakesPart};
 
     /// Nothing was read yet.
     pub fn new(alloc: Global, input: R) -> Result<Lines<R>, AllocError>
@@ -197,16 +196,4 @@ where
         }
     }
     Ok((u64::MAX, Err(Error::from(ErrorKind::FileTooLarge))))
-}
-
-// Bytes that wait before they are written.
-const MOST_WAITING: usize = 65_536;
-
-/// Writes what waits and empties it, if that is much.
-pub fn write_waiting<O: Write>(text: &mut String, output: &mut O) -> Result<(), Error> {
-    if text.len() > MOST_WAITING {
-        output.write_all(text.as_bytes())?;
-        text.clear();
-    }
-    Ok(())
 }

@@ -3,9 +3,9 @@
 
 ghost use Rattle.std.specs.Prelude.{◌≡◌};
 
-use crate::texts::Lock;
-use lk_locks::{LockKind, Move, Outcome, Phase, StepKind};
+use lk_locks::{LockKind, Move, Outcome, Phase, StepKind, Tracker};
 use lk_trace::{Made, TraceLine};
+use lk_words::WordArray;
 use std::alloc::AllocError;
 use std::fmt;
 use std::fmt::Write;
@@ -55,7 +55,7 @@ impl Summary {
     }
 
     // Counts a step that may have changed who is in the queue, and the lock's counter.
-    fn note_lock(&mut self, lock: &Lock) {
+    fn note_lock(&mut self, lock: &Tracker<WordArray>) {
         self.longest = self.longest.max(lock.queue().len());
         if has_counter(lock.kind()) {
             let words = lock.machine().words().as_slice();
@@ -68,7 +68,7 @@ impl Summary {
     }
 
     /// Counts a move that was made on this lock.
-    pub fn note(&mut self, lock: &Lock, line: TraceLine, made: Made) {
+    pub fn note(&mut self, lock: &Tracker<WordArray>, line: TraceLine, made: Made) {
         self.moves = self.moves.saturating_add(1);
         if line.thread < 64 {
             self.seen |= 1u64 << line.thread;

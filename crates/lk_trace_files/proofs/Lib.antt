@@ -1,6 +1,4 @@
-pub mod Taken
 pub mod Reading
-pub mod Keeping
 pub mod Accepting
 pub mod Endings
 pub mod LogReading

@@ -4,9 +4,9 @@ use Rattle.std.proofs.Common.{MatchResult, Bool, ap₂, sym, subst, subst₂, �
 use Rattle.std.specs.Io.KnownBytes.{IsAtEnd, Keeps}
 use Rattle.lk_order.specs.Logs.{IsFaultOf, Reading, ThreadLog, line_read, log_read}
 use Rattle.lk_order.specs.declared.log.reader.LogFault.{LogFault}
+use Rattle.lk_text.specs.Lines.{TakesLine, kept}
+use Rattle.lk_text.specs.declared.lines.Line.{Line}
 use Rattle.lk_trace_files.specs.Searches.{IsNoLog, IsText, Reads, at_end, at_line, begins, goes_on}
-use Rattle.lk_trace_files.specs.Lines.{TakesLine, kept}
-use Rattle.lk_trace_files.specs.declared.lines.Line.{Line}
 use Rattle.lk_trace_files.specs.invariants.{ReadsInput}
 
 -- no line yet

@@ -7,6 +7,8 @@ use Rattle.std.specs.Io.KnownBytes.{IsAtEnd}
 use Rattle.std.proofs.lemmas.List.{take_all}
 use Rattle.std.proofs.lemmas.Bool.{cond-true, lt-ltb, cases_lt, eqb-true, false_from_ne_true}
 use Rattle.lk_replay.specs.Lines.{lines_of, is_skipped}
+use Rattle.lk_text.specs.Lines.{TakesLine, kept}
+use Rattle.lk_text.specs.declared.lines.Line.{Line}
 use Rattle.lk_trace.specs.Checks.{Checked}
 use Rattle.lk_trace.specs.Lines.{short_line_of}
 use Rattle.lk_trace.specs.Traces.{event_of, after_text_line, read_header_of}
@@ -19,8 +21,6 @@ use Rattle.lk_trace.specs.declared.trace.Event.TheVariants.{Skipped, Began, Made
 use Rattle.lk_trace.specs.declared.trace.TextFault.{TextFault}
 use Rattle.lk_trace.specs.declared.trace.TextFault.TheVariants.{BadHeader}
 use Rattle.lk_trace_files.proofs.Accepting.{of_text}
-use Rattle.lk_trace_files.specs.Lines.{TakesLine, kept}
-use Rattle.lk_trace_files.specs.declared.lines.Line.{Line}
 use Rattle.lk_trace_files.specs.Fates.{after_comment, after_line, hangs_after, hangs_at, said_of}
 use Rattle.lk_trace_files.specs.declared.course.Fate.{Fate}
 use Rattle.lk_trace_files.specs.Verdicts.{Verdict, IsOfText, at_end, if_hangs, unless_ended}

@@ -8,13 +8,13 @@ use Rattle.lk_order.specs.Orders.{Ordered, IsOrder, next_line}
 use Rattle.lk_order.specs.Endings.{EndsAs}
 use Rattle.lk_order.specs.declared.find.Ending.{Ending as SearchEnding}
 use Rattle.lk_order.specs.declared.find.Ending.TheVariants as search
+use Rattle.lk_text.specs.Lines.{IsFirstLine, kept}
+use Rattle.lk_text.specs.declared.lines.Line.{Line}
 use Rattle.lk_trace_files.specs.Fates.{hangs}
-use Rattle.lk_trace_files.specs.Lines.{IsFirstLine, kept}
 use Rattle.lk_trace_files.specs.declared.check.Ending.{Ending}
 use Rattle.lk_trace_files.specs.declared.check.Ending.TheVariants.{Accepted, Refused, Unread}
 use Rattle.lk_trace_files.specs.declared.check.Ending.TheVariants.{Faulty, Hangs}
 use Rattle.lk_trace_files.specs.declared.course.Fate.{Fate}
-use Rattle.lk_trace_files.specs.declared.lines.Line.{Line}
 use Rattle.lk_trace_files.specs.declared.ordering.search.BadLog.{BadLog}
 use Rattle.lk_trace_files.specs.declared.ordering.search.BadLog.TheVariants as bad
 use Rattle.lk_trace_files.specs.declared.ordering.search.Search.{Search}

@@ -1,52 +1,26 @@
--- Invariants: what was taken of an input so far, what its lines came to, the endings of a job, and
--- the logs on a shelf. No contract that the crate exports rests on it.
-use Rattle.std.specs.Prelude.{◌≡◌, ℕ, ◌+◌, ◌<◌, List, [], ◌++◌, length, take, Bool, true, false}
-use Rattle.std.specs.Prelude.{◌||◌, Option, Some, IfSome, IsSomeAnd}
+-- Invariants: what the lines of an input came to so far, the endings of a job, and the logs on a
+-- shelf. No contract that the crate exports rests on it.
+use Rattle.std.specs.Prelude.{◌≡◌, ℕ, ◌+◌, ◌<◌, List, length, Bool, true, false}
+use Rattle.std.specs.Prelude.{Option, Some, IfSome, IsSomeAnd}
 use Rattle.std.specs.List.{All}
-use Rattle.std.specs.Io.KnownBytes.{Consumes}
 use Rattle.lk_order.specs.Logs.{Reading, ThreadLog}
 use Rattle.lk_order.specs.Shelves.{IsUnfit, Shelved, log_at}
 use Rattle.lk_order.specs.declared.shelf.Unfit.TheVariants as unfit
 use Rattle.lk_replay.specs.Header.{Header}
-use Rattle.lk_replay.specs.Lines.{is_line_feed, lines_of}
+use Rattle.lk_replay.specs.Lines.{lines_of}
 use Rattle.lk_trace.specs.Checks.{Checked}
 use Rattle.lk_trace.specs.declared.trace.Event.{Event}
 use Rattle.lk_trace.specs.declared.trace.Event.TheVariants.{Differs, Fault}
 use Rattle.lk_trace_files.specs.Searches.{IsInFile, Reads}
 use Rattle.lk_trace_files.specs.Fates.{hangs_after}
-use Rattle.lk_trace_files.specs.Lines.{kept, with_end}
 use Rattle.lk_trace_files.specs.Verdicts.{EndsInput, if_hangs, verdict, verdict_from, verdict_in}
 use Rattle.lk_trace_files.specs.Verdicts.{verdict_of}
 use Rattle.lk_trace_files.specs.declared.course.Fate.{Fate}
 use Rattle.lk_trace_files.specs.declared.check.Ending.{Ending}
 use Rattle.lk_trace_files.specs.declared.check.Ending.TheVariants.{Refused, Faulty}
 use Rattle.lk_trace_files.specs.declared.check.Report.{Report}
-use Rattle.lk_trace_files.specs.declared.lines.Line.{Line}
 use Rattle.lk_trace_files.specs.declared.ordering.search.BadLog.{BadLog}
 use Rattle.lk_trace_files.specs.declared.ordering.search.BadLog.TheVariants as bad
-
--- none of the bytes is a line feed
-abbrev pub IsFlat : List ℕ → Type 0
-IsFlat bytes = All (λ b. is_line_feed b ≡ false) bytes
-
--- what was read ahead was taken, up to the line's end or whole
-pub record TakesPart (ended : Bool) (old new : Option (List ℕ)) (before after : Line) : Type 0 where
-  pub bytes : List ℕ
-  pub flat : IsFlat bytes
-  pub taken : Consumes old new (with_end ended bytes)
-  pub kept_is : kept after ≡ take 97 (kept before ++ bytes)
-  pub whole_is : after.whole ≡ (ended || before.whole)
-  pub some : ended ≡ false → 0 < length bytes
-
--- the bytes of a line so far
-pub record Taken (old new : Option (List ℕ)) (line : Line) (some : Bool) : Type 0 where
-  pub bytes : List ℕ
-  pub flat : IsFlat bytes
-  pub taken : Consumes old new bytes
-  pub kept_is : kept line ≡ take 97 bytes
-  pub whole_is : line.whole ≡ false
-  pub none : some ≡ false → bytes ≡ []
-  pub some_is : some ≡ true → 0 < length bytes
 
 -- a line that ends the text is reported, and no other line ends it
 abbrev pub Follows : ℕ → Event → Bool → Report → Type 0

@@ -7,9 +7,9 @@ ghost use Rattle.std.specs.List.{All};
 ghost use Rattle.std.specs.Prelude.{◌≡◌, ◌++◌, ◌∷◌, [], IfOk, IfSome, OnOk, length, vec_len};
 
 use crate::check::{Ending, Report, check_input, unread};
-use crate::failures::Failure;
 use crate::formats::{Format, put_front, put_report};
 use crate::progress::Progress;
+use lk_text::Failure;
 use std::alloc::{AllocError, Global};
 use std::fs;
 use std::io::{Read, Write};

@@ -9,11 +9,10 @@ mod telling;
 mod writing;
 
 use crate::course::Course;
-use crate::failures::Failure;
 use crate::formats::Format;
 use crate::progress::Progress;
-use crate::summary::Count;
 use lk_order::Order;
+use lk_text::{Count, Failure};
 use reading::take_logs;
 pub use search::{BadLog, Search, Sought, search_logs};
 use std::alloc::Global;

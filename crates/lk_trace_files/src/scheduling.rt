@@ -1,9 +1,9 @@
 //! The job of writing a trace without its values: the first two words of each move, and every other
 //! line as it is kept.
 
-use crate::failures::Failure;
-use crate::lines::{take_lines, write_waiting};
+use crate::waiting::write_waiting;
 use lk_replay::parts::{is_skipped, move_text};
+use lk_text::{Failure, take_lines};
 use lk_trace::{TextFault, read_header, read_line};
 use std::alloc::{AllocError, Global};
 use std::fmt::Write as _;

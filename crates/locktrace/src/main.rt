@@ -10,10 +10,12 @@ mod searches;
 
 use command_line::{Job, ParseFault, parse_words};
 use folders::files_named;
+use lk_replay::parts::Status;
 use lk_search_files::{count_space, cover_traces, find_run, write_tour};
+use lk_text::Failure;
 use lk_trace_files::{
-    Asked, CheckJob, Ending, Failure, OrderJob, Status, check_files, explain_input, order_logs,
-    worst, write_schedule,
+    Asked, CheckJob, Ending, OrderJob, check_files, explain_input, order_logs, worst,
+    write_schedule,
 };
 use searches::SearchJob;
 use std::alloc::{AllocError, Global};

@@ -8,9 +8,9 @@ ghost use Rattle.lk_trace_files.specs.invariants.{IsBadBeside, IsKept, IsOwn};
 
 use super::search::BadLog;
 use crate::course::said_of;
-use crate::lines::{Line, Lines};
 use crate::texts::Notes;
 use lk_order::{Log, LogFault, LogReader, MOST_THREADS, Shelf, Unfit};
+use lk_text::{Line, Lines};
 use std::alloc::{AllocError, Global};
 use std::io::{Error, ErrorKind, Read};
 use std::rt::Files;

@@ -7,10 +7,10 @@ use crate::course::Course;
 use crate::formats::{
     Format, Quoted, put_code, put_comments, put_note_fields, put_noted, put_refused,
 };
-use crate::summary::Count;
 use crate::texts::{Called, Notes, Shown, Standing, Wrong};
 use lk_locks::{LockKind, Move, StepKind};
 use lk_order::{Log, Order, Stuck};
+use lk_text::Count;
 use lk_trace::{Seen, TraceLine};
 use std::alloc::{AllocError, Global};
 use std::fmt;

@@ -2,11 +2,11 @@
 //! holds.
 
 use crate::course::{Course, Fate};
-use crate::failures::Failure;
-use crate::lines::write_waiting;
 use crate::texts::Shown;
+use crate::waiting::write_waiting;
 use lk_order::{Order, Piece, Pieces};
 use lk_replay::parts::{lock_text, move_text};
+use lk_text::Failure;
 use std::alloc::{AllocError, Global};
 use std::fmt::Write as _;
 use std::fs;

@@ -1,5 +1,5 @@
 -- What is left of the text ends as the text does.
-use Rattle.lk_trace_files.specs.Lines.{left}
+use Rattle.lk_text.specs.Lines.{left}
 use Rattle.lk_trace_files.specs.invariants.{ReadsText}
 use Rattle.lk_trace_files.proofs.check.check_input.Given as goal
 

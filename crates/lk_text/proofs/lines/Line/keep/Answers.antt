@@ -2,9 +2,9 @@
 use Rattle.std.proofs.Common.{◌≡◌, ◌≤◌, ◌-◌, ◌++◌, length, take, min, ap, sym, ◌∙◌, arith}
 use Rattle.std.proofs.Common.{length-take-le}
 use Rattle.std.proofs.lemmas.Slice.{take-put_mid}
-use Rattle.lk_trace_files.proofs.Keeping.{keeps}
-use Rattle.lk_trace_files.specs.Lines.{kept}
-use Rattle.lk_trace_files.proofs.lines.Line.keep.Goals as goal
+use Rattle.lk_text.proofs.Keeping.{keeps}
+use Rattle.lk_text.specs.Lines.{kept}
+use Rattle.lk_text.proofs.lines.Line.keep.Goals as goal
 
 pub returns-clause-kept : goal.returns-clause-kept
 returns-clause-kept c =

@@ -1,7 +1,7 @@
 -- Part by part, up to a line feed or the end of the input.
 use Rattle.std.proofs.Common.{◌≡◌, ◌∙◌, ap, true, false, Ok}
-use Rattle.lk_trace_files.proofs.Taken.{taken_none, line_taken, part_taken, last_taken, none_taken}
-use Rattle.lk_trace_files.proofs.lines.Lines.next_line.Goals as goal
+use Rattle.lk_text.proofs.Taken.{taken_none, line_taken, part_taken, last_taken, none_taken}
+use Rattle.lk_text.proofs.lines.Lines.next_line.Goals as goal
 
 pub loop-init : goal.loop-init
 loop-init g c = taken_none _ _ c.clear.ensures.kept c.clear.ensures.whole

@@ -1,7 +1,7 @@
 -- The bytes of the line so far.
-use Rattle.lk_trace_files.specs.Lines.{left}
-use Rattle.lk_trace_files.specs.invariants.{Taken}
-use Rattle.lk_trace_files.proofs.lines.Lines.next_line.Given as goal
+use Rattle.lk_text.specs.Lines.{left}
+use Rattle.lk_text.specs.invariants.{Taken}
+use Rattle.lk_text.proofs.lines.Lines.next_line.Given as goal
 
 abbrev pub invariant-loop : goal.invariant-loop
 invariant-loop g l =

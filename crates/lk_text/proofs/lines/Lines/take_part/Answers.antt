@@ -5,10 +5,10 @@ use Rattle.std.proofs.Common.{ℕ, refl}
 use Rattle.std.specs.Io.KnownBytes.{prepend_known}
 use Rattle.std.specs.Prelude.{slice_range}
 use Rattle.memchr.specs.Find.{IsFirstByte, is_byte}
-use Rattle.lk_trace_files.proofs.Taken.{part_to, part_all, range_rest, range_empty}
-use Rattle.lk_trace_files.specs.Lines.{kept}
-use Rattle.lk_trace_files.specs.invariants.{TakesPart}
-use Rattle.lk_trace_files.proofs.lines.Lines.take_part.Goals as goal
+use Rattle.lk_text.proofs.Taken.{part_to, part_all, range_rest, range_empty}
+use Rattle.lk_text.specs.Lines.{kept}
+use Rattle.lk_text.specs.invariants.{TakesPart}
+use Rattle.lk_text.proofs.lines.Lines.take_part.Goals as goal
 
 pub returns-in-Some : goal.returns-in-Some
 returns-in-Some g c =

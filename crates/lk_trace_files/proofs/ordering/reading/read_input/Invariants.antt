@@ -1,5 +1,5 @@
 -- So much of the log was read.
-use Rattle.lk_trace_files.specs.Lines.{left}
+use Rattle.lk_text.specs.Lines.{left}
 use Rattle.lk_trace_files.specs.invariants.{ReadsInput}
 use Rattle.lk_trace_files.proofs.ordering.reading.read_input.Given as goal
 
