@@ -21,6 +21,6 @@ pub use ending::{Ending, ending_of};
 pub use engine::{run, status_of};
 pub use output_buffer::OutputBuffer;
 pub use played::{Accepted, Played, replay};
-pub use report::{Report, report_of};
+pub use report::report_of;
 pub use schedule::{Line, ReadFault, Schedule, ScheduleReader, read_schedule};
 pub use theorems::every_report_is_as_promised;

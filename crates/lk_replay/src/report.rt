@@ -4,7 +4,6 @@
 //! one `Replay`: into a `Vec` here, and into a buffer that goes out in `run`.
 
 ghost use Rattle.std.specs.Prelude.{◌≡◌, ◌++◌, IfOk, OnOk};
-ghost use Rattle.lk_replay.specs.Ending.{ending_of};
 ghost use Rattle.lk_replay.specs.Report.{report_text};
 ghost use Rattle.lk_replay.specs.Whole.{IsReportOfText};
 
@@ -15,7 +14,6 @@ mod status;
 mod text;
 mod words;
 
-use crate::ending::Ending;
 use crate::read_schedule;
 use closings::Closing;
 pub use closings::fault_text;
@@ -37,14 +35,6 @@ const PLACE: usize = 4_096;
 // be refused at its first.
 const FIRST_LINES: usize = 1_024;
 
-/// A report, and how it ends.
-#[derive(Drop)]
-pub struct Report {
-    pub text: Vec<u8>,
-    pub ending: Ending,
-    ghost told: { ending ≡ ending_of text.items },
-}
-
 // Appends the lines that are printed, and returns the last one.
 fn print_into(out: &mut Vec<u8>, replay: &mut Replay<'_>) -> Result<Closing, AllocError>
     ensures lines { OnOk result (out.new.items ≡ out.old.items ++ replay.old.lines) }
@@ -60,42 +50,35 @@ fn print_into(out: &mut Vec<u8>, replay: &mut Replay<'_>) -> Result<Closing, All
     }
 }
 
-impl Report {
-    /// The report of a schedule text. A fault of the text is a report, not an error.
-    ///
-    /// # Errors
-    ///
-    /// There was no memory for the schedule or the report.
-    #[tactic(auto, unfolding(crate::specs::Report::report_text))]
-    pub fn of(alloc: Global, bytes: &[u8]) -> Result<Report, AllocError>
-        ensures { IfOk result (λ report. report.text.items ≡ report_text bytes.now) }
-    {
-        let mut text = Vec::new(alloc);
-        let closing = match read_schedule(alloc, bytes) {
-            Ok(schedule) => {
-                let longest = LONGEST_LINE + LONGEST_LISTED * usize::from(schedule.threads());
-                let lines = schedule.moves().len().min(FIRST_LINES);
-                text.reserve(longest * lines + LONGEST_LAST)?;
-                print_into(&mut text, &mut Replay::new(&schedule))?
-            }
-            Err(fault) => fault_text(fault)?,
-        };
-        text.extend_from_slice(closing.line.as_slice())?;
-        text.shrink_to_fit();
-        let ending = closing.ending;
-        Ok(Report { text, ending })
-    }
+// The bytes of the report.
+#[tactic(auto, unfolding(crate::specs::Report::report_text))]
+fn print_report(alloc: Global, bytes: &[u8]) -> Result<Vec<u8>, AllocError>
+    ensures { IfOk result (λ report. report.items ≡ report_text bytes.now) }
+{
+    let mut text = Vec::new(alloc);
+    let closing = match read_schedule(alloc, bytes) {
+        Ok(schedule) => {
+            let longest = LONGEST_LINE + LONGEST_LISTED * usize::from(schedule.threads());
+            let lines = schedule.moves().len().min(FIRST_LINES);
+            text.reserve(longest * lines + LONGEST_LAST)?;
+            print_into(&mut text, &mut Replay::new(&schedule))?
+        }
+        Err(fault) => fault_text(fault)?,
+    };
+    text.extend_from_slice(closing.line.as_slice())?;
+    text.shrink_to_fit();
+    Ok(text)
 }
 
-/// The text of a `Report` alone. The report of a schedule shows the legal history that its moves
-/// leave.
+/// The report of a schedule text, which shows the legal history that its moves leave. A fault of
+/// the text is a report, not an error.
 ///
 /// # Errors
 ///
-/// As of `Report::of`.
+/// There was no memory for the schedule or the report.
 pub fn report_of(alloc: Global, bytes: &[u8]) -> Result<Vec<u8>, AllocError>
     ensures report { IfOk result (λ report. report.items ≡ report_text bytes.now) }
     ensures promised { IfOk result (λ report. IsReportOfText bytes.now report.items) }
 {
-    Ok(Report::of(alloc, bytes)?.text)
+    print_report(alloc, bytes)
 }

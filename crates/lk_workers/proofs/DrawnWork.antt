@@ -7,7 +7,6 @@ use Rattle.std.proofs.lemmas.Bool.{cases_lt}
 use Rattle.std.proofs.Math.Nat.{add-mul}
 use Rattle.std.proofs.lemmas.List.Elements.{filter-append}
 use mathlib.Core.List.{map-append}
-use Rattle.lk_replay.specs.declared.report.Report.{Report}
 use Rattle.lk_workers.specs.Counting.{occurrences, indicator, IsEachBelow}
 use Rattle.lk_workers.proofs.Below.{indicator_here}
 use Rattle.lk_workers.proofs.Sums.{sum_over-append}
@@ -85,7 +84,7 @@ each_once texts ps drawn word reports through_all each = (
 
 -- what two groups of workers bring back is what all of them bring back
 pub done_both : (c : Counter) (texts : List (Vec ℕ Global)) (workers half rest : ℕ)
-    (front back s : Drawer) (ps qs all : List (ℕ × Report))
+    (front back s : Drawer) (ps qs all : List (ℕ × Vec ℕ Global))
     → half + rest ≡ workers
     → IsDone c texts half front ps → IsDone c texts rest back qs
     → s ≡ drawer c (front.drawn ++ back.drawn) (front.left + back.left) → all ≡ ps ++ qs
@@ -98,7 +97,7 @@ done_both c texts workers half rest front back s ps qs all sum f b seat reports 
     (drawer c (front.drawn ++ back.drawn) (front.left + back.left)) (ps ++ qs) = (
       (refl, refl),
       omega (arith, k, long, f.1, b.1),
-      together (λ p. (p.0, p.1.text.items))
+      together (λ p. (p.0, p.1.items))
           (bytes_of texts) ps qs front.drawn back.drawn f.2 b.2,
       through_both (bytes_of texts) front.drawn back.drawn f.3,
     ) in rw (seat, reports) whole

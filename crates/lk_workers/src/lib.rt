@@ -1,8 +1,8 @@
-//! Many schedules at once, and a ticket lock that threads of the caller's own run on.
+//! Many schedules at once, and a ticket lock that the caller's own threads step through.
 //!
-//! Both are built over a few shared words and seats. A thread steps with a seat of its own, each
-//! call is one atomic operation on one word, and an invariant of the words and all seats holds
-//! between any two of them. No call waits, locks or needs unsafe code.
+//! Both are built over a few shared words and seats. A thread steps with a seat of its own. A step
+//! is one atomic operation on one word, and an invariant of the words and all seats holds between
+//! any two steps. No call waits, locks or needs unsafe code.
 #![tactic(auto)]
 
 mod amount;
@@ -20,4 +20,4 @@ pub use live::laws::{
     take_is_the_add,
 };
 pub use live::{LivePhase, LiveSeat, LiveTicket};
-pub use many::{replay_many, report_many};
+pub use many::replay_many;

@@ -3,10 +3,10 @@
 //! Each worker draws until its number is not below the count of texts. Its numbers rise, so it
 //! draws once more at most than there are texts, and one such share for each worker is all the
 //! draws there are. When all seats are joined again, the numbers below the word were drawn once
-//! each. So each report has one place, and no place stays empty.
+//! each. So each report has one place, and each place gets its report.
 
 ghost use Rattle.std.specs.Prelude.{◌≡◌, ℕ, ◌+◌, ◌-◌, ◌*◌, ◌<◌, ◌≤◌, ◌++◌, length, map, All};
-ghost use Rattle.std.specs.Prelude.{None, option_map, IfOk};
+ghost use Rattle.std.specs.Prelude.{[], IfOk};
 ghost use Rattle.std.specs.Thread.{IsSync};
 ghost use Rattle.lk_replay.specs.Report.{report_text};
 ghost use Rattle.lk_workers.specs.Drawing.{IsSeatOf, drawer};
@@ -15,12 +15,12 @@ ghost use Rattle.lk_workers.specs.invariants.Collected.{IsEachOnce, placed};
 
 use crate::draws::{DrawSeat, Draws};
 use crate::gate::Gate;
-use lk_replay::Report;
+use lk_replay::report_of;
 use std::alloc::{AllocError, Global};
 use std::thread::{Threads, join};
 
 // A text's number and its report.
-type Numbered = (usize, Report);
+type Numbered = (usize, Vec<u8>);
 
 // A seat that comes back, and the reports of the texts whose numbers it drew.
 type Done = (DrawSeat, Vec<Numbered>);
@@ -37,7 +37,7 @@ fn work<G: Gate>(
     ensures { IfOk result (λ r. IsDone draws.now texts.now 1 r.0 r.1.items) }
 {
     let mut reports = Vec::new(alloc);
-    for _ in 0..texts.len() + 1 {
+    loop {
         let number = draws.draw(&mut seat);
         if number >= texts.len() as u64 {
             return Ok((seat, reports));
@@ -45,11 +45,10 @@ fn work<G: Gate>(
         let number = number as usize;
         // No `?` may come between the gate's two calls.
         gate.begin(number as u32);
-        let report = Report::of(alloc, texts[number].as_slice());
+        let report = report_of(alloc, texts[number].as_slice());
         gate.end(number as u32);
         reports.push((number, report?))?;
     }
-    unreachable!()
 }
 
 // Leaves the seat with the draws of `half` of its workers, and gives those of the others to another
@@ -136,14 +135,14 @@ fn place_all(
     alloc: Global,
     texts: &[Vec<u8>],
     reports: Vec<Numbered>,
-) -> Result<Vec<Option<Report>>, AllocError>
+) -> Result<Vec<Vec<u8>>, AllocError>
     requires { All (λ p. p.0 < length texts.now) reports.items }
-    ensures { IfOk result (λ places. map (option_map (λ r. r.text.items)) places.items
-        ≡ placed (map (λ _. None) texts.now) (numbered reports.items)) }
+    ensures { IfOk result (λ places. bytes_of places.items
+        ≡ placed (map (λ _. []) texts.now) (numbered reports.items)) }
 {
-    let mut places: Vec<_> = texts.iter().map(|_| None).collect(alloc)?;
+    let mut places: Vec<_> = texts.iter().map(|_| Vec::new(alloc)).collect(alloc)?;
     for (number, report) in reports {
-        places[number] = Some(report);
+        places[number] = report;
     }
     Ok(places)
 }
@@ -157,28 +156,6 @@ fn place_all(
 ///
 /// Memory was refused. The other workers go on to their end, all are joined, and their reports are
 /// dropped.
-pub fn report_many<G: Gate, R: Threads + Sync>(
-    rt: &R,
-    alloc: Global,
-    texts: &[Vec<u8>],
-    workers: u8,
-    gate: &G,
-) -> Result<Vec<Report>, AllocError>
-    requires workers { (1 ≤ workers) × (workers ≤ 8) }
-    requires texts { length texts.now ≤ 65536 }
-    ensures { IfOk result (λ reports. map (λ r. r.text.items) reports.items
-        ≡ map (λ t. report_text t.items) texts.now) }
-{
-    let reports = draw_all(rt, alloc, texts, workers, gate)?;
-    let places = place_all(alloc, texts, reports)?;
-    places.into_iter().flatten().collect(alloc)
-}
-
-/// The texts of `report_many` alone.
-///
-/// # Errors
-///
-/// As of `report_many`.
 pub fn replay_many<G: Gate, R: Threads + Sync>(
     rt: &R,
     alloc: Global,
@@ -191,6 +168,6 @@ pub fn replay_many<G: Gate, R: Threads + Sync>(
     ensures { IfOk result
         (λ reports. map (λ r. r.items) reports.items ≡ map (λ t. report_text t.items) texts.now) }
 {
-    let reports = report_many(rt, alloc, texts, workers, gate)?;
-    reports.into_iter().map(|report| report.text).collect(alloc)
+    let reports = draw_all(rt, alloc, texts, workers, gate)?;
+    place_all(alloc, texts, reports)
 }

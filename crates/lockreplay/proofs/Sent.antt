@@ -7,25 +7,20 @@ use Rattle.lk_replay.specs.declared.devices.RunFault.{RunFault}
 use Rattle.lk_replay.specs.declared.devices.RunFault.TheVariants.{Read, Write, OutOfMemory}
 use Rattle.lk_replay.specs.Devices.{AppendsPrefix, IfErrOf}
 use Rattle.lk_replay.specs.Report.{report_text}
-use Rattle.lk_replay.specs.declared.report.Report.{Report}
 use Rattle.lk_workers.specs.Batch.{batch_text_of}
-use Rattle.lockreplay.specs.Batches.{IsCutBatch}
+use Rattle.lockreplay.specs.Jobs.{EndsBatch}
 use Rattle.lockreplay.specs.Faults.{fault_from}
 
 -- the bytes of each
 abbrev pub bytes_of : List (Vec ℕ Global) → List (List ℕ)
 bytes_of = map (λ v. v.items)
 
--- the texts of reports
-abbrev pub texts_of : List Report → List (List ℕ)
-texts_of = map (λ r. r.text.items)
-
 -- the reports, if the slices that were handed on are the lists
-pub same_reports : (texts given : List (Vec ℕ Global)) (reports lent : List Report)
-    → given ≡ texts → lent ≡ reports → texts_of reports ≡ map (λ t. report_text t.items) given
-    → texts_of lent ≡ map report_text (bytes_of texts)
+pub same_reports : (texts given reports lent : List (Vec ℕ Global))
+    → given ≡ texts → lent ≡ reports → bytes_of reports ≡ map (λ t. report_text t.items) given
+    → bytes_of lent ≡ map report_text (bytes_of texts)
 same_reports texts given reports lent as_texts as_reports replayed =
-    ap texts_of as_reports ∙ replayed ∙ ap (map (λ t. report_text t.items)) as_texts
+    ap bytes_of as_reports ∙ replayed ∙ ap (map (λ t. report_text t.items)) as_texts
     ∙ sym (map-map report_text (λ t. t.items) texts)
 
 -- what a batch leaves whose sending ends with this fault
@@ -34,7 +29,7 @@ pub cut_batch : (fault : RunFault) (texts : List (List ℕ)) (reports : List (Li
     → length texts ≡ count → reports ≡ map report_text texts
     → IfErrOf {T = Unit {0}} (Err fault) Write (AppendsPrefix old new (batch_text_of reports))
     → IfErrOf {T = Unit {0}} (Err fault) OutOfMemory (Keeps old new) → fault ≢ Read
-    → IsCutBatch count old new (fault_from fault)
+    → EndsBatch count old new (Err (fault_from fault))
 cut_batch Read texts reports count old new size are prefix no_memory unread = absurd (unread refl)
 cut_batch Write texts reports count old new size are prefix no_memory unread = (
   texts,

@@ -1,10 +1,8 @@
--- Definitions: what the program leaves on standard output, its message for standard error, and its
--- status. This project's own.
-use Rattle.std.specs.Prelude.{◌≡◌, ℕ, List, [], string_bytes, Option, Result, Ok, Err}
-use Rattle.std.specs.Prelude.{MatchResult}
+-- Definitions: what the program leaves on standard output, and its status or its message for
+-- standard error.
+use Rattle.std.specs.Prelude.{◌≡◌, ℕ, List, string_bytes, Option, Result, Ok, Err}
 use Rattle.std.specs.Io.KnownBytes.{Appends, Keeps}
 use Rattle.lk_replay.specs.Devices.{AppendsPrefix}
-use Rattle.lockreplay.specs.declared.answers.Ended.{Ended}
 use Rattle.lockreplay.specs.declared.answers.Message.{Message}
 use Rattle.lockreplay.specs.declared.answers.Message.TheVariants as message
 use Rattle.lockreplay.specs.declared.command_line.Job.{Job}
@@ -17,29 +15,35 @@ use Rattle.lockreplay.specs.Jobs.{EndsJob}
 
 -- the bytes of a message
 abbrev pub message_bytes : Message → List ℕ
-message_bytes message.Nothing = []
 message_bytes (message.Fault fault) = fault_line fault
 message_bytes (message.Usage text) = string_bytes text
 
--- a status is what it ends with, and a fault has its status and its line
-abbrev pub ended_by : Result ℕ ProgramFault → Ended
-ended_by (Ok status) = record { status = status; message = message.Nothing }
-ended_by (Err fault) = record { status = fault_status fault; message = message.Fault fault }
+-- the status of a program that ends with it
+abbrev pub message_status : Message → ℕ
+message_status (message.Fault fault) = fault_status fault
+message_status (message.Usage text) = 2
 
--- what was asked for leaves on standard output, and the program's end. Words that ask for nothing
--- are answered by the parser's text.
+-- help was shown, or the output failed
+abbrev pub EndsHelp : List ℕ → Option (List ℕ) → Option (List ℕ) → Result ℕ ProgramFault → Type 0
+EndsHelp text old new (Ok status) = (status ≡ 0) × Appends old new text
+EndsHelp text old new (Err fault) = (fault ≡ Output) × AppendsPrefix old new text
+
+-- P of a status, or of the fault that the message tells
+abbrev pub EndsWith : (Result ℕ ProgramFault → Type 0) → Result ℕ Message → Type 0
+EndsWith P (Ok status) = P (Ok status)
+EndsWith P (Err (message.Fault fault)) = P (Err fault)
+EndsWith P (Err (message.Usage text)) = ⊥
+
+-- what the program leaves on standard output, with its status or its message. Words that ask for
+-- nothing are answered by the parser's text.
 abbrev pub EndsProgram : Result Job ParseFault → Option (List ℕ) → Option (List ℕ) → Option (List ℕ)
-    → Ended → Type 0
-EndsProgram (Ok job) input old new ended =
-    (r : Result ℕ ProgramFault) × EndsJob job input old new r × (ended ≡ ended_by r)
-EndsProgram (Err (parse.Help text)) input old new ended =
-    (r : Result ℕ ProgramFault) × MatchResult r
-    (λ status. (status ≡ 0) × Appends old new (string_bytes text))
-    (λ fault. (fault ≡ Output) × AppendsPrefix old new (string_bytes text))
-    × (ended ≡ ended_by r)
-EndsProgram (Err (parse.Usage text)) input old new ended =
-    (ended ≡ record { status = 2; message = message.Usage text }) × Keeps old new
-EndsProgram (Err parse.TooManyFiles) input old new ended =
-    (ended ≡ ended_by (Err TooManyFiles)) × Keeps old new
-EndsProgram (Err parse.OutOfMemory) input old new ended =
-    (ended ≡ ended_by (Err Memory)) × Keeps old new
+    → Result ℕ Message → Type 0
+EndsProgram (Ok job) input old new r = EndsWith (EndsJob job input old new) r
+EndsProgram (Err (parse.Help text)) input old new r =
+    EndsWith (EndsHelp (string_bytes text) old new) r
+EndsProgram (Err (parse.Usage text)) input old new r =
+    (r ≡ Err (message.Usage text)) × Keeps old new
+EndsProgram (Err parse.TooManyFiles) input old new r =
+    (r ≡ Err (message.Fault TooManyFiles)) × Keeps old new
+EndsProgram (Err parse.OutOfMemory) input old new r =
+    (r ≡ Err (message.Fault Memory)) × Keeps old new

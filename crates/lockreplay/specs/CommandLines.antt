@@ -1,5 +1,5 @@
--- Definitions: the plain command lines, and what each asks for. This project's own. What every
--- other line comes to, as one with its options in another order, is the parser's own.
+-- Definitions: the plain command lines, and what each asks for. The parser decides what every other
+-- line comes to, such as one with its options in another order.
 use Rattle.std.specs.Prelude.{◌≡◌, ◌⊎◌, ◌+◌, ◌<◌, ◌≤◌, ◌==◌, not, ℕ, Bool, true, List, [], ◌∷◌}
 use Rattle.std.specs.Prelude.{length, map, codes, string_bytes, Result, Ok, Err}
 use Rattle.lockreplay.specs.declared.command_line.Job.{Job}

@@ -1,5 +1,4 @@
--- Definitions: the line and the status of each fault, and what a fault of a run is to the program.
--- This project's own.
+-- Definitions: the line and the status of each fault, and the program's fault for one of a run.
 use Rattle.std.specs.Prelude.{ℕ, List, [], ◌++◌, codes, decimal}
 use Rattle.lk_replay.specs.declared.devices.RunFault.{RunFault}
 use Rattle.lk_replay.specs.declared.devices.RunFault.TheVariants as run

@@ -26,7 +26,7 @@ pub const MOST_FILES: usize = 65_536;
 /// The most workers of a batch.
 pub const MOST_WORKERS: u8 = 8;
 
-/// `clap` refuses such a batch already, but says it of no subcommand in a contract.
+/// `clap` refuses such a batch already, but no contract of it says so of a subcommand.
 const UNFIT_BATCH: &str = "error: a batch takes from 1 to 8 workers, and one file at least\n";
 
 /// What the program is asked to do.
@@ -109,7 +109,7 @@ fn program_command<'a>(alloc: Global) -> Result<Command<'a>, AllocError>
         .subcommand(batch_command(alloc)?)
 }
 
-/// The texts as texts of the program's own.
+/// Copies of the texts.
 fn copied(alloc: Global, texts: &[&str]) -> Result<Vec<String>, AllocError>
     ensures { IfOk result (λ copies. map string_bytes copies.items ≡ map (λ t. t.now) texts.now) }
 {
@@ -120,7 +120,25 @@ fn copied(alloc: Global, texts: &[&str]) -> Result<Vec<String>, AllocError>
     Ok(copies)
 }
 
-/// The batch that the parser found. The limit on files is tried before anything is copied.
+/// The batch of these files by this many workers. The limit on files is tried before anything is
+/// copied.
+fn batch_of(alloc: Global, workers: u8, files: &[&str]) -> Result<Job, ParseFault>
+    ensures fits { FitsJob result }
+    ensures plain { 1 ≤ workers → workers ≤ 8 → 0 < length files.now
+        → AnswersBatch workers (map (λ f. f.now) files.now) result }
+    ensures unfit { IsUnfit workers → IsErr result }
+{
+    if files.is_empty() || workers == 0 || workers > MOST_WORKERS {
+        return Err(ParseFault::Usage(String::from_str(alloc, UNFIT_BATCH)?));
+    }
+    if files.len() > MOST_FILES {
+        return Err(ParseFault::TooManyFiles);
+    }
+    let files = copied(alloc, files)?;
+    Ok(Job::Batch { workers, files })
+}
+
+/// The batch that the parser found.
 fn batch_given(alloc: Global, batch: &ArgMatches<'_>) -> Result<Job, ParseFault>
     ensures fits { FitsJob result }
     ensures plain { (workers : ℕ) → (files : List Word)
@@ -132,17 +150,10 @@ fn batch_given(alloc: Global, batch: &ArgMatches<'_>) -> Result<Job, ParseFault>
 {
     let workers = batch.get_one::<u8>("workers").unwrap_or(0);
     let given = batch.get_strs("files").unwrap_or(&[]);
-    if given.is_empty() || workers == 0 || workers > MOST_WORKERS {
-        return Err(ParseFault::Usage(String::from_str(alloc, UNFIT_BATCH)?));
-    }
-    if given.len() > MOST_FILES {
-        return Err(ParseFault::TooManyFiles);
-    }
-    let files = copied(alloc, given)?;
-    Ok(Job::Batch { workers, files })
+    batch_of(alloc, workers, given)
 }
 
-/// What the parser's error is to the program.
+/// The program's fault for an error of the parser.
 fn fault_of(alloc: Global, error: &clap::Error) -> ParseFault
     ensures { kind_of error.now ≡ ErrorKind.OutOfMemory → result ≡ ParseFault.OutOfMemory }
 {
@@ -178,8 +189,8 @@ pub fn parse_words(alloc: Global, words: &[String]) -> Result<Job, ParseFault>
         Ok(matches) => matches,
         Err(error) => return Err(fault_of(alloc, &error)),
     };
-    match matches.subcommand() {
-        Some((name, batch)) if name == "batch" => batch_given(alloc, batch),
-        _ => Ok(Job::Replay),
+    match matches.subcommand_matches("batch") {
+        Some(batch) => batch_given(alloc, batch),
+        None => Ok(Job::Replay),
     }
 }

@@ -3,6 +3,7 @@
 ghost use Rattle.std.specs.Prelude.{◌≡◌};
 ghost use Rattle.lockreplay.specs.Faults.{fault_from, fault_status, fault_words};
 
+use itoa::Buffer;
 use lk_replay::RunFault;
 use lk_replay::parts::Status;
 use thiserror::Error;
@@ -21,7 +22,7 @@ pub enum ProgramFault {
     /// A batch of more than 65,536 files.
     TooManyFiles,
     /// The file of this number, from 1, cannot be opened or read.
-    #[error("{}{}", self.text(), .0)]
+    #[error("{}{}", self.text(), Buffer::new().format(*.0))]
     File(u32),
 }
 

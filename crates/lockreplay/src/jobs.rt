@@ -1,16 +1,15 @@
 //! The two jobs of the program, over any devices.
 
-ghost use Rattle.std.specs.Prelude.{◌≡◌, if◌then◌else◌, ◌⊎◌, ◌≤◌, length, map, IfOk, IfErr};
-ghost use Rattle.lockreplay.specs.Batches.{EndsBatch, IsFileFault, status_of_reports};
-ghost use Rattle.lockreplay.specs.Replays.{EndsReplay};
-ghost use Rattle.lockreplay.specs.Jobs.{EndsJob, IsFitJob};
+ghost use Rattle.std.specs.Prelude.{◌≡◌, ◌⊎◌, ◌≤◌, length, map, IfOk, IfErr};
+ghost use Rattle.lockreplay.specs.Jobs.{EndsBatch, EndsJob, EndsReplay, IsFileFault, IsFitJob};
+ghost use Rattle.lockreplay.specs.Jobs.{status_of_reports};
 
 use crate::command_line::Job;
 use crate::faults::ProgramFault;
 use crate::sending::send_reports;
 use lk_replay::parts::Status;
-use lk_replay::{Ending, Report, RunFault, read_text, run, status_of};
-use lk_workers::{OpenGate, report_many};
+use lk_replay::{Ending, RunFault, ending_of, read_text, run, status_of};
+use lk_workers::{OpenGate, replay_many};
 use std::alloc::Global;
 use std::fs;
 use std::io::{Read, Write};
@@ -26,10 +25,8 @@ pub fn replay_input<R: Read, W: Write>(
     ensures { EndsReplay (R.remaining input.old) (W.contents output.old)
         (W.contents output.new) result }
 {
-    let ran = run(alloc, input, output);
-    let status = status_of(&ran);
-    ran?;
-    Ok(status)
+    let ending = run(alloc, input, output)?;
+    Ok(status_of(&Ok(ending)))
 }
 
 /// The text of the file of this number, from 1.
@@ -71,27 +68,19 @@ fn file_texts<R: Files>(
     Ok(texts)
 }
 
-// The status of a batch of which each report is accepted, or not.
-fn status_if(accepted: bool) -> u8
-    ensures { result ≡ if accepted then 0 else 1 }
-{
-    let status = if accepted {
-        Status::Accepted
-    } else {
-        Status::Refused
-    };
-    status as u8
-}
-
-/// The status of a batch with these reports: 0 if every move of every schedule was accepted, as
-/// if there is no report, else 1.
-pub fn batch_status(reports: &[Report]) -> u8
-    ensures { result ≡ status_of_reports (map (λ r. r.text.items) reports.now) }
+/// The status of a batch with these reports: 0 if every move of every schedule was accepted or
+/// there is no report, else 1.
+pub fn batch_status(reports: &[Vec<u8>]) -> u8
+    ensures { result ≡ status_of_reports (map (λ r. r.items) reports.now) }
 {
     let accepted = reports
         .iter()
-        .all(|report| report.ending == Ending::Accepted);
-    status_if(accepted)
+        .all(|report| ending_of(report.as_slice()) == Ending::Accepted);
+    if accepted {
+        Status::Accepted as u8
+    } else {
+        Status::Refused as u8
+    }
 }
 
 /// Replays the schedule of each file by this many workers, writes the reports in the order of the
@@ -108,7 +97,7 @@ pub fn replay_files<R: Files + Threads + Sync, W: Write>(
     ensures { EndsBatch (length files.now) (W.contents output.old) (W.contents output.new) result }
 {
     let texts = file_texts(rt, alloc, files)?;
-    let Ok(reports) = report_many(rt, alloc, &texts, workers, &OpenGate) else {
+    let Ok(reports) = replay_many(rt, alloc, &texts, workers, &OpenGate) else {
         return Err(ProgramFault::Memory);
     };
     send_reports(alloc, output, &reports)?;

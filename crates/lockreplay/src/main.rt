@@ -1,9 +1,9 @@
 //! `lockreplay`, the command line: one schedule from standard input, or many from files.
 //!
 //! Reports and help go to standard output, every other line to standard error. `main` hands its
-//! devices to `answer`, whose contract says what goes where, writes the message and hands back the
-//! status that it gives: by `?` out of `main` a fault would be printed in Rust's form, and end the
-//! program with the status of a refused schedule.
+//! devices to `answer`, whose contract says what goes where, and writes the message: by `?` out of
+//! `main` a fault would be printed in Rust's form, and end the program with the status of a refused
+//! schedule.
 #![tactic(auto)]
 
 ghost use Rattle.lockreplay.specs.Jobs.{FitsJob};
@@ -20,7 +20,7 @@ use std::env;
 use std::io::ErrorKind;
 use std::process::ExitCode;
 
-/// Of words that are not UTF-8 the parser can read none.
+/// The parser reads UTF-8 alone.
 const FOREIGN_WORDS: &str = "lockreplay: the words are not UTF-8 text\n";
 
 /// The job that the words after the program's name ask for.
@@ -43,8 +43,13 @@ fn main(rt: HostRuntime) -> ExitCode {
     let asked = job_given(&rt);
     let mut input = rt.stdin();
     let mut output = rt.stdout();
-    let ended = answer(&rt, rt.alloc(), asked, &mut input, &mut output);
-    // If standard error fails, the status alone says how it ended.
-    let _ = ended.message.write(&mut rt.stderr());
-    ExitCode::from(ended.status)
+    let status = match answer(&rt, rt.alloc(), asked, &mut input, &mut output) {
+        Ok(status) => status,
+        Err(message) => {
+            // If standard error fails, the status alone says how it ended.
+            let _ = message.write(&mut rt.stderr());
+            message.status()
+        }
+    };
+    ExitCode::from(status)
 }

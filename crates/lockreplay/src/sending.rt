@@ -7,32 +7,33 @@
 
 ghost use Rattle.std.specs.Prelude.{◌≡◌, ◌≢◌, ◌++◌, map, IfErr, IfOk, OnErr, OnOk};
 ghost use Rattle.std.specs.Io.KnownBytes.{Appends, Keeps};
+ghost use Rattle.std.specs.List.{flat_map};
 ghost use Rattle.lk_replay.specs.Devices.{AppendsPrefix, IfErrOf, Passes};
-ghost use Rattle.lk_workers.specs.Batch.{batch_text_of, file_line};
+ghost use Rattle.lk_workers.specs.Batch.{batch_text_of};
 
 use itoa::Buffer;
-use lk_replay::{OutputBuffer, Report, RunFault};
+use lk_replay::{OutputBuffer, RunFault};
 use std::alloc::Global;
 use std::io::Write;
 
-// Passes the line before the report of this number.
-fn push_file_line<W: Write>(
+// Passes the texts, one after another.
+fn push_all<W: Write>(
     waiting: &mut OutputBuffer,
     output: &mut W,
-    number: usize,
+    texts: &[&[u8]],
 ) -> Result<(), RunFault>
     ensures passed { OnOk result
-        (Passes waiting.old (W.contents output.old) (file_line number) waiting.new
+        (Passes waiting.old (W.contents output.old) (flat_map (λ t. t.now) texts.now) waiting.new
         (W.contents output.new)) }
     ensures prefix { OnErr result
         (AppendsPrefix (W.contents output.old) (W.contents output.new)
-        (waiting.old ++ file_line number)) }
+        (waiting.old ++ flat_map (λ t. t.now) texts.now)) }
     ensures fault { IfErr result (λ e. e ≡ RunFault.Write) }
 {
-    let mut buffer = Buffer::new();
-    waiting.push(output, b"file ")?;
-    waiting.push(output, buffer.format(number).as_bytes())?;
-    waiting.push(output, b"\n")
+    for text in texts {
+        waiting.push(output, *text)?;
+    }
+    Ok(())
 }
 
 /// Sends the reports in order, each after the line `file K`, K from 1.
@@ -44,14 +45,14 @@ fn push_file_line<W: Write>(
 pub fn send_reports<W: Write>(
     alloc: Global,
     output: &mut W,
-    reports: &[Report],
+    reports: &[Vec<u8>],
 ) -> Result<(), RunFault>
     ensures written { OnOk result
         (Appends (W.contents output.old) (W.contents output.new)
-        (batch_text_of (map (λ r. r.text.items) reports.now))) }
+        (batch_text_of (map (λ r. r.items) reports.now))) }
     ensures prefix { IfErrOf result RunFault.Write
         (AppendsPrefix (W.contents output.old) (W.contents output.new)
-        (batch_text_of (map (λ r. r.text.items) reports.now))) }
+        (batch_text_of (map (λ r. r.items) reports.now))) }
     ensures no_memory { IfErrOf result RunFault.OutOfMemory
         (Keeps (W.contents output.old) (W.contents output.new)) }
     ensures fault { IfErr result (λ e. e ≢ RunFault.Read) }
@@ -60,8 +61,13 @@ pub fn send_reports<W: Write>(
         return Err(RunFault::OutOfMemory);
     };
     for (place, report) in reports.iter().enumerate() {
-        push_file_line(&mut waiting, output, place + 1)?;
-        waiting.push(output, &report.text)?;
+        let mut digits = Buffer::new();
+        let number = digits.format(place + 1).as_bytes();
+        push_all(
+            &mut waiting,
+            output,
+            &[b"file ", number, b"\n", report.as_slice()],
+        )?;
     }
     waiting.send_whole(output)
 }

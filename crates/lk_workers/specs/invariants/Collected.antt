@@ -1,9 +1,8 @@
 -- Invariants. What workers that draw the numbers of texts bring back.
-use Rattle.std.specs.Prelude.{Option, Some, Vec, slice_set, ◌∷◌, ◌≡◌, ℕ, ◌+◌, ◌*◌, ◌<◌, ◌≤◌, List}
+use Rattle.std.specs.Prelude.{Vec, slice_set, ◌∷◌, ◌≡◌, ℕ, ◌+◌, ◌*◌, ◌<◌, ◌≤◌, List}
 use Rattle.std.specs.Prelude.{[], map, length, filter, ltb, slice_index_or}
 use Rattle.std.specs.declared.alloc.Global.{Global}
 use Rattle.lk_replay.specs.Report.{report_text}
-use Rattle.lk_replay.specs.declared.report.Report.{Report}
 use Rattle.lk_workers.specs.Counting.{occurrences}
 use Rattle.lk_workers.specs.Drawing.{Counter, Drawer, IsSeatOf}
 
@@ -11,8 +10,8 @@ use Rattle.lk_workers.specs.Drawing.{Counter, Drawer, IsSeatOf}
 abbrev pub bytes_of : List (Vec ℕ Global) → List (List ℕ)
 bytes_of texts = map (λ t. t.items) texts
 
-abbrev pub numbered : List (ℕ × Report) → List (ℕ × List ℕ)
-numbered reports = map (λ p. (p.0, p.1.text.items)) reports
+abbrev pub numbered : List (ℕ × Vec ℕ Global) → List (ℕ × List ℕ)
+numbered reports = map (λ p. (p.0, p.1.items)) reports
 
 -- the report of text k
 abbrev pub report_at : List (List ℕ) → ℕ → List ℕ
@@ -35,7 +34,7 @@ MayWork c texts workers s =
 
 -- a seat that comes back from these many workers, with the reports of all texts whose numbers they
 -- drew, until there was none
-abbrev pub IsDone : Counter → List (Vec ℕ Global) → ℕ → Drawer → List (ℕ × Report) → Type 0
+abbrev pub IsDone : Counter → List (Vec ℕ Global) → ℕ → Drawer → List (ℕ × Vec ℕ Global) → Type 0
 IsDone c texts workers s reports =
     IsSeatOf c s × (length s.drawn + s.left ≡ workers * (length texts + 1))
     × (numbered reports ≡ reports_of (bytes_of texts) s.drawn) × IsThrough (bytes_of texts) s.drawn
@@ -47,6 +46,6 @@ IsEachOnce texts ps =
     × ((k : ℕ) → k < length texts → occurrences k (filter (λ j. ltb j (length texts)) ks) ≡ 1)
 
 -- the reports put into their places
-abbrev pub placed : List (Option (List ℕ)) → List (ℕ × List ℕ) → List (Option (List ℕ))
-placed os [] = os
-placed os (p ∷ ps) = placed (slice_set os p.0 (Some p.1)) ps
+abbrev pub placed : List (List ℕ) → List (ℕ × List ℕ) → List (List ℕ)
+placed places [] = places
+placed places (p ∷ ps) = placed (slice_set places p.0 p.1) ps

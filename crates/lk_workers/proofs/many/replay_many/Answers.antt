@@ -1,11 +1,12 @@
-use Rattle.std.proofs.Common.{◌≡◌, ◌∙◌, ap, map, rules}
+use Rattle.std.proofs.Common.{◌∙◌}
 use Rattle.std.proofs.lemmas.Result.{IfOk-weaker}
-use Rattle.std.proofs.lemmas.Simd.{map-map}
+use Rattle.lk_workers.proofs.Places.{fits, finished}
 use Rattle.lk_workers.proofs.many.replay_many.Goals as goal
+
+pub place_all-requires : goal.place_all-requires
+place_all-requires g c = fits c.args.texts.now _ c.in_ok-reports.ensures
 
 pub returns : goal.returns
 returns g c =
-    let reports = c.in_ok-reports.reports.items in
-    IfOk-weaker c.collect.result (λ v. v.items ≡ map (λ r. r.text) reports) _
-    (λ v e. ap (map (λ t. t.items)) e ∙ map-map (λ t. t.items) (λ r. r.text) reports
-    ∙ c.in_ok-reports.ensures) (search rules)
+    IfOk-weaker c.place_all.result _ _
+    (λ v e. e ∙ finished c.args.texts.now _ c.in_ok-reports.ensures) c.place_all.ensures

@@ -8,14 +8,14 @@ pub returns-then-number-texts : goal.returns-then-number-texts
 returns-then-number-texts g c =
     let texts = bytes_of c.args.texts.now in
     let n = c.draw-number.result in
-    let i = c.loop.invariant in
-    let drawn = c.loop.seat.drawn in
+    let i = c.loop-alloc.invariant in
+    let drawn = c.loop-alloc.seat.drawn in
     let far : length texts ≤ n =
     (let t = c.if-number-texts.true in
     omega (arith, length-map c.args.texts.now (λ t. t.items))) in
     rw c.draw-number.ensures.seat (
       (refl, refl),
-      (let long = length-append drawn (n ∷ []) in omega (arith, i.1, i.2, i.3)),
-      i.4 ∙ sym (past texts drawn n far),
+      (let long = length-append drawn (n ∷ []) in omega (arith, i.1, i.2)),
+      i.3 ∙ sym (past texts drawn n far),
       through texts drawn n far,
     )

@@ -1,23 +1,35 @@
--- `all` over the endings is the test over the texts, since each ending is its text's.
-use Rattle.std.proofs.Common.{Bool, ◌&&◌, if◌then◌else◌, ◌≡◌, ◌∙◌, refl, ap, ap₂}
-use Rattle.std.proofs.Common.{List, [], ◌∷◌, map, rules, tests}
+-- `all` over the endings is the test over the texts.
+use Rattle.std.proofs.Common.{Bool, true, false, ◌&&◌, if◌then◌else◌, ◌≡◌, ◌∙◌, refl, sym, ap}
+use Rattle.std.proofs.Common.{List, ℕ, Vec, Global, [], ◌∷◌, map, rules, tests}
 use Rattle.std.proofs.lemmas.Iterator.{YieldsList-from_slice}
 use Rattle.std.proofs.lemmas.Iterator.Search.{all_from_yields_List}
 use Rattle.std.specs.List.{list_all}
 use Rattle.lk_replay.specs.Ending.{ending_of}
-use Rattle.lk_replay.specs.declared.report.Report.{Report}
-use Rattle.lockreplay.specs.Batches.{is_accepted}
+use Rattle.lockreplay.specs.Jobs.{is_accepted, status_of_reports}
 use Rattle.lockreplay.proofs.jobs.batch_status.Goals as goal
 
-judged : (rs : List Report) → list_all (λ r. is_accepted r.ending) rs
-    ≡ list_all (λ t. is_accepted (ending_of t)) (map (λ r. r.text.items) rs)
-judged [] = refl
-judged (r ∷ rs) = ap₂ (λ e b. is_accepted e && b) r.told (judged rs)
+all_texts : (rs : List (Vec ℕ Global)) → list_all (λ r. is_accepted (ending_of r.items)) rs
+    ≡ list_all (λ t. is_accepted (ending_of t)) (map (λ r. r.items) rs)
+all_texts [] = refl
+all_texts (r ∷ rs) = ap (λ b. is_accepted (ending_of r.items) && b) (all_texts rs)
 
-pub returns : goal.returns
-returns c =
+status_is : (rs : List (Vec ℕ Global)) (b : Bool)
+    → b ≡ list_all (λ r. is_accepted (ending_of r.items)) rs
+    → (if b then 0 else 1) ≡ status_of_reports (map (λ r. r.items) rs)
+status_is rs b is = ap (λ (a : Bool). if a then 0 else 1) (is ∙ all_texts rs)
+
+pub returns-then-accepted : goal.returns-then-accepted
+returns-then-accepted c =
     let xs = c.args.reports.now in
     let all =
-    all_from_yields_List (λ r. is_accepted r.ending) _ _ c.all-accepted.result
+    all_from_yields_List (λ r. is_accepted (ending_of r.items)) _ _ c.all-accepted.result
     c.all-accepted.ensures.ran (YieldsList-from_slice xs cc) (λ x b q k. search (rules, tests)) in
-    c.status_if.ensures ∙ ap (λ (b : Bool). if b then 0 else 1) (all ∙ judged xs)
+    status_is xs true (sym c.if-accepted.true ∙ all)
+
+pub returns-else-accepted : goal.returns-else-accepted
+returns-else-accepted c =
+    let xs = c.args.reports.now in
+    let all =
+    all_from_yields_List (λ r. is_accepted (ending_of r.items)) _ _ c.all-accepted.result
+    c.all-accepted.ensures.ran (YieldsList-from_slice xs cc) (λ x b q k. search (rules, tests)) in
+    status_is xs false (sym c.if-accepted.false ∙ all)

@@ -4,7 +4,7 @@ use Rattle.std.proofs.lemmas.List.{length-map}
 use Rattle.std.proofs.lemmas.Result.{err_from_is_err_and}
 use Rattle.std.specs.Io.KnownBytes.{Appends}
 use Rattle.lk_workers.specs.Batch.{batch_text_of}
-use Rattle.lockreplay.specs.Batches.{status_of_reports}
+use Rattle.lockreplay.specs.Jobs.{status_of_reports}
 use Rattle.lockreplay.proofs.Sent.{bytes_of, cut_batch, same_reports}
 use Rattle.lockreplay.proofs.jobs.replay_files.Goals as goal
 

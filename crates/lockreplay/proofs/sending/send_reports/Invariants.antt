@@ -1,12 +1,12 @@
--- What went, or waits, and the rest are the whole text.
-use Rattle.std.proofs.Common.{◌≡◌, ◌+◌, ◌++◌, ℕ, List, [], map, drop}
+-- Of the whole text some went, or waits, and the rest is left.
+use Rattle.std.proofs.Common.{◌+◌, drop}
+use Rattle.lk_replay.proofs.Passed.{IsUnderWay}
 use Rattle.lk_workers.specs.Batch.{numbered_from, batch_text_of}
-use Rattle.lk_replay.specs.Devices.{Passes}
+use Rattle.lockreplay.proofs.Sent.{bytes_of}
 use Rattle.lockreplay.proofs.sending.send_reports.Given as goal
 
 abbrev pub invariant-loop-place : goal.invariant-loop-place
 invariant-loop-place g l =
-    (done : List ℕ)
-    × Passes [] (g.W.Write.contents l.initial.output) done l.waiting (g.W.Write.contents l.output)
-    × (done ++ numbered_from (l.place + 1) (map (λ r. r.text.items) (drop l.place l.reports))
-    ≡ batch_text_of (map (λ r. r.text.items) l.reports))
+    IsUnderWay (batch_text_of (bytes_of l.reports))
+    (numbered_from (l.place + 1) (bytes_of (drop l.place l.reports))) l.waiting
+    (g.W.Write.contents l.initial.output) (g.W.Write.contents l.output)
