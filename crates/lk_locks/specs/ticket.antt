@@ -1,26 +1,16 @@
--- Definitions. The ticket lock: its words, calls and steps, and the history entries of its steps.
---
--- Mellor-Crummey and Scott, "Algorithms for Scalable Synchronization on Shared-Memory
--- Multiprocessors", ACM TOCS 9(1), 1991, section 2.2. Different here: words have B bits, so tickets
--- wrap; back-off is not a step; a release is two steps, a read of `now_serving` and a write of the
--- value read plus one.
-use Rattle.std.specs.Prelude.{ℕ, ◌==◌, List, [], ◌∷◌, Option, None, Some, if◌then◌else◌}
+-- Definitions. The ticket lock: its calls and steps, and the history entries of its steps. Each
+-- step is a row of `laws`, which has the source.
+use Rattle.std.specs.Prelude.{ℕ, List, [], ◌∷◌, Option, None, Some}
 use Rattle.lk_words.specs.declared.operation.Operation.{Operation}
-use Rattle.lk_words.specs.declared.operation.Operation.TheVariants.{Read, Write, FetchAndAdd}
 use Rattle.lk_words.specs.declared.operation.Answer.{Answer}
 use Rattle.lk_words.specs.declared.operation.Answer.TheVariants.{Found}
-use Rattle.lk_locks.specs.Change.{plus_one}
 use Rattle.lk_locks.specs.Acts.{acts}
+use Rattle.lk_locks.specs.laws.{take, after_take, look, after_look, read_serving}
+use Rattle.lk_locks.specs.laws.{after_read_serving, pass, after_pass}
 use Rattle.lk_locks.specs.Types.{Phase, Idle, TakeTicket, AwaitTurn, TicketInside, ReadServing}
 use Rattle.lk_locks.specs.Types.{PassOn, Op, Acquire, Release, Outcome, Moved, Waits, Entered, Left}
 use Rattle.lk_locks.specs.Types.{Entry, Acted, Returned}
-
--- the indices of the two words: the next ticket to hand out, and the ticket now served
-abbrev pub next_ticket : ℕ
-next_ticket = 0
-
-abbrev pub now_serving : ℕ
-now_serving = 1
+pub use Rattle.lk_locks.specs.laws.{next_ticket, now_serving}
 
 -- the calls that a thread in this phase may make, and where they lead
 abbrev pub after_call : Phase → Op → Option Phase
@@ -30,19 +20,18 @@ after_call p op = None
 
 -- what a thread in this phase does next
 abbrev pub operation : ℕ → Phase → Option Operation
-operation bits TakeTicket = Some (FetchAndAdd next_ticket 1)
-operation bits (AwaitTurn t) = Some (Read now_serving)
-operation bits (ReadServing t) = Some (Read now_serving)
-operation bits (PassOn v) = Some (Write now_serving (plus_one bits v))
+operation bits TakeTicket = Some take
+operation bits (AwaitTurn t) = Some look
+operation bits (ReadServing t) = Some read_serving
+operation bits (PassOn v) = Some (pass bits v)
 operation bits p = None
 
 -- the next phase and the outcome, by what the operation answered
 abbrev pub after : Phase → Answer → Phase × Outcome
-after TakeTicket (Found t) = (AwaitTurn t, Moved)
-after (AwaitTurn t) (Found v) =
-    if v == t then (TicketInside t, Entered) else (AwaitTurn t, Waits)
-after (ReadServing t) (Found v) = (PassOn v, Moved)
-after (PassOn v) answer = (Idle, Left)
+after TakeTicket (Found t) = after_take t
+after (AwaitTurn t) (Found v) = after_look t v
+after (ReadServing t) (Found v) = after_read_serving v
+after (PassOn v) answer = after_pass
 after p answer = (p, Waits)
 
 -- The entries of a step. An acquire acts at its fetch-and-add, and returns at the read that

@@ -3,7 +3,6 @@ pub mod Drawing
 pub mod DrawLaw
 pub mod Seats
 pub mod SeatSteps
-pub mod TicketEvents
 pub mod LockState
 pub mod Batch
 pub mod invariants

@@ -1,22 +1,21 @@
--- Definitions. What holds of the running ticket lock between any two atomic steps, and which event
--- of the ticket machine each step is.
+-- Definitions. What holds of the running ticket lock between any two atomic steps, and which call
+-- and step of the ticket machine each step is.
 --
--- The machine is that of Mellor-Crummey and Scott, ACM TOCS 9(1), 1991, section 2.2, whose events
--- lk_locks defines; the seats and the correspondence are this project's own.
+-- The machine is that of Mellor-Crummey and Scott, ACM TOCS 9(1), 1991, section 2.2, whose rows are
+-- in `laws` of lk_locks; the seats and the correspondence are this project's own.
 use Rattle.std.specs.Prelude.{◌≢◌, ◌≡◌, ℕ, ◌+◌, ◌^◌, ◌<◌, ◌≤◌, ◌++◌, List, [], ◌∷◌, slice_index}
-use Rattle.std.specs.Prelude.{slice_set, length}
+use Rattle.std.specs.Prelude.{slice_set, length, Option, None, Some}
 use mathlib.Core.Option.{some}
 use lib.ListN.{get_elem?}
 use Rattle.atomic_table.specs.Table.{Act, stepped}
 use Rattle.lk_locks.specs.declared.kinds.Phase.{Phase}
-use Rattle.lk_locks.specs.declared.kinds.Phase.TheVariants.{TakeTicket, AwaitTurn, ReadServing}
-use Rattle.lk_locks.specs.declared.kinds.Phase.TheVariants.{PassOn}
+use Rattle.lk_locks.specs.declared.kinds.Op.{Op}
+use Rattle.lk_locks.specs.declared.kinds.Outcome.{Outcome}
 use Rattle.lk_locks.specs.Change.{to}
-use Rattle.lk_workers.specs.TicketEvents.{Event}
-use Rattle.lk_locks.specs.Locks.{step_of}
+use Rattle.lk_locks.specs.Locks.{after_call, step_of}
 use Rattle.lk_locks.specs.declared.kinds.LockKind.TheVariants.{Ticket}
 use Rattle.lk_workers.specs.declared.live.LivePhase.{LivePhase}
-use Rattle.lk_workers.specs.declared.live.LivePhase.TheVariants.{Idle, Waiting, Inside, Leaving}
+use Rattle.lk_workers.specs.declared.live.LivePhase.TheVariants.{Idle, Waiting}
 use Rattle.lk_workers.specs.declared.live.rule.SeatState.{SeatState}
 use Rattle.lk_workers.specs.Seats.{Table, next_of, serving_of, sum_over_seats, thread_of, IsHolding}
 use Rattle.lk_workers.specs.SeatSteps.{LiveStep, after}
@@ -70,28 +69,25 @@ OthersStay = (s : Table) (id j : ℕ) → j ≢ id
     × ((other : ℕ) (both spent : List SeatState) → j ≢ other
     → get_elem? (slice_set (slice_set s.views id both) other spent) j ≡ get_elem? s.views j)
 
--- the phase in which a thread makes the step of its seat: after the call of an acquire if it is
--- idle, and after that of a release if it is inside
-abbrev pub due_in : LivePhase → ℕ → Phase
-due_in Idle t = TakeTicket
-due_in Waiting t = AwaitTurn t
-due_in Inside t = ReadServing t
-due_in Leaving t = PassOn t
+-- a thread in this phase makes this call, if there is one, and is then in the phase `due`
+abbrev pub IsDue : Phase → Option Op → Phase → Type 0
+IsDue phase None due = due ≡ phase
+IsDue phase (Some op) due = after_call Ticket phase op ≡ Some due
 
--- From s to s' the thread of one seat, which is in the phase `due`, makes this event on this word,
--- and all else stays
-pub record Happens (s s' : Table) (id word : ℕ) (due : Phase) (e : Event) : Type 0 where
-  pub leaves : slice_index s'.words word ≡ e.word
-  pub other_word : (i : ℕ) → i ≢ word → slice_index s'.words i ≡ slice_index s.words i
-  pub seat : (r : SeatState) × (get_elem? s'.views id ≡ some (r ∷ [])) × (thread_of r ≡ e.phase)
+-- From s to s' the thread of this seat makes the call, if there is one, and then its next step. The
+-- step leads to this phase and outcome, and all else stays
+pub record Happens (s s' : Table) (id : ℕ) (r : SeatState) (call : Option Op) (led : Phase × Outcome)
+    : Type 0 where
+  pub seat : (q : SeatState) × (get_elem? s'.views id ≡ some (q ∷ [])) × (thread_of q ≡ led.0)
   pub other_seats : (j : ℕ) → j ≢ id → get_elem? s'.views j ≡ get_elem? s.views j
   -- it is the step that the ticket machine of 64 bits makes on these words
-  pub machine : step_of Ticket 64 s.words id due ≡ to s'.words e.phase e.outcome
+  pub machine : (due : Phase) × IsDue (thread_of r) call due
+      × (step_of Ticket 64 s.words id due ≡ to s'.words led.0 led.1)
 
--- the step of a seat in this phase is this event, of what the seat was and of the word found
-abbrev pub IsEvent : LiveStep → LivePhase → (SeatState → ℕ → Event) → Type 0
-IsEvent live phase event_of =
+-- The step of a seat in this phase is this call, if there is one, and the row that leads here, by
+-- what the seat was and by the word found
+abbrev pub IsEvent : LiveStep → LivePhase → Option Op → (SeatState → ℕ → Phase × Outcome) → Type 0
+IsEvent live phase call leads =
     (takes id : ℕ) (s : Table) (r : SeatState) → Running takes s
     → get_elem? s.views id ≡ some (r ∷ []) → r.phase ≡ phase
-    → Happens s (after live id s r) id live.word (due_in r.phase r.ticket)
-    (event_of r (slice_index s.words live.word))
+    → Happens s (after live id s r) id r call (leads r (slice_index s.words live.word))

@@ -8,11 +8,10 @@
 //! makes and `join` takes away. A waiting seat that is dropped keeps its ticket: no later one is
 //! served.
 
-ghost use Rattle.std.specs.Prelude.{◌≡◌, ◌+◌, ◌%◌, ◌^◌, ◌<◌, ◌≤◌, ◌==◌, map, max};
+ghost use Rattle.std.specs.Prelude.{◌≡◌, ◌+◌, ◌^◌, ◌<◌, ◌≤◌, ◌==◌, map, max};
 ghost use Rattle.std.specs.Prelude.{if◌then◌else◌, [], ◌∷◌, IfOk};
 ghost use Rattle.lk_locks.specs.declared.kinds.Outcome.TheVariants.{Moved, Waits, Entered, Left};
-ghost use Rattle.lk_workers.specs.TicketEvents.{event, take_event, look_event, read_event};
-ghost use Rattle.lk_workers.specs.TicketEvents.{pass_event};
+ghost use Rattle.lk_locks.specs.laws.{after_take, after_look, after_read_serving, after_pass};
 ghost use Rattle.lk_workers.specs.declared.live.LivePhase.TheVariants.{Idle, Waiting, Inside};
 ghost use Rattle.lk_workers.specs.declared.live.LivePhase.TheVariants.{Leaving};
 ghost use Rattle.lk_workers.specs.Seats.{Live, seat_state, ticket_in, thread_of, with_seen};
@@ -174,8 +173,7 @@ impl LiveTicket {
         ensures own { seat.new.table ≡ self.now }
         ensures seat { seat.new.state ≡ moved take_step seat.old.state result }
         ensures seen { seat.old.state.seen ≤ result }
-        ensures event { take_event 64 result
-            ≡ event ((result + 1) % 2 ^ 64) (thread_of seat.new.state) Moved }
+        ensures event { after_take result ≡ (thread_of seat.new.state, Moved) }
     {
         let ticket = self.table.shared.fetch_add::<Take>(&mut seat.seat, 0, 1);
         seat.phase = LivePhase::Waiting;
@@ -193,9 +191,8 @@ impl LiveTicket {
         ensures seat { seat.new.state ≡ moved look_step seat.old.state seat.new.state.seen }
         ensures later { seat.old.state.seen ≤ seat.new.state.seen }
         ensures answer { result ≡ (seat.new.state.seen == seat.old.state.ticket) }
-        ensures event { look_event seat.old.state.ticket seat.new.state.seen
-            ≡ event seat.new.state.seen (thread_of seat.new.state)
-            (if result then Entered else Waits) }
+        ensures event { after_look seat.old.state.ticket seat.new.state.seen
+            ≡ (thread_of seat.new.state, if result then Entered else Waits) }
     {
         let serving = self.table.shared.load::<Look>(&mut seat.seat, 1);
         seat.seen = serving;
@@ -212,8 +209,8 @@ impl LiveTicket {
         requires inside { seat.old.state.phase ≡ Inside }
         ensures own { seat.new.table ≡ self.now }
         ensures seat { seat.new.state ≡ moved read_step seat.old.state seat.old.state.ticket }
-        ensures event { read_event seat.new.state.seen
-            ≡ event seat.new.state.seen (thread_of seat.new.state) Moved }
+        ensures event { after_read_serving seat.new.state.seen
+            ≡ (thread_of seat.new.state, Moved) }
     {
         let serving = self.table.shared.load::<ReadServing>(&mut seat.seat, 1);
         seat.seen = serving;
@@ -226,8 +223,7 @@ impl LiveTicket {
         requires leaving { seat.old.state.phase ≡ Leaving }
         ensures own { seat.new.table ≡ self.now }
         ensures seat { seat.new.state ≡ moved pass_step seat.old.state seat.old.state.ticket }
-        ensures event { pass_event 64 seat.old.state.ticket
-            ≡ event seat.new.state.seen (thread_of seat.new.state) Left }
+        ensures event { after_pass ≡ (thread_of seat.new.state, Left) }
     {
         let next = seat.ticket + 1;
         self.table.shared.store::<Pass>(&mut seat.seat, 1, next);

@@ -1,7 +1,5 @@
 use Rattle.std.proofs.Common.{rules, ap}
-use Rattle.lk_locks.specs.declared.kinds.Outcome.TheVariants.{Moved}
-use Rattle.lk_locks.specs.declared.kinds.Phase.TheVariants.{PassOn}
-use Rattle.lk_workers.specs.TicketEvents.{event}
+use Rattle.lk_locks.specs.laws.{after_read_serving}
 use Rattle.lk_workers.proofs.SeatMoves.{read, view_of_seat}
 use Rattle.lk_workers.proofs.live.LiveTicket.read_serving.Goals as goal
 
@@ -17,4 +15,4 @@ invariant_of-seat c =
 pub returns-clause-event : goal.returns-clause-event
 returns-clause-event c =
     let t = c.load-serving.ensures.2 _ (ap (λ m. m.0) c.seat.invariant.0) in
-    ap (λ n. event c.load-serving.result (PassOn n) Moved) t.1
+    ap after_read_serving t.1
