@@ -1,6 +1,6 @@
 -- The steps of the running lock are steps of the ticket machine.
 use Rattle.std.proofs.Common.{◌≡◌, ℕ, zero, suc, ◌+◌, ◌%◌, ◌^◌, ◌<◌, ◌==◌, Bool, true, false, List}
-use Rattle.std.proofs.Common.{[], ◌∷◌, length, get_or, if◌then◌else◌, set, sym, refl, ap, ◌∙◌}
+use Rattle.std.proofs.Common.{[], ◌∷◌, length, get_or, if◌then◌else◌, set, sym, refl, ap}
 use Rattle.std.proofs.Common.{subst, arith, Option, None, Some}
 use mathlib.Core.Option.{some, some-ne-none}
 use lib.ListN.{get_elem?}
@@ -20,8 +20,8 @@ use Rattle.lk_workers.specs.declared.live.LivePhase.{LivePhase}
 use Rattle.lk_workers.specs.declared.live.LivePhase.TheVariants.{Idle, Waiting, Inside, Leaving}
 use Rattle.lk_workers.specs.declared.live.rule.SeatState.{SeatState}
 use Rattle.lk_workers.specs.Seats.{Table, serving_of, thread_in, thread_of}
-use Rattle.lk_workers.specs.SeatSteps.{LiveStep, take_step, look_step, read_step, pass_step, moved}
-use Rattle.lk_workers.specs.SeatSteps.{after}
+use Rattle.lk_workers.specs.SeatSteps.{LiveStep, take_step, look_step, read_step, pass_step}
+use Rattle.lk_workers.specs.SeatSteps.{seat_after, table_after}
 use Rattle.lk_workers.specs.invariants.Running.{FitsPhase}
 use Rattle.lk_workers.specs.LockState.{Happens, IsDue, IsEvent}
 use Rattle.lk_workers.proofs.LockStates.{between}
@@ -39,17 +39,17 @@ happens : (live : LiveStep) (id : ℕ) (s : Table) (r : SeatState) (p : LivePhas
     → thread_of (live.next r (get_or s.words live.word 0)) ≡ led.0
     → step_of Ticket 64 s.words id due
     ≡ to (set s.words live.word (live.leaves r (get_or s.words live.word 0))) led.0 led.1
-    → Happens s (after live id s r) id r call led
+    → Happens s (table_after live id s r) id r call led
 happens live id s r p call due led at is calls phase machine =
-    let q : SeatState = moved live r (get_or s.words live.word 0) in
+    let q : SeatState = seat_after live r (get_or s.words live.word 0) in
     record {
       seat = (q, set_here s.views id (q ∷ []) (there s.views id (r ∷ []) at), phase);
       other_seats = λ j n. set_else s.views id j (q ∷ []) n;
       machine = (
-          due,
-          subst (λ d. IsDue (thread_in d r.ticket) call due) (sym is) calls,
-          machine,
-        );
+        due,
+        subst (λ d. IsDue (thread_in d r.ticket) call due) (sym is) calls,
+        machine,
+      );
     }
 
 pub takes : IsEvent take_step Idle (Some Acquire) (λ r found. after_take found)

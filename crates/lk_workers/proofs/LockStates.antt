@@ -135,3 +135,32 @@ ends takes id v r words slots n m is h w0 w1 = (
   ap (λ (ws : List ℕ). get_or ws 1 0) h.2 ∙ word_at words 1 m w1,
   (id, h.1.1 ∙ ap some is),
 )
+
+only_one : (r q : SeatState) (k : ℕ) → get_elem? (r ∷ []) k ≡ some q → r ≡ q
+only_one r q zero at = some-injective r q at
+only_one r q (suc k) at = absurd (some-ne-none q (sym at))
+
+-- at the end an idle seat that took all tickets leaves none to be served
+pub closes : (n m : ℕ) (r : SeatState) → IsEnd n m r → r.phase ≡ Idle
+    → (m ≤ n) × (r.taken ≤ n) × (r.taken ≡ n → m ≡ n)
+closes n m r (s, h, en, em, (id, at)) idle =
+    let all = h.taken in
+    let low = h.order in
+    let mine = at_most_sum (sum_over (λ u. u.taken)) s.views id (r ∷ []) at in (
+      omega arith,
+      omega arith,
+      λ whole. elim (cases_lt m n) [
+        | inr more ↦ omega arith
+        | inl less ↦
+            let (id', k, q, there, has) = h.each m (omega arith) (omega arith) in
+            let some_taken = h.some_taken id' k q there has.0 in
+            let its = at_most_sum (λ u. u.taken) there.0 k q there.2 in
+            absurd (dite (ℕ_discrete id id')
+            (λ same. has.0 (ap (λ u. u.phase) (sym (only_one r q k
+            (ap (λ v. get_elem? v k) (some-injective (r ∷ []) there.0
+            (sym at ∙ ap (get_elem? s.views) same ∙ there.1)) ∙ there.2))) ∙ idle))
+            (λ other. let two = two_there (sum_over (λ u. u.taken)) s.views id id' (r ∷ [])
+            there.0 other at there.1 in
+            omega arith))
+      ],
+    )

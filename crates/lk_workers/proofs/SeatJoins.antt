@@ -1,23 +1,18 @@
--- Splits and joins of seats keep the rule of the running ticket lock, and what it says of the last
--- state.
-use Rattle.std.proofs.Common.{◌≡◌, ℕ, ◌+◌, ◌≤◌, max, List, [], ◌∷◌, ◌++◌, get_or, set, map, take}
-use Rattle.std.proofs.Common.{drop, sym, refl, ap, ◌∙◌, subst, arith, ⊎_elim, inl, inr}
-use Rattle.std.proofs.lemmas.Bool.{cases_lt}
+-- Splits and joins of seats keep the rule of the running ticket lock.
+use Rattle.std.proofs.Common.{◌≡◌, ℕ, ◌+◌, ◌≤◌, max, List, [], ◌∷◌, ◌++◌, set, map, take}
+use Rattle.std.proofs.Common.{drop, sym, refl, ap, ◌∙◌, subst, arith, ⊎_elim}
 use mathlib.Core.Option.{some}
 use lib.ListN.{get_elem?}
-use Rattle.atomic_table.specs.Table.{Splits, Joins, Final, Seen}
+use Rattle.atomic_table.specs.Table.{Splits, Joins}
 use Rattle.atomic_table.proofs.Lists.{at_set, at_snoc}
-use Rattle.lk_workers.specs.declared.live.LivePhase.{LivePhase}
-use Rattle.lk_workers.specs.declared.live.LivePhase.TheVariants.{Idle, Waiting}
+use Rattle.lk_workers.specs.declared.live.LivePhase.TheVariants.{Idle}
 use Rattle.lk_workers.specs.declared.live.rule.SeatState.{SeatState}
-use Rattle.lk_workers.specs.Counting.{sum_over, once_below}
+use Rattle.lk_workers.specs.Counting.{sum_over}
 use Rattle.lk_workers.specs.Seats.{next_of, serving_of, ticket_indicator, ticket_indicator_in}
-use Rattle.lk_workers.specs.SeatSteps.{rest_of, share_of, glued, paired}
-use Rattle.lk_workers.specs.invariants.Running.{FitsPhase, Fits, Each, ViewFits, Running}
-use Rattle.lk_workers.proofs.Sums.{sum_over-cut, sum_over-two, at_most_sum, alone_at}
-use Rattle.lk_workers.proofs.Below.{none_there, once_there}
+use Rattle.lk_workers.specs.SeatSteps.{rest_of, share_of, merge_of, pair_of}
+use Rattle.lk_workers.specs.invariants.Running.{Fits, ViewFits, Running}
+use Rattle.lk_workers.proofs.Sums.{sum_over-cut, sum_over-two}
 use Rattle.lk_workers.proofs.SeatMoves.{built, views_set}
-use Rattle.lk_workers.proofs.Sums.{word_at}
 
 -- a view becomes two lists of seats, which have together what it had
 two_lists : (takes id : ℕ) (v l b : List SeatState)
@@ -86,12 +81,12 @@ one_list takes id other r q b hs ts ls fits s h at two there =
 max_le : (a b m : ℕ) → a ≤ m → b ≤ m → max a b ≤ m
 max_le a b m h k = omega arith
 
-pub glues : (takes id other : ℕ) (v w : List SeatState) (r q : SeatState) → v ≡ r ∷ [] → w ≡ q ∷ []
-    → r.phase ≡ Idle → q.phase ≡ Idle → Joins (Running takes) id v other w (glued v w) []
-glues takes id other v w r q is are idle idle' = subst (λ (z : List SeatState × List SeatState).
-    Joins (Running takes) id z.0 other z.1 (glued z.0 z.1) [])
+pub merges : (takes id other : ℕ) (v w : List SeatState) (r q : SeatState) → v ≡ r ∷ [] → w ≡ q ∷ []
+    → r.phase ≡ Idle → q.phase ≡ Idle → Joins (Running takes) id v other w (merge_of v w) []
+merges takes id other v w r q is are idle idle' = subst (λ (z : List SeatState × List SeatState).
+    Joins (Running takes) id z.0 other z.1 (merge_of z.0 z.1) [])
     (λ k. (sym is k, sym are k))
-    (one_list takes id other r q (glued (r ∷ []) (q ∷ []))
+    (one_list takes id other r q (merge_of (r ∷ []) (q ∷ []))
     (λ x. let a : ticket_indicator x r ≡ 0 = ap (λ p. ticket_indicator_in x p r.ticket) idle in
     let b : ticket_indicator x q ≡ 0 = ap (λ p. ticket_indicator_in x p q.ticket) idle' in
     omega arith)
@@ -99,59 +94,11 @@ glues takes id other v w r q is are idle idle' = subst (λ (z : List SeatState �
     (λ m f g. (((tt, max_le r.seen q.seen m f.1 g.1), tt), omega arith)))
 
 pub pairs : (takes id other : ℕ) (v w : List SeatState) (r q : SeatState) → v ≡ r ∷ [] → w ≡ q ∷ []
-    → Joins (Running takes) id v other w (paired v w) []
+    → Joins (Running takes) id v other w (pair_of v w) []
 pairs takes id other v w r q is are = subst (λ (z : List SeatState × List SeatState).
-    Joins (Running takes) id z.0 other z.1 (paired z.0 z.1) [])
+    Joins (Running takes) id z.0 other z.1 (pair_of z.0 z.1) [])
     (λ k. (sym is k, sym are k))
-    (one_list takes id other r q (paired (r ∷ []) (q ∷ []))
+    (one_list takes id other r q (pair_of (r ∷ []) (q ∷ []))
     (λ x. omega arith) (omega arith) (omega arith)
     (λ m f g. let l = max_le r.seen q.seen m f.1 g.1 in
     (((f.0, l), ((g.0, l), tt)), omega arith)))
-
--- a seat that took no ticket has none
-none_taken : (x m : ℕ) (p : LivePhase) (t taken : ℕ) → FitsPhase m p t taken → taken ≡ 0
-    → ticket_indicator_in x p t ≡ 0
-none_taken x m Idle t taken f z = refl
-none_taken x m Waiting t taken f z = absurd (omega arith)
-none_taken x m p t taken f z = absurd (omega (arith, f.1))
-
-none_of_ticket : (x m : ℕ) (u : List SeatState) → Each (Fits m) u → sum_over (λ p. p.taken) u ≡ 0
-    → sum_over (ticket_indicator x) u ≡ 0
-none_of_ticket x m [] e z = refl
-none_of_ticket x m (p ∷ ps) e z =
-    let a = none_taken x m p.phase p.ticket p.taken e.0.0 (omega arith) in
-    let b = none_of_ticket x m ps e.1 (omega arith) in
-    omega arith
-
-pub closes : (takes id : ℕ) (v : List SeatState) (r : SeatState) (words : List ℕ)
-    (slots : List (Unit {0})) (n m : ℕ)
-    → v ≡ r ∷ [] → r.phase ≡ Idle
-    → Final (Seen (Running takes) id v) words slots → get_elem? words 0 ≡ some n
-    → get_elem? words 1 ≡ some m → (m ≤ n) × (r.taken ≤ n) × (r.taken ≡ n → m ≡ n)
-closes takes id v r words slots n m is idle h w0 w1 =
-    let s = h.0 in
-    let k = h.1.0 in
-    let at : get_elem? s.views id ≡ some (r ∷ []) = h.1.1 ∙ ap some is in
-    let en : next_of s ≡ n = ap (λ (ws : List ℕ). get_or ws 0 0) h.2 ∙ word_at words 0 n w0 in
-    let em : serving_of s ≡ m = ap (λ (ws : List ℕ). get_or ws 1 0) h.2 ∙ word_at words 1 m w1 in
-    let low = k.served in
-    let t = k.taken in
-    let mine = at_most_sum (sum_over (λ u. u.taken)) s.views id (r ∷ []) at in (
-      omega arith,
-      omega arith,
-      λ all. let x : ℕ = serving_of s in
-          let only =
-          alone_at (sum_over (λ u. u.taken)) (sum_over (ticket_indicator x)) s.views
-          (λ j u e z. none_of_ticket x x u (k.seats j u e).0 z) id (r ∷ []) at (omega arith) in
-          let none_here : ticket_indicator x r ≡ 0 =
-          ap (λ p. ticket_indicator_in x p r.ticket) idle in
-          let c = k.tickets x in
-          let d = none_there x x (omega arith) in
-          ends x (next_of s) m n em en low (omega arith),
-    )
-  where
-    ends : (x y m n : ℕ) → x ≡ m → y ≡ n → x ≤ y → once_below x y ≡ 0 → m ≡ n
-    ends x y m n e f low z = elim (cases_lt x y) [
-      | inl less ↦ absurd (omega (arith, once_there x y less))
-      | inr more ↦ omega arith
-    ]

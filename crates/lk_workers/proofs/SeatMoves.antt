@@ -1,6 +1,6 @@
 -- Each step of the running ticket lock keeps its rule.
 use Rattle.std.proofs.Common.{◌≡◌, ◌≢◌, ℕ, ◌+◌, ◌%◌, ◌^◌, ◌<◌, ◌≤◌, ◌==◌, Bool, true}
-use Rattle.std.proofs.Common.{false, List, [], ◌∷◌, ◌++◌, length, if◌then◌else◌, set, sym, refl, ap}
+use Rattle.std.proofs.Common.{false, List, [], ◌∷◌, length, if◌then◌else◌, set, sym, refl, ap}
 use Rattle.std.proofs.Common.{◌∙◌, subst, arith, length-set, ⊎_elim}
 use Rattle.std.specs.Prelude.{⊤}
 use mathlib.Core.Option.{none, some}
@@ -12,11 +12,13 @@ use Rattle.lk_workers.specs.declared.live.LivePhase.{LivePhase}
 use Rattle.lk_workers.specs.declared.live.LivePhase.TheVariants.{Idle, Waiting, Inside, Leaving}
 use Rattle.lk_workers.specs.declared.live.rule.SeatState.{SeatState}
 use Rattle.lk_workers.specs.Counting.{sum_over, indicator, once_below}
-use Rattle.lk_workers.specs.Seats.{seat_state, operation, noted, Table, sum_over_seats, next_of}
+use Rattle.lk_workers.specs.Seats.{operation, with_operation, Table, sum_over_seats, next_of}
+use Rattle.lk_workers.specs.Seats.{first_of, known}
 use Rattle.lk_workers.specs.Seats.{serving_of, ticket_indicator, ticket_indicator_in, IsHolding}
-use Rattle.lk_workers.specs.SeatSteps.{LiveStep, take_step, look_step, read_step, pass_step, moved}
-use Rattle.lk_workers.specs.invariants.Running.{Sees, first_of, known, FitsPhase, Fits, Each}
-use Rattle.lk_workers.specs.invariants.Running.{ViewFits, Running, OfOne, Counts}
+use Rattle.lk_workers.specs.SeatSteps.{LiveStep, take_step, look_step, read_step, pass_step}
+use Rattle.lk_workers.specs.SeatSteps.{seat_after}
+use Rattle.lk_workers.specs.invariants.Running.{Sees, FitsPhase, Fits, Each}
+use Rattle.lk_workers.specs.invariants.Running.{ViewFits, Running, OfOne, Inspects}
 use Rattle.lk_workers.proofs.Sums.{sum_over-set, at_most_sum}
 use Rattle.lk_workers.proofs.TwoWords.{w00, w01, w10, w11}
 use Rattle.lk_workers.proofs.Below.{below_suc, indicator_here, at_most_once, below_of, once_there}
@@ -25,10 +27,10 @@ told : (live : LiveStep) (tells : SeatState → ℕ → Type 0) (st : Step (Unit
     (found : ℕ) (r : SeatState)
     → me.0 ≡ r ∷ [] → tells r found
     → OfOne live tells st me found
-    (noted (operation st.word st.first) (live.next r found) ∷ [], me.1)
+    (with_operation (operation st.word st.first) (live.next r found) ∷ [], me.1)
 told live tells st me found r is t r' is' =
     let e : r ≡ r' = ap first_of (sym is ∙ is') in (
-      ap (λ z. (noted (operation st.word st.first) (live.next z found) ∷ [], me.1)) e,
+      ap (λ z. (with_operation (operation st.word st.first) (live.next z found) ∷ [], me.1)) e,
       subst (λ z. tells z found) e t,
     )
 
@@ -42,19 +44,15 @@ view_of_seat me q c e none_held = e ∙ (λ k. (
 
 pub looked : (me : Sees) (p : LivePhase) (r : SeatState) (found : ℕ) (c : List (ℕ × Unit {0}))
     (b : Bool)
-    → me ≡ (moved look_step r found ∷ [], c) → c ≡ [] → (found == r.ticket) ≡ b
+    → me ≡ (seat_after look_step r found ∷ [], c) → c ≡ [] → (found == r.ticket) ≡ b
     → p ≡ (if b then Inside else Waiting)
     → me ≡ (known p r.ticket r.left r.taken found me.0 ∷ [], [])
 looked me p r found c b e none_held is same_phase =
     let is_p : (if (found == r.ticket) then Inside else Waiting) ≡ p =
     ap (λ d. if d then Inside else Waiting) is ∙ sym same_phase in
     view_of_seat me
-    (seat_state p r.ticket r.left r.taken found (r.loads + 1) (r.made ++ operation 1 0 ∷ [])) c
-    (e ∙ ap (λ d. (
-      seat_state d r.ticket r.left r.taken found (r.loads + 1) (r.made ++ operation 1 0 ∷ [])
-          ∷ [],
-      c,
-    )) is_p) none_held
+    (record (seat_after look_step r found) { phase = p }) c
+    (e ∙ ap (λ d. (record (seat_after look_step r found) { phase = d } ∷ [], c)) is_p) none_held
 
 pub built : (takes : ℕ) (s : Table) (n m : ℕ) → length s.words ≡ 2 → next_of s ≡ n
     → serving_of s ≡ m → m ≤ n
@@ -97,7 +95,7 @@ module _ (takes slots id : ℕ) (me : Sees) (r : SeatState) (is : me.0 ≡ r ∷
       let at : get_elem? s.views id ≡ some (r ∷ []) = at0 ∙ ap some is in
       let n : ℕ = next_of s in
       let m : ℕ = serving_of s in
-      let q : SeatState = moved take_step r n in
+      let q : SeatState = seat_after take_step r n in
       let vs : List (List SeatState) = s.views in
       let sum = h.left in
       let low = at_most_sum (sum_over (λ u. u.left)) vs id (r ∷ []) at in
@@ -132,7 +130,7 @@ module _ (takes slots id : ℕ) (me : Sees) (r : SeatState) (is : me.0 ≡ r ∷
       let at : get_elem? s.views id ≡ some (r ∷ []) = at0 ∙ ap some is in
       let n : ℕ = next_of s in
       let m : ℕ = serving_of s in
-      let q : SeatState = noted (operation 1 0) (live.next r m) in
+      let q : SeatState = with_operation (operation 1 0) (live.next r m) in
       let vs : List (List SeatState) = s.views in
       let new = fits m (h.seats id (r ∷ []) at).0.0 in (
         (q ∷ []),
@@ -200,7 +198,7 @@ module _ (takes slots id : ℕ) (me : Sees) (r : SeatState) (is : me.0 ≡ r ∷
       let at : get_elem? s.views id ≡ some (r ∷ []) = at0 ∙ ap some is in
       let n : ℕ = next_of s in
       let m : ℕ = serving_of s in
-      let q : SeatState = noted (operation 1 new) (pass_step.next r m) in
+      let q : SeatState = with_operation (operation 1 new) (pass_step.next r m) in
       let vs : List (List SeatState) = s.views in
       let old = h.seats id (r ∷ []) at in
       let fits = subst (λ p. FitsPhase m p r.ticket r.taken) leaving old.0.0.0 in
@@ -252,8 +250,8 @@ module _ (takes slots id : ℕ) (me : Sees) where
   holds_it m Waiting t taken f h = absurd h
   holds_it m p t taken f h = ap (indicator m) f.0 ∙ indicator_here m
 
-  pub count : Allows (Running takes) slots id me 0 (λ n. n) (Counts (step slots 0 0 0 none) me)
-  count s h _ at _ = let m : ℕ = serving_of s in let n : ℕ = next_of s in (
+  pub inspects : Allows (Running takes) slots id me 0 (λ n. n) (Inspects (step slots 0 0 0 none) me)
+  inspects s h _ at _ = let m : ℕ = serving_of s in let n : ℕ = next_of s in (
     me.0,
     keeps,
     tt,

@@ -1,4 +1,4 @@
--- Definitions. The text of a batch: each report after a line with its number. This project's own.
+-- Definitions. The text of a batch: each report after a line with its number.
 use Rattle.std.specs.Prelude.{ℕ, ◌+◌, List, [], ◌∷◌, ◌++◌, codes, decimal}
 
 abbrev pub file_line : ℕ → List ℕ

@@ -1,4 +1,4 @@
--- Definitions. How often a number is in a list, and sums along a list. This project's own.
+-- Definitions. How often a number is in a list, and sums along a list.
 use Rattle.std.specs.Prelude.{◌≡◌, ℕ, zero, suc, ◌+◌, ◌<◌, ◌≤◌, ◌==◌, List, [], ◌∷◌, if◌then◌else◌}
 
 -- f of each element, added up

@@ -1,6 +1,5 @@
 pub mod Counting
 pub mod Drawing
-pub mod DrawLaw
 pub mod Seats
 pub mod SeatSteps
 pub mod LockState

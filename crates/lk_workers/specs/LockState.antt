@@ -18,7 +18,7 @@ use Rattle.lk_workers.specs.declared.live.LivePhase.{LivePhase}
 use Rattle.lk_workers.specs.declared.live.LivePhase.TheVariants.{Idle, Waiting}
 use Rattle.lk_workers.specs.declared.live.rule.SeatState.{SeatState}
 use Rattle.lk_workers.specs.Seats.{Table, next_of, serving_of, sum_over_seats, thread_of, IsHolding}
-use Rattle.lk_workers.specs.SeatSteps.{LiveStep, after}
+use Rattle.lk_workers.specs.SeatSteps.{LiveStep, table_after}
 use Rattle.lk_workers.specs.invariants.Running.{Running}
 
 -- a seat that was made: the number of its view, and its place there
@@ -76,8 +76,8 @@ IsDue phase (Some op) due = after_call Ticket phase op ≡ Some due
 
 -- From s to s' the thread of this seat makes the call, if there is one, and then its next step. The
 -- step leads to this phase and outcome, and all else stays
-pub record Happens (s s' : Table) (id : ℕ) (r : SeatState) (call : Option Op) (led : Phase × Outcome)
-    : Type 0 where
+pub record Happens (s s' : Table) (id : ℕ) (r : SeatState) (call : Option Op)
+    (led : Phase × Outcome) : Type 0 where
   pub seat : (q : SeatState) × (get_elem? s'.views id ≡ some (q ∷ [])) × (thread_of q ≡ led.0)
   pub other_seats : (j : ℕ) → j ≢ id → get_elem? s'.views j ≡ get_elem? s.views j
   -- it is the step that the ticket machine of 64 bits makes on these words
@@ -90,4 +90,4 @@ abbrev pub IsEvent : LiveStep → LivePhase → Option Op → (SeatState → ℕ
 IsEvent live phase call leads =
     (takes id : ℕ) (s : Table) (r : SeatState) → Running takes s
     → get_elem? s.views id ≡ some (r ∷ []) → r.phase ≡ phase
-    → Happens s (after live id s r) id r call (leads r (slice_index s.words live.word))
+    → Happens s (table_after live id s r) id r call (leads r (slice_index s.words live.word))

@@ -19,22 +19,39 @@ use Rattle.lk_workers.specs.Counting.{indicator, sum_over}
 abbrev pub operation : ℕ → ℕ → Operation
 operation word operand = record { word = word; operand = operand }
 
--- phase, ticket, takes left, tickets taken, the last `now_serving` known, the loads of it, and the
--- operations made, the last at the end
-abbrev pub seat_state : LivePhase → ℕ → ℕ → ℕ → ℕ → ℕ → List Operation → SeatState
-seat_state phase ticket left taken seen loads made = record {
+-- a seat that made no step: the takes that it has left, and the `now_serving` that it knows of
+abbrev pub new_seat : ℕ → ℕ → SeatState
+new_seat left seen = record {
+  phase = Idle;
+  ticket = 0;
+  left = left;
+  taken = 0;
+  seen = seen;
+  loads = 0;
+  made = [];
+}
+
+-- the seat with one operation more
+abbrev pub with_operation : Operation → SeatState → SeatState
+with_operation o r = record r { made = r.made ++ o ∷ [] }
+
+abbrev pub with_seen : ℕ → SeatState → SeatState
+with_seen n r = record r { seen = n }
+
+-- the first seat of a view
+abbrev pub first_of : List SeatState → SeatState
+first_of [] = new_seat 0 0
+first_of (r ∷ rs) = r
+
+-- what is known of a seat: what it keeps itself, and the loads and operations of its view
+abbrev pub known : LivePhase → ℕ → ℕ → ℕ → ℕ → List SeatState → SeatState
+known phase ticket left taken seen v = record (first_of v) {
   phase = phase;
   ticket = ticket;
   left = left;
   taken = taken;
   seen = seen;
-  loads = loads;
-  made = made;
 }
-
--- the seat with one operation more
-abbrev pub noted : Operation → SeatState → SeatState
-noted o r = seat_state r.phase r.ticket r.left r.taken r.seen r.loads (r.made ++ o ∷ [])
 
 -- what a contract sees of a seat: its lock, and what is known of it
 pub record Live : Type 0 where
@@ -85,9 +102,6 @@ ticket_indicator_in x phase t = indicator x t
 
 abbrev pub ticket_indicator : ℕ → SeatState → ℕ
 ticket_indicator x r = ticket_indicator_in x r.phase r.ticket
-
-abbrev pub with_seen : ℕ → SeatState → SeatState
-with_seen n r = seat_state r.phase r.ticket r.left r.taken n r.loads r.made
 
 -- not both seats are inside or leaving, and no ticket is that of both
 abbrev pub AreApart : SeatState → SeatState → Type 0

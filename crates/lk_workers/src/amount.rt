@@ -1,5 +1,5 @@
-//! A number that a call chooses, as a type: a table names each way to split a view by a type, and
-//! so the type has to say how much goes to the other seat.
+//! A number as a type. A table names each way to split a view by a type, so a type says how much a
+//! call gives to the new seat.
 
 ghost use Rattle.std.specs.Prelude.{ℕ};
 
@@ -16,6 +16,6 @@ impl Amount for Brand {
 }
 
 /// A split of a view: so much of what its seat has left goes to a new seat.
-pub struct Cut<A> {
+pub struct SplitOff<A> {
     amount: PhantomData<A>,
 }

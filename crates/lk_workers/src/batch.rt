@@ -6,9 +6,6 @@ ghost use Rattle.lk_workers.specs.Batch.{file_line, batch_text_of};
 use itoa::Buffer;
 use std::alloc::{AllocError, Global};
 
-// The bytes of the longest line before a report, `file 65536` and the line feed.
-const LONGEST_FILE_LINE: usize = 11;
-
 // The line before the report of this number.
 fn push_file_line(text: &mut Vec<u8>, number: usize) -> Result<(), AllocError>
     ensures { OnOk result (text.new.items ≡ text.old.items ++ file_line number) }
@@ -20,14 +17,6 @@ fn push_file_line(text: &mut Vec<u8>, number: usize) -> Result<(), AllocError>
     Ok(())
 }
 
-// Room for the text of all reports, so that it need not grow.
-fn room_for(reports: &[Vec<u8>]) -> usize {
-    reports.iter().fold(0, |room: usize, report| {
-        room.saturating_add(LONGEST_FILE_LINE)
-            .saturating_add(report.len())
-    })
-}
-
 /// The reports in order, each after the line `file K`, K from 1.
 ///
 /// # Errors
@@ -36,7 +25,7 @@ fn room_for(reports: &[Vec<u8>]) -> usize {
 pub fn batch_text(alloc: Global, reports: &[Vec<u8>]) -> Result<Vec<u8>, AllocError>
     ensures { IfOk result (λ text. text.items ≡ batch_text_of (map (λ r. r.items) reports.now)) }
 {
-    let mut text = Vec::with_capacity(alloc, room_for(reports))?;
+    let mut text = Vec::new(alloc);
     for place in 0..reports.len() {
         push_file_line(&mut text, place + 1)?;
         text.extend_from_slice(reports[place].as_slice())?;

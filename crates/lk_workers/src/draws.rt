@@ -1,24 +1,24 @@
 //! A counter whose numbers threads draw, each once.
 //!
-//! A draw is a fetch-and-add on one shared word. What a contract sees of a seat is the list of the
-//! numbers that it drew, which no run keeps. The invariant counts: each number is as often in the
-//! lists of all seats as it is below the word.
+//! A draw is a fetch-and-add on one shared word. A contract sees a seat as the list of the numbers
+//! that it drew; no run keeps that list. The invariant counts: each number is as often in the lists
+//! of all seats as it is below the word.
 
 ghost use Rattle.std.specs.Prelude.{◌≡◌, ◌+◌, ◌-◌, ◌^◌, ◌<◌, ◌≤◌, [], ◌∷◌, ◌++◌, length, All};
 ghost use Rattle.std.specs.Prelude.{IfOk};
 ghost use Rattle.lk_workers.specs.Counting.{IsEachBelow};
-ghost use Rattle.lk_workers.specs.Drawing.{Drawer, drawer, Counter, IsSeatOf, hand};
-ghost use Rattle.lk_workers.specs.DrawLaw.{EachNumberOnce, IsEnd};
-ghost use Rattle.lk_workers.specs.invariants.DrawRule.{Drawn, DrawFinds, CountFinds};
+ghost use Rattle.lk_workers.specs.Drawing.{Drawer, drawer, Counter, IsSeatOf, EachNumberOnce};
+ghost use Rattle.lk_workers.specs.Drawing.{IsEnd};
+ghost use Rattle.lk_workers.specs.invariants.DrawRule.{Drawn, DrawFinds, InspectFinds, draw_view};
 
-use crate::amount::{Amount, Cut};
+use crate::amount::{Amount, SplitOff};
 use atomic_table::{Join, Play, Seat, Shared, Split, Table, TableRule};
 use std::alloc::{AllocError, Global};
 use std::collections::LinkedList;
 use std::marker::{Brand, Model};
 
 /// The view of one seat. No value of it is made.
-pub struct Hand {
+pub struct DrawView {
     pub drawn: LinkedList<u64>,
     pub left: u64,
     pub draws: u64,
@@ -27,45 +27,45 @@ pub struct Hand {
 /// The numbers drawn are those below the word, each once.
 pub struct DrawnOnce;
 
-impl TableRule<(), Hand, u64> for DrawnOnce {
+impl TableRule<(), DrawView, u64> for DrawnOnce {
     ghost holds = { Drawn };
 
-    ghost first = { λ draws. hand [] draws draws };
+    ghost first = { λ draws. draw_view [] draws draws };
 }
 
 struct Draw;
 
-impl Play<(), Hand> for Draw {
+impl Play<(), DrawView> for Draw {
     ghost then = { DrawFinds };
 }
 
 // A load that changes no view, for what only the invariant says: a joined seat's draws are few.
-struct Count;
+struct Inspect;
 
-impl Play<(), Hand> for Count {
-    ghost then = { CountFinds };
+impl Play<(), DrawView> for Inspect {
+    ghost then = { InspectFinds };
 }
 
-impl<A: Amount> Split<Hand> for Cut<A> {
-    ghost left = { λ v. hand v.drawn (v.left - A.amount) v.draws };
+impl<A: Amount> Split<DrawView> for SplitOff<A> {
+    ghost left = { λ v. draw_view v.drawn (v.left - A.amount) v.draws };
 
-    ghost right = { λ v. hand [] A.amount v.draws };
+    ghost right = { λ v. draw_view [] A.amount v.draws };
 }
 
-struct Glue;
+struct Merge;
 
-impl Join<Hand> for Glue {
-    ghost both = { λ v w. hand (v.drawn ++ w.drawn) (v.left + w.left) v.draws };
+impl Join<DrawView> for Merge {
+    ghost both = { λ v w. draw_view (v.drawn ++ w.drawn) (v.left + w.left) v.draws };
 
-    ghost spent = { hand [] 0 0 };
+    ghost spent = { draw_view [] 0 0 };
 }
 
-type Word = Shared<(), Hand, u64, DrawnOnce>;
+type Word = Shared<(), DrawView, u64, DrawnOnce>;
 
 /// A counter that begins at 0, and whose numbers are drawn by fetch-and-add.
 #[derive(Drop)]
 pub struct Draws {
-    table: Table<(), Hand, u64, DrawnOnce, Global>,
+    table: Table<(), DrawView, u64, DrawnOnce, Global>,
 }
 
 impl Model for Draws {
@@ -80,7 +80,7 @@ impl Model for Draws {
 /// The right to draw a number of times from one counter. A contract sees the numbers that it drew.
 #[derive(Drop)]
 pub struct DrawSeat {
-    seat: Seat<(), Hand>,
+    seat: Seat<(), DrawView>,
     left: u64,
 }
 
@@ -106,17 +106,21 @@ impl DrawSeat {
     }
 }
 
-fn cut_off<A: Amount>(word: &Word, seat: &mut Seat<(), Hand>, amount: u64) -> Seat<(), Hand>
+fn split_off<A: Amount>(
+    word: &Word,
+    seat: &mut Seat<(), DrawView>,
+    amount: u64,
+) -> Seat<(), DrawView>
     requires amount { (amount ≡ A.amount) × (amount ≤ seat.old.me.0.left) }
     requires own { (seat.old.table_id ≡ word.now.table_id) × (0 < word.now.table_id.words) }
     ensures kept { (seat.new.table_id ≡ seat.old.table_id) × (seat.new.me ≡ (
-      hand seat.old.me.0.drawn (seat.old.me.0.left - amount) seat.old.me.0.draws,
+      draw_view seat.old.me.0.drawn (seat.old.me.0.left - amount) seat.old.me.0.draws,
       seat.old.me.1,
     )) }
     ensures given { (result.table_id ≡ seat.old.table_id)
-        × (result.me ≡ (hand [] amount seat.old.me.0.draws, [])) }
+        × (result.me ≡ (draw_view [] amount seat.old.me.0.draws, [])) }
 {
-    word.split_seat::<Cut<A>>(seat)
+    word.split_seat::<SplitOff<A>>(seat)
 }
 
 impl Draws {
@@ -155,7 +159,7 @@ impl Draws {
         ensures kept { seat.new ≡ drawer self.now seat.old.drawn (seat.old.left - left) }
         ensures given { result ≡ drawer self.now [] left }
     {
-        let other = cut_off::<Brand>(&self.table.shared, &mut seat.seat, left);
+        let other = split_off::<Brand>(&self.table.shared, &mut seat.seat, left);
         seat.left -= left;
         DrawSeat { seat: other, left }
     }
@@ -168,8 +172,8 @@ impl Draws {
     {
         self.table
             .shared
-            .join_seat::<Glue>(&mut seat.seat, other.seat);
-        self.table.shared.load::<Count>(&mut seat.seat, 0);
+            .join_seat::<Merge>(&mut seat.seat, other.seat);
+        self.table.shared.load::<Inspect>(&mut seat.seat, 0);
         seat.left += other.left;
     }
 

@@ -1,11 +1,11 @@
-//! What a caller of `replay_many` learns of each text.
+//! The calls by which a caller of `replay_many` follows its workers.
 
-/// Is called by the workers before and after each text, from their threads.
+/// Workers call it before and after each text, from their threads.
 pub trait Gate: Sync {
     /// A worker begins with the text of this number, from 0.
     fn begin(&self, number: u32);
 
-    /// The same worker has ended with it, also if memory was refused.
+    /// The same worker has ended with that text, also if memory was refused.
     fn end(&self, number: u32);
 }
 

@@ -3,10 +3,10 @@
 //! by the caller's own threads.
 //!
 //! Different here: an acquire is `take` and then `look` until it returns true, and a release is
-//! `read_serving` and `pass`, so that a call is one atomic operation, nothing spins, and a caller
-//! can do what it likes between two steps. A `LiveSeat` is a thread of the lock, which `split`
-//! makes and `join` takes away. A waiting seat that is dropped keeps its ticket: no later one is
-//! served.
+//! `read_serving` and `pass`. Each of these calls is one atomic operation, so nothing spins, and a
+//! caller can do what it likes between two steps. A `LiveSeat` is a thread of the lock, which
+//! `split` makes and `join` takes away. A waiting seat that is dropped keeps its ticket: no later
+//! one is served.
 
 ghost use Rattle.std.specs.Prelude.{◌≡◌, ◌+◌, ◌^◌, ◌<◌, ◌≤◌, ◌==◌, map, max};
 ghost use Rattle.std.specs.Prelude.{if◌then◌else◌, [], ◌∷◌, IfOk};
@@ -14,20 +14,21 @@ ghost use Rattle.lk_locks.specs.declared.kinds.Outcome.TheVariants.{Moved, Waits
 ghost use Rattle.lk_locks.specs.laws.{after_take, after_look, after_read_serving, after_pass};
 ghost use Rattle.lk_workers.specs.declared.live.LivePhase.TheVariants.{Idle, Waiting, Inside};
 ghost use Rattle.lk_workers.specs.declared.live.LivePhase.TheVariants.{Leaving};
-ghost use Rattle.lk_workers.specs.Seats.{Live, seat_state, ticket_in, thread_of, with_seen};
+ghost use Rattle.lk_workers.specs.Seats.{Live, known, new_seat, ticket_in, thread_of, with_seen};
 ghost use Rattle.lk_workers.specs.Seats.{AreApart};
 ghost use Rattle.lk_workers.specs.LockState.{IsEnd};
-ghost use Rattle.lk_workers.specs.SeatSteps.{take_step, look_step, read_step, pass_step, moved};
-ghost use Rattle.lk_workers.specs.SeatSteps.{joined, rest_of, share_of};
+ghost use Rattle.lk_workers.specs.SeatSteps.{take_step, look_step, read_step, pass_step};
+ghost use Rattle.lk_workers.specs.SeatSteps.{seat_after, join_of, rest_of, share_of};
 ghost use Rattle.atomic_table.specs.Seated.{TableId};
-ghost use Rattle.lk_workers.specs.invariants.Running.{known};
 
 pub mod laws;
 mod rule;
 
-use crate::amount::{Amount, Cut};
+use crate::amount::{Amount, SplitOff};
 use atomic_table::{Seat, Table};
-use rule::{Count, Glue, LiveWords, Look, Pair, Pass, ReadServing, Take, TicketRule, View};
+use rule::{
+    Inspect, LiveWords, Look, Merge, Pass, ReadServing, SideBySide, Take, TicketRule, View,
+};
 use std::alloc::{AllocError, Global};
 use std::marker::{Brand, Model};
 
@@ -86,9 +87,9 @@ impl Model for LiveSeat {
 impl LiveSeat {
     // A seat that took nothing yet.
     fn idle(seat: Seat<(), View>, left: u64, seen: u64) -> LiveSeat
-        requires { seat.me ≡ (seat_state Idle 0 left 0 seen 0 [] ∷ [], []) }
+        requires { seat.me ≡ (new_seat left seen ∷ [], []) }
         ensures { (result.table ≡ seat.table_id)
-            × (result.state ≡ seat_state Idle 0 left 0 seen 0 []) }
+            × (result.state ≡ new_seat left seen) }
     {
         LiveSeat {
             seat,
@@ -139,7 +140,7 @@ impl LiveSeat {
     }
 }
 
-fn cut_off<A: Amount>(words: &LiveWords, seat: &mut Seat<(), View>, amount: u64) -> Seat<(), View>
+fn split_off<A: Amount>(words: &LiveWords, seat: &mut Seat<(), View>, amount: u64) -> Seat<(), View>
     requires amount { amount ≡ A.amount }
     requires own { (seat.old.table_id ≡ words.now.table_id) × (0 < words.now.table_id.words) }
     requires left { (r : _) × (seat.old.me.0 ≡ r ∷ []) × (amount ≤ r.left) }
@@ -148,7 +149,7 @@ fn cut_off<A: Amount>(words: &LiveWords, seat: &mut Seat<(), View>, amount: u64)
     ensures given { (result.table_id ≡ seat.old.table_id)
         × (result.me ≡ (map (share_of amount) seat.old.me.0, [])) }
 {
-    words.split_seat::<Cut<A>>(seat)
+    words.split_seat::<SplitOff<A>>(seat)
 }
 
 impl LiveTicket {
@@ -160,7 +161,7 @@ impl LiveTicket {
     pub fn open(alloc: Global, takes: u64) -> Result<(LiveTicket, LiveSeat), AllocError>
         requires { takes ≤ 2 ^ 40 }
         ensures { IfOk result
-            (λ r. (r.1.table ≡ r.0) × (r.1.state ≡ seat_state Idle 0 takes 0 0 0 [])) }
+            (λ r. (r.1.table ≡ r.0) × (r.1.state ≡ new_seat takes 0)) }
     {
         let (table, seat) = Table::of_words(alloc, &[0, 0], &takes)?;
         Ok((LiveTicket { table }, LiveSeat::idle(seat, takes, 0)))
@@ -171,7 +172,7 @@ impl LiveTicket {
         requires own { seat.old.table ≡ self.now }
         requires idle { (seat.old.state.phase ≡ Idle) × (0 < seat.old.state.left) }
         ensures own { seat.new.table ≡ self.now }
-        ensures seat { seat.new.state ≡ moved take_step seat.old.state result }
+        ensures seat { seat.new.state ≡ seat_after take_step seat.old.state result }
         ensures seen { seat.old.state.seen ≤ result }
         ensures event { after_take result ≡ (thread_of seat.new.state, Moved) }
     {
@@ -188,7 +189,7 @@ impl LiveTicket {
         requires own { seat.old.table ≡ self.now }
         requires waiting { seat.old.state.phase ≡ Waiting }
         ensures own { seat.new.table ≡ self.now }
-        ensures seat { seat.new.state ≡ moved look_step seat.old.state seat.new.state.seen }
+        ensures seat { seat.new.state ≡ seat_after look_step seat.old.state seat.new.state.seen }
         ensures later { seat.old.state.seen ≤ seat.new.state.seen }
         ensures answer { result ≡ (seat.new.state.seen == seat.old.state.ticket) }
         ensures event { after_look seat.old.state.ticket seat.new.state.seen
@@ -208,7 +209,7 @@ impl LiveTicket {
         requires own { seat.old.table ≡ self.now }
         requires inside { seat.old.state.phase ≡ Inside }
         ensures own { seat.new.table ≡ self.now }
-        ensures seat { seat.new.state ≡ moved read_step seat.old.state seat.old.state.ticket }
+        ensures seat { seat.new.state ≡ seat_after read_step seat.old.state seat.old.state.ticket }
         ensures event { after_read_serving seat.new.state.seen
             ≡ (thread_of seat.new.state, Moved) }
     {
@@ -222,7 +223,7 @@ impl LiveTicket {
         requires own { seat.old.table ≡ self.now }
         requires leaving { seat.old.state.phase ≡ Leaving }
         ensures own { seat.new.table ≡ self.now }
-        ensures seat { seat.new.state ≡ moved pass_step seat.old.state seat.old.state.ticket }
+        ensures seat { seat.new.state ≡ seat_after pass_step seat.old.state seat.old.state.ticket }
         ensures event { after_pass ≡ (thread_of seat.new.state, Left) }
     {
         let next = seat.ticket + 1;
@@ -240,7 +241,7 @@ impl LiveTicket {
             × (seat.new.state ≡ rest_of left seat.old.state) }
         ensures given { (result.table ≡ self.now) × (result.state ≡ share_of left seat.old.state) }
     {
-        let other = cut_off::<Brand>(&self.table.shared, &mut seat.seat, left);
+        let other = split_off::<Brand>(&self.table.shared, &mut seat.seat, left);
         seat.left -= left;
         LiveSeat::idle(other, left, seat.seen)
     }
@@ -250,13 +251,13 @@ impl LiveTicket {
         requires own { (seat.old.table ≡ self.now) × (other.table ≡ self.now) }
         requires idle { (seat.old.state.phase ≡ Idle) × (other.state.phase ≡ Idle) }
         ensures own { seat.new.table ≡ self.now }
-        ensures seat { seat.new.state ≡ joined seat.old.state other.state }
+        ensures seat { seat.new.state ≡ join_of seat.old.state other.state }
     {
         self.table
             .shared
-            .join_seat::<Glue>(&mut seat.seat, other.seat);
+            .join_seat::<Merge>(&mut seat.seat, other.seat);
         // A load only for the invariant's bound on the sums: it is available at an atomic step.
-        self.table.shared.load::<Count>(&mut seat.seat, 0);
+        self.table.shared.load::<Inspect>(&mut seat.seat, 0);
         seat.ticket = 0;
         seat.left += other.left;
         seat.taken += other.taken;
@@ -275,9 +276,9 @@ impl LiveTicket {
         ensures apart { AreApart seat.new.state result.state }
     {
         let words = &self.table.shared;
-        words.join_seat::<Pair>(&mut seat.seat, other.seat);
-        words.load::<Count>(&mut seat.seat, 0);
-        other.seat = words.split_seat::<Pair>(&mut seat.seat);
+        words.join_seat::<SideBySide>(&mut seat.seat, other.seat);
+        words.load::<Inspect>(&mut seat.seat, 0);
+        other.seat = words.split_seat::<SideBySide>(&mut seat.seat);
         seat.seen = seat.seen.max(other.seen);
         other.seen = seat.seen;
         other

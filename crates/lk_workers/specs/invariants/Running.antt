@@ -8,8 +8,8 @@ use Rattle.lk_workers.specs.declared.live.LivePhase.{LivePhase}
 use Rattle.lk_workers.specs.declared.live.LivePhase.TheVariants.{Idle, Waiting}
 use Rattle.lk_workers.specs.declared.live.rule.SeatState.{SeatState}
 use Rattle.lk_workers.specs.Counting.{once_below}
-use Rattle.lk_workers.specs.Seats.{Table, operation, noted, next_of, serving_of, sum_over_seats}
-use Rattle.lk_workers.specs.Seats.{seat_state, ticket_indicator, AreApart}
+use Rattle.lk_workers.specs.Seats.{Table, operation, with_operation, next_of, serving_of}
+use Rattle.lk_workers.specs.Seats.{sum_over_seats, ticket_indicator, AreApart}
 use Rattle.lk_workers.specs.SeatSteps.{LiveStep}
 
 abbrev pub Sees : Type 0
@@ -19,16 +19,6 @@ abbrev pub FitsPhase : ℕ → LivePhase → ℕ → ℕ → Type 0
 FitsPhase serving Idle t taken = ⊤
 FitsPhase serving Waiting t taken = 1 ≤ taken
 FitsPhase serving phase t taken = (t ≡ serving) × (1 ≤ taken)
-
--- the first seat of a view
-abbrev pub first_of : List SeatState → SeatState
-first_of [] = seat_state Idle 0 0 0 0 0 []
-first_of (r ∷ rs) = r
-
--- what is known of a seat: what it keeps itself, and the loads and operations of its view
-abbrev pub known : LivePhase → ℕ → ℕ → ℕ → ℕ → List SeatState → SeatState
-known phase ticket left taken seen v =
-    seat_state phase ticket left taken seen (first_of v).loads (first_of v).made
 
 -- one seat by itself, when this ticket is served
 abbrev pub Fits : ℕ → SeatState → Type 0
@@ -59,11 +49,12 @@ pub record Running (takes : ℕ) (s : Table) : Type 0 where
 abbrev pub OfOne : LiveStep → (SeatState → ℕ → Type 0) → Step (Unit {0}) → Sees → ℕ → Sees → Type 0
 OfOne live tells st v found w =
     (r : SeatState) → v.0 ≡ r ∷ []
-    → (w ≡ (noted (operation st.word st.first) (live.next r found) ∷ [], v.1)) × tells r found
+    → (w ≡ (with_operation (operation st.word st.first) (live.next r found) ∷ [], v.1))
+    × tells r found
 
 -- nothing changes, what one seat has is few, and two seats side by side are apart
-abbrev pub Counts : Step (Unit {0}) → Sees → ℕ → Sees → Type 0
-Counts st v found w =
+abbrev pub Inspects : Step (Unit {0}) → Sees → ℕ → Sees → Type 0
+Inspects st v found w =
     (w ≡ v) × (st.word ≡ 0)
     × ((r : SeatState) → v.0 ≡ r ∷ [] → (r.left ≤ 2 ^ 40) × (r.taken ≤ 2 ^ 40))
     × ((r q : SeatState) → v.0 ≡ r ∷ q ∷ [] → AreApart r q)

@@ -4,14 +4,13 @@
 //! runs.
 
 ghost use Rattle.std.specs.Prelude.{[], ◌∷◌, ◌≡◌, ◌<◌, ◌≤◌, ◌^◌, ⊤, map, take, drop};
-ghost use Rattle.lk_workers.specs.declared.live.LivePhase.TheVariants.{Idle};
-ghost use Rattle.lk_workers.specs.Seats.{seat_state};
-ghost use Rattle.lk_workers.specs.invariants.Running.{Running, OfOne, Counts};
+ghost use Rattle.lk_workers.specs.Seats.{new_seat};
+ghost use Rattle.lk_workers.specs.invariants.Running.{Running, OfOne, Inspects};
 ghost use Rattle.lk_workers.specs.SeatSteps.{take_step, look_step, read_step, pass_step, rest_of};
-ghost use Rattle.lk_workers.specs.SeatSteps.{share_of, glued, paired};
+ghost use Rattle.lk_workers.specs.SeatSteps.{share_of, merge_of, pair_of};
 
 use super::LivePhase;
-use crate::amount::{Amount, Cut};
+use crate::amount::{Amount, SplitOff};
 use atomic_table::{Join, Play, Shared, Split, TableRule};
 use std::collections::LinkedList;
 
@@ -44,7 +43,7 @@ pub struct TicketRule;
 impl TableRule<(), View, u64> for TicketRule {
     ghost holds = { Running };
 
-    ghost first = { λ takes. seat_state Idle 0 takes 0 0 0 [] ∷ [] };
+    ghost first = { λ takes. new_seat takes 0 ∷ [] };
 }
 
 /// The fetch-and-add on `next_ticket`.
@@ -79,37 +78,37 @@ impl Play<(), View> for Pass {
 // A load that changes nothing. It shows what the rule alone knows: that the numbers of a seat are
 // at most 2^40, and of two seats of one view that they do not both hold the lock, and that their
 // tickets differ.
-pub struct Count;
+pub struct Inspect;
 
-impl Play<(), View> for Count {
-    ghost then = { Counts };
+impl Play<(), View> for Inspect {
+    ghost then = { Inspects };
 }
 
-impl<A: Amount> Split<View> for Cut<A> {
+impl<A: Amount> Split<View> for SplitOff<A> {
     ghost left = { map (rest_of A.amount) };
 
     ghost right = { map (share_of A.amount) };
 }
 
 /// A join: one seat has then what two had.
-pub struct Glue;
+pub struct Merge;
 
-impl Join<View> for Glue {
-    ghost both = { glued };
+impl Join<View> for Merge {
+    ghost both = { merge_of };
 
     ghost spent = { [] };
 }
 
 // Two seats side by side in one view, and in two again.
-pub struct Pair;
+pub struct SideBySide;
 
-impl Join<View> for Pair {
-    ghost both = { paired };
+impl Join<View> for SideBySide {
+    ghost both = { pair_of };
 
     ghost spent = { [] };
 }
 
-impl Split<View> for Pair {
+impl Split<View> for SideBySide {
     ghost left = { take 1 };
 
     ghost right = { drop 1 };

@@ -1,5 +1,4 @@
-use Rattle.lk_workers.proofs.DrawSteps.{closes}
-use Rattle.lk_workers.proofs.DrawLists.{ends}
+use Rattle.lk_workers.proofs.DrawLists.{ends, whole_at_end}
 use Rattle.lk_workers.proofs.draws.Draws.close.Goals as goal
 
 pub returns-clause-word : goal.returns-clause-word
@@ -8,5 +7,6 @@ returns-clause-word c =
     (ends _ _ _ _ _ _ _ c.close_with-closed.ensures.values.2 c.word-word.ensures c.seat.invariant.0)
 
 pub returns-clause-each : goal.returns-clause-each
-returns-clause-each c = rw (← c.seat.view_is, ← c.self.view_is) (closes _ _ _ _ _ _ _
-    c.close_with-closed.ensures.values.2 c.word-word.ensures c.seat.invariant.0)
+returns-clause-each c = rw (← c.seat.view_is, ← c.self.view_is) (whole_at_end _ _ _ _
+    (ends _ _ _ _ _ _ _ c.close_with-closed.ensures.values.2 c.word-word.ensures
+    c.seat.invariant.0))

@@ -1,5 +1,5 @@
 use Rattle.std.proofs.Common.{rules, ap, refl, eq-eqb, ne_eqb, true, false}
-use Rattle.lk_workers.specs.invariants.Running.{known}
+use Rattle.lk_workers.specs.Seats.{known}
 use Rattle.lk_workers.proofs.SeatMoves.{look, looked}
 use Rattle.lk_workers.proofs.live.LiveTicket.look.Goals as goal
 

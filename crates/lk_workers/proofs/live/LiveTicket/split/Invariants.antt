@@ -1,4 +1,4 @@
 use Rattle.lk_workers.proofs.live.LiveTicket.split.Given as goal
 
-abbrev pub ghosts-cut_off : goal.ghosts-cut_off
-ghosts-cut_off a = record { amount = a.amount }
+abbrev pub ghosts-split_off : goal.ghosts-split_off
+ghosts-split_off a = record { amount = a.amount }

@@ -1,6 +1,6 @@
 use Rattle.std.proofs.Common.{rules}
 use Rattle.lk_workers.proofs.SeatJoins.{splits}
-use Rattle.lk_workers.proofs.live.cut_off.Goals as goal
+use Rattle.lk_workers.proofs.live.split_off.Goals as goal
 
 pub split_seat-requires : goal.split_seat-requires
 split_seat-requires g c =
