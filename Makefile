@@ -62,8 +62,9 @@ test-needs:
 PARTS := tried test-page test-refused test-library test-traces
 
 ## test | the one test command: proves all from nothing, then tries what is built
+# The fuzzer takes one processor for a minute, and `gate-built` leaves it one.
 test: test-needs
-	+tests/parts.sh gate gate-built $(PARTS)
+	+tests/parts.sh gate gate-built+tried-fuzz $(patsubst tried,tried-others,$(PARTS))
 
 test-parts:
 	@echo $(PARTS)
@@ -119,12 +120,14 @@ endif
 
 # The built program, and the rows by themselves, side by side. Nothing is proved here.
 ## tried | the built programs and the rows, the documents and the layout, without a proof
-TRIED := rows oracle process refusals writes short_memory memory documents documents_fail layout \
-	spaces fuzz
-.PHONY: $(addprefix tried-,$(TRIED))
-tried: $(PROGRAM) $(TRACER) needs-rt needs-tools
+# The fuzzer, which takes longest, begins first.
+TRIED := fuzz rows oracle process refusals writes short_memory memory documents documents_fail \
+	layout spaces
+.PHONY: $(addprefix tried-,$(TRIED) others)
+tried tried-others: $(PROGRAM) $(TRACER) needs-rt needs-tools
 	$(MAKE) --no-print-directory --jobs=$(shell nproc) --output-sync=target \
-	    $(addprefix tried-,$(TRIED)) FUZZ_SECONDS=$(FUZZ_SECONDS)
+	    $(addprefix tried-,$(filter-out $(if $(filter tried-others,$@),fuzz),$(TRIED))) \
+	    FUZZ_SECONDS=$(FUZZ_SECONDS)
 
 tried-oracle:
 	tests/rows.py
