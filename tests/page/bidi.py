@@ -13,6 +13,9 @@ import websocket
 from surroundings import surroundings
 
 PATIENCE = 120
+# Few pictures a second are drawn, since nobody looks at them. A check asks for the layout, which is
+# made anew for each answer. At 60 a second a fifth of the work would go into pictures.
+UNSEEN = {"layout.frame_rate": 10}
 # How long one question waits for its answer while a page is being opened.
 ASKED_AGAIN = 3
 LISTENS = re.compile(rb"WebDriver BiDi listening on (ws://\S+)")
@@ -120,7 +123,7 @@ def firefox(preferences=None):
     """A browser of its own profile, with these preferences, closed at the end."""
     with tempfile.TemporaryDirectory(ignore_cleanup_errors=True) as profile:
         lines = [f'user_pref("{name}", {json.dumps(value)});\n'
-                 for name, value in (preferences or {}).items()]
+                 for name, value in {**UNSEEN, **(preferences or {})}.items()]
         pathlib.Path(profile, "user.js").write_text("".join(lines))
         process = subprocess.Popen(
             [
