@@ -35,6 +35,14 @@ class Firefox:
         # A tab of its own: the first one may still be busy with what the browser opens by itself.
         self.context = self.ask("browsingContext.create", {"type": "tab"})["context"]
 
+    @contextlib.contextmanager
+    def container(self):
+        """This browser with a tab that finds no storage of another one, and leaves none."""
+        place = self.ask("browser.createUserContext", {})
+        self.context = self.ask("browsingContext.create", {"type": "tab", **place})["context"]
+        yield self
+        self.ask("browser.removeUserContext", place)
+
     def ask(self, method, params):
         self.number += 1
         self.socket.send(json.dumps({"id": self.number, "method": method, "params": params}))

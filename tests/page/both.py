@@ -134,7 +134,8 @@ class InFirefox:
         return self.tab.until(script, value)
 
     def before(self, script):
-        self.tab.ask("script.addPreloadScript", {"functionDeclaration": f"() => {{ {script} }}"})
+        asked = {"functionDeclaration": f"() => {{ {script} }}", "contexts": [self.tab.context]}
+        self.tab.ask("script.addPreloadScript", asked)
 
     def pdf(self):
         asked = {"context": self.tab.context, "background": True}
@@ -154,10 +155,13 @@ IN_PREFERENCES = {
 
 
 @contextlib.contextmanager
-def opened(name, media=()):
+def opened(name, media=(), kept=None):
     """The browser of this name, to be driven by a check. `media` are features, as pairs of a name
-    and a value, that the system asks for."""
-    if name == "firefox":
+    and a value, that the system asks for. If it is none, `kept` gives a Firefox that is there."""
+    if name == "firefox" and kept and not media:
+        with kept().container() as tab:
+            yield InFirefox(tab)
+    elif name == "firefox":
         with firefox(dict(IN_PREFERENCES[feature] for feature in media)) as tab:
             yield InFirefox(tab)
     else:

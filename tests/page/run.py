@@ -1,17 +1,21 @@
 #!/usr/bin/python3
 """Tests of page/lockreplay.html in real browsers: tests/page/run.py PROGRAM [MODULE...]
 
-Each module has its browser, three at a time; a name with `@firefox` or `@chromium` after it is
-run in that one. After each check no request may have left the page, and Chromium's log must have no
-error. Needs what packages.txt has for browsers.
+Three modules run at a time; a name with `@firefox` or `@chromium` after it is run in that one. Each
+module has a Chromium of its own, or a container of its own in a Firefox, whose start takes as much
+work as a short module. After each check no request may have left the page, and Chromium's log must
+have no error. Needs what packages.txt has for browsers.
 """
 import concurrent.futures
+import contextlib
 import importlib
 import os
 import sys
+import threading
 import time
 import traceback
 
+from bidi import firefox
 from both import InChromium, opened
 from browser import chromium
 
@@ -64,10 +68,26 @@ def in_chromium(name, program):
             assert not strangers, strangers
 
 
-def in_browser(name, which):
+class Firefoxes:
+    """A Firefox for each worker, which stays open for the worker's next module."""
+
+    def __init__(self, stack):
+        self.stack, self.own = stack, threading.local()
+
+    def of_worker(self):
+        if not hasattr(self.own, "firefox"):
+            self.own.firefox = self.stack.enter_context(firefox())
+        return self.own.firefox
+
+    def forget(self):
+        """Has the worker start another one, after a module that failed."""
+        self.own.__dict__.pop("firefox", None)
+
+
+def in_browser(name, which, firefoxes):
     """The checks of a module in one of the browsers, with what its system asks for."""
     module = importlib.import_module(name)
-    with opened(which, getattr(module, "MEDIA", ())) as browser:
+    with opened(which, getattr(module, "MEDIA", ()), firefoxes.of_worker) as browser:
         browser.strangers()
         for check in module.CHECKS:
             check(browser)
@@ -75,17 +95,18 @@ def in_browser(name, which):
             assert not strangers, strangers
 
 
-def run_module(name, program):
+def run_module(name, program, firefoxes):
     """What to print of a module, and whether all is well."""
     begun = time.monotonic()
     try:
         if "@" in name:
-            in_browser(*name.split("@"))
+            in_browser(*name.split("@"), firefoxes)
         elif name in IN_FIREFOX:
             importlib.import_module(name).check_all(program)
         else:
             in_chromium(name, program)
     except Exception:
+        firefoxes.forget()
         return f"FAILED {name}\n{traceback.format_exc()}", False
     return f"ok {name} ({time.monotonic() - begun:.0f} s)", True
 
@@ -93,8 +114,9 @@ def run_module(name, program):
 def run_all(names, program, at_once):
     """Runs the modules, prints what came of each, and says whether all is well."""
     well = True
-    with concurrent.futures.ProcessPoolExecutor(at_once) as pool:
-        results = [pool.submit(run_module, name, program) for name in names]
+    with contextlib.ExitStack() as stack, concurrent.futures.ThreadPoolExecutor(at_once) as pool:
+        firefoxes = Firefoxes(stack)
+        results = [pool.submit(run_module, name, program, firefoxes) for name in names]
         for done in concurrent.futures.as_completed(results):
             text, fine = done.result()
             print(text, flush=True)
