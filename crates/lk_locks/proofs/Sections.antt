@@ -1,133 +1,213 @@
--- A section is on the first words of its lock alone: on a copy of these it does the same.
-use Rattle.std.proofs.Common.{Bool, List, [], arith, false, if◌then◌else◌, length, refl, set}
-use Rattle.std.proofs.Common.{slice_index, true, ℕ, ◌&&◌, ◌==◌, ◌∷◌, ◌≡◌, ◌≤◌}
-use Rattle.std.proofs.Common.{subst, suc, zero, ◌<◌, ◌≢◌, ◌⊎◌}
-use Rattle.lk_locks.specs.Change.{Change}
-use Rattle.lk_locks.specs.read_write.{Tells, first_words, step, word_count}
-use Rattle.lk_locks.specs.rw_fifo
-use Rattle.lk_locks.specs.rw_simple
-use Rattle.lk_locks.specs.Types.{Family, FifoReadWrite, Phase, AwaitReaders, TryRead, TryWrite}
-use Rattle.lk_locks.specs.Types.{SectionEffect}
+-- What a section writes tells all that it changes.
+use Rattle.std.proofs.Common.{List, None, Option, Some, arith, inl, inr, length, refl, set}
+use Rattle.std.proofs.Common.{slice_index, suc, sym, zero, ℕ, ◌<◌, ◌≤◌, ◌^◌, ◌==◌, ◌∙◌, ◌≡◌, ◌≢◌}
+use Rattle.std.proofs.Common.{IfSome}
+use Rattle.std.specs.Option.{option_or}
+use Rattle.std.proofs.lemmas.Bool.{cases_Bool, eq-eqb, eqb-false, eqb-true}
+use Rattle.std.proofs.lemmas.List.{get_or-set_other, get_or-set_same, length-set}
+use Rattle.lk_words.specs.declared.operation.Effect.{Effect}
+use Rattle.lk_locks.specs.read_write.{IsChangeOf, IsOn, Tells, change_at, change_to, word_count}
+use Rattle.lk_locks.specs.invariants.read_write.{count_with, third_word, written}
+use Rattle.lk_locks.specs.Types.{Family, FifoReadWrite, Outcome, Queue, ReadWrite}
 
--- what holds of both outcomes of a test holds of two steps that make the same test
-either_both : {A : Type 0} (P : A → A → Type 0) (b : Bool) (x y z w : A) → P x z → P y w
-    → P (if b then x else y) (if b then z else w)
-either_both P true x y z w p q = p
-either_both P false x y z w p q = q
+-- the words of the monitor, counted by whether there is a third one
+pub count_of_third : (family : Family) (ws : List ℕ)
+    → count_with (third_word family ws) ≡ word_count family
+count_of_third Queue ws = refl
+count_of_third ReadWrite ws = refl
+count_of_third FifoReadWrite ws = refl
 
--- the words of a copy, written back
-abbrev pub two_back : List ℕ → List ℕ → List ℕ
-two_back ws left = set (set ws 0 (slice_index left 0)) 1 (slice_index left 1)
+-- a section writes in the first word, and in the second or the third
+abbrev IsFirst : ℕ × ℕ → Type 0
+IsFirst first = first.0 ≡ 0
 
--- the first three words of a list replaced by those of a copy
-abbrev pub three_back : List ℕ → List ℕ → List ℕ
-three_back ws left = two_back (set ws 2 (slice_index left 2)) left
+abbrev pub IsOther : List ℕ → ℕ × ℕ → Type 0
+IsOther ws other = (0 < other.0) × (other.0 < 3) × (other.0 < length ws)
 
--- a step on a copy, written back, does what the step on the words does
-pub record AsOnCopy (back : List ℕ → List ℕ → List ℕ) (family : Family) (ws : List ℕ)
-    (copy whole : Change) : Type 0 where
-  pub words : back ws copy.words ≡ whole.words
-  pub left : copy.words ≡ first_words family whole.words
-  pub phase : copy.phase ≡ whole.phase
-  pub outcome : copy.outcome ≡ whole.outcome
+-- what it writes, in a list that is not empty
+pub record Writes (ws : List ℕ) (first other : Option (ℕ × ℕ)) : Type 0 where
+  pub some : 0 < length ws
+  pub first_is : IfSome first IsFirst
+  pub other_is : IfSome other (IsOther ws)
 
--- a section of the simple lock does on a copy of two words what it does on the lock's
-pub simple : (family : Family) (bits : ℕ) (ws : List ℕ) (p : Phase) → word_count family ≤ length ws
-    → (family ≡ FifoReadWrite → ⊥)
-    → AsOnCopy two_back family ws
-    (rw_simple.step bits (slice_index ws 0 ∷ slice_index ws 1 ∷ 0 ∷ []) p)
-    (step family bits ws p)
-simple FifoReadWrite bits ws p h other = absurd (other refl)
-simple family bits (a ∷ b ∷ ws) TryRead h other =
-    either_both (AsOnCopy two_back family (a ∷ b ∷ ws)) (b == 0) _ _ _ _ (search) (search)
-simple family bits (a ∷ b ∷ ws) TryWrite h other =
-    either_both (AsOnCopy two_back family (a ∷ b ∷ ws)) (a == 0 && b == 0) _ _ _ _
-    (search) (search)
-simple family bits (a ∷ b ∷ ws) p h other = search
-simple family bits ws p h other = absurd (omega arith)
+few_words : (family : Family) → (2 ≤ word_count family) × (word_count family ≤ 3)
+few_words Queue = (omega arith, omega arith)
+few_words ReadWrite = (omega arith, omega arith)
+few_words FifoReadWrite = (omega arith, omega arith)
 
--- a section of the FIFO lock does on a copy of three words what it does on the lock's
-pub fifo : (bits : ℕ) (ws : List ℕ) (p : Phase) → 3 ≤ length ws
-    → AsOnCopy three_back FifoReadWrite ws
-    (rw_fifo.step bits (slice_index ws 0 ∷ slice_index ws 1 ∷ slice_index ws 2 ∷ []) p)
-    (rw_fifo.step bits ws p)
-fifo bits (a ∷ b ∷ c ∷ ws) TryRead h =
-    either_both (AsOnCopy three_back FifoReadWrite (a ∷ b ∷ c ∷ ws)) (c == 0) _ _ _ _
-    (search) (search)
-fifo bits (a ∷ b ∷ c ∷ ws) TryWrite h =
-    either_both (AsOnCopy three_back FifoReadWrite (a ∷ b ∷ c ∷ ws)) (c == 0) _ _ _ _
-    (either_both (AsOnCopy three_back FifoReadWrite (a ∷ b ∷ c ∷ ws)) (a == b) _ _ _ _
-    (search) (search)) (search)
-fifo bits (a ∷ b ∷ c ∷ ws) AwaitReaders h =
-    either_both (AsOnCopy three_back FifoReadWrite (a ∷ b ∷ c ∷ ws)) (a == b) _ _ _ _
-    (search) (search)
-fifo bits (a ∷ b ∷ c ∷ ws) p h = search
-fifo bits ws p h = absurd (omega arith)
+first_of : (bits : ℕ) (first : Option (ℕ × ℕ))
+    → IfSome first (λ w. (w.0 ≡ 0) × (w.1 < 2 ^ bits)) → IfSome first IsFirst
+first_of bits None h = tt
+first_of bits (Some w) h = h.0
 
--- a word by what a section finds and leaves, and by the lists before and after
-abbrev IsTold : (found left before after : List ℕ) → ℕ → Type 0
-IsTold found left before after i =
-    (slice_index left i ≢ slice_index found i
-    → (i < length before) × (slice_index found i ≡ slice_index before i)
-    × (slice_index left i ≡ slice_index after i))
-    × (slice_index left i ≡ slice_index found i → slice_index after i ≡ slice_index before i)
+other_of : (bits : ℕ) (family : Family) (ws : List ℕ) (third : Option ℕ) (other : Option (ℕ × ℕ))
+    → word_count family ≤ length ws → third ≡ third_word family ws
+    → IfSome other (λ w. (0 < w.0) × (w.0 < count_with third) × (w.1 < 2 ^ bits))
+    → IfSome other (IsOther ws)
+other_of bits family ws third None room is h = tt
+other_of bits family ws third (Some w) room is h =
+    let below : w.0 < word_count family =
+    rw (← count_of_third family ws) (rw is at h.1) in
+    (h.0, omega (arith, below, (few_words family).1), omega (arith, below, room))
 
-two_told : (a b x y : ℕ) (ws : List ℕ) (i : ℕ)
-    → IsTold (a ∷ b ∷ 0 ∷ []) (x ∷ y ∷ 0 ∷ []) (a ∷ b ∷ ws) (x ∷ y ∷ ws) i
-two_told a b x y ws zero = (λ n. (omega arith, refl, refl), λ e. e)
-two_told a b x y ws (suc zero) = (λ n. (omega arith, refl, refl), λ e. e)
-two_told a b x y ws (suc (suc zero)) = (λ n. absurd (n refl), λ e. refl)
-two_told a b x y ws (suc (suc (suc i))) = (λ n. absurd (n refl), λ e. refl)
+-- a section of this family writes so
+pub writes_of : (bits : ℕ) (family : Family) (ws : List ℕ) (third : Option ℕ)
+    (first other : Option (ℕ × ℕ)) → word_count family ≤ length ws → third ≡ third_word family ws
+    → IfSome first (λ w. (w.0 ≡ 0) × (w.1 < 2 ^ bits))
+    → IfSome other (λ w. (0 < w.0) × (w.0 < count_with third) × (w.1 < 2 ^ bits))
+    → Writes ws first other
+writes_of bits family ws third first other room is f o = record {
+  some = omega (arith, room, (few_words family).0);
+  first_is = first_of bits first f;
+  other_is = other_of bits family ws third other room is o;
+}
 
-three_told : (a b c x y z : ℕ) (ws : List ℕ) (i : ℕ)
-    → IsTold (a ∷ b ∷ c ∷ []) (x ∷ y ∷ z ∷ []) (a ∷ b ∷ c ∷ ws) (x ∷ y ∷ z ∷ ws) i
-three_told a b c x y z ws zero = (λ n. (omega arith, refl, refl), λ e. e)
-three_told a b c x y z ws (suc zero) = (λ n. (omega arith, refl, refl), λ e. e)
-three_told a b c x y z ws (suc (suc zero)) = (λ n. (omega arith, refl, refl), λ e. e)
-three_told a b c x y z ws (suc (suc (suc i))) = (λ n. absurd (n refl), λ e. refl)
+-- a word after the writes
+at_first : (ws : List ℕ) (i x : ℕ) (other : Option (ℕ × ℕ)) → Writes ws (Some (i, x)) other
+    → slice_index (written ws (Some (i, x)) other) i ≡ x
+at_first ws i x None w = get_or-set_same ws i x 0 (omega (arith, w.first_is, w.some))
+at_first ws i x (Some (j, y)) w =
+    get_or-set_other (set ws i x) j i y 0 (λ e. omega (arith, e, w.first_is, w.other_is.0))
+    ∙ get_or-set_same ws i x 0 (omega (arith, w.first_is, w.some))
 
--- a section tells what it does to words that are as the step leaves them
-abbrev IsAsTold : Family → List ℕ → List ℕ → Type 0
-IsAsTold family before after =
-    (i : ℕ) → IsTold (first_words family before) (first_words family after) before after i
+at_other : (ws : List ℕ) (first : Option (ℕ × ℕ)) (i v : ℕ) → i < length ws
+    → slice_index (written ws first (Some (i, v))) i ≡ v
+at_other ws None i v h = get_or-set_same ws i v 0 h
+at_other ws (Some (j, x)) i v h =
+    get_or-set_same (set ws j x) i v 0 (omega (arith, h, length-set ws j x))
 
-pub simple_told : (family : Family) (bits : ℕ) (ws : List ℕ) (p : Phase)
-    → word_count family ≤ length ws → (family ≡ FifoReadWrite → ⊥)
-    → IsAsTold family ws (step family bits ws p).words
-simple_told FifoReadWrite bits ws p h other = absurd (other refl)
-simple_told family bits (a ∷ b ∷ ws) p h other =
-    subst (IsAsTold family (a ∷ b ∷ ws)) (simple family bits (a ∷ b ∷ ws) p h other).words
-    (two_told a b _ _ ws)
-simple_told family bits ws p h other = absurd (omega arith)
+-- a word that is not written
+abbrev IsOff : Option (ℕ × ℕ) → ℕ → Type 0
+IsOff write i = IfSome write (λ w. i ≢ w.0)
 
-pub fifo_told : (bits : ℕ) (ws : List ℕ) (p : Phase) → 3 ≤ length ws
-    → IsAsTold FifoReadWrite ws (rw_fifo.step bits ws p).words
-fifo_told bits (a ∷ b ∷ c ∷ ws) p h =
-    subst (IsAsTold FifoReadWrite (a ∷ b ∷ c ∷ ws)) (fifo bits (a ∷ b ∷ c ∷ ws) p h).words
-    (three_told a b c _ _ _ ws)
-fifo_told bits ws p h = absurd (omega arith)
+off : (ws : List ℕ) (first other : Option (ℕ × ℕ)) (i : ℕ) → IsOff first i → IsOff other i
+    → slice_index (written ws first other) i ≡ slice_index ws i
+off ws None None i a b = refl
+off ws (Some (j, x)) None i a b = get_or-set_other ws j i x 0 a
+off ws None (Some (k, y)) i a b = get_or-set_other ws k i y 0 b
+off ws (Some (j, x)) (Some (k, y)) i a b =
+    get_or-set_other (set ws j x) k i y 0 b ∙ get_or-set_other ws j i x 0 a
 
-pub two_first : (family : Family) (ws : List ℕ) → (family ≡ FifoReadWrite → ⊥)
-    → slice_index ws 0 ∷ slice_index ws 1 ∷ 0 ∷ [] ≡ first_words family ws
-two_first FifoReadWrite ws other = absurd (other refl)
-two_first family ws other = refl
+off_first : (ws : List ℕ) (first other : Option (ℕ × ℕ)) (i : ℕ) → Writes ws first other
+    → 0 < i → IsOff first i
+off_first ws None other i w h = tt
+off_first ws (Some (j, x)) other i w h = λ e. omega (arith, e, h, w.first_is)
 
-beyond : (family : Family) (before after : List ℕ) (i : ℕ) → 3 ≤ i
-    → slice_index (first_words family after) i ≡ slice_index (first_words family before) i
-beyond FifoReadWrite before after (suc (suc (suc i))) h = refl
-beyond family before after (suc (suc (suc i))) h = refl
-beyond family before after i h = absurd (omega arith)
+off_other : (ws : List ℕ) (first other : Option (ℕ × ℕ)) → Writes ws first other
+    → IsOff other 0
+off_other ws first None w = tt
+off_other ws first (Some (k, y)) w = λ e. omega (arith, e, w.other_is.0)
 
--- what a section finds and leaves tells what it does, if it changes one of two words at most
-pub telling : (family : Family) (before after : List ℕ) (told : SectionEffect)
-    → told.found ≡ first_words family before → told.left ≡ first_words family after
-    → IsAsTold family before after
-    → (slice_index told.left 1 ≡ slice_index told.found 1)
-    ⊎ (slice_index told.left 2 ≡ slice_index told.found 2)
-    → Tells told before after
-telling family before after told found left is few = record {
-  changed = λ i. rw (found, left) (is i).0;
-  kept = λ i. rw (found, left) (is i).1;
-  few = few;
-  rest = λ i h. rw (found, left) (beyond family before after i h);
+-- a word that stays is no change, and another's change is to its value
+stays : (before after : List ℕ) (i : ℕ) → slice_index after i ≡ slice_index before i
+    → change_at before after i ≡ None
+stays before after i e = rw (e, eq-eqb (slice_index before i) (slice_index before i) refl) refl
+
+goes_to : (before after : List ℕ) (i v : ℕ) → slice_index after i ≡ v
+    → change_at before after i ≡ change_to before (Some (i, v))
+goes_to before after i v e = rw e refl
+
+pub first_is : (ws : List ℕ) (first other : Option (ℕ × ℕ)) → Writes ws first other
+    → change_at ws (written ws first other) 0 ≡ change_to ws first
+first_is ws None other w =
+    stays ws (written ws None other) 0 (off ws None other 0 tt (off_other ws None other w))
+first_is ws (Some (zero, x)) other w =
+    goes_to ws (written ws (Some (0, x)) other) 0 x (at_first ws 0 x other w)
+first_is ws (Some (suc i, x)) other w = absurd (omega (arith, w.first_is))
+
+or_none : (change : Option Effect) → option_or change None ≡ change
+or_none None = refl
+or_none (Some e) = refl
+
+pub second_is : (ws : List ℕ) (first other : Option (ℕ × ℕ)) → Writes ws first other
+    → option_or (change_at ws (written ws first other) 1) (change_at ws (written ws first other) 2)
+    ≡ change_to ws other
+second_is ws first None w =
+    let off_at : (i : ℕ) → 0 < i → change_at ws (written ws first None) i ≡ None =
+    λ i h. stays ws (written ws first None) i
+    (off ws first None i (off_first ws first None i w h) tt) in
+    rw (off_at 1 (omega arith), off_at 2 (omega arith)) refl
+second_is ws first (Some (suc zero, v)) w =
+    rw (stays ws (written ws first (Some (1, v))) 2
+    (off ws first (Some (1, v)) 2 (off_first ws first (Some (1, v)) 2 w (omega arith))
+    (λ e. omega (arith, e))))
+    (or_none _
+    ∙ goes_to ws (written ws first (Some (1, v))) 1 v (at_other ws first 1 v w.other_is.2))
+second_is ws first (Some (suc (suc zero), v)) w =
+    rw (stays ws (written ws first (Some (2, v))) 1
+    (off ws first (Some (2, v)) 1 (off_first ws first (Some (2, v)) 1 w (omega arith))
+    (λ e. omega (arith, e))))
+    (goes_to ws (written ws first (Some (2, v))) 2 v (at_other ws first 2 v w.other_is.2))
+second_is ws first (Some (i, v)) w = absurd (omega (arith, w.other_is.0, w.other_is.1))
+
+changed : (ws after : List ℕ) (i v : ℕ) → i < length ws → slice_index after i ≡ v
+    → IsChangeOf ws after (change_to ws (Some (i, v)))
+changed ws after i v h e = elim (cases_Bool (slice_index ws i == v)) [
+  | inl same ↦ rw same tt
+  | inr differs ↦ rw differs (h, refl, sym e, eqb-false (slice_index ws i) v differs)
+]
+
+on_to : (ws : List ℕ) (i v j : ℕ) → IsOn (change_to ws (Some (i, v))) j → i ≡ j
+on_to ws i v j = elim (cases_Bool (slice_index ws i == v)) [
+  | inl same ↦ rw same (λ on. absurd on)
+  | inr differs ↦ rw differs (λ on. on)
+]
+
+unchanged : (ws : List ℕ) (i v : ℕ) → (IsOn (change_to ws (Some (i, v))) i → ⊥)
+    → slice_index ws i ≡ v
+unchanged ws i v = elim (cases_Bool (slice_index ws i == v)) [
+  | inl same ↦ λ n. eqb-true (slice_index ws i) v same
+  | inr differs ↦ rw differs (λ n. absurd (n refl))
+]
+
+first_change : (ws : List ℕ) (first other : Option (ℕ × ℕ)) → Writes ws first other
+    → IsChangeOf ws (written ws first other) (change_to ws first)
+first_change ws None other w = tt
+first_change ws (Some (i, x)) other w =
+    changed ws (written ws (Some (i, x)) other) i x (omega (arith, w.first_is, w.some))
+    (at_first ws i x other w)
+
+second_change : (ws : List ℕ) (first other : Option (ℕ × ℕ)) → Writes ws first other
+    → IsChangeOf ws (written ws first other) (change_to ws other)
+second_change ws first None w = tt
+second_change ws first (Some (i, v)) w =
+    changed ws (written ws first (Some (i, v))) i v w.other_is.2
+    (at_other ws first i v w.other_is.2)
+
+are_apart : (ws : List ℕ) (first other : Option (ℕ × ℕ)) → Writes ws first other → (j : ℕ)
+    → IsOn (change_to ws first) j → IsOn (change_to ws other) j → ⊥
+are_apart ws None other w j a b = a
+are_apart ws (Some (i, x)) None w j a b = b
+are_apart ws (Some (i, x)) (Some (k, v)) w j a b =
+    omega (arith, w.first_is, w.other_is.0, on_to ws i x j a, on_to ws k v j b)
+
+-- at a word that is told unchanged each write leaves what it finds
+off_or_same : (ws after : List ℕ) (write : Option (ℕ × ℕ)) (j : ℕ)
+    → (IsOn (change_to ws write) j → ⊥)
+    → ((v : ℕ) → write ≡ Some (j, v) → slice_index after j ≡ v)
+    → (IsOff write j → slice_index after j ≡ slice_index ws j)
+    → slice_index after j ≡ slice_index ws j
+off_or_same ws after None j n is other = other tt
+off_or_same ws after (Some (i, v)) j n is other = elim (cases_Bool (j == i)) [
+  | inl same ↦
+      let e : j ≡ i = eqb-true j i same in
+      is v (rw e refl) ∙ sym (unchanged ws j v (rw (← e) at n))
+  | inr differs ↦ other (eqb-false j i differs)
+]
+
+-- what is told of a section that writes so is all that it does
+pub told : (ws : List ℕ) (first other : Option (ℕ × ℕ)) (outcome : Outcome)
+    → Writes ws first other
+    → Tells (record { first = change_to ws first; second = change_to ws other; outcome = outcome })
+    ws (written ws first other)
+told ws first other outcome w = record {
+  first_is = first_change ws first other w;
+  second_is = second_change ws first other w;
+  apart = are_apart ws first other w;
+  others = λ j a b.
+      off_or_same ws (written ws first other) other j b
+      (λ v e. rw e (at_other ws first j v (rw e at w.other_is).2))
+      (λ off_b. off_or_same ws (written ws first other) first j a
+      (λ v e. rw e (at_first ws j v other (rw e at w)))
+      (λ off_a. off ws first other j off_a off_b));
 }

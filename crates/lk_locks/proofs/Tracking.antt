@@ -1,6 +1,6 @@
 -- A history that is known to be there, without being kept, grows by the entries of each accepted
 -- move.
-use Rattle.std.proofs.Common.{◌≡◌, ℕ, List, ◌++◌, None, sym, ap, ◌∙◌}
+use Rattle.std.proofs.Common.{◌≡◌, ℕ, List, ◌++◌, None, refl}
 use Rattle.lk_locks.specs.State.{State}
 use Rattle.lk_locks.specs.Steps.{next_state, refusal_of}
 use Rattle.lk_locks.specs.Entries.{entries_of}
@@ -9,7 +9,7 @@ use Rattle.lk_locks.specs.Legal.{AreEnabled, after_entries}
 use Rattle.lk_locks.specs.invariants.Kept.{IsTracked}
 use Rattle.lk_locks.proofs.Moves.{accepted_of}
 use Rattle.lk_locks.proofs.Keeping.{agreed, keeps}
-use Rattle.lk_locks.specs.Types.{Move, Call, Op, Entry}
+use Rattle.lk_locks.specs.Types.{Move, Call, Step, StepKind, Op, Entry}
 
 -- the entries of an accepted move may come next in the history
 pub entries_may_come : (s : State) (q : Sequential) (t : ℕ) (m : Move) → IsTracked s q
@@ -32,7 +32,8 @@ tracked_by_call s q t op k a = (
 )
 
 -- a call changes the history, but not the sequential lock
-pub tracked_call : (s r : State) (q : Sequential) (t : ℕ) (m : Move) (op : Op) → IsTracked s q
-    → refusal_of s t m ≡ None → m ≡ Call op → r ≡ next_state s t m → IsTracked r q
-tracked_call s r q t m op k a c e = rw (e, c) (tracked_by_call s q t op k
-    (sym (ap (refusal_of s t) c) ∙ a))
+pub tracked_called : (s r : State) (q : Sequential) (t : ℕ) (m : Move) → IsTracked s q
+    → refusal_of s t m ≡ None → ((k : StepKind) → m ≡ Step k → ⊥) → r ≡ next_state s t m
+    → IsTracked r q
+tracked_called s r q t (Call op) k a n e = rw e (tracked_by_call s q t op k a)
+tracked_called s r q t (Step step) k a n e = absurd (n step refl)

@@ -1,9 +1,9 @@
 -- Sums of words, which wrap.
-use Rattle.std.proofs.Common.{ap, arith, inl, inr, ℕ, ◌%◌, ◌+◌, ◌-◌, ◌<◌, ◌^◌}
+use Rattle.std.proofs.Common.{ap, arith, inl, inr, ℕ, ◌%◌, ◌+◌, ◌-◌, ◌<◌, ◌≤◌, ◌^◌}
 use Rattle.std.proofs.Common.{◌∙◌, ◌≡◌}
 use Rattle.std.proofs.Math.Nat.{mod-add-mod, mod-eq-sub-mod, mod-eq_of_lt, mod-lt}
 use Rattle.std.proofs.lemmas.Bool.{cases_lt}
-use Rattle.std.proofs.lemmas.Nat.{pow_pos}
+use Rattle.std.proofs.lemmas.Nat.{pow_below, pow_pos}
 use Rattle.lk_locks.specs.Change.{plus_one}
 
 -- one more and then k more is k + 1 more, also if the word wraps around
@@ -20,3 +20,7 @@ no_round m a k h p q e = elim (cases_lt (a + k) m) [
 -- one more is a word again
 pub plus_one-lt : (bits x : ℕ) → plus_one bits x < 2 ^ bits
 plus_one-lt bits x = mod-lt (x + 1) (pow_pos bits)
+
+-- a flag that is set is a word
+pub one_fits : (bits : ℕ) → 2 ≤ bits → 1 < 2 ^ bits
+one_fits bits h = pow_below 0 bits (omega (arith, h))

@@ -67,7 +67,7 @@ effect_of Mcs bits ws t p =
     option_map (λ o. OneWord (effect_on bits ws o) (step_of Mcs bits ws t p).outcome)
     (mcs.operation t p)
 effect_of kind bits ws t p =
-    option_map (λ due. Monitor (read_write.section (family_of kind) bits ws p))
+    option_map (λ due. Monitor (read_write.effect (family_of kind) bits ws p))
     (read_write.step_due p)
 
 -- the entries of a step of thread t, from this phase and with this outcome

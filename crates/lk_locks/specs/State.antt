@@ -1,6 +1,6 @@
--- Definitions. The state of a lock: its kind, its words, and what each thread does. This project's
--- own.
+-- Definitions. The state of a lock: its kind, its words, and what each thread does.
 use Rattle.std.specs.Prelude.{ℕ, List, get_or, replicate}
+use Rattle.lk_locks.specs.Locks.{word_count}
 use Rattle.lk_locks.specs.Types.{LockKind, Phase, Idle}
 
 -- the words are below 2 ^ bits, and there is a phase for each thread
@@ -17,6 +17,16 @@ phase_at phases t = get_or phases t Idle
 -- at the start all threads are idle. The words are the caller's, all 0
 abbrev pub start : LockKind → ℕ → List ℕ → ℕ → State
 start kind bits ws n = record { kind = kind; bits = bits; words = ws; phases = replicate n Idle }
+
+-- what a new lock is made of
+pub record Shape : Type 0 where
+  pub kind : LockKind
+  pub threads : ℕ
+  pub bits : ℕ
+
+-- at the start, on as many words as the lock needs
+abbrev pub start_of : Shape → State
+start_of s = start s.kind s.bits (replicate (word_count s.kind s.threads) 0) s.threads
 
 -- the same lock with these words and phases
 abbrev pub put_back : State → List ℕ → List Phase → State

@@ -2,9 +2,12 @@
 -- entries of their sections.
 --
 -- After Herlihy and Shavit, The Art of Multiprocessor Programming, chapter 8. `Downgrade`, by which
--- a writer becomes a reader in one section, is this project's own.
-use Rattle.std.specs.Prelude.{ℕ, ◌<◌, ◌^◌, slice_index, List, [], ◌∷◌, ◌++◌, Option, None, Some}
-use Rattle.std.specs.Prelude.{◌≡◌, ◌≢◌, ◌≤◌, ◌⊎◌, length}
+-- a writer becomes a reader in one section, is an addition.
+use Rattle.std.specs.Prelude.{ℕ, ◌<◌, slice_index, List, [], ◌∷◌, ◌++◌, Option, None, Some}
+use Rattle.std.specs.Prelude.{◌≡◌, ◌≢◌, ◌==◌, if◌then◌else◌, length}
+use Rattle.std.specs.Option.{option_or}
+use Rattle.lk_words.specs.declared.operation.Answer.TheVariants.{Nothing}
+use Rattle.lk_words.specs.declared.operation.Effect.{Effect}
 use Rattle.lk_locks.specs.Acts.{acts, announcement}
 use Rattle.lk_locks.specs.Change.{Change}
 use Rattle.lk_locks.specs.rw_fifo
@@ -36,40 +39,57 @@ abbrev pub word_count : Family → ℕ
 word_count FifoReadWrite = 3
 word_count family = 2
 
--- the monitor's words, of so many bits
-abbrev pub AreWords : ℕ → List ℕ → Type 0
-AreWords bits ws =
-    (slice_index ws 0 < 2 ^ bits) × (slice_index ws 1 < 2 ^ bits) × (slice_index ws 2 < 2 ^ bits)
-
 -- a section of a thread in this phase
 abbrev pub step : Family → ℕ → List ℕ → Phase → Change
 step FifoReadWrite bits ws p = rw_fifo.step bits ws p
 step family bits ws p = rw_simple.step bits ws p
 
--- the words of the monitor; the simple lock has no third one
-abbrev pub first_words : Family → List ℕ → List ℕ
-first_words FifoReadWrite ws = slice_index ws 0 ∷ slice_index ws 1 ∷ slice_index ws 2 ∷ []
-first_words family ws = slice_index ws 0 ∷ slice_index ws 1 ∷ 0 ∷ []
+-- what happens to word i, if it differs between these lists
+abbrev pub change_at : List ℕ → List ℕ → ℕ → Option Effect
+change_at before after i =
+    if slice_index before i == slice_index after i then None
+    else Some (record {
+      word = i;
+      found = slice_index before i;
+      left = slice_index after i;
+      answer = Nothing;
+    })
 
--- what a section of a thread in this phase finds in them, what it leaves, and its outcome
-abbrev pub section : Family → ℕ → List ℕ → Phase → SectionEffect
-section family bits ws p = record {
-  found = first_words family ws;
-  left = first_words family (step family bits ws p).words;
+-- what happens to a word in which this value is written, if it differs
+abbrev pub change_to : List ℕ → Option (ℕ × ℕ) → Option Effect
+change_to ws None = None
+change_to ws (Some (i, value)) =
+    if slice_index ws i == value then None
+    else Some (record { word = i; found = slice_index ws i; left = value; answer = Nothing })
+
+-- what a section of a thread in this phase changes: the first word, and one of the two others
+abbrev pub effect : Family → ℕ → List ℕ → Phase → SectionEffect
+effect family bits ws p = record {
+  first = change_at ws (step family bits ws p).words 0;
+  second =
+      option_or (change_at ws (step family bits ws p).words 1)
+      (change_at ws (step family bits ws p).words 2);
   outcome = (step family bits ws p).outcome;
 }
 
--- A section tells all that it does to the words: where it finds and leaves the same, the word
--- stays. It changes one at most of the second and the third word, and none after them.
+-- this word is the one that changes
+abbrev pub IsOn : Option Effect → ℕ → Type 0
+IsOn None i = ⊥
+IsOn (Some e) i = e.word ≡ i
+
+abbrev pub IsChangeOf : List ℕ → List ℕ → Option Effect → Type 0
+IsChangeOf before after None = Unit {0}
+IsChangeOf before after (Some e) =
+    (e.word < length before) × (e.found ≡ slice_index before e.word)
+    × (e.left ≡ slice_index after e.word) × (e.found ≢ e.left)
+
+-- A section tells all that it does to the words: it changes two different ones at most.
 pub record Tells (section : SectionEffect) (before after : List ℕ) : Type 0 where
-  pub changed : (i : ℕ) → slice_index section.left i ≢ slice_index section.found i
-      → (i < length before) × (slice_index section.found i ≡ slice_index before i)
-      × (slice_index section.left i ≡ slice_index after i)
-  pub kept : (i : ℕ) → slice_index section.left i ≡ slice_index section.found i
+  pub first_is : IsChangeOf before after section.first
+  pub second_is : IsChangeOf before after section.second
+  pub apart : (i : ℕ) → IsOn section.first i → IsOn section.second i → ⊥
+  pub others : (i : ℕ) → (IsOn section.first i → ⊥) → (IsOn section.second i → ⊥)
       → slice_index after i ≡ slice_index before i
-  pub few : (slice_index section.left 1 ≡ slice_index section.found 1)
-      ⊎ (slice_index section.left 2 ≡ slice_index section.found 2)
-  pub rest : (i : ℕ) → 3 ≤ i → slice_index section.left i ≡ slice_index section.found i
 
 -- The entries of a section. A FIFO writer announces itself when it sets the flag; a call acts
 -- when it succeeds.

@@ -10,8 +10,8 @@ ghost use Rattle.lk_locks.specs.Locks.{step_due, word_count};
 ghost use Rattle.lk_locks.specs.MainTheorem.{IsAsPromised};
 ghost use Rattle.lk_locks.specs.Holding.{holding, holding_of, waiting_of, IsListed};
 
-use crate::entries::Added;
-use crate::{Entry, History, Holders, LockKind, Move, Outcome, PlayFault, StepKind, Tracker};
+use crate::{Entry, History, Holders, LockKind, Machine, Move, Outcome, PlayFault, StepKind};
+use crate::Tracker;
 use arrayvec::ArrayVec;
 use lk_words::Words;
 use std::alloc::Global;
@@ -48,7 +48,7 @@ impl<W: Words> Keeper<W> {
         ensures { result ≡ new_lock kind (W.width words) (W.list words) threads }
     {
         Keeper {
-            lock: Tracker::new(kind, threads, words),
+            lock: Tracker::of_new(Machine::new(kind, threads, words)),
             history: History::new(alloc),
         }
     }
@@ -69,13 +69,14 @@ impl<W: Words> Keeper<W> {
         if let Err(refusal) = self.lock.machine().check(t, m) {
             return Err(PlayFault::Refused(refusal));
         }
-        if self.history.make_room().is_err() {
-            return Err(PlayFault::OutOfMemory);
+        self.history.make_room().or(Err(PlayFault::OutOfMemory))?;
+        match self.lock.play(t, m) {
+            Ok((outcome, added)) => {
+                self.history.append(added.as_slice());
+                Ok(outcome)
+            }
+            Err(refusal) => Err(PlayFault::Refused(refusal)),
         }
-        let mut added = Added::none();
-        let outcome = self.lock.make(t, m, &mut added);
-        self.history.append(added.as_slice());
-        Ok(outcome)
     }
 
     /// What happened, oldest first. Whatever was played, it is a legal history of the lock's

@@ -1,7 +1,7 @@
 //! The functions of each lock's module, by the lock, and the family that it belongs to. Code that
 //! the locks share calls these, and knows no lock.
 
-ghost use Rattle.std.specs.Prelude.{◌≡◌, ◌≤◌, [], IfSome};
+ghost use Rattle.std.specs.Prelude.{◌≡◌, ◌≤◌, ℕ, IfSome};
 ghost use Rattle.std.specs.List.{list_any};
 ghost use Rattle.lk_locks.specs.Change.{kind_of};
 ghost use Rattle.lk_locks.specs.Locks.{family_of, word_count, steps_of, after_call, step_due};
@@ -97,21 +97,36 @@ pub fn operation_of(kind: LockKind, bits: u8, thread: u8, phase: Phase) -> Optio
 pub(crate) fn step_due(kind: LockKind, phase: Phase) -> Option<StepKind>
     ensures { result ≡ step_due kind phase }
 {
+    step_by(kind, phase, operation_of(kind, 64, 0, phase))
+}
+
+/// The step that a thread in this phase takes next, by the operation that it makes next.
+#[inline(always)]
+pub(crate) fn step_by(
+    kind: LockKind,
+    phase: Phase,
+    operation: Option<Operation>,
+) -> Option<StepKind>
+    requires { (bits t : ℕ) × (operation ≡ operation_of kind bits t phase) }
+    ensures { result ≡ step_due kind phase }
+{
     match family_of(kind) {
-        Family::Queue => Some(kind_of(operation_of(kind, 64, 0, phase)?)),
+        Family::Queue => Some(kind_of(operation?)),
         Family::ReadWrite | Family::FifoReadWrite => read_write::step_due(phase),
     }
 }
 
-/// A step of a thread in this phase, with its new phase.
+/// A step of a thread in this phase, which makes this operation, with its new phase.
 #[inline(always)]
 pub(crate) fn take_step<W: Words>(
     words: &mut W,
     kind: LockKind,
     thread: u8,
     phase: Phase,
+    operation: Option<Operation>,
 ) -> (Phase, Outcome)
-    requires { IsReady kind (W.width words.old) (W.list words.old) thread phase }
+    requires ready { IsReady kind (W.width words.old) (W.list words.old) thread phase }
+    requires due { operation ≡ operation_of kind (W.width words.old) thread phase }
     ensures words { W.list words.new
         ≡ (step_of kind (W.width words.old) (W.list words.old) thread phase).words }
     ensures phase { result.0
@@ -121,11 +136,11 @@ pub(crate) fn take_step<W: Words>(
     ensures width { W.width words.new ≡ W.width words.old }
 {
     match kind {
-        LockKind::Ticket => match ticket::operation(words.bits(), phase) {
+        LockKind::Ticket => match operation {
             Some(operation) => ticket::after(phase, perform(words, operation)),
             None => (phase, Outcome::Waits),
         },
-        LockKind::Mcs => match mcs::operation(thread, phase) {
+        LockKind::Mcs => match operation {
             Some(operation) => mcs::after(phase, perform(words, operation)),
             None => (phase, Outcome::Waits),
         },
@@ -157,29 +172,25 @@ pub(crate) fn effect_of(
         }
         LockKind::RwSimple | LockKind::RwFifo => {
             read_write::step_due(phase)?;
-            let section = read_write::section(words, family_of(kind), phase);
-            Some(StepEffect::Monitor(section))
+            Some(StepEffect::Monitor(read_write::effect(
+                words,
+                family_of(kind),
+                phase,
+            )))
         }
     }
 }
 
-/// Adds the entries of a step, if nothing was added before.
+/// The entries of a step.
 #[inline(always)]
-pub(crate) fn add_entries(
-    added: &mut Added,
-    kind: LockKind,
-    thread: u8,
-    phase: Phase,
-    outcome: Outcome,
-)
-    requires { added.old ≡ [] }
-    ensures { added.new ≡ step_entries kind thread phase outcome }
+pub(crate) fn step_entries(kind: LockKind, thread: u8, phase: Phase, outcome: Outcome) -> Added
+    ensures { result ≡ step_entries kind thread phase outcome }
 {
     match kind {
-        LockKind::Ticket => ticket::add_entries(added, thread, phase, outcome),
-        LockKind::Mcs => mcs::add_entries(added, thread, phase, outcome),
+        LockKind::Ticket => ticket::entries(thread, phase, outcome),
+        LockKind::Mcs => mcs::entries(thread, phase, outcome),
         LockKind::RwSimple | LockKind::RwFifo => {
-            read_write::add_entries(added, family_of(kind), thread, phase, outcome)
+            read_write::entries(family_of(kind), thread, phase, outcome)
         }
     }
 }

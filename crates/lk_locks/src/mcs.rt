@@ -9,7 +9,7 @@
 //! In contracts `after_call`, `operation`, `after` and `entries` are the definitions of
 //! `specs/mcs.antt`.
 
-ghost use Rattle.std.specs.Prelude.{◌≡◌, ◌+◌, ◌-◌, ◌<◌, ◌≤◌, []};
+ghost use Rattle.std.specs.Prelude.{◌≡◌, ◌+◌, ◌-◌, ◌<◌, ◌≤◌};
 ghost use Rattle.lk_locks.specs.mcs.{next, locked, after_call, operation, after, entries};
 ghost use Rattle.lk_locks.specs.invariants.mcs.{IsInRange};
 
@@ -135,17 +135,16 @@ pub fn after(phase: Phase, answer: Answer) -> (Phase, Outcome)
     }
 }
 
-/// Adds the history entries of a step with this outcome.
+/// The history entries of a step with this outcome.
 #[inline(always)]
-pub fn add_entries(added: &mut Added, thread: u8, phase: Phase, outcome: Outcome)
-    requires { added.old ≡ [] }
-    ensures { added.new ≡ entries thread phase outcome }
+pub fn entries(thread: u8, phase: Phase, outcome: Outcome) -> Added
+    ensures { result ≡ entries thread phase outcome }
 {
     match (phase, outcome) {
-        (Phase::SwapTail, Outcome::Moved) => added.one(Entry::Acted(thread, Op::Acquire)),
-        (Phase::SwapTail, Outcome::Entered) => added.acts(thread, Op::Acquire),
-        (Phase::AwaitGrant, Outcome::Entered) => added.one(Entry::Returned(thread, Op::Acquire)),
-        (_, Outcome::Left) => added.acts(thread, Op::Release),
-        _ => {}
+        (Phase::SwapTail, Outcome::Moved) => Added::one(Entry::Acted(thread, Op::Acquire)),
+        (Phase::SwapTail, Outcome::Entered) => Added::acts(thread, Op::Acquire),
+        (Phase::AwaitGrant, Outcome::Entered) => Added::one(Entry::Returned(thread, Op::Acquire)),
+        (_, Outcome::Left) => Added::acts(thread, Op::Release),
+        _ => Added::none(),
     }
 }

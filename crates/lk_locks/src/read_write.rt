@@ -1,16 +1,48 @@
 //! What the two read-write locks share: their calls, their one kind of step, and the entries of
 //! their sections. A lock's own table says what a section leaves in the words that it finds.
 //!
-//! After Herlihy and Shavit, The Art of Multiprocessor Programming, chapter 8. `Downgrade` is this
-//! project's own.
+//! After Herlihy and Shavit, The Art of Multiprocessor Programming, chapter 8. `Downgrade` is an
+//! addition.
 
-ghost use Rattle.std.specs.Prelude.{◌≡◌, ◌^◌, ◌<◌, ◌≤◌, length, []};
+ghost use Rattle.std.specs.Prelude.{◌≡◌, ◌<◌, ◌≤◌, ◌^◌, List, ℕ, IfSome, length, slice_index};
 ghost use Rattle.lk_locks.specs.read_write.{word_count, after_call, step_due, step, entries};
-ghost use Rattle.lk_locks.specs.read_write.{Tells, section};
+ghost use Rattle.lk_locks.specs.read_write.{Tells, change_to, effect};
+ghost use Rattle.lk_locks.specs.invariants.read_write.{IsSection, count_with, third_word};
 
 use crate::entries::Added;
 use crate::{Entry, Family, Op, Outcome, Phase, SectionEffect, StepKind, rw_fifo, rw_simple};
-use lk_words::{WordArray, Words};
+use lk_words::{Effect, Operation, WordArray, Words};
+
+/// What a section does: the words that it writes, each with its index and its new value; its
+/// thread's new phase; and the outcome.
+#[derive(Clone, Copy)]
+pub struct Section {
+    /// In the first word.
+    pub first: Option<(usize, u64)>,
+    pub other: Option<(usize, u64)>,
+    pub phase: Phase,
+    pub outcome: Outcome,
+}
+
+impl Section {
+    #[inline(always)]
+    pub fn new(
+        first: Option<(usize, u64)>,
+        other: Option<(usize, u64)>,
+        phase: Phase,
+        outcome: Outcome,
+    ) -> Section
+        ensures { result
+            ≡ record { first = first; other = other; phase = phase; outcome = outcome } }
+    {
+        Section {
+            first,
+            other,
+            phase,
+            outcome,
+        }
+    }
+}
 
 /// The phase that a call leads to, if a thread in this phase may make it.
 #[inline(always)]
@@ -38,11 +70,54 @@ pub fn step_due(phase: Phase) -> Option<StepKind>
     }
 }
 
+// A section of a thread in this phase that finds these words. The FIFO lock has a third one.
+#[inline(always)]
+fn section_on(bits: u8, first: u64, second: u64, third: Option<u64>, phase: Phase) -> Section
+    requires least { 2 ≤ bits }
+    requires most { bits ≤ 64 }
+    ensures does { (family : Family) (ws : List ℕ) → slice_index ws 0 ≡ first
+        → slice_index ws 1 ≡ second → third_word family ws ≡ third
+        → IsSection result ws (step family bits ws phase) }
+    ensures first { IfSome result.first (λ first. (first.0 ≡ 0) × (first.1 < 2 ^ bits)) }
+    ensures other { IfSome result.other
+        (λ other. (0 < other.0) × (other.0 < count_with third) × (other.1 < 2 ^ bits)) }
+{
+    match third {
+        Some(flag) => rw_fifo::section(bits, first, second, flag, phase),
+        None => rw_simple::section(bits, first, second, phase),
+    }
+}
+
+// Reads the third word of the FIFO lock.
+#[inline(always)]
+fn read_third<W: Words>(words: &mut W, family: Family) -> Option<u64>
+    requires { word_count family ≤ length (W.list words.old) }
+    ensures value { result ≡ third_word family (W.list words.old) }
+    ensures kept { W.list words.new ≡ W.list words.old }
+    ensures width { W.width words.new ≡ W.width words.old }
+{
+    match family {
+        Family::FifoReadWrite => Some(words.read(2)),
+        _ => None,
+    }
+}
+
+// The third word of the FIFO lock, to look at.
+fn third_of(words: &WordArray, family: Family) -> Option<u64>
+    requires { word_count family ≤ length words.now.0 }
+    ensures { result ≡ third_word family words.now.0 }
+{
+    match family {
+        Family::FifoReadWrite => Some(words.get(2)),
+        _ => None,
+    }
+}
+
 /// One section of a thread in this phase: its new phase, and the outcome.
+#[tactic(auto, using(crate::proofs::Sections::count_of_third))]
 #[inline(always)]
 pub fn step<W: Words>(words: &mut W, family: Family, phase: Phase) -> (Phase, Outcome)
-    requires words { word_count family ≤ length (W.list words.old) }
-    requires one { 1 < 2 ^ W.width words.old }
+    requires { word_count family ≤ length (W.list words.old) }
     ensures words { W.list words.new
         ≡ (step family (W.width words.old) (W.list words.old) phase).words }
     ensures phase { result.0
@@ -53,69 +128,60 @@ pub fn step<W: Words>(words: &mut W, family: Family, phase: Phase) -> (Phase, Ou
 {
     let bits = words.bits();
     let (first, second) = (words.read(0), words.read(1));
-    let (left, phase, outcome) = match family {
-        Family::FifoReadWrite => {
-            let section = rw_fifo::section(bits, [first, second, words.read(2)], phase);
-            words.write(2, section.0[2]);
-            section
-        }
-        _ => rw_simple::section(bits, [first, second, 0], phase),
-    };
-    words.write(0, left[0]);
-    words.write(1, left[1]);
-    (phase, outcome)
+    let third = read_third(words, family);
+    let section = section_on(bits, first, second, third, phase);
+    if let Some((word, value)) = section.first {
+        words.write(word, value);
+    }
+    if let Some((word, value)) = section.other {
+        words.write(word, value);
+    }
+    (section.phase, section.outcome)
+}
+
+// What a section changes that leaves this value in a word, if it writes it and the word differs.
+fn change_to(words: &WordArray, written: Option<(usize, u64)>) -> Option<Effect>
+    requires { IfSome written (λ w. w.0 < length words.now.0) }
+    ensures { result ≡ change_to words.now.0 written }
+{
+    let (word, value) = written?;
+    let effect = words.effect(Operation::Write { word, value });
+    (effect.found != value).then_some(effect)
 }
 
 /// What a section of a thread in this phase would do. Nothing changes.
-pub fn section(words: &WordArray, family: Family, phase: Phase) -> SectionEffect
-    requires words { word_count family ≤ length words.now.0 }
-    requires one { 1 < 2 ^ words.now.1 }
-    ensures value { result ≡ section family words.now.1 words.now.0 phase }
+#[tactic(auto, using(crate::proofs::Sections::count_of_third))]
+pub fn effect(words: &WordArray, family: Family, phase: Phase) -> SectionEffect
+    requires { word_count family ≤ length words.now.0 }
+    ensures value { result ≡ effect family words.now.1 words.now.0 phase }
     ensures tells { Tells result words.now.0 (step family words.now.1 words.now.0 phase).words }
 {
-    let bits = words.bits();
     let (first, second) = (words.get(0), words.get(1));
-    match family {
-        Family::FifoReadWrite => {
-            let found = [first, second, words.get(2)];
-            let (left, _, outcome) = rw_fifo::section(bits, found, phase);
-            SectionEffect {
-                found,
-                left,
-                outcome,
-            }
-        }
-        _ => {
-            let found = [first, second, 0];
-            let (left, _, outcome) = rw_simple::section(bits, found, phase);
-            SectionEffect {
-                found,
-                left,
-                outcome,
-            }
-        }
+    let section = section_on(words.bits(), first, second, third_of(words, family), phase);
+    SectionEffect {
+        first: change_to(words, section.first),
+        second: change_to(words, section.other),
+        outcome: section.outcome,
     }
 }
 
-/// Adds the entries of a section.
+/// The entries of a section.
 #[inline(always)]
-pub fn add_entries(added: &mut Added, family: Family, thread: u8, phase: Phase, outcome: Outcome)
-    requires { added.old ≡ [] }
-    ensures { added.new ≡ entries family thread phase outcome }
+pub fn entries(family: Family, thread: u8, phase: Phase, outcome: Outcome) -> Added
+    ensures { result ≡ entries family thread phase outcome }
 {
     match (phase, outcome) {
-        (Phase::TryRead, Outcome::Entered) => added.acts(thread, Op::ReadLock),
-        (Phase::LeaveRead, Outcome::Left) => added.acts(thread, Op::ReadUnlock),
-        (Phase::TryWrite, Outcome::Moved) => added.one(Entry::Announced(thread)),
+        (Phase::TryRead, Outcome::Entered) => Added::acts(thread, Op::ReadLock),
+        (Phase::LeaveRead, Outcome::Left) => Added::acts(thread, Op::ReadUnlock),
+        (Phase::TryWrite, Outcome::Moved) => Added::one(Entry::Announced(thread)),
         (Phase::TryWrite, Outcome::Entered) if matches!(family, Family::FifoReadWrite) => {
-            added.one(Entry::Announced(thread));
-            added.acts(thread, Op::WriteLock);
+            Added::one(Entry::Announced(thread)).and_acts(thread, Op::WriteLock)
         }
         (Phase::TryWrite | Phase::AwaitReaders, Outcome::Entered) => {
-            added.acts(thread, Op::WriteLock)
+            Added::acts(thread, Op::WriteLock)
         }
-        (Phase::LeaveWrite, Outcome::Left) => added.acts(thread, Op::WriteUnlock),
-        (Phase::TryDowngrade, Outcome::Entered) => added.acts(thread, Op::Downgrade),
-        _ => {}
+        (Phase::LeaveWrite, Outcome::Left) => Added::acts(thread, Op::WriteUnlock),
+        (Phase::TryDowngrade, Outcome::Entered) => Added::acts(thread, Op::Downgrade),
+        _ => Added::none(),
     }
 }

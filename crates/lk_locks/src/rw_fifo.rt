@@ -7,47 +7,62 @@
 //! have B bits and wrap; signals are not modelled; a writer may downgrade. Threads that wait for a
 //! clear flag enter in any order.
 
-ghost use Rattle.std.specs.Prelude.{◌≡◌, ◌⊎◌, ◌^◌, ◌<◌, ◌≤◌, slice_index};
+ghost use Rattle.std.specs.Prelude.{◌≡◌, ◌<◌, ◌≤◌, ◌^◌, List, ℕ, IfSome, slice_index};
 ghost use Rattle.lk_locks.specs.rw_fifo.{step};
-ghost use Rattle.lk_locks.specs.read_write.{AreWords};
+ghost use Rattle.lk_locks.specs.invariants.read_write.{IsSection};
 
+use crate::read_write::Section;
 use crate::{Outcome, Phase};
 use lk_words::sum;
 
-/// What a section of a thread in this phase does, if it finds these words of `bits` bits: the words
-/// that it leaves, the thread's new phase, and the outcome. In the contract `step` is the
-/// definition of `specs/rw_fifo.antt`.
+const READ_ACQUIRES: usize = 0;
+
+const READ_RELEASES: usize = 1;
+
+const FLAG: usize = 2;
+
+/// A section of a thread in this phase that finds these words of `bits` bits. In the contract
+/// `step` is the definition of `specs/rw_fifo.antt`.
+#[tactic(auto, using(crate::proofs::Words::one_fits))]
 #[inline(always)]
-pub fn section(bits: u8, found: [u64; 3], phase: Phase) -> ([u64; 3], Phase, Outcome)
+pub fn section(bits: u8, acquires: u64, releases: u64, flag: u64, phase: Phase) -> Section
     requires least { 2 ≤ bits }
     requires most { bits ≤ 64 }
-    requires one { 1 < 2 ^ bits }
-    requires fits { AreWords bits found }
-    ensures words { result.0 ≡ (step bits found phase).words }
-    ensures phase { result.1 ≡ (step bits found phase).phase }
-    ensures outcome { result.2 ≡ (step bits found phase).outcome }
-    ensures fits { AreWords bits result.0 }
-    ensures few { slice_index result.0 1 ≡ slice_index found 1
-        ⊎ slice_index result.0 2 ≡ slice_index found 2 }
+    ensures does { (ws : List ℕ) → slice_index ws 0 ≡ acquires → slice_index ws 1 ≡ releases
+        → slice_index ws 2 ≡ flag → IsSection result ws (step bits ws phase) }
+    ensures first { IfSome result.first (λ first. (first.0 ≡ 0) × (first.1 < 2 ^ bits)) }
+    ensures other { IfSome result.other
+        (λ other. (0 < other.0) × (other.0 < 3) × (other.1 < 2 ^ bits)) }
 {
     use Outcome::{Entered, Left, Moved, Waits};
     use Phase::{AwaitReaders, Idle, LeaveRead, LeaveWrite, Reading, Writing};
     use Phase::{TryDowngrade, TryRead, TryWrite};
-    let [acquires, releases, flag] = found;
     // No reader is inside: as many left as entered. Both counts wrap, but there are fewer threads
     // than a count has values.
     let are_gone = acquires == releases;
     match phase {
-        TryRead if flag == 0 => ([sum(bits, acquires, 1), releases, flag], Reading, Entered),
-        LeaveRead => ([acquires, sum(bits, releases, 1), flag], Idle, Left),
-        TryWrite if flag == 0 && are_gone => ([acquires, releases, 1], Writing, Entered),
+        TryRead if flag == 0 => {
+            let acquires = sum(bits, acquires, 1);
+            Section::new(Some((READ_ACQUIRES, acquires)), None, Reading, Entered)
+        }
+        LeaveRead => {
+            let releases = sum(bits, releases, 1);
+            Section::new(None, Some((READ_RELEASES, releases)), Idle, Left)
+        }
+        TryWrite if flag == 0 && are_gone => {
+            Section::new(None, Some((FLAG, 1)), Writing, Entered)
+        }
         // the flag is set while readers are inside, so that no later one enters before this writer
-        TryWrite if flag == 0 => ([acquires, releases, 1], AwaitReaders, Moved),
-        AwaitReaders if are_gone => (found, Writing, Entered),
-        LeaveWrite => ([acquires, releases, 0], Idle, Left),
+        TryWrite if flag == 0 => Section::new(None, Some((FLAG, 1)), AwaitReaders, Moved),
+        AwaitReaders if are_gone => Section::new(None, None, Writing, Entered),
+        LeaveWrite => Section::new(None, Some((FLAG, 0)), Idle, Left),
         // both in one section, so that no writer comes in between
-        TryDowngrade => ([sum(bits, acquires, 1), releases, 0], Reading, Entered),
+        TryDowngrade => {
+            let acquires = sum(bits, acquires, 1);
+            let acquires = Some((READ_ACQUIRES, acquires));
+            Section::new(acquires, Some((FLAG, 0)), Reading, Entered)
+        }
         // a failed poll; in a phase without a step the machine refuses the move
-        _ => (found, phase, Waits),
+        _ => Section::new(None, None, phase, Waits),
     }
 }

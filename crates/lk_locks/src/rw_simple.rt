@@ -3,48 +3,55 @@
 //!
 //! After Herlihy and Shavit, The Art of Multiprocessor Programming, chapter 8,
 //! "SimpleReadWriteLock". Each poll is one section. Different here: a writer waits while the reader
-//! count is not 0 or the flag is set, and then sets the flag; the count has B bits; signals are not
-//! modelled; a writer may downgrade.
+//! count is not 0 or the flag is set, and then sets the flag; signals are not modelled, and a
+//! thread that waits may poll at any time; the count has B bits; a writer may downgrade.
 
-ghost use Rattle.std.specs.Prelude.{◌≡◌, ◌⊎◌, ◌^◌, ◌<◌, ◌≤◌, slice_index};
+ghost use Rattle.std.specs.Prelude.{◌≡◌, ◌<◌, ◌≤◌, ◌^◌, List, ℕ, IfSome, slice_index};
 ghost use Rattle.lk_locks.specs.rw_simple.{step};
-ghost use Rattle.lk_locks.specs.read_write.{AreWords};
+ghost use Rattle.lk_locks.specs.invariants.read_write.{IsSection};
 
+use crate::read_write::Section;
 use crate::{Outcome, Phase};
 use lk_words::{greatest_of, sum};
 
-/// What a section of a thread in this phase does, if it finds these words of `bits` bits: the words
-/// that it leaves, the thread's new phase, and the outcome. The third word is not this lock's. In
-/// the contract `step` is the definition of `specs/rw_simple.antt`.
+const READERS: usize = 0;
+
+const FLAG: usize = 1;
+
+/// A section of a thread in this phase that finds these words of `bits` bits. In the contract
+/// `step` is the definition of `specs/rw_simple.antt`.
+#[tactic(auto, using(crate::proofs::Words::one_fits))]
 #[inline(always)]
-pub fn section(bits: u8, found: [u64; 3], phase: Phase) -> ([u64; 3], Phase, Outcome)
+pub fn section(bits: u8, readers: u64, flag: u64, phase: Phase) -> Section
     requires least { 2 ≤ bits }
     requires most { bits ≤ 64 }
-    requires one { 1 < 2 ^ bits }
-    requires fits { AreWords bits found }
-    ensures words { result.0 ≡ (step bits found phase).words }
-    ensures phase { result.1 ≡ (step bits found phase).phase }
-    ensures outcome { result.2 ≡ (step bits found phase).outcome }
-    ensures fits { AreWords bits result.0 }
-    ensures few { slice_index result.0 1 ≡ slice_index found 1
-        ⊎ slice_index result.0 2 ≡ slice_index found 2 }
+    ensures does { (ws : List ℕ) → slice_index ws 0 ≡ readers → slice_index ws 1 ≡ flag
+        → IsSection result ws (step bits ws phase) }
+    ensures first { IfSome result.first (λ first. (first.0 ≡ 0) × (first.1 < 2 ^ bits)) }
+    ensures other { IfSome result.other (λ other. (other.0 ≡ 1) × (other.1 < 2 ^ bits)) }
 {
     use Outcome::{Entered, Left, Waits};
     use Phase::{Idle, LeaveRead, LeaveWrite, Reading, TryDowngrade, TryRead, TryWrite, Writing};
-    let [readers, flag, other] = found;
     match phase {
-        TryRead if flag == 0 => ([sum(bits, readers, 1), flag, other], Reading, Entered),
+        TryRead if flag == 0 => {
+            let readers = sum(bits, readers, 1);
+            Section::new(Some((READERS, readers)), None, Reading, Entered)
+        }
         // adding 2^B - 1 subtracts one modulo 2^B, without a case for 0
-        LeaveRead => (
-            [sum(bits, readers, greatest_of(bits)), flag, other],
-            Idle,
-            Left,
-        ),
-        TryWrite if readers == 0 && flag == 0 => ([readers, 1, other], Writing, Entered),
-        LeaveWrite => ([readers, 0, other], Idle, Left),
+        LeaveRead => {
+            let readers = sum(bits, readers, greatest_of(bits));
+            Section::new(Some((READERS, readers)), None, Idle, Left)
+        }
+        TryWrite if readers == 0 && flag == 0 => {
+            Section::new(None, Some((FLAG, 1)), Writing, Entered)
+        }
+        LeaveWrite => Section::new(None, Some((FLAG, 0)), Idle, Left),
         // both in one section, so that no writer comes in between
-        TryDowngrade => ([sum(bits, readers, 1), 0, other], Reading, Entered),
+        TryDowngrade => {
+            let readers = sum(bits, readers, 1);
+            Section::new(Some((READERS, readers)), Some((FLAG, 0)), Reading, Entered)
+        }
         // a failed poll; in a phase without a step the machine refuses the move
-        _ => (found, phase, Waits),
+        _ => Section::new(None, None, phase, Waits),
     }
 }

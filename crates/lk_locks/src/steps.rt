@@ -2,12 +2,13 @@
 //! words.
 
 ghost use Rattle.std.specs.Prelude.{◌≡◌};
-ghost use Rattle.lk_locks.specs.Steps.{refusal_in, belongs, move_change};
+ghost use Rattle.lk_locks.specs.Locks.{operation_of};
+ghost use Rattle.lk_locks.specs.Steps.{refusal_at, refusal_in, belongs, move_change};
 ghost use Rattle.lk_locks.specs.invariants.WellFormed.{IsReady};
 
 use crate::locks::{after_call, family_of, has_step, step_due, take_step};
-use crate::{Family, LockKind, Move, Op, Outcome, Phase, Refusal};
-use lk_words::Words;
+use crate::{Family, LockKind, Move, Op, Outcome, Phase, Refusal, StepKind};
+use lk_words::{Operation, Words};
 
 /// Whether the operation or the kind of step is one of the lock's.
 #[inline(always)]
@@ -26,7 +27,20 @@ pub fn belongs(kind: LockKind, action: Move) -> bool
 pub fn refusal_in(kind: LockKind, phase: Phase, action: Move) -> Option<Refusal>
     ensures { result ≡ refusal_in kind phase action }
 {
-    match (step_due(kind, phase), action) {
+    refusal_at(kind, phase, step_due(kind, phase), action)
+}
+
+/// The same, by the step that the thread takes next.
+#[inline(always)]
+pub(crate) fn refusal_at(
+    kind: LockKind,
+    phase: Phase,
+    due: Option<StepKind>,
+    action: Move,
+) -> Option<Refusal>
+    ensures { result ≡ refusal_at kind phase due action }
+{
+    match (due, action) {
         (None, Move::Call(op)) if after_call(kind, phase, op).is_some() => None,
         // What an idle thread may call acquires, and a thread that is not idle holds. A second
         // table of who may release could disagree.
@@ -41,16 +55,19 @@ pub fn refusal_in(kind: LockKind, phase: Phase, action: Move) -> Option<Refusal>
     }
 }
 
-/// What an accepted move of a thread does to the words, with the thread's new phase.
+/// What an accepted move of a thread does to the words, with the thread's new phase. `operation` is
+/// the one that its next step makes.
 #[inline(always)]
 pub fn make_move<W: Words>(
     words: &mut W,
     kind: LockKind,
     thread: u8,
     phase: Phase,
+    operation: Option<Operation>,
     action: Move,
 ) -> (Phase, Outcome)
-    requires { IsReady kind (W.width words.old) (W.list words.old) thread phase }
+    requires ready { IsReady kind (W.width words.old) (W.list words.old) thread phase }
+    requires due { operation ≡ operation_of kind (W.width words.old) thread phase }
     ensures words { W.list words.new
         ≡ (move_change kind (W.width words.old) (W.list words.old) thread phase action).words }
     ensures phase { result.0
@@ -64,6 +81,6 @@ pub fn make_move<W: Words>(
             after_call(kind, phase, op).unwrap_or(phase),
             Outcome::Called,
         ),
-        Move::Step(_) => take_step(words, kind, thread, phase),
+        Move::Step(_) => take_step(words, kind, thread, phase, operation),
     }
 }

@@ -8,7 +8,7 @@
 //! In contracts `after_call`, `operation`, `after` and `entries` are the definitions of
 //! `specs/ticket.antt`.
 
-ghost use Rattle.std.specs.Prelude.{◌≡◌, ◌≤◌, []};
+ghost use Rattle.std.specs.Prelude.{◌≡◌, ◌≤◌};
 ghost use Rattle.lk_locks.specs.ticket.{after_call, operation, after, entries};
 
 use crate::entries::Added;
@@ -73,16 +73,15 @@ pub fn after(phase: Phase, answer: Answer) -> (Phase, Outcome)
     }
 }
 
-/// Adds the history entries of a step with this outcome.
+/// The history entries of a step with this outcome.
 #[inline(always)]
-pub fn add_entries(added: &mut Added, thread: u8, phase: Phase, outcome: Outcome)
-    requires { added.old ≡ [] }
-    ensures { added.new ≡ entries thread phase outcome }
+pub fn entries(thread: u8, phase: Phase, outcome: Outcome) -> Added
+    ensures { result ≡ entries thread phase outcome }
 {
     match (phase, outcome) {
-        (Phase::TakeTicket, Outcome::Moved) => added.one(Entry::Acted(thread, Op::Acquire)),
-        (Phase::AwaitTurn(_), Outcome::Entered) => added.one(Entry::Returned(thread, Op::Acquire)),
-        (Phase::PassOn(_), Outcome::Left) => added.acts(thread, Op::Release),
-        _ => {}
+        (Phase::TakeTicket, Outcome::Moved) => Added::one(Entry::Acted(thread, Op::Acquire)),
+        (Phase::AwaitTurn(_), Outcome::Entered) => Added::one(Entry::Returned(thread, Op::Acquire)),
+        (Phase::PassOn(_), Outcome::Left) => Added::acts(thread, Op::Release),
+        _ => Added::none(),
     }
 }

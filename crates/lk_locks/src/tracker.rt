@@ -1,21 +1,21 @@
 //! A lock with its sequential object: after each move it is known who holds and who is queued. It
-//! keeps no history and takes no memory; `Keeper` adds the history. This project's own.
+//! keeps no history and takes no memory; `Keeper` adds the history.
 
-ghost use Rattle.std.specs.Prelude.{◌≡◌, ℕ, ◌<◌, ◌≤◌, ◌^◌, length, slice_index, [], None};
+ghost use Rattle.std.specs.Prelude.{◌≡◌, [], IfOk};
 ghost use Rattle.lk_locks.specs.Holding.{holder_after, holding, IsListed};
-ghost use Rattle.lk_locks.specs.Tracked.{Tracked, tracked, followed, holding_in, waiting_in};
+ghost use Rattle.lk_locks.specs.Tracked.{Tracked, tracked, after_tracked, holding_in, waiting_in};
 ghost use Rattle.lk_locks.specs.invariants.Kept.{IsTracked};
-ghost use Rattle.lk_locks.specs.State.{start};
-ghost use Rattle.lk_locks.specs.Locks.{word_count};
-ghost use Rattle.lk_locks.specs.Steps.{change_of, next_state, refusal_of};
+ghost use Rattle.lk_locks.specs.State.{start_of};
+ghost use Rattle.lk_locks.specs.Sequential.{nobody};
+ghost use Rattle.lk_locks.specs.Steps.{change_of, refusal_of, refused_with};
 ghost use Rattle.lk_locks.specs.Entries.{entries_of};
 
 use crate::entries::Added;
 use crate::holders::copy_of;
 use crate::locks::family_of;
-use crate::{Entry, Family, Holders, LockKind, Machine, Move, Op, Outcome, SeqLock};
+use crate::{Entry, Family, Holders, LockKind, Machine, Move, Op, Outcome, Refusal, SeqLock, Shape};
 use arrayvec::ArrayVec;
-use lk_words::Words;
+use lk_words::{WordArray, Words};
 use std::marker::Model;
 
 /// Machine and sequential lock together and, of a queue lock, the thread whose acquire returned
@@ -33,50 +33,55 @@ impl<W: Words> Model for Tracker<W> {
     ghost view = { λ a. record {
       state = a.machine;
       sequential = a.sequential;
-      holder =
-          a.holder;
+      holder = a.holder;
     } };
 
     ghost invariant = { λ a. IsTracked a.machine a.sequential };
 }
 
-impl<W: Words> Tracker<W> {
-    /// A new lock with 1 to 64 threads, fewer than 2^B for words of B bits, which are all 0.
-    pub fn new(kind: LockKind, threads: u8, words: W) -> Tracker<W>
-        requires some { 0 < threads }
-        requires few { threads ≤ 64 }
-        requires narrow { threads < 2 ^ W.width words }
-        requires room { word_count kind threads ≤ length (W.list words) }
-        requires clear { (i : ℕ) → i < length (W.list words) → slice_index (W.list words) i ≡ 0 }
-        ensures { result ≡ tracked (start kind (W.width words) (W.list words) threads) [] }
+impl Tracker<WordArray> {
+    /// A new lock of this shape.
+    pub fn at_start(shape: Shape) -> Tracker<WordArray>
+        ensures { result ≡ tracked (start_of shape) [] }
     {
+        Tracker::of_new(Machine::at_start(shape))
+    }
+}
+
+impl<W: Words> Tracker<W> {
+    // Of a lock on which nothing was played.
+    pub(crate) fn of_new(machine: Machine<W>) -> Tracker<W>
+        requires { IsTracked machine (nobody machine.kind) }
+        ensures { result ≡ tracked machine [] }
+    {
+        let sequential = SeqLock::new(machine.kind());
         Tracker {
-            machine: Machine::new(kind, threads, words),
-            sequential: SeqLock::new(kind),
+            machine,
+            sequential,
             holder: None,
         }
     }
 
-    /// Makes a move that the machine accepts, and fills in the entries that it adds.
+    /// Makes the move, and returns its outcome and the entries that it adds to a history.
+    ///
+    /// # Errors
+    ///
+    /// The first refusal that applies. Then nothing has changed.
     #[inline]
-    pub fn make(&mut self, t: u8, m: Move, added: &mut Added) -> Outcome
-        requires accepted { refusal_of self.old.state t m ≡ None }
-        requires none { added.old ≡ [] }
-        ensures outcome { result ≡ (change_of self.old.state t m).outcome }
-        ensures after { self.new ≡ followed self.old (next_state self.old.state t m)
-            (entries_of self.old.state t m) }
-        ensures entries { added.new ≡ entries_of self.old.state t m }
+    pub fn play(&mut self, t: u8, m: Move) -> Result<(Outcome, Added), Refusal>
+        ensures refused { refused_with result ≡ refusal_of self.old.state t m }
+        ensures outcome { IfOk result
+            (λ played. played.0 ≡ (change_of self.old.state t m).outcome) }
+        ensures entries { IfOk result (λ played. played.1 ≡ entries_of self.old.state t m) }
+        ensures after { self.new ≡ after_tracked self.old t m }
     {
-        let outcome = self.machine.make(t, m, added);
-        match m {
-            // a call is no act, so the sequential object and the holder stay
-            Move::Call(_) => {}
-            Move::Step(_) => {
-                self.sequential.follow(added.as_slice());
-                self.holder = holder_after(self.holder, added.as_slice());
-            }
+        let (outcome, added) = self.machine.play(t, m)?;
+        // a call is no act, so the sequential object and the holder stay
+        if let Move::Step(_) = m {
+            self.sequential.follow(added.as_slice());
+            self.holder = holder_after(self.holder, added.as_slice());
         }
-        outcome
+        Ok((outcome, added))
     }
 
     /// The lock alone, to look at: its words, its phases, and what would be refused.

@@ -1,12 +1,14 @@
 -- Invariants. What the two read-write locks share: what a pending call still owes the history, who
 -- reads, who writes and who has announced itself.
 use Rattle.std.specs.Prelude.{◌≡◌, ◌<◌, ◌^◌, ℕ, List, [], ◌++◌, length, Option, None, Some}
-use Rattle.std.specs.Prelude.{Bool, true, false}
+use Rattle.std.specs.Prelude.{Bool, true, false, set, slice_index}
 use Rattle.lk_locks.specs.Acts.{acts, announcement}
+use Rattle.lk_locks.specs.Change.{Change}
 use Rattle.lk_locks.specs.State.{phase_at}
 use Rattle.lk_locks.specs.Sequential.{Sequential, has}
 use Rattle.lk_locks.specs.invariants.Threads.{EachOnce, is_this}
-use Rattle.lk_locks.specs.Types.{Entry, Family, ReadLock, ReadUnlock, WriteLock, WriteUnlock}
+use Rattle.lk_locks.specs.declared.read_write.Section.{Section}
+use Rattle.lk_locks.specs.Types.{Entry, Family, FifoReadWrite, ReadLock, ReadUnlock, WriteLock, WriteUnlock}
 use Rattle.lk_locks.specs.Types.{Downgrade, Phase, TryRead, Reading, LeaveRead, TryWrite}
 use Rattle.lk_locks.specs.Types.{AwaitReaders, Writing, LeaveWrite, TryDowngrade}
 
@@ -47,6 +49,28 @@ pub record AreHolders (ps : List Phase) (q : Sequential) : Type 0 where
   pub awaiting : (t : ℕ) → is_this q.announced t ≡ is_announced (phase_at ps t)
   pub once : EachOnce q.readers
   pub alone : IsAlone q.writer q.readers q.announced
+
+-- these words after a section that wrote so
+abbrev pub written : List ℕ → Option (ℕ × ℕ) → Option (ℕ × ℕ) → List ℕ
+written ws None None = ws
+written ws (Some first) None = set ws first.0 first.1
+written ws None (Some other) = set ws other.0 other.1
+written ws (Some first) (Some other) = set (set ws first.0 first.1) other.0 other.1
+
+-- a section that finds these words does this
+pub record IsSection (section : Section) (ws : List ℕ) (change : Change) : Type 0 where
+  pub words : written ws section.first section.other ≡ change.words
+  pub phase : section.phase ≡ change.phase
+  pub outcome : section.outcome ≡ change.outcome
+
+-- the FIFO lock has a third word
+abbrev pub third_word : Family → List ℕ → Option ℕ
+third_word FifoReadWrite ws = Some (slice_index ws 2)
+third_word family ws = None
+
+abbrev pub count_with : Option ℕ → ℕ
+count_with None = 2
+count_with (Some third) = 3
 
 -- the flag is set for the writer, or for the announced one
 abbrev pub flag_of : Option ℕ → Option ℕ → ℕ
