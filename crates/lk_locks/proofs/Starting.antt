@@ -5,7 +5,7 @@ use Rattle.std.proofs.lemmas.List.{get_or-replicate, length-replicate}
 use Rattle.lk_locks.specs.State.{start, start_of}
 use Rattle.lk_locks.specs.Locks.{word_count}
 use Rattle.lk_locks.specs.Sequential.{nobody}
-use Rattle.lk_locks.specs.invariants.Kept.{IsTracked, Kept}
+use Rattle.lk_locks.specs.invariants.Kept.{Kept}
 use Rattle.lk_locks.specs.invariants.Locks.{owed_of}
 use Rattle.lk_locks.proofs.EachLock.{proof_of}
 use Rattle.lk_locks.proofs.Machines.{all_clear, well_new}
@@ -27,16 +27,11 @@ kept_start kind bits ws n h b w z = record {
   agree = (proof_of kind).starts bits ws n b (all_clear ws z);
 }
 
--- so has a lock whose words are all made for it
-pub tracked_new : (kind : LockKind) (bits n : ℕ) → n ≤ 64 → n < 2 ^ bits
-    → IsTracked (start_of (record { kind = kind; threads = n; bits = bits })) (nobody kind)
-tracked_new kind bits n few narrow = (
-  [],
-  kept_start kind bits (replicate (word_count kind n) 0) n few narrow
-      (omega (arith, length-replicate {A = ℕ} (word_count kind n) 0))
-      (λ i h. get_or-replicate (word_count kind n) i 0 0 (omega (
-        arith,
-        h,
-        length-replicate {A = ℕ} (word_count kind n) 0,
-      ))),
-)
+-- so has a lock whose words are made for it
+pub kept_new : (kind : LockKind) (bits n : ℕ) → n ≤ 64 → n < 2 ^ bits
+    → Kept (start_of (record { kind = kind; threads = n; bits = bits })) (nobody kind) []
+kept_new kind bits n few narrow =
+    let count = word_count kind n in
+    let size : length {A = ℕ} (replicate count 0) ≡ count = length-replicate count 0 in
+    kept_start kind bits (replicate count 0) n few narrow (omega (arith, size))
+    (λ i h. get_or-replicate count i 0 0 (omega (arith, h, size)))

@@ -3,17 +3,17 @@
 
 ghost use Rattle.lk_locks.specs.Play.{RecordedLock, new_lock, after_play, IsPlayAnswer};
 ghost use Rattle.lk_locks.specs.invariants.Kept.{IsRecorded};
-ghost use Rattle.std.specs.Prelude.{◌≡◌, ℕ, ◌<◌, ◌≤◌, ◌^◌, length, slice_index, OnOk, OnErr};
-ghost use Rattle.lk_locks.specs.State.{phase_at};
+ghost use Rattle.std.specs.Prelude.{◌≡◌, ℕ, ◌<◌, ◌≤◌, ◌^◌, [], length, slice_index, OnOk, OnErr};
+ghost use Rattle.lk_locks.specs.State.{phase_at, start_of};
 ghost use Rattle.lk_locks.specs.Steps.{refusal_of, change_of};
 ghost use Rattle.lk_locks.specs.Locks.{step_due, word_count};
 ghost use Rattle.lk_locks.specs.MainTheorem.{IsAsPromised};
 ghost use Rattle.lk_locks.specs.Holding.{holding, holding_of, waiting_of, IsListed};
 
-use crate::{Entry, History, Holders, LockKind, Machine, Move, Outcome, PlayFault, StepKind};
+use crate::{Entry, History, Holders, LockKind, Machine, Move, Outcome, PlayFault, Shape, StepKind};
 use crate::Tracker;
 use arrayvec::ArrayVec;
-use lk_words::Words;
+use lk_words::{WordArray, Words};
 use std::alloc::Global;
 use std::marker::Model;
 
@@ -34,6 +34,18 @@ impl<W: Words> Model for Keeper<W> {
     } };
 
     ghost invariant = { λ a. IsRecorded a.lock a.history.entries };
+}
+
+impl Keeper<WordArray> {
+    /// A new lock of this shape. It keeps the allocator and takes no memory yet.
+    pub fn at_start(alloc: Global, shape: Shape) -> Keeper<WordArray>
+        ensures { result ≡ record { state = start_of shape; entries = [] } }
+    {
+        Keeper {
+            lock: Tracker::at_start(shape),
+            history: History::new(alloc),
+        }
+    }
 }
 
 impl<W: Words> Keeper<W> {

@@ -4,7 +4,7 @@
 ghost use Rattle.std.specs.Prelude.{◌≡◌, [], IfOk};
 ghost use Rattle.lk_locks.specs.Holding.{holder_after, holding, IsListed};
 ghost use Rattle.lk_locks.specs.Tracked.{Tracked, tracked, after_tracked, holding_in, waiting_in};
-ghost use Rattle.lk_locks.specs.invariants.Kept.{IsTracked};
+ghost use Rattle.lk_locks.specs.invariants.Kept.{IsRecorded, IsTracked};
 ghost use Rattle.lk_locks.specs.State.{start_of};
 ghost use Rattle.lk_locks.specs.Sequential.{nobody};
 ghost use Rattle.lk_locks.specs.Steps.{change_of, refusal_of, refused_with};
@@ -42,7 +42,8 @@ impl<W: Words> Model for Tracker<W> {
 impl Tracker<WordArray> {
     /// A new lock of this shape.
     pub fn at_start(shape: Shape) -> Tracker<WordArray>
-        ensures { result ≡ tracked (start_of shape) [] }
+        ensures start { result ≡ tracked (start_of shape) [] }
+        ensures recorded { IsRecorded result [] }
     {
         Tracker::of_new(Machine::at_start(shape))
     }

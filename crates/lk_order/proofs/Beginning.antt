@@ -6,9 +6,9 @@ use Rattle.std.specs.List.{All, slice_get}
 use Rattle.std.proofs.lemmas.List.{get_or_past, length-map}
 use Rattle.std.proofs.lemmas.List.Elements.{All-nil}
 use Rattle.std.proofs.lemmas.Option.{slice_get_cases, slice_get-map, get_or_from_slice_get}
-use Rattle.lk_replay.specs.Header.{Header}
+use Rattle.lk_locks.specs.State.{Shape}
 use Rattle.lk_trace.specs.Checks.{Checked}
-use Rattle.lk_trace.specs.Traces.{new_checked}
+use Rattle.lk_trace.specs.Checks.{new_lock}
 use Rattle.lk_trace.specs.declared.line.TraceLine.{TraceLine}
 use Rattle.lk_order.specs.Logs.{ThreadLog}
 use Rattle.lk_order.specs.Runs.{IsRunOf, moves_of}
@@ -23,7 +23,7 @@ moves_at logs t log is =
     get_or_from_slice_get (map moves_in logs) t log.moves []
     (slice_get-map moves_in logs t ∙ ap (option_map moves_in) is)
 
-pub own_of : (header : Header) (logs : List ThreadLog) → IsRunOf header logs → (t : ℕ)
+pub own_of : (header : Shape) (logs : List ThreadLog) → IsRunOf header logs → (t : ℕ)
     → All (λ (l : TraceLine). l.thread ≡ t) (moves_of logs t)
 own_of header logs run t =
     elim ((slice_get_cases logs t).1) [
@@ -36,8 +36,8 @@ own_of header logs run t =
           (All-nil (λ (l : TraceLine). l.thread ≡ t))
     ]
 
-pub kept_new : (header : Header) (logs : List ThreadLog) (lock : Checked) (at : List ℕ)
-    → IsRunOf header logs → lock ≡ new_checked header → ((t : ℕ) → t < 256 → get_or at t 0 ≡ 0)
+pub kept_new : (header : Shape) (logs : List ThreadLog) (lock : Checked) (at : List ℕ)
+    → IsRunOf header logs → lock ≡ new_lock header → ((t : ℕ) → t < 256 → get_or at t 0 ≡ 0)
     → IsKept (record { header = header; logs = logs; trace = []; lock = lock }) [] at
 kept_new header logs lock at run is zeros = record {
   order = record {

@@ -8,7 +8,7 @@ use Rattle.std.proofs.lemmas.Bool.{cases_lt}
 use Rattle.std.proofs.lemmas.List.{take-append-le, take_all, get_or_append_left, length-map}
 use Rattle.std.proofs.lemmas.Option.{slice_get_within, get_or_from_slice_get, slice_get-get_or}
 use Rattle.lk_trace.specs.Checks.{Checked, checked}
-use Rattle.lk_trace.specs.Traces.{new_checked}
+use Rattle.lk_trace.specs.Checks.{new_lock}
 use Rattle.lk_trace.specs.declared.line.TraceLine.{TraceLine}
 use Rattle.lk_order.specs.Orders.{Ordered, IsOrder, AreIdle, IsQuiet, after_lines, with_line}
 use Rattle.lk_order.specs.Picked.{line_at, picked, KeepsQuiet}
@@ -19,7 +19,7 @@ quiet_before : (o : Ordered) (line : TraceLine) (k : ℕ) (quiet : Bool) → k <
     → IsTrue quiet ↔ IsQuiet o (k + 1) → IsTrue quiet ↔ IsQuiet (with_line o line) (k + 1)
 quiet_before o line k quiet below is =
     subst (λ (l : List TraceLine). IsTrue quiet
-    ↔ AreIdle (after_lines (new_checked o.header) l))
+    ↔ AreIdle (after_lines (new_lock o.header) l))
     (sym (take-append-le (k + 1) o.trace (line ∷ []) (omega arith))) is
 
 -- the last step
@@ -28,7 +28,7 @@ quiet_last : (o : Ordered) (line : TraceLine) (k : ℕ) (quiet : Bool) → IsOrd
     → IsTrue quiet ↔ IsQuiet (with_line o line) (k + 1)
 quiet_last o line k quiet order last is =
     subst (λ (l : List TraceLine). IsTrue quiet
-    ↔ AreIdle (after_lines (new_checked o.header) l))
+    ↔ AreIdle (after_lines (new_lock o.header) l))
     (sym (take_all (k + 1) (o.trace ++ line ∷ [])
     (omega (arith, length-append o.trace (line ∷ [])))))
     (subst (λ (c : Checked). IsTrue quiet ↔ AreIdle c) order.lock_is is)

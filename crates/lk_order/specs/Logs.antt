@@ -9,7 +9,7 @@ use Rattle.std.specs.Str.{bytes_eq}
 use Rattle.lk_replay.specs.Lines.{is_skipped}
 use Rattle.lk_replay.specs.Digits.{whole_number}
 use Rattle.lk_replay.specs.Vocabulary.{number_of}
-use Rattle.lk_replay.specs.Header.{Header}
+use Rattle.lk_locks.specs.State.{Shape}
 use Rattle.lk_trace.specs.Lines.{short_log_line_of}
 use Rattle.lk_trace.specs.Traces.{read_header_of}
 use Rattle.lk_trace.specs.declared.line.TraceLine.{TraceLine}
@@ -17,7 +17,7 @@ use Rattle.lk_order.specs.declared.log.reader.LogFault.{LogFault}
 use Rattle.lk_order.specs.declared.log.reader.LogFault.TheVariants as faults
 
 pub record ThreadLog : Type 0 where
-  pub header : Header
+  pub header : Shape
   pub thread : ℕ
   pub moves : List TraceLine
   pub lines : List ℕ
@@ -47,7 +47,7 @@ abbrev pub ◌>>=◌ : {A B : Type 0} → Option A → (A → Option B) → Opti
 part >>= next = option_and_then next part
 
 -- the header of a log, of at most 96 bytes: a trace's header, and `thread T` after it
-abbrev pub log_header_of : List ℕ → Option (Header × ℕ)
+abbrev pub log_header_of : List ℕ → Option (Shape × ℕ)
 log_header_of line = do
   last ← if nat_lt 96 (length line) then None else cut_last line
   thread ← number_of 0 63 last.1
@@ -61,7 +61,7 @@ dropped_of line =
     if starts_with nat_eq line (codes "dropped ") then whole_number (drop 8 line) else None
 
 -- a log without moves
-abbrev pub empty_log : Header × ℕ → ThreadLog
+abbrev pub empty_log : Shape × ℕ → ThreadLog
 empty_log read =
     record { header = read.0; thread = read.1; moves = []; lines = []; dropped = None }
 

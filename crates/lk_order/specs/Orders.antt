@@ -4,10 +4,10 @@ use Rattle.std.specs.Prelude.{◌≡◌, ℕ, ◌<◌, ◌==◌, ◌++◌, ◌�
 use Rattle.std.specs.Prelude.{Option, Some, None, Result, Ok, Err, filter}
 use Rattle.std.specs.List.{All, slice_get}
 use Rattle.lk_locks.specs.declared.kinds.Phase.TheVariants.{Idle}
-use Rattle.lk_replay.specs.Header.{Header}
+use Rattle.lk_locks.specs.State.{Shape}
 use Rattle.lk_trace.specs.Agreement.{Agrees}
 use Rattle.lk_trace.specs.Checks.{Checked, checked, difference_of, answer_to, unless_other}
-use Rattle.lk_trace.specs.Traces.{new_checked}
+use Rattle.lk_trace.specs.Checks.{new_lock}
 use Rattle.lk_trace.specs.declared.checker.Made.{Made as MadeMove}
 use Rattle.lk_trace.specs.declared.difference.Difference.{Difference}
 use Rattle.lk_trace.specs.declared.line.TraceLine.{TraceLine}
@@ -18,7 +18,7 @@ use Rattle.lk_order.specs.declared.order.Placed.TheVariants.{Made, Differs, Noth
 
 -- the logs of a lock's threads, the lines that are placed, in their order, and the lock after them
 pub record Ordered : Type 0 where
-  pub header : Header
+  pub header : Shape
   pub logs : List ThreadLog
   pub trace : List TraceLine
   pub lock : Checked
@@ -50,21 +50,21 @@ AreIdle c = All (λ phase. phase ≡ Idle) c.lock.state.phases
 
 -- nobody is in a call and nobody holds after the first k lines
 abbrev pub IsQuiet : Ordered → ℕ → Type 0
-IsQuiet o k = AreIdle (after_lines (new_checked o.header) (take k o.trace))
+IsQuiet o k = AreIdle (after_lines (new_lock o.header) (take k o.trace))
 
 -- what is promised of an order
 pub record IsOrder (o : Ordered) : Type 0 where
   pub run : IsRunOf o.header o.logs
-  pub accepted : IsAccepted (new_checked o.header) o.trace
-  pub lock_is : o.lock ≡ after_lines (new_checked o.header) o.trace
+  pub accepted : IsAccepted (new_lock o.header) o.trace
+  pub lock_is : o.lock ≡ after_lines (new_lock o.header) o.trace
   pub each : (t : ℕ) → t < o.header.threads
       → lines_by t o.trace ≡ take (placed_of o t) (moves_of o.logs t)
   pub others : All (λ line. line.thread < o.header.threads) o.trace
 
 -- no line of these logs is placed
-abbrev pub new_order : Header → List ThreadLog → Ordered
+abbrev pub new_order : Shape → List ThreadLog → Ordered
 new_order header logs =
-    record { header = header; logs = logs; trace = []; lock = new_checked header }
+    record { header = header; logs = logs; trace = []; lock = new_lock header }
 
 abbrev pub order_of : List ThreadLog → Option Ordered
 order_of [] = None

@@ -5,7 +5,7 @@ use Rattle.std.specs.Prelude.{slice_index_or}
 use Rattle.std.specs.List.{All, slice_get}
 use Rattle.lk_locks.specs.declared.kinds.Move.TheVariants.{Step}
 use Rattle.lk_locks.specs.declared.kinds.StepKind.TheVariants.{Read}
-use Rattle.lk_replay.specs.Header.{Header}
+use Rattle.lk_locks.specs.State.{Shape}
 use Rattle.lk_trace.specs.Checks.{Checked}
 use Rattle.lk_trace.specs.declared.line.Seen.TheVariants.{Nothing}
 use Rattle.lk_trace.specs.declared.line.TraceLine.{TraceLine}
@@ -25,7 +25,7 @@ abbrev pub picked : List ThreadLog → List Place → List TraceLine
 picked logs places = map (line_at logs) places
 
 -- the order whose steps are at these places
-abbrev pub ordered_of : Header → List ThreadLog → List Place → Checked → Ordered
+abbrev pub ordered_of : Shape → List ThreadLog → List Place → Checked → Ordered
 ordered_of header logs places lock =
     record { header = header; logs = logs; trace = picked logs places; lock = lock }
 

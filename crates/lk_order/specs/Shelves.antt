@@ -4,14 +4,14 @@ use Rattle.std.specs.Prelude.{◌≡◌, ◌≢◌, ◌<◌, ℕ, List, replicat
 use Rattle.std.specs.Prelude.{Option, Some, None, IfSome, IsSome, IsSomeAnd}
 use Rattle.std.specs.List.{flat_map}
 use Rattle.std.specs.Option.{option_map_or, option_to_list}
-use Rattle.lk_replay.specs.Header.{Header}
+use Rattle.lk_locks.specs.State.{Shape}
 use Rattle.lk_order.specs.Logs.{ThreadLog}
 use Rattle.lk_order.specs.declared.shelf.Unfit.{Unfit}
 use Rattle.lk_order.specs.declared.shelf.Unfit.TheVariants.{OtherLock, SecondLog}
 
 -- the lock of the logs, and at place t thread t's log
 pub record Shelved : Type 0 where
-  pub lock : Option Header
+  pub lock : Option Shape
   pub places : List (Option ThreadLog)
 
 -- no log was taken
@@ -39,7 +39,7 @@ pub record IsTaken (old new : Shelved) (log : ThreadLog) : Type 0 where
   }
 
 -- how many threads have a log if none is missing
-abbrev pub threads_of : Option Header → ℕ
+abbrev pub threads_of : Option Shape → ℕ
 threads_of lock = option_map_or (λ h. h.threads) lock 1
 
 abbrev pub HaveLogs : Shelved → ℕ → Type 0

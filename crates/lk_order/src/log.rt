@@ -14,7 +14,7 @@ use std::marker::Model;
 /// The log of one thread.
 #[derive(Drop)]
 pub struct Log {
-    header: Header,
+    header: Shape,
     owner: u8,
     moves: Vec<TraceLine>,
     // the line of each move in its text
@@ -38,14 +38,14 @@ impl Model for Log {
 
 impl Log {
     /// The lock, and how many threads it has, and its words bits.
-    pub fn header(&self) -> Header
+    pub fn header(&self) -> Shape
         ensures { result ≡ self.now.header }
     {
         self.header
     }
 
     // Whether it has this header.
-    pub(crate) fn has_header(&self, header: Header) -> bool
+    pub(crate) fn has_header(&self, header: Shape) -> bool
         ensures { IsTrue result ↔ self.now.header ≡ header }
     {
         self.header.kind() == header.kind()

@@ -29,7 +29,7 @@ pub struct Shelf {
     // at t the log of thread t
     places: Vec<Option<Log>>,
     // of the logs
-    lock: Option<Header>,
+    lock: Option<Shape>,
 }
 
 impl Model for Shelf {

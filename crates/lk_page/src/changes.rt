@@ -1,38 +1,42 @@
 //! What a move does to the words. A step of a queue lock is one operation, and its effect says what
 //! it does to its word. Of a section, only the words that it changes are told.
 
-ghost use Rattle.std.specs.Prelude.{◌≡◌, ◌≢◌, ◌<◌, ℕ, List, None, length};
+ghost use Rattle.std.specs.Prelude.{◌≡◌, ◌≢◌, ◌<◌, ℕ, List, IfSome, None, length};
 ghost use Rattle.lk_locks.specs.read_write.{Tells};
 ghost use Rattle.lk_locks.specs.Steps.{change_of, refusal_of};
-ghost use Rattle.lk_page.specs.Changes.{IsChangeAt};
+ghost use Rattle.lk_page.specs.Changes.{touch_of};
 ghost use Rattle.lk_page.specs.Told.{AreTouched, IsChange, IsOwn, own_word};
 
 use crate::told::Touch;
 use lk_locks::{Machine, Move, SectionEffect, StepEffect};
-use lk_words::{WordArray, Words};
+use lk_words::{Effect, WordArray, Words};
 
-// The word of a section at this place, if it changed.
-fn change_at(section: &SectionEffect, place: usize) -> Option<Touch>
-    requires { place < 3 }
-    ensures { IsChangeAt section.now place result }
+// The word of an effect.
+fn touch_of(effect: Option<Effect>) -> Option<Touch>
+    requires { IfSome effect (λ e. e.word < 256) }
+    ensures { result ≡ touch_of effect }
 {
-    let (found, left) = (section.found[place], section.left[place]);
-    let word = place as u8;
-    (left != found).then_some(Touch { word, found, left })
+    let effect = effect?;
+    Some(Touch {
+        word: effect.word as u8,
+        found: effect.found,
+        left: effect.left,
+    })
 }
 
-// The words that a section changed: of the second and the third it changes one at most.
+// The words that a section changed.
 fn changes(section: &SectionEffect) -> (Option<Touch>, Option<Touch>)
+    requires first { IfSome section.now.first (λ e. e.word < 256) }
+    requires second { IfSome section.now.second (λ e. e.word < 256) }
     ensures touched { (before after : List ℕ) → Tells section.now before after
         → AreTouched before after result.0 result.1 }
-    ensures changed { result.0 ≢ None → IsChange result.0 }
+    ensures changed { (before after : List ℕ) → Tells section.now before after
+        → result.0 ≢ None → IsChange result.0 }
 {
-    let first = change_at(section, 0);
-    let other = change_at(section, 1).or(change_at(section, 2));
-    if first.is_some() {
-        (first, other)
-    } else {
-        (other, None)
+    let second = touch_of(section.second);
+    match section.first {
+        Some(_) => (touch_of(section.first), second),
+        None => (second, None),
     }
 }
 

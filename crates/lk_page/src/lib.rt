@@ -38,7 +38,7 @@ use kind_texts::put_kind;
 use lk_replay::ScheduleReader;
 use lk_replay::parts::{Expected, unreadable_header, unreadable_move};
 use lk_search::kinds_of;
-use playing::{new_lock, play_moves};
+use playing::play_moves;
 use sought::{sought_code, sought_number};
 use state::{STATE_BYTES, fault_bytes, state_bytes};
 
@@ -67,7 +67,7 @@ pub extern "C" fn play(text: &[u8], most: u64, records: &mut [u8], state: &mut [
         }
     };
     let moves = reader.moves_left();
-    let mut lock = new_lock(&reader);
+    let mut lock = Tracker::at_start(reader.header());
     let stopped = play_moves(&mut lock, &mut reader, most, records);
     let bytes = state_bytes(&lock, moves as u32, stopped);
     state[..STATE_BYTES].copy_from_slice(bytes.as_slice());

@@ -1,8 +1,6 @@
 //! Plays the moves of a schedule, and writes a record of each.
 
-ghost use Rattle.std.specs.Prelude.{◌≡◌, ◌+◌, ◌*◌, ◌<◌, ◌≤◌, length, take, replicate, []};
-ghost use Rattle.lk_locks.specs.State.{start};
-ghost use Rattle.lk_locks.specs.Locks.{word_count};
+ghost use Rattle.std.specs.Prelude.{◌≡◌, ◌+◌, ◌*◌, ◌<◌, ◌≤◌, length, take, []};
 ghost use Rattle.lk_locks.specs.Tracked.{tracked};
 ghost use Rattle.lk_page.specs.Layout.{record_bytes};
 ghost use Rattle.lk_page.specs.Playing.{HavePlayed};
@@ -10,7 +8,7 @@ ghost use Rattle.lk_page.specs.Written.{placed};
 
 use crate::record::{RECORD_BYTES, play_line, record_bytes};
 use crate::told::{Record, Stopped};
-use lk_locks::{Tracker, words_needed};
+use lk_locks::Tracker;
 use lk_replay::ScheduleReader;
 use lk_words::WordArray;
 
@@ -61,16 +59,4 @@ pub fn play_moves(
         count,
         refused: None,
     }
-}
-
-/// The lock of a schedule, on which nothing was played.
-pub fn new_lock(reader: &ScheduleReader) -> Tracker<WordArray>
-    ensures { let plan = reader.now in
-        result ≡ tracked (start plan.kind plan.bits
-        (replicate (word_count plan.kind plan.threads) 0) plan.threads) [] }
-{
-    let header = reader.header();
-    let (kind, threads) = (header.kind(), header.threads());
-    let words = WordArray::with_bits(words_needed(kind, threads), header.bits());
-    Tracker::new(kind, threads, words)
 }

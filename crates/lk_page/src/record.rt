@@ -14,7 +14,7 @@ use crate::layout::{put_bytes, put_u64};
 use crate::next::{allowed_calls, waits_after};
 use crate::told::{Record, Standing, Touch};
 use arrayvec::ArrayVec;
-use lk_locks::{Added, Holders, Refusal, Tracker};
+use lk_locks::{Holders, Refusal, Tracker};
 use lk_replay::Line;
 use lk_search::phase_code;
 use lk_trace::{move_number, outcome_number};
@@ -49,7 +49,7 @@ pub fn play_line(lock: &mut Tracker<WordArray>, line: &Line) -> Result<Record, R
 {
     lock.machine().check(line.thread, line.action)?;
     let (first, second) = touches(lock.machine(), line.thread, line.action);
-    let outcome = lock.make(line.thread, line.action, &mut Added::none());
+    let (outcome, _) = lock.play(line.thread, line.action)?;
     let standing = standing_of(lock, line.thread);
     Ok(Record {
         line: line.number,

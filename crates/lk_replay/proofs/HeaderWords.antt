@@ -5,7 +5,8 @@ use Rattle.std.specs.Str.{bytes_eq}
 use Rattle.lk_locks.specs.declared.kinds.LockKind.{LockKind}
 use Rattle.lk_replay.specs.Faults.{WordsTooNarrow}
 use Rattle.std.specs.Option.{option_map, option_zip}
-use Rattle.lk_replay.specs.Header.{Header, header_of, header_of_shape, shape_of_words}
+use Rattle.lk_locks.specs.State.{Shape}
+use Rattle.lk_replay.specs.Header.{header_of, header_of_shape, shape_of_words}
 use Rattle.lk_replay.specs.Header.{size_of_words, with_threads}
 use Rattle.lk_replay.specs.Lines.{words_of}
 use Rattle.lk_replay.specs.Unreadable.{IsHeader, unreadable_from}
@@ -13,7 +14,7 @@ use Rattle.lk_replay.specs.Vocabulary.{lock_named, number_of}
 use Rattle.lk_replay.specs.declared.unreadable.Expected.{Expected}
 use Rattle.lk_replay.specs.declared.unreadable.Expected.TheVariants.{Lock, Count}
 
-fits_or_not : (fits : Bool) (h : Header) (number : ℕ)
+fits_or_not : (fits : Bool) (h : Shape) (number : ℕ)
     → IsHeader (cond fits (Ok h) (Err (WordsTooNarrow number)))
 fits_or_not true h number = tt
 fits_or_not false h number = tt

@@ -62,17 +62,6 @@ pub replay_printed : (p : Plan) (f : Following) (count : ℕ) (s : State) (moves
 replay_printed p f count s moves follows none starts are =
     rw (follows, none, starts, are) (lines_are p.kind 0 [] (replay_of p).made (replay_of p).refused)
 
--- a new lock agrees with a sequential object in which nobody is
-pub tracked_start : (p : Plan) → p.threads ≤ 64 → p.threads < 2 ^ p.bits
-    → IsTracked (start_of p) (nobody p.kind)
-tracked_start p few narrow =
-    let n : ℕ = word_count p.kind p.threads in
-    let size : length {A = ℕ} (replicate n 0) ≡ n = length-replicate n 0 in (
-      [],
-      kept_start p.kind p.bits (replicate n 0) p.threads few narrow (omega (arith, size))
-          (λ i low. get_or-replicate n i 0 0 (omega (arith, size, low))),
-    )
-
 stops : (r : Option Refusal) (number : ℕ) (m : Made) (rest : Replay)
     → length (refused_or r number (with_move m rest)).made ≡ 0
     → (refused_or r number (with_move m rest)).refused ≡ option_map {U = ℕ × Refusal}

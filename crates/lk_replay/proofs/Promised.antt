@@ -19,7 +19,8 @@ use Rattle.lk_locks.specs.declared.kinds.Move.{Move}
 use Rattle.lk_locks.specs.declared.kinds.Refusal.{Refusal}
 use Rattle.lk_replay.specs.Faults.{Fault}
 use Rattle.lk_locks.specs.declared.kinds.LockKind.{LockKind}
-use Rattle.lk_replay.specs.Header.{Header, header_of, header_of_shape, shape_of_words}
+use Rattle.lk_locks.specs.State.{Shape}
+use Rattle.lk_replay.specs.Header.{header_of, header_of_shape, shape_of_words}
 use Rattle.lk_replay.specs.Header.{with_threads}
 use Rattle.lk_replay.specs.Lines.{is_skipped, lines_of, words_of}
 use Rattle.lk_replay.specs.Replay.{Made, Replay, Replayed, made_by, refused_or, replay_from}
@@ -70,7 +71,7 @@ record Fits (threads bits : ℕ) : Type 0 where
   few : threads ≤ 64
   narrow : threads < 2 ^ bits
 
-abbrev HeaderFits : Result Header Fault → Type 0
+abbrev HeaderFits : Result Shape Fault → Type 0
 HeaderFits read = IfOk read (λ h. Fits h.threads h.bits)
 
 abbrev PlanFits : Result Plan Fault → Type 0
@@ -106,7 +107,7 @@ header_fits : (number : ℕ) (line : List ℕ) → HeaderFits (header_of number 
 unfolding header_of
 header_fits number line = shape_fits number (shape_of_words (words_of line))
 
-both_fit : (header : Result Header Fault) (moves : Result (List Line) Fault) → HeaderFits header
+both_fit : (header : Result Shape Fault) (moves : Result (List Line) Fault) → HeaderFits header
     → PlanFits (with_header header moves)
 both_fit (Ok h) (Ok ms) fits = fits
 both_fit header moves fits = tt

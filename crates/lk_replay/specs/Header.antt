@@ -4,6 +4,7 @@ use Rattle.std.specs.Prelude.{ℕ, ◌^◌, List, [], ◌∷◌, Option, Some, N
 use Rattle.std.specs.Prelude.{nat_lt, codes, Result, Ok, Err}
 use Rattle.std.specs.Option.{option_map, option_zip}
 use Rattle.std.specs.Str.{bytes_eq}
+use Rattle.lk_locks.specs.State.{Shape}
 use Rattle.lk_locks.specs.declared.kinds.LockKind.{LockKind}
 use Rattle.lk_replay.specs.Lines.{words_of}
 use Rattle.lk_replay.specs.Vocabulary.{number_of, lock_named}
@@ -25,23 +26,17 @@ shape_of_words (lock ∷ name ∷ threads ∷ size) =
     then option_zip (lock_named name) (size_of_words size) else None
 shape_of_words _ = None
 
--- What a header says.
-pub record Header : Type 0 where
-  pub kind : LockKind
-  pub threads : ℕ
-  pub bits : ℕ
-
-abbrev pub with_threads : ℕ → LockKind → ℕ → Option ℕ → Result Header Fault
+abbrev pub with_threads : ℕ → LockKind → ℕ → Option ℕ → Result Shape Fault
 with_threads number kind bits None = Err (BadThreads number)
 with_threads number kind bits (Some threads) =
     if nat_lt threads (2 ^ bits) then Ok (record { kind = kind; threads = threads; bits = bits })
     else Err (WordsTooNarrow number)
 
-abbrev pub header_of_shape : ℕ → Option (LockKind × (List ℕ × ℕ)) → Result Header Fault
+abbrev pub header_of_shape : ℕ → Option (LockKind × (List ℕ × ℕ)) → Result Shape Fault
 header_of_shape number None = Err (BadHeader number)
 header_of_shape number (Some (kind, (count, bits))) =
     with_threads number kind bits (number_of 1 64 count)
 
 -- the header that line `number` is
-unfoldable pub header_of : ℕ → List ℕ → Result Header Fault
+unfoldable pub header_of : ℕ → List ℕ → Result Shape Fault
 header_of number line = header_of_shape number (shape_of_words (words_of line))

@@ -7,7 +7,8 @@ use Rattle.lk_locks.specs.declared.kinds.Move.{Move}
 use Rattle.lk_replay.specs.declared.schedule.Line.{Line}
 use Rattle.lk_replay.specs.Lines.{lines_of, is_skipped, words_of}
 use Rattle.lk_replay.specs.Vocabulary.{number_of, move_named}
-use Rattle.lk_replay.specs.Header.{Header, header_of}
+use Rattle.lk_locks.specs.State.{Shape}
+use Rattle.lk_replay.specs.Header.{header_of}
 use Rattle.lk_replay.specs.Faults.{Fault, TooLong, NoHeader, BadLine, TooManyMoves}
 
 -- a thread's number and what it does
@@ -47,11 +48,11 @@ pub record Plan : Type 0 where
   pub bits : ℕ
   pub moves : List Line
 
-abbrev pub plan_with : Header → List Line → Plan
+abbrev pub plan_with : Shape → List Line → Plan
 plan_with header moves =
     record { kind = header.kind; threads = header.threads; bits = header.bits; moves = moves }
 
-abbrev pub with_header : Result Header Fault → Result (List Line) Fault → Result Plan Fault
+abbrev pub with_header : Result Shape Fault → Result (List Line) Fault → Result Plan Fault
 with_header (Ok header) (Ok moves) = Ok (plan_with header moves)
 with_header (Ok header) (Err fault) = Err fault
 with_header (Err fault) moves = Err fault

@@ -3,7 +3,7 @@ use Rattle.std.specs.Prelude.{ℕ, ◌+◌, List, [], ◌∷◌, Option, Some, N
 use Rattle.std.specs.Prelude.{if◌then◌else◌, codes, length, Result, Ok, Err}
 use Rattle.std.specs.Str.{bytes_eq}
 use Rattle.lk_replay.specs.Faults.{Fault, WordsTooNarrow}
-use Rattle.lk_replay.specs.Header.{Header}
+use Rattle.lk_locks.specs.State.{Shape}
 use Rattle.lk_replay.specs.Vocabulary.{lock_named, move_named, number_of}
 use Rattle.lk_replay.specs.declared.unreadable.Expected.{Expected}
 use Rattle.lk_replay.specs.declared.unreadable.Expected.TheVariants.{Lock, Name, Threads, Count}
@@ -33,7 +33,7 @@ may_end End = true
 may_end _ = false
 
 -- It is a header, but that its words may be too narrow for its threads.
-abbrev pub IsHeader : Result Header Fault → Type 0
+abbrev pub IsHeader : Result Shape Fault → Type 0
 IsHeader (Ok header) = Unit {0}
 IsHeader (Err (WordsTooNarrow number)) = Unit {0}
 IsHeader (Err fault) = ⊥

@@ -1,10 +1,9 @@
 //! The header of a schedule text: `lock NAME threads N`, and `bits B` if words have fewer than
 //! 64 bits.
 
-ghost use Rattle.std.specs.Prelude.{◌≡◌, ◌<◌, ◌≤◌, ◌^◌, MatchOption, IfSome, IfErr, None, Some};
+ghost use Rattle.std.specs.Prelude.{◌≡◌, ◌≤◌, MatchOption, IfSome, IfErr, None, Some};
 ghost use Rattle.std.specs.Option.{option_zip};
 ghost use Rattle.lk_replay.specs.Lines.{words_of};
-ghost use Rattle.lk_replay.specs.Header as said;
 ghost use Rattle.lk_replay.specs.Header.{size_of_words, shape_of_words, header_of};
 ghost use Rattle.lk_replay.specs.Reads.{Gives};
 ghost use Rattle.lk_replay.specs.Reading.{IsOfText};
@@ -12,56 +11,7 @@ ghost use Rattle.lk_replay.specs.Reading.{IsOfText};
 use crate::ReadFault;
 use crate::lines::cut_word;
 use crate::vocabulary::{lock_named, number_of};
-use lk_locks::LockKind;
-use std::marker::Model;
-
-/// A lock, and the numbers of its threads and of the bits of its words, which have more values
-/// than there are threads.
-#[derive(Clone, Copy)]
-pub struct Header {
-    kind: LockKind,
-    threads: u8,
-    bits: u8,
-}
-
-impl Model for Header {
-    ghost Value = { said.Header };
-
-    ghost view = { λ a. record { kind = a.kind; threads = a.threads; bits = a.bits } };
-
-    ghost inverse = { λ d. record { kind = d.kind; threads = d.threads; bits = d.bits } };
-
-    ghost invariant = { λ a. (0 < a.threads) × (a.threads ≤ 64) × (a.threads < 2 ^ a.bits)
-        × (2 ≤ a.bits) × (a.bits ≤ 64) };
-}
-
-impl Header {
-    /// The lock.
-    pub fn kind(&self) -> LockKind
-        ensures { result ≡ self.now.kind }
-    {
-        self.kind
-    }
-
-    /// How many threads it has.
-    pub fn threads(&self) -> u8
-        ensures threads { result ≡ self.now.threads }
-        ensures some { 0 < result }
-        ensures few { result ≤ 64 }
-        ensures narrow { result < 2 ^ self.now.bits }
-    {
-        self.threads
-    }
-
-    /// How many bits its words have.
-    pub fn bits(&self) -> u8
-        ensures bits { result ≡ self.now.bits }
-        ensures least { 2 ≤ result }
-        ensures most { result ≤ 64 }
-    {
-        self.bits
-    }
-}
+use lk_locks::{LockKind, Shape};
 
 // The word that counts the threads, and the bits of a word.
 fn size_of(words: &[u8]) -> Option<(&[u8], u8)>
@@ -106,7 +56,7 @@ fn named_lock(line: &[u8]) -> Option<(LockKind, &[u8])>
 ///
 /// What is wrong with the line: `BadHeader`, `BadThreads` or `WordsTooNarrow`, with its number.
 #[tactic(auto, unfolding(crate::specs::Header::header_of))]
-pub fn header_of(line: &[u8], number: u32) -> Result<Header, ReadFault>
+pub fn header_of(line: &[u8], number: u32) -> Result<Shape, ReadFault>
     ensures read { Gives (λ header. header) result (header_of number line.now) }
     ensures no_memory { IfErr result IsOfText }
 {
@@ -114,11 +64,7 @@ pub fn header_of(line: &[u8], number: u32) -> Result<Header, ReadFault>
     let (count, bits) = size_of(words).ok_or(ReadFault::BadHeader(number))?;
     let threads = number_of(count, 1, 64).ok_or(ReadFault::BadThreads(number))?;
     if u128::from(threads) < 1u128 << bits {
-        Ok(Header {
-            kind,
-            threads,
-            bits,
-        })
+        Ok(Shape::new(kind, threads, bits))
     } else {
         Err(ReadFault::WordsTooNarrow(number))
     }

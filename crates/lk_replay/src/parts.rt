@@ -2,7 +2,7 @@
 //! header and its names, and where a line stops being a header or a move. And the statuses of the
 //! programs that read such texts.
 
-pub use crate::header::{Header, header_of};
+pub use crate::header::header_of;
 pub use crate::lines::{Lines, cut_line, cut_word, is_skipped};
 pub use crate::status::Status;
 pub use crate::unreadable::{Expected, unreadable_header, unreadable_move};

@@ -6,7 +6,7 @@ ghost use Rattle.lk_replay.specs.Whole.{IsHistoryOf};
 ghost use Rattle.lk_locks.specs.MainTheorem.{IsAsPromised};
 
 use crate::Schedule;
-use lk_locks::{Entry, Keeper, Move, Outcome, PlayFault, Refusal, words_needed};
+use lk_locks::{Entry, Keeper, Move, Outcome, PlayFault, Refusal};
 use lk_words::WordArray;
 use std::alloc::{AllocError, Global};
 use std::marker::Model;
@@ -78,9 +78,7 @@ pub fn replay(alloc: Global, schedule: &Schedule) -> Result<Played, AllocError>
     ensures moves { IfOk result
         (λ played. IsHistoryOf schedule.now played.accepted played.entries) }
 {
-    let (kind, threads) = (schedule.kind(), schedule.threads());
-    let words = WordArray::with_bits(words_needed(kind, threads), schedule.bits());
-    let mut keeper = Keeper::new(alloc, kind, threads, words);
+    let mut keeper = Keeper::at_start(alloc, schedule.shape());
     let moves = schedule.moves();
     let mut accepted = Vec::with_capacity(alloc, moves.len())?;
     for line in moves {

@@ -9,10 +9,10 @@ ghost use Rattle.lk_replay.specs.Schedule.{Plan, with_line};
 
 mod reader;
 
-use crate::header::{Header, header_of};
+use crate::header::header_of;
 use crate::lines::{Lines, cut_word};
 use crate::vocabulary::{move_named, number_of};
-use lk_locks::{LockKind, Move};
+use lk_locks::{LockKind, Move, Shape};
 pub use reader::ScheduleReader;
 use std::alloc::Global;
 use std::marker::Model;
@@ -68,24 +68,32 @@ pub enum ReadFault {
 /// What a schedule text says.
 #[derive(Drop)]
 pub struct Schedule {
-    header: Header,
+    shape: Shape,
     moves: Vec<Line>,
 }
 
 impl Model for Schedule {
     ghost Value = { Plan };
 
-    ghost view = { λ a. plan_with a.header a.moves.items };
+    ghost view = { λ a. plan_with a.shape a.moves.items };
 
     ghost invariant = { λ a. length a.moves.items ≤ 65536 };
 }
 
 impl Schedule {
+    /// The lock, its threads and its words.
+    pub fn shape(&self) -> Shape
+        ensures { result ≡ record {
+            kind = self.now.kind; threads = self.now.threads; bits = self.now.bits } }
+    {
+        self.shape
+    }
+
     /// The lock.
     pub fn kind(&self) -> LockKind
         ensures { result ≡ self.now.kind }
     {
-        self.header.kind()
+        self.shape.kind()
     }
 
     /// How many threads it has.
@@ -95,7 +103,7 @@ impl Schedule {
         ensures few { result ≤ 64 }
         ensures narrow { result < 2 ^ self.now.bits }
     {
-        self.header.threads()
+        self.shape.threads()
     }
 
     /// How many bits its words have.
@@ -104,7 +112,7 @@ impl Schedule {
         ensures least { 2 ≤ result }
         ensures most { result ≤ 64 }
     {
-        self.header.bits()
+        self.shape.bits()
     }
 
     /// The moves, in order.
@@ -129,7 +137,7 @@ fn move_of(line: &[u8]) -> Option<(u8, Move)>
 
 // The header of a text, and the lines after it.
 #[tactic(auto, unfolding(crate::specs::Schedule::plan_of))]
-fn read_header(text: &[u8]) -> Result<(Header, Lines<'_>), ReadFault>
+fn read_header(text: &[u8]) -> Result<(Shape, Lines<'_>), ReadFault>
     ensures read { IfOk result (λ read. plan_of text.now
         ≡ with_header (Ok read.0) (moves_from read.1.number 0 read.1.lines)) }
     ensures fault { IfErr result (λ fault. Fails fault (plan_of text.now)) }
@@ -201,8 +209,8 @@ fn read_moves(alloc: Global, lines: Lines<'_>, most: usize) -> Result<Vec<Line>,
 pub fn read_schedule(alloc: Global, bytes: &[u8]) -> Result<Schedule, ReadFault>
     ensures { Gives (λ schedule. schedule) result (plan_of bytes.now) }
 {
-    let (header, lines) = read_header(bytes)?;
+    let (shape, lines) = read_header(bytes)?;
     let most = (bytes.len() / SHORTEST_MOVE).min(MOST_MOVES);
     let moves = read_moves(alloc, lines, most)?;
-    Ok(Schedule { header, moves })
+    Ok(Schedule { shape, moves })
 }

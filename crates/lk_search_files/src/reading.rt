@@ -3,7 +3,8 @@
 
 ghost use Rattle.std.specs.Prelude.{◌≡◌, ◌≤◌, vec_len, IfOk};
 
-use lk_replay::parts::{Header, Status, is_skipped, number_of};
+use lk_locks::Shape;
+use lk_replay::parts::{Status, is_skipped, number_of};
 use lk_search::{Admitted, SketchFault, admit};
 use lk_text::{put_wrong, take_lines, wrong_in_header};
 use lk_trace::{MOST_OF_A_LINE, TextFault, read_header, unreadable_sketch_line};
@@ -32,7 +33,7 @@ const ROUNDS: &str = "#! rounds ";
 #[derive(Drop)]
 pub struct Sketch {
     /// The lock, if the header was read.
-    pub header: Option<Header>,
+    pub header: Option<Shape>,
     /// How many rounds each thread has, if the sketch says it.
     pub rounds: Option<u8>,
     /// The lines that are to occur, in their order.
@@ -136,7 +137,7 @@ fn put_fault(
 }
 
 /// A sketch with its lock, or how the job ends without one.
-pub type Taken = Result<(Sketch, Header), Status>;
+pub type Taken = Result<(Sketch, Shape), Status>;
 
 // A sketch that was read to its end.
 fn whole(

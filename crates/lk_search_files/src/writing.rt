@@ -4,13 +4,14 @@ ghost use Rattle.std.specs.Prelude.{◌≡◌, ◌++◌, string_bytes, OnOk};
 ghost use Rattle.std.specs.List.{flat_map};
 ghost use Rattle.lk_search_files.specs.Written.{header_line, move_line, schedule_of};
 
-use lk_replay::parts::{Header, lock_text, move_text};
+use lk_locks::Shape;
+use lk_replay::parts::{lock_text, move_text};
 use lk_search::Taken;
 use std::alloc::AllocError;
 use std::fmt::Write;
 
 // Writes the header of a schedule.
-fn put_header(text: &mut String, header: Header) -> Result<(), AllocError>
+fn put_header(text: &mut String, header: Shape) -> Result<(), AllocError>
     ensures { OnOk result (string_bytes text.new ≡ string_bytes text.old
         ++ header_line header.kind header.threads header.bits) }
 {
@@ -44,7 +45,7 @@ fn put_moves(text: &mut String, run: &[Taken]) -> Result<(), AllocError>
 }
 
 /// Writes the header of a run's lock, and a line for each move.
-pub fn put_run(text: &mut String, header: Header, run: &[Taken]) -> Result<(), AllocError>
+pub fn put_run(text: &mut String, header: Shape, run: &[Taken]) -> Result<(), AllocError>
     ensures { OnOk result (string_bytes text.new ≡ string_bytes text.old
         ++ schedule_of header.kind header.threads header.bits run.now) }
 {

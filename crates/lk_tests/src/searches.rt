@@ -1,17 +1,13 @@
 //! Searches of a small lock in lent memory. How many states and transitions locks have, their tours
 //! and what is found of a sketch, are rows of the built program.
 
-use lk_locks::LockKind;
-use lk_search::{Bounds, Lent, NewLock, SearchFault, Space};
+use lk_locks::{LockKind, Shape};
+use lk_search::{Bounds, Lent, SearchFault, Space};
 use std::process::Abort;
 
 /// It has 41 states, and a row of it has 10 cells.
-pub fn ticket_lock() -> NewLock {
-    NewLock {
-        kind: LockKind::Ticket,
-        threads: 2,
-        bits: 64,
-    }
+pub fn ticket_lock() -> Shape {
+    Shape::new(LockKind::Ticket, 2, 64)
 }
 
 #[test]

@@ -21,7 +21,7 @@ use Rattle.lk_locks.specs.declared.kinds.Move.TheVariants.{Call, Step}
 use Rattle.lk_locks.specs.declared.kinds.Refusal.{Refusal}
 use Rattle.lk_trace.specs.Agreement.{Agrees, AgreesOn, AgreesOnWord, IsCounted, count_in}
 use Rattle.lk_trace.specs.Checks.{Checked, checked, count_given, difference_of, effect_of}
-use Rattle.lk_trace.specs.Checks.{effect_other, is_word, name_of, new_lock, other_word, part_other}
+use Rattle.lk_trace.specs.Checks.{effect_other, is_word, name_of, other_word, part_other}
 use Rattle.lk_trace.specs.Checks.{seen_other, values_other}
 use denote.Enum.Bare.{same_true, true_same}
 use Rattle.lk_locks.specs.contracts.kinds.Outcome.{the_type}
@@ -182,16 +182,7 @@ pub agreed : (c : Checked) (l : TraceLine) → WellFormed c.lock.state → Agree
     → difference_of c l ≡ None
 agreed c l w = (well_agreeing c l w).1
 
--- a new lock is well formed, and stays so
-pub new_is_well : (kind : LockKind) (threads bits : ℕ)
-    → WellFormed (new_lock kind threads bits).lock.state
-new_is_well kind threads bits =
-    let count = word_count kind threads in
-    let ws : List ℕ = replicate count 0 in
-    let long : length ws ≡ count = length-replicate {A = ℕ} count 0 in
-    well_new kind bits threads ws (omega (arith, long))
-    (λ i h. get_or-replicate count i 0 0 (omega (arith, long, h)))
-
+-- a lock stays well formed
 pub stays_well : (c : Checked) (l : TraceLine) → WellFormed c.lock.state
     → refusal_of c.lock.state l.thread l.action ≡ None → WellFormed (checked c l).lock.state
 stays_well c l w accepted =

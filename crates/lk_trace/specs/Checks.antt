@@ -1,16 +1,16 @@
 -- Definitions. The check of a move with what its thread saw: where they differ first. This
 -- project's own; what a move does is said by the definitions of the locks alone.
-use Rattle.std.specs.Prelude.{ℕ, ◌==◌, [], replicate, slice_index, Option, Some, None, option_map}
+use Rattle.std.specs.Prelude.{ℕ, ◌==◌, [], slice_index, Option, Some, None, option_map}
 use Rattle.std.specs.Prelude.{Result, Ok, Err, Bool, false, not, nat_lt, if◌then◌else◌}
 use Rattle.std.specs.Bool.{beq}
 use Rattle.std.specs.Option.{option_and_then, option_or}
 use denote.Enum.Bare.{sameb}
 use Rattle.lk_locks.specs.contracts.kinds.Outcome.{the_type}
-use Rattle.lk_locks.specs.State.{State, start, phase_at}
+use Rattle.lk_locks.specs.State.{Shape, State, start_of, phase_at}
 use Rattle.lk_words.specs.Operations.{effect_on}
 use Rattle.lk_words.specs.declared.operation.Effect.{Effect}
 use Rattle.lk_locks.specs.Locks as locks
-use Rattle.lk_locks.specs.Locks.{operation_of, word_count}
+use Rattle.lk_locks.specs.Locks.{operation_of}
 use Rattle.lk_locks.specs.Steps.{refusal_of, change_of, next_state}
 use Rattle.lk_locks.specs.Entries.{entries_of}
 use Rattle.lk_locks.specs.Tracked.{Tracked, tracked, followed}
@@ -35,12 +35,9 @@ pub record Checked : Type 0 where
   pub lock : Tracked
   pub sections : ℕ
 
--- a lock with so many threads on words of so many bits, on which nothing was done
-abbrev pub new_lock : LockKind → ℕ → ℕ → Checked
-new_lock kind threads bits = record {
-  lock = tracked (start kind bits (replicate (word_count kind threads) 0) threads) [];
-  sections = 0;
-}
+-- a lock of this shape, on which nothing was done
+abbrev pub new_lock : Shape → Checked
+new_lock shape = record { lock = tracked (start_of shape) []; sections = 0 }
 
 -- a lock in this state, of whose sections this was the greatest count
 abbrev pub on : State → ℕ → Checked

@@ -3,7 +3,8 @@
 use Rattle.std.specs.Prelude.{ℕ, List, Option, Some, None, Result, Ok, Err, length, nat_lt}
 use Rattle.std.specs.Prelude.{if◌then◌else◌}
 use Rattle.lk_replay.specs.Lines.{is_skipped}
-use Rattle.lk_replay.specs.Header.{Header, header_of}
+use Rattle.lk_locks.specs.State.{Shape}
+use Rattle.lk_replay.specs.Header.{header_of}
 use Rattle.lk_replay.specs.Faults.{Fault}
 use Rattle.lk_replay.specs.Faults as of_text
 use Rattle.lk_replay.specs.declared.schedule.ReadFault.{ReadFault}
@@ -30,20 +31,16 @@ fault_named (reading.BadThreads line) = faults.BadThreads
 fault_named (reading.WordsTooNarrow line) = faults.WordsTooNarrow
 fault_named fault = faults.BadHeader
 
-abbrev pub header_read : Result Header Fault → Result Header TextFault
+abbrev pub header_read : Result Shape Fault → Result Shape TextFault
 header_read (Ok header) = Ok header
 header_read (Err fault) = Err (fault_of fault)
 
 -- the header that a line of at most 96 bytes is
-abbrev pub read_header_of : List ℕ → Result Header TextFault
+abbrev pub read_header_of : List ℕ → Result Shape TextFault
 read_header_of line =
     if nat_lt 96 (length line) then Err faults.BadHeader else header_read (header_of 0 line)
 
--- the lock of a header, on which nothing was done
-abbrev pub new_checked : Header → Checked
-new_checked header = new_lock header.kind header.threads header.bits
-
-abbrev pub header_event : Result Header TextFault → Event
+abbrev pub header_event : Result Shape TextFault → Event
 header_event (Ok header) = event.Began header
 header_event (Err fault) = event.Fault fault
 
@@ -63,8 +60,8 @@ unskipped_event (Some c) line = move_event c (short_line_of line)
 abbrev pub event_of : Option Checked → List ℕ → Event
 event_of reading line = if is_skipped line then event.Skipped else unskipped_event reading line
 
-abbrev pub after_header : Result Header TextFault → Option Checked
-after_header (Ok header) = Some (new_checked header)
+abbrev pub after_header : Result Shape TextFault → Option Checked
+after_header (Ok header) = Some (new_lock header)
 after_header (Err fault) = None
 
 abbrev pub after_move_line : Checked → Option TraceLine → Checked

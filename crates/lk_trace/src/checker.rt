@@ -8,7 +8,7 @@ ghost use Rattle.lk_trace.specs.Checks.{after_line, answer_to, count_given, diff
 ghost use Rattle.lk_trace.specs.Checks.{new_lock, Checked};
 
 use crate::{Difference, Seen, TraceLine, check_line};
-use lk_locks::{Added, LockKind, Outcome, Phase, SectionEffect, Tracker, words_needed};
+use lk_locks::{LockKind, Outcome, Phase, SectionEffect, Shape, Tracker};
 use lk_words::{Effect, WordArray};
 use std::marker::Model;
 
@@ -49,19 +49,12 @@ fn count_given(last: u64, seen: Seen) -> u64
 }
 
 impl Checker {
-    /// A new lock with 1 to 64 threads on words of 2 to 64 bits, with fewer threads than a word has
-    /// values.
-    pub fn new(kind: LockKind, threads: u8, bits: u8) -> Checker
-        requires some { 0 < threads }
-        requires few { threads ≤ 64 }
-        requires narrow { threads < 2 ^ bits }
-        requires least { 2 ≤ bits }
-        requires most { bits ≤ 64 }
-        ensures { result ≡ new_lock kind threads bits }
+    /// A new lock of this shape.
+    pub fn new(shape: Shape) -> Checker
+        ensures { result ≡ new_lock shape }
     {
-        let words = WordArray::with_bits(words_needed(kind, threads), bits);
         Checker {
-            lock: Tracker::new(kind, threads, words),
+            lock: Tracker::at_start(shape),
             sections: 0,
         }
     }
@@ -109,7 +102,7 @@ impl Checker {
     {
         let made = check_line(self.lock.machine(), self.sections, line)?;
         self.sections = count_given(self.sections, line.seen);
-        self.lock.make(line.thread, line.action, &mut Added::none());
+        let _accepted = self.lock.play(line.thread, line.action);
         Ok(made)
     }
 }

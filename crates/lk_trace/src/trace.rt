@@ -8,7 +8,8 @@ ghost use Rattle.lk_trace.specs.Checks.{Checked};
 use crate::line::MOST_OF_A_LINE;
 use crate::{Checker, Difference, Made, TraceLine, read_line};
 use lk_replay::ReadFault;
-use lk_replay::parts::{Header, header_of, is_skipped};
+use lk_locks::Shape;
+use lk_replay::parts::{header_of, is_skipped};
 use std::marker::Model;
 use thiserror::Error;
 
@@ -53,7 +54,7 @@ pub enum Event {
     /// It is empty or a comment.
     Skipped,
     /// It is the header.
-    Began(Header),
+    Began(Shape),
     /// The move was made, and each part that is given is the machine's.
     Made(TraceLine, Made),
     /// The move differs from the machine's, and was not made.
@@ -91,7 +92,7 @@ fn fault_of(fault: ReadFault) -> TextFault
 ///
 /// `BadHeader`, `BadThreads` or `WordsTooNarrow`, the first of these that applies.
 #[tactic(auto, using(crate::proofs::HeaderFaults::header_fails))]
-pub fn read_header(line: &[u8]) -> Result<Header, TextFault>
+pub fn read_header(line: &[u8]) -> Result<Shape, TextFault>
     ensures { result ≡ read_header_of line.now }
 {
     if line.len() > MOST_OF_A_LINE {
@@ -129,7 +130,7 @@ impl TraceReader {
         let Some(checker) = self.checker.as_mut() else {
             return match read_header(line) {
                 Ok(header) => {
-                    let checker = Checker::new(header.kind(), header.threads(), header.bits());
+                    let checker = Checker::new(header);
                     self.checker = Some(checker);
                     Event::Began(header)
                 }

@@ -5,14 +5,15 @@ use Rattle.std.specs.Prelude.{Option, Result, ◌≢◌}
 use Rattle.std.proofs.lemmas.Bool.{cond-true, cond-false, cases_Bool}
 use Rattle.lk_locks.specs.invariants.WellFormed.{WellFormed}
 use Rattle.lk_replay.specs.Lines.{is_skipped, lines_of}
-use Rattle.lk_replay.specs.Header.{Header}
+use Rattle.lk_locks.specs.State.{Shape}
 use Rattle.lk_trace.proofs.Agreeing.{agreed, agrees, new_is_well, stays_well}
 use Rattle.lk_trace.specs.Checks.{Checked, answer_unless, checked, difference_of, made_of}
 use Rattle.lk_trace.specs.Checks.{unless_other}
 use Rattle.lk_trace.specs.Lines.{short_line_of}
 use Rattle.lk_trace.specs.Traces.{event_of, after_text_line, read_header_of}
 use Rattle.lk_trace.specs.Traces.{header_event, move_event, answer_event, after_header}
-use Rattle.lk_trace.specs.Traces.{after_move_line, new_checked}
+use Rattle.lk_trace.specs.Traces.{after_move_line}
+use Rattle.lk_trace.specs.Checks.{new_lock}
 use Rattle.lk_trace.specs.declared.difference.Difference.{Difference}
 use Rattle.lk_trace.specs.declared.line.TraceLine.{TraceLine}
 use Rattle.lk_trace.specs.declared.trace.Event.{Event}
@@ -40,7 +41,7 @@ skipped_line n r line lines skip =
     line_read n r r Skipped line lines (cond-true (is_skipped line) _ _ skip)
     (cond-true (is_skipped line) _ _ skip)
 
-header_line : (n : ℕ) (line : List ℕ) (lines : List (List ℕ)) (h : Result Header TextFault)
+header_line : (n : ℕ) (line : List ℕ) (lines : List (List ℕ)) (h : Result Shape TextFault)
     → is_skipped line ≡ false → read_header_of line ≡ h
     → verdict_from n None (line ∷ lines)
     ≡ unless_ended n (header_event h) (verdict_from (n + 1) (after_header h) lines)
@@ -151,7 +152,7 @@ moves_end n c (line ∷ lines) well (inr moves) =
     ∙ moves_end (n + 1) (checked c moves.move) lines
     (stays_well c moves.move well moves.agrees.accepted) moves.behind
 
-a_header : (n : ℕ) (line : List ℕ) (lines : List (List ℕ)) (h : Result Header TextFault)
+a_header : (n : ℕ) (line : List ℕ) (lines : List (List ℕ)) (h : Result Shape TextFault)
     → is_skipped line ≡ false → read_header_of line ≡ h
     → (verdict_from n None (line ∷ lines)).ending ≡ Accepted → IsHeader line (λ c. AreMoves c lines)
 a_header n line lines (Ok header) stays read accepted = record {
@@ -159,7 +160,7 @@ a_header n line lines (Ok header) stays read accepted = record {
   header = header;
   read = read;
   behind =
-      moves_are (n + 1) (new_checked header) lines
+      moves_are (n + 1) (new_lock header) lines
       (new_is_well header.kind header.threads header.bits)
       (sym (ending_of _ _ (header_line n line lines (Ok header) stays read)) ∙ accepted);
 }
@@ -188,7 +189,7 @@ trace_ends n (line ∷ lines) (inl trace) =
     ending_of _ _ (skipped_line n None line lines trace.0) ∙ trace_ends (n + 1) lines trace.1
 trace_ends n (line ∷ lines) (inr trace) =
     ending_of _ _ (header_line n line lines (Ok trace.header) trace.kept trace.read)
-    ∙ moves_end (n + 1) (new_checked trace.header) lines
+    ∙ moves_end (n + 1) (new_lock trace.header) lines
     (new_is_well trace.header.kind trace.header.threads trace.header.bits) trace.behind
 
 -- a run that hangs is not accepted

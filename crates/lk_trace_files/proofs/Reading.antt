@@ -14,7 +14,7 @@ use Rattle.lk_trace.specs.Lines.{short_line_of}
 use Rattle.lk_trace.specs.Traces.{event_of, after_text_line, read_header_of}
 use Rattle.lk_trace.specs.Traces.{header_event, move_event}
 use Rattle.lk_trace.specs.Traces.{after_header, after_move_line}
-use Rattle.lk_replay.specs.Header.{Header}
+use Rattle.lk_locks.specs.State.{Shape}
 use Rattle.lk_trace.specs.declared.line.TraceLine.{TraceLine}
 use Rattle.lk_trace.specs.declared.trace.Event.{Event}
 use Rattle.lk_trace.specs.declared.trace.Event.TheVariants.{Skipped, Began, Made, Differs, Fault}
@@ -73,7 +73,7 @@ kept_event : (reading : Option Checked) (line kept : List ℕ) → kept ≡ take
     → event_of reading kept ≡ event_of reading line
 kept_event None line kept is =
     ap (event_of None) is
-    ∙ ap₂ (λ (b : Bool) (h : Result Header TextFault). if b then Skipped else header_event h)
+    ∙ ap₂ (λ (b : Bool) (h : Result Shape TextFault). if b then Skipped else header_event h)
     (same_skip line) (same_header line)
 kept_event (Some c) line kept is =
     ap (event_of (Some c)) is
@@ -84,7 +84,7 @@ kept_after : (reading : Option Checked) (line kept : List ℕ) → kept ≡ take
     → after_text_line reading kept ≡ after_text_line reading line
 kept_after None line kept is =
     ap (after_text_line None) is
-    ∙ ap₂ (λ (b : Bool) (h : Result Header TextFault). if b then None else after_header h)
+    ∙ ap₂ (λ (b : Bool) (h : Result Shape TextFault). if b then None else after_header h)
     (same_skip line) (same_header line)
 kept_after (Some c) line kept is =
     ap (after_text_line (Some c)) is

@@ -9,7 +9,7 @@ use Rattle.lk_order.specs.Logs.{ThreadLog}
 use Rattle.lk_order.specs.Runs.{IsOneRun, IsRunOf}
 use Rattle.lk_order.specs.Shelves.{HaveLogs, IsTaken, Shelved, empty_shelf}
 use Rattle.lk_order.specs.Shelves.{logs_of, threads_of}
-use Rattle.lk_replay.specs.Header.{Header}
+use Rattle.lk_locks.specs.State.{Shape}
 use Rattle.lk_trace_files.specs.Searches.{IsBad, IsInFile, OfOtherLocks}
 use Rattle.lk_trace_files.specs.declared.ordering.search.BadLog.{BadLog}
 use Rattle.lk_trace_files.specs.declared.ordering.search.BadLog.TheVariants as bad
@@ -39,10 +39,10 @@ set_either (x ∷ xs) (suc i) (suc j) a d = elim (set_either xs i j a d) [
   | inr is ↦ inr is
 ]
 
-same_lock : (lock : Option Header) (one other : Header) → lock ≡ Some other
+same_lock : (lock : Option Shape) (one other : Shape) → lock ≡ Some other
     → IfSome lock (λ l. l ≡ one) → Some one ≡ Some other
 same_lock lock one other is same =
-    ap Some (sym (subst (λ (o : Option Header). IfSome o (λ l. l ≡ one)) is same))
+    ap Some (sym (subst (λ (o : Option Shape). IfSome o (λ l. l ≡ one)) is same))
 
 -- a log more, or none
 pub kept_after : {F : Type 0} (of_file : F → Option (List ℕ)) (old new : Shelved) (log : ThreadLog)
@@ -69,7 +69,7 @@ kept_after of_file old new log kept own here (inr taken) =
           ];
     })
 
-other_lock : {F : Type 0} (of_file : F → Option (List ℕ)) (lock : Option Header) (log : ThreadLog)
+other_lock : {F : Type 0} (of_file : F → Option (List ℕ)) (lock : Option Shape) (log : ThreadLog)
     → IfSome lock (IsOfLog of_file) → IsInFile of_file log
     → IsSomeAnd lock (λ l. l ≡ log.header → ⊥) → OfOtherLocks of_file
 other_lock of_file None log is here others = absurd others
@@ -132,7 +132,7 @@ first_some (Some x ∷ xs) (suc n) has few =
     (λ t y at. omega (arith, few (suc t) y at)) in
     (omega (arith, rest.0), as_some x (flat_map option_to_list xs) xs rest.1)
 
-run_of : (places : List (Option ThreadLog)) (lock : Option Header)
+run_of : (places : List (Option ThreadLog)) (lock : Option Shape)
     → ((t : ℕ) (log : ThreadLog) → get_or places t None ≡ Some log → Stands lock t log)
     → IfSome lock (λ l. 0 < l.threads)
     → ((t : ℕ) → t < threads_of lock → IsSome (get_or places t None))
@@ -149,14 +149,14 @@ run_of places (Some lock) each some has =
       arith,
       s.is_own.few,
       s.thread_is,
-      ap (λ (h : Header). h.threads) (same_Some lock log.header s.lock_is),
+      ap (λ (h : Shape). h.threads) (same_Some lock log.header s.lock_is),
     )) in
     let logs : List ThreadLog = flat_map option_to_list places in
     subst (λ (o : Option ThreadLog). IsSomeAnd o (λ first. IsRunOf first.header logs))
     (sym (are.1 0 ∙ here.1)) (record {
       one_each =
           are.0
-          ∙ ap (λ (h : Header). h.threads) (same_Some lock here.0.header stands.lock_is);
+          ∙ ap (λ (h : Shape). h.threads) (same_Some lock here.0.header stands.lock_is);
       each = λ t log at.
           let s : Stands (Some lock) t log = each t log (sym (are.1 t) ∙ at) in
           record {
@@ -168,7 +168,7 @@ run_of places (Some lock) each some has =
           };
     })
 
-some_threads : {F : Type 0} (of_file : F → Option (List ℕ)) (lock : Option Header)
+some_threads : {F : Type 0} (of_file : F → Option (List ℕ)) (lock : Option Shape)
     → IfSome lock (IsOfLog of_file) → IfSome lock (λ l. 0 < l.threads)
 some_threads of_file None is = tt
 some_threads of_file (Some lock) is = is.some

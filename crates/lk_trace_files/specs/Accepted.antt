@@ -2,11 +2,12 @@
 -- line agrees with the lock.
 use Rattle.std.specs.Prelude.{◌≡◌, ◌⊎◌, ℕ, List, [], ◌∷◌, true, false, Some, Ok}
 use Rattle.lk_replay.specs.Lines.{is_skipped}
-use Rattle.lk_replay.specs.Header.{Header}
+use Rattle.lk_locks.specs.State.{Shape}
 use Rattle.lk_trace.specs.Agreement.{Agrees}
 use Rattle.lk_trace.specs.Checks.{Checked, checked}
 use Rattle.lk_trace.specs.Lines.{short_line_of}
-use Rattle.lk_trace.specs.Traces.{new_checked, read_header_of}
+use Rattle.lk_trace.specs.Traces.{read_header_of}
+use Rattle.lk_trace.specs.Checks.{new_lock}
 use Rattle.lk_trace.specs.declared.line.TraceLine.{TraceLine}
 
 -- the line is a move that the machine accepts and of which each part that is given is the machine's
@@ -26,9 +27,9 @@ AreMoves c (line ∷ lines) =
 -- the line is the header
 pub record IsHeader (line : List ℕ) (Behind : Checked → Type 0) : Type 0 where
   pub kept : is_skipped line ≡ false
-  pub header : Header
+  pub header : Shape
   pub read : read_header_of line ≡ Ok header
-  pub behind : Behind (new_checked header)
+  pub behind : Behind (new_lock header)
 
 -- the first line that is not skipped is a header, and each after it such a move of its lock
 abbrev pub IsTrace : List (List ℕ) → Type 0

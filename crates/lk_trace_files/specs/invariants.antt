@@ -6,7 +6,7 @@ use Rattle.std.specs.List.{All}
 use Rattle.lk_order.specs.Logs.{Reading, ThreadLog}
 use Rattle.lk_order.specs.Shelves.{IsUnfit, Shelved, log_at}
 use Rattle.lk_order.specs.declared.shelf.Unfit.TheVariants as unfit
-use Rattle.lk_replay.specs.Header.{Header}
+use Rattle.lk_locks.specs.State.{Shape}
 use Rattle.lk_replay.specs.Lines.{lines_of}
 use Rattle.lk_trace.specs.Checks.{Checked}
 use Rattle.lk_trace.specs.declared.trace.Event.{Event}
@@ -53,13 +53,13 @@ pub record IsOwn (log : ThreadLog) : Type 0 where
   pub own : All (λ line. line.thread ≡ log.thread) log.moves
 
 -- a log at its thread's place, of the shelf's lock
-pub record Stands (lock : Option Header) (t : ℕ) (log : ThreadLog) : Type 0 where
+pub record Stands (lock : Option Shape) (t : ℕ) (log : ThreadLog) : Type 0 where
   pub lock_is : lock ≡ Some log.header
   pub thread_is : log.thread ≡ t
   pub is_own : IsOwn log
 
 -- the header of a log in a file
-pub record IsOfLog {F : Type 0} (of_file : F → Option (List ℕ)) (header : Header) : Type 0 where
+pub record IsOfLog {F : Type 0} (of_file : F → Option (List ℕ)) (header : Shape) : Type 0 where
   pub log : ThreadLog
   pub log_is : IsInFile of_file log
   pub header_is : log.header ≡ header

@@ -26,10 +26,9 @@ pub struct Asked<'a> {
 
 // Writes the words that a section changed.
 fn put_changes(text: &mut String, lock: &Lock, section: SectionEffect) -> Result<(), AllocError> {
-    for (place, (old, new)) in section.found.iter().zip(&section.left).enumerate() {
-        match name_at(lock.kind(), place) {
-            Some(word) if old != new => write!(text, ", {word} {old} to {new}")?,
-            _ => {}
+    for change in [section.first, section.second] {
+        if let Some(effect) = change {
+            put_values(text, lock, effect)?;
         }
     }
     Ok(())

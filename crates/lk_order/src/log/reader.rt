@@ -6,7 +6,8 @@ ghost use Rattle.lk_order.specs.Logs.{after_header, cut_last, dropped_of, IsFaul
 ghost use Rattle.lk_order.specs.Logs.{line_read, log_header_of, log_read, Reading};
 
 use super::Log;
-use lk_replay::parts::{Header, is_skipped, number_of, whole_number};
+use lk_locks::Shape;
+use lk_replay::parts::{is_skipped, number_of, whole_number};
 use lk_trace::{MOST_OF_A_LINE, TraceLine, read_header, read_log_line};
 use std::alloc::Global;
 use std::marker::Model;
@@ -58,7 +59,7 @@ fn cut_last_word(line: &[u8]) -> Option<(&[u8], &[u8])>
 }
 
 // The header of a log: a trace's, and `thread T` after it.
-fn header_of(line: &[u8]) -> Option<(Header, u8)>
+fn header_of(line: &[u8]) -> Option<(Shape, u8)>
     ensures header { result ≡ log_header_of line.now }
     ensures has { IfSome result (λ read. read.1 < read.0.threads) }
 {

@@ -17,7 +17,7 @@ use crate::report::status::StatusText;
 use crate::report::text::put_block;
 use crate::report::words::{move_block, outcome_block};
 use crate::{Line, Schedule};
-use lk_locks::{Added, Machine, Refusal, words_needed};
+use lk_locks::{Machine, Refusal, Shape};
 use lk_words::WordArray;
 use std::marker::Model;
 
@@ -64,18 +64,6 @@ fn write_prefix(line: &mut [u8], count: &Numeral, accepted: &Accepted) -> usize
     put_block(line, move_end, block, len)
 }
 
-// A lock of the schedule's kind, on which nothing was played. It agrees with a sequential object in
-// which nobody is.
-fn new_machine(schedule: &Schedule) -> Machine<WordArray>
-    ensures state { result ≡ start_of schedule.now }
-    ensures tracked { IsTracked (start_of schedule.now) (nobody schedule.now.kind) }
-{
-    let kind = schedule.kind();
-    let threads = schedule.threads();
-    let words = WordArray::with_bits(words_needed(kind, threads), schedule.bits());
-    Machine::new(kind, threads, words)
-}
-
 // The line of the next move, and why it is refused, if there is a move and it is.
 fn next_refused(machine: &Machine<WordArray>, moves: &[Line]) -> Option<(u32, Refusal)>
     ensures { result ≡ next_refused machine.now moves.now }
@@ -96,7 +84,7 @@ impl<'a> Replay<'a> {
         Replay {
             moves: schedule.moves(),
             count: Numeral::of(0),
-            machine: new_machine(schedule),
+            machine: Machine::at_start(schedule.shape()),
             status: StatusText::new(schedule.kind()),
         }
     }
@@ -116,11 +104,7 @@ impl<'a> Replay<'a> {
     {
         let (line, rest) = self.moves.split_first()?;
         let line = *line;
-        if self.machine.check(line.thread, line.action).is_err() {
-            return None;
-        }
-        let mut added = Added::none();
-        let outcome = self.machine.make(line.thread, line.action, &mut added);
+        let (outcome, added) = self.machine.play(line.thread, line.action).ok()?;
         self.status.follow(added.as_slice());
         self.moves = rest;
         self.count.count_on();

@@ -10,12 +10,13 @@ ghost use Rattle.lk_replay.specs.Schedule.{moves_from, Plan, plan_of, plan_with}
 use super::{Line, ReadFault, next_move, read_header};
 use crate::header::Header;
 use crate::lines::Lines;
+use lk_locks::Shape;
 use std::marker::Model;
 
 /// What a schedule text says, with the moves that were not read yet.
 #[derive(Drop)]
 pub struct ScheduleReader<'a> {
-    header: Header,
+    header: Shape,
     // how many moves were read, and how many are left
     taken: usize,
     left: usize,
@@ -56,7 +57,7 @@ impl<'a> ScheduleReader<'a> {
     }
 
     /// The text's header.
-    pub fn header(&self) -> Header
+    pub fn header(&self) -> Shape
         ensures kind { result.kind ≡ self.now.kind }
         ensures threads { result.threads ≡ self.now.threads }
         ensures bits { result.bits ≡ self.now.bits }

@@ -126,7 +126,7 @@ impl Sought {
 fn course_of(order: &Order) -> Course {
     let mut course = Course::new();
     let header = order.header();
-    let mut checker = Checker::new(header.kind(), header.threads(), header.bits());
+    let mut checker = Checker::new(header);
     let mut at = [0usize; 256];
     for k in 0..order.len() {
         let Some(line) = order.line(k) else {

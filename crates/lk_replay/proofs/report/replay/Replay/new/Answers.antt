@@ -10,7 +10,7 @@ use Rattle.lk_replay.proofs.report.replay.Replay.new.Goals as goal
 pub returns-clause-text : goal.returns-clause-text
 returns-clause-text c =
     replay_printed c.args.schedule.now _ _ _ _ (c.new.ensures
-    ∙ ap (λ k. following k []) c.kind.ensures) c.of.ensures c.new_machine.ensures.state
+    ∙ ap (λ k. following k []) c.kind.ensures) c.of.ensures c.at_start.ensures.start
     c.moves.ensures.moves
 
 pub returns-clause-ending : goal.returns-clause-ending
@@ -26,7 +26,7 @@ invariant_of-result c = (
   omega (arith, c.of.ensures, c.moves.ensures.few),
   rw (
     c.new.ensures ∙ ap (λ k. following k []) c.kind.ensures,
-    c.new_machine.ensures.state,
+    c.at_start.ensures.start,
   )
-      c.new_machine.ensures.tracked,
+      ([], rw c.shape.ensures at c.at_start.ensures.kept),
 )

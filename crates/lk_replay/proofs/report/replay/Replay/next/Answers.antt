@@ -1,5 +1,6 @@
 -- The next move is accepted and printed, and the rest is left.
-use Rattle.std.proofs.Common.{None, ap, arith, rules, ◌≡◌, ◌∙◌}
+use Rattle.std.proofs.Common.{None, ap, arith, sym, ◌≡◌, ◌∙◌}
+use Rattle.lk_locks.proofs.Machines.{accepted_next}
 use Rattle.lk_locks.proofs.Tracking.{entries_may_come, tracked_on}
 use Rattle.lk_locks.specs.Steps.{refusal_of}
 use Rattle.lk_replay.specs.Following.{Following}
@@ -7,27 +8,4 @@ use Rattle.lk_replay.proofs.report.replay.Replay.next.Goals as goal
 
 pub follow-requires : goal.follow-requires
 follow-requires c =
-    let line = c.in_ok-line.line.now in
-    let accepted : refusal_of c.self.inside.machine line.thread line.action ≡ None =
-    search rules in
-    rw (c.as_slice.ensures.entries ∙ c.make-outcome.ensures.entries)
-    (entries_may_come c.self.inside.machine c.self.inside.status.sequential _ _
-    c.self.invariant.1 accepted)
-
-pub invariant_of-self : goal.invariant_of-self
-invariant_of-self c =
-    let line = c.in_ok-line.line.now in
-    let accepted : refusal_of c.self.inside.machine line.thread line.action ≡ None =
-    search rules in (
-      omega (
-        arith,
-        c.self.invariant.0,
-        c.count_on.ensures,
-        c.in_ok-line.ensures.cases.1,
-      ),
-      tracked_on c.self.inside.machine _ c.self.inside.status.sequential _
-          c.as_slice.result.now _ _ c.self.invariant.1 accepted
-          (c.as_slice.ensures.entries ∙ c.make-outcome.ensures.entries)
-          c.make-outcome.ensures.after
-          (ap (λ (f : Following). f.sequential) c.follow.ensures),
-    )
+    let line = c.in_ok-line.line.now in ?
