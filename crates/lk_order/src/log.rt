@@ -6,7 +6,7 @@ ghost use Rattle.std.specs.List.{All, slice_get};
 
 mod reader;
 
-use lk_replay::parts::Header;
+use lk_locks::Shape;
 use lk_trace::TraceLine;
 pub use reader::{LogFault, LogReader};
 use std::marker::Model;

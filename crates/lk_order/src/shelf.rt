@@ -5,7 +5,7 @@ ghost use Rattle.lk_order.specs.Shelves.{Shelved, HaveLogs, IsFirstWithout, IsTa
 ghost use Rattle.lk_order.specs.Shelves.{empty_shelf, logs_of, threads_of};
 
 use crate::Log;
-use lk_replay::parts::Header;
+use lk_locks::Shape;
 use std::alloc::{AllocError, Global};
 use std::marker::Model;
 use thiserror::Error;

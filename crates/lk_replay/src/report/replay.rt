@@ -104,7 +104,9 @@ impl<'a> Replay<'a> {
     {
         let (line, rest) = self.moves.split_first()?;
         let line = *line;
-        let (outcome, added) = self.machine.play(line.thread, line.action).ok()?;
+        let Ok((outcome, added)) = self.machine.play(line.thread, line.action) else {
+            return None;
+        };
         self.status.follow(added.as_slice());
         self.moves = rest;
         self.count.count_on();

@@ -8,7 +8,6 @@ ghost use Rattle.lk_replay.specs.Reading.{IsOfText, counted, moves_in, first_of}
 ghost use Rattle.lk_replay.specs.Schedule.{moves_from, Plan, plan_of, plan_with};
 
 use super::{Line, ReadFault, next_move, read_header};
-use crate::header::Header;
 use crate::lines::Lines;
 use lk_locks::Shape;
 use std::marker::Model;
