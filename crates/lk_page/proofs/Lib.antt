@@ -9,3 +9,4 @@ pub mod OwnedBytes
 pub mod Turns
 pub mod StateBytes
 pub mod Seeking
+mod Touching

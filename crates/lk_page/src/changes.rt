@@ -55,17 +55,10 @@ pub fn touches(
     if let Move::Call(_) = action {
         return (None, None);
     }
+    // at most 129, so the place of each word fits a byte
+    let _words = machine.words().as_slice();
     match machine.effect(thread) {
-        Some(StepEffect::OneWord(effect, _)) => {
-            // at most 129 words, so the place of each fits a byte
-            let words = machine.words().as_slice();
-            let touch = Touch {
-                word: effect.word as u8,
-                found: words[effect.word],
-                left: effect.left,
-            };
-            (Some(touch), None)
-        }
+        Some(StepEffect::OneWord(effect, _)) => (touch_of(Some(effect)), None),
         Some(StepEffect::Monitor(section)) => changes(&section),
         None => (None, None),
     }

@@ -35,6 +35,7 @@ use asking::{asked_of, lock_of};
 use codes::{expected_code, fault_codes};
 use finding::{MOST_TEXT, seek};
 use kind_texts::put_kind;
+use lk_locks::Tracker;
 use lk_replay::ScheduleReader;
 use lk_replay::parts::{Expected, unreadable_header, unreadable_move};
 use lk_search::kinds_of;
