@@ -3,7 +3,7 @@
 -- The five operations are those of Mellor-Crummey and Scott, ACM TOCS 9(1), 1991. Different here:
 -- they come one after another, and words have B bits.
 use Rattle.std.specs.Prelude.{ℕ, ◌+◌, ◌%◌, ◌^◌, ◌<◌, ◌==◌, List, slice_index, slice_set}
-use Rattle.std.specs.Prelude.{if◌then◌else◌, true, false}
+use Rattle.std.specs.Prelude.{if◌then◌else◌}
 use Rattle.lk_words.specs.declared.operation.Operation.{Operation}
 use Rattle.lk_words.specs.declared.operation.Operation.TheVariants.{Read, Write, Swap}
 use Rattle.lk_words.specs.declared.operation.Operation.TheVariants.{CompareAndSwap, FetchAndAdd}
@@ -49,19 +49,16 @@ pub record Performed : Type 0 where
   pub words : List ℕ
   pub answer : Answer
 
-abbrev pub answers : List ℕ → Answer → Performed
-answers words answer = record { words = words; answer = answer }
+-- these words, in which the operation leaves this value; a read leaves all of them
+abbrev pub left_in : List ℕ → Operation → ℕ → List ℕ
+left_in ws (Read i) value = ws
+left_in ws op value = slice_set ws (word_of op) value
 
 abbrev pub performed : ℕ → List ℕ → Operation → Performed
-performed bits ws (Read i) = answers ws (Found (slice_index ws i))
-performed bits ws (Write i v) = answers (slice_set ws i v) Nothing
-performed bits ws (Swap i v) = answers (slice_set ws i v) (Found (slice_index ws i))
-performed bits ws (CompareAndSwap i old new) =
-    if slice_index ws i == old
-    then answers (slice_set ws i new) (Swapped true)
-    else answers ws (Swapped false)
-performed bits ws (FetchAndAdd i d) =
-    answers (slice_set ws i ((slice_index ws i + d) % 2 ^ bits)) (Found (slice_index ws i))
+performed bits ws op = record {
+  words = left_in ws op (effect_on bits ws op).left;
+  answer = (effect_on bits ws op).answer;
+}
 
 -- its word is one of so many, and its operands fit words of so many bits
 abbrev pub Fits : ℕ → ℕ → Operation → Type 0

@@ -5,8 +5,7 @@
 //! done, and whoever watches a step reads what it does to its word in place of deriving it.
 
 ghost use Rattle.std.specs.Prelude.{◌≡◌, ◌≤◌, ◌<◌, ◌+◌, ◌%◌, ◌^◌, length};
-ghost use Rattle.std.specs.Prelude.{slice_set};
-ghost use Rattle.lk_words.specs.Operations.{answer_of, effect_on, left_by, performed};
+ghost use Rattle.lk_words.specs.Operations.{answer_of, left_by, performed};
 ghost use Rattle.lk_words.specs.Operations.{word_of, Fits};
 
 use crate::Words;
@@ -109,9 +108,6 @@ pub fn perform<W: Words>(words: &mut W, operation: Operation) -> Answer
     ensures words { W.list words.new
         ≡ (performed (W.width words.old) (W.list words.old) operation).words }
     ensures answer { result ≡ (performed (W.width words.old) (W.list words.old) operation).answer }
-    ensures effect { let effect = effect_on (W.width words.old) (W.list words.old) operation in
-        (W.list words.new ≡ slice_set (W.list words.old) effect.word effect.left)
-        × (result ≡ effect.answer) }
     ensures width { W.width words.new ≡ W.width words.old }
 {
     match operation {

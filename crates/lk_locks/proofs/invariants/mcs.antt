@@ -4,7 +4,7 @@ use Rattle.std.proofs.Common.{List, ap, arith, inl, inr, refl, set, slice_index,
 use Rattle.std.proofs.Common.{sym, ℕ, ◌*◌, ◌+◌, ◌-◌, ◌<◌, ◌∙◌, ◌≡◌, ◌^◌}
 use Rattle.std.proofs.lemmas.Bool.{eq-eqb, cases_lt}
 use Rattle.std.proofs.lemmas.Bool.Decides.{eqb_tells}
-use Rattle.std.proofs.lemmas.List.{get_or-set_same, get_or-set_other, length-set, set_past}
+use Rattle.std.proofs.lemmas.List.{get_or-set_same, get_or-set_other, length-set, set-get_or, set_past}
 use Rattle.std.proofs.lemmas.Grind.{common_steps}
 use Rattle.lk_locks.specs.Sequential.{nobody}
 use Rattle.lk_locks.specs.State.{start}
@@ -149,7 +149,7 @@ keeps bits ws ps q t CasTail (Step kind) given =
                 (mcs_only ws ps t given.thread (omega (arith, given.enough))
                 (rw one at given.agrees)),
           )
-      | inr (test, other_tail) ↦ rw test (
+      | inr (test, other_tail) ↦ rw (test, set-get_or ws 0 0) (
         tt,
         head_moves AwaitLink at_head given.thread
             (not_alone ws ps q.queue t at_head.rest at_head.is given.agrees other_tail)
