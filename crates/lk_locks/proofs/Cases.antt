@@ -4,7 +4,7 @@ use Rattle.std.proofs.Common.{unwrap_or, ℕ, ◌++◌, ◌∷◌, ◌≡◌, �
 use Rattle.std.proofs.lemmas.List.{set-get_or}
 use Rattle.std.specs.List.{AllByRecursion}
 use Rattle.lk_locks.specs.Change.{Change}
-use Rattle.lk_locks.specs.Entries.{move_entries}
+use Rattle.lk_locks.specs.Steps.{move_entries}
 use Rattle.lk_locks.specs.Legal.{AreEnabled, after_entries, whole_call}
 use Rattle.lk_locks.specs.Locks.{after_call, family_of, step_entries, step_of, word_count}
 use Rattle.lk_locks.specs.Sequential.{Sequential, nobody, thread_of}

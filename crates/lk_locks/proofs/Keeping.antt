@@ -5,12 +5,12 @@ use Rattle.lk_locks.specs.State.{State, phase_at}
 use Rattle.lk_locks.specs.Change.{Change}
 use Rattle.lk_locks.specs.Steps.{move_change, change_of, next_state, refusal_in, refusal_of}
 use Rattle.lk_locks.specs.Steps.{belongs}
-use Rattle.lk_locks.specs.Entries.{move_entries, entries_of}
+use Rattle.lk_locks.specs.Steps.{move_entries, entries_of}
 use Rattle.lk_locks.specs.Sequential.{Sequential, thread_of}
 use Rattle.lk_locks.specs.Legal.{after_entries, Legal}
 use Rattle.lk_locks.specs.invariants.Locks.{AgreeAs, IsPhaseOf, owed_of}
 use Rattle.lk_locks.specs.Holding.{holder_after}
-use Rattle.lk_locks.specs.Tracked.{Tracked, followed}
+use Rattle.lk_locks.specs.Play.{Tracked, followed}
 use Rattle.lk_locks.specs.invariants.Kept.{IsInTurn, Kept, IsRecorded}
 use Rattle.lk_locks.proofs.Cases.{AreOf, IsAgreed}
 use Rattle.lk_locks.proofs.Threads.{each_phase}

@@ -7,7 +7,7 @@ use Rattle.lk_words.specs.declared.operation.Answer.{Answer}
 use Rattle.lk_words.specs.declared.operation.Operation.{Operation}
 use Rattle.lk_locks.specs.Change.{kind_of, step_by}
 use Rattle.lk_locks.specs.Effects.{IsEffectOf}
-use Rattle.lk_locks.specs.OneOperation.{IsMade, IsOneOperation}
+use Rattle.lk_locks.specs.Effects.{IsMade, IsOneOperation}
 use Rattle.lk_locks.specs.Locks.{family_of, operation_of, step_of, word_count}
 use Rattle.lk_locks.specs.invariants.Locks.{IsPhaseOf}
 use Rattle.lk_locks.specs.invariants.WellFormed.{WellFormed}

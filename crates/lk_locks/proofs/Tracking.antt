@@ -3,7 +3,7 @@
 use Rattle.std.proofs.Common.{◌≡◌, ℕ, List, ◌++◌, None, refl}
 use Rattle.lk_locks.specs.State.{State}
 use Rattle.lk_locks.specs.Steps.{next_state, refusal_of}
-use Rattle.lk_locks.specs.Entries.{entries_of}
+use Rattle.lk_locks.specs.Steps.{entries_of}
 use Rattle.lk_locks.specs.Sequential.{Sequential}
 use Rattle.lk_locks.specs.Legal.{AreEnabled, after_entries}
 use Rattle.lk_locks.specs.invariants.Kept.{IsTracked}

@@ -2,7 +2,7 @@
 -- every legal history. This project's own.
 use Rattle.std.specs.Prelude.{◌≡◌, ℕ, List, [], ◌∷◌, ◌++◌}
 use Rattle.lk_locks.specs.Locks.{family_of}
-use Rattle.lk_locks.specs.Acts.{announcement}
+use Rattle.lk_locks.specs.Change.{announcement}
 use Rattle.lk_locks.specs.Legal.{subhistory}
 use Rattle.lk_locks.specs.Types.{LockKind, Op, Entry, Acted, Returned}
 use Rattle.lk_locks.specs.declared.kinds.Entry.TheVariants.{Called}

@@ -1,10 +1,14 @@
--- Definitions. What a step leaves, and the arithmetic of words. This project's own.
-use Rattle.std.specs.Prelude.{ℕ, ◌+◌, ◌-◌, ◌%◌, ◌^◌, List, set, slice_index, Option, None, Some}
+-- Definitions. What a step leaves and which entries it adds, and the arithmetic of words.
+use Rattle.std.specs.Prelude.{ℕ, ◌+◌, ◌-◌, ◌%◌, ◌^◌, List, set, slice_index, Option, None, Some, []}
+use Rattle.std.specs.Prelude.{◌∷◌}
 use Rattle.lk_words.specs.Operations.{Performed, performed}
 use Rattle.lk_words.specs.declared.operation.Operation.{Operation}
-use Rattle.lk_words.specs.declared.operation.Operation.TheVariants as op
 use Rattle.lk_words.specs.declared.operation.Answer.{Answer}
 use Rattle.lk_locks.specs.Types.{StepKind, Read, Write, Swap, Cas, Add, Phase, Outcome, Waits}
+use Rattle.lk_locks.specs.Types.{Family, FifoReadWrite, Op, Acquire, Release, ReadLock, ReadUnlock}
+use Rattle.lk_locks.specs.Types.{WriteLock, WriteUnlock, Downgrade, Entry, Announced, Acted}
+use Rattle.lk_locks.specs.Types.{Returned}
+use Rattle.lk_words.specs.declared.operation.Operation.TheVariants as op
 
 -- the words, the phase of the thread that stepped, and the outcome
 pub record Change : Type 0 where
@@ -41,3 +45,10 @@ less_one bits x = (x + (2 ^ bits - 1)) % 2 ^ bits
 -- one more in word i
 abbrev pub raised : ℕ → List ℕ → ℕ → List ℕ
 raised bits words i = set words i (plus_one bits (slice_index words i))
+
+abbrev pub announcement : Family → ℕ → Op → List Entry
+announcement FifoReadWrite t WriteLock = Announced t ∷ []
+announcement family t op = []
+
+abbrev pub acts : ℕ → Op → List Entry
+acts t op = Acted t op ∷ Returned t op ∷ []

@@ -1,8 +1,14 @@
--- Definitions. What a step does to the words of its lock, before it is made. This project's own.
-use Rattle.std.specs.Prelude.{◌≡◌, ◌<◌, ℕ, List, length, slice_index, slice_set}
-use Rattle.lk_locks.specs.Change.{Change}
+-- Definitions. What a step does to the words of its lock, before it is made; and that a step of a
+-- queue lock is one operation on one word.
+use Rattle.std.specs.Prelude.{◌≡◌, ◌<◌, ℕ, List, length, slice_index, slice_set, Option, None, Some}
+use Rattle.lk_locks.specs.Change.{Change, kind_of}
 use Rattle.lk_locks.specs.read_write.{Tells}
-use Rattle.lk_locks.specs.Types.{Outcome, StepEffect, OneWord, Monitor}
+use Rattle.lk_locks.specs.Types.{Outcome, StepEffect, OneWord, Monitor, Family, Queue, Move, Call}
+use Rattle.lk_locks.specs.Types.{Step, StepKind}
+use Rattle.lk_words.specs.Operations.{performed}
+use Rattle.lk_words.specs.declared.operation.Operation.{Operation}
+use Rattle.lk_locks.specs.State.{State, phase_at}
+use Rattle.lk_locks.specs.Locks.{family_of, operation_of}
 
 abbrev pub outcome_in : StepEffect → Outcome
 outcome_in (OneWord effect outcome) = outcome
@@ -16,3 +22,18 @@ IsEffectOf change before (OneWord effect outcome) =
     × (change.words ≡ slice_set before effect.word effect.left)) × (outcome ≡ change.outcome)
 IsEffectOf change before (Monitor section) =
     Tells section before change.words × (section.outcome ≡ change.outcome)
+
+-- of a queue lock: this operation is of the kind, and leaves these words
+abbrev pub IsMade : Family → ℕ → List ℕ → StepKind → Option Operation → List ℕ → Type 0
+IsMade Queue bits ws kind None after = ⊥
+IsMade Queue bits ws kind (Some operation) after =
+    (kind_of operation ≡ kind) × ((performed bits ws operation).words ≡ after)
+IsMade family bits ws kind operation after = Unit {0}
+
+-- A call leaves the words as they are. A step of a queue lock leaves what its operation leaves. A
+-- section of a read-write lock is on all words of its monitor, and is no such operation.
+abbrev pub IsOneOperation : State → ℕ → Move → List ℕ → Type 0
+IsOneOperation s t (Call op) after = after ≡ s.words
+IsOneOperation s t (Step step) after =
+    IsMade (family_of s.kind) s.bits s.words step
+    (operation_of s.kind s.bits t (phase_at s.phases t)) after

@@ -3,7 +3,7 @@
 use Rattle.std.specs.Prelude.{◌≡◌, ℕ, ◌<◌, ◌≤◌, ◌^◌, List, length, slice_index}
 use Rattle.lk_locks.specs.Legal.{Legal}
 use Rattle.lk_locks.specs.Locks.{word_count}
-use Rattle.lk_locks.specs.Runs.{entries_after}
+use Rattle.lk_locks.specs.Steps.{entries_after}
 use Rattle.lk_locks.specs.State.{start}
 use Rattle.lk_locks.specs.Exclusion.{HasOneHolder, HasOneWriter, IsNeverBesideReader}
 use Rattle.lk_locks.specs.Order.{IsInOrder}

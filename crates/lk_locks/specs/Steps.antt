@@ -1,16 +1,18 @@
--- Definitions. Which moves are accepted, and what an accepted move does. This file knows no lock:
--- `Locks` has what differs. This project's own: the seven refusals and their order.
+-- Definitions. Which moves are accepted, what an accepted move does and which entries it adds, one
+-- by one and in lists. This file knows no lock: `Locks` has what differs.
 use Rattle.std.specs.Prelude.{ℕ, List, length, set, Option, None, Some, is_some, is_none, unwrap_or}
-use Rattle.std.specs.Prelude.{Bool, true, false, nat_lt, if◌then◌else◌, Result, Ok, Err}
+use Rattle.std.specs.Prelude.{Bool, true, false, nat_lt, if◌then◌else◌, Result, Ok, Err, [], ◌∷◌}
+use Rattle.std.specs.Prelude.{◌++◌}
 use Rattle.std.specs.List.{list_any}
 use denote.Enum.Bare.{sameb}
 use Rattle.lk_locks.specs.contracts.kinds.StepKind.{the_type}
 use Rattle.lk_locks.specs.Change.{Change, to}
 use Rattle.lk_locks.specs.State.{State, phase_at}
-use Rattle.lk_locks.specs.Locks.{family_of, steps_of, after_call, step_due, step_of}
+use Rattle.lk_locks.specs.Locks.{family_of, steps_of, after_call, step_due, step_of, step_entries}
 use Rattle.lk_locks.specs.Types.{LockKind, Family, Queue, Phase, Idle, Op, Acquire, Release}
 use Rattle.lk_locks.specs.Types.{StepKind, Move, Call, Step, Outcome, Called, Refusal, NoSuchThread}
-use Rattle.lk_locks.specs.Types.{WrongLock, Busy, NotHolder, AlreadyHolds, NoCall, WrongStep}
+use Rattle.lk_locks.specs.Types.{WrongLock, Busy, NotHolder, AlreadyHolds, NoCall, WrongStep, Entry}
+use Rattle.lk_locks.specs.declared.kinds.Entry.TheVariants as entry
 
 -- a queue lock has acquire and release, and a read-write lock the others
 abbrev pub has_op : Family → Op → Bool
@@ -81,3 +83,19 @@ refused_with (Err r) = Some r
 
 abbrev pub after_move : State → ℕ → Move → State
 after_move s t m = if is_none (refusal_of s t m) then next_state s t m else s
+
+-- the entries of an accepted move of thread t
+abbrev pub move_entries : LockKind → ℕ → Phase → Move → Outcome → List Entry
+move_entries kind t p (Call op) o = entry.Called t op ∷ []
+move_entries kind t p (Step step) o = step_entries kind t p o
+
+abbrev pub entries_of : State → ℕ → Move → List Entry
+entries_of s t m = move_entries s.kind t (phase_at s.phases t) m (change_of s t m).outcome
+
+-- the entries of moves one after another. A refused move has none, and changes nothing
+abbrev pub entries_after : State → List (ℕ × Move) → List Entry
+entries_after s [] = []
+entries_after s (m ∷ ms) =
+    if is_none (refusal_of s m.0 m.1)
+    then entries_of s m.0 m.1 ++ entries_after (next_state s m.0 m.1) ms
+    else entries_after s ms

@@ -12,7 +12,7 @@ use Rattle.lk_words.specs.declared.operation.Operation.TheVariants.{Read, Write,
 use Rattle.lk_words.specs.declared.operation.Operation.TheVariants.{CompareAndSwap}
 use Rattle.lk_words.specs.declared.operation.Answer.{Answer}
 use Rattle.lk_words.specs.declared.operation.Answer.TheVariants.{Found, Swapped}
-use Rattle.lk_locks.specs.Acts.{acts}
+use Rattle.lk_locks.specs.Change.{acts}
 use Rattle.lk_locks.specs.Types.{Phase, Idle, ClearNext, SwapTail, SetLocked, LinkTo, AwaitGrant}
 use Rattle.lk_locks.specs.Types.{McsInside, ReadNext, CasTail, AwaitLink, Grant, Op, Acquire}
 use Rattle.lk_locks.specs.Types.{Release, Outcome, Moved, Waits, Entered, Left, Entry, Acted}

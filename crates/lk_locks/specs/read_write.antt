@@ -8,7 +8,7 @@ use Rattle.std.specs.Prelude.{◌≡◌, ◌≢◌, ◌==◌, if◌then◌else�
 use Rattle.std.specs.Option.{option_or}
 use Rattle.lk_words.specs.declared.operation.Answer.TheVariants.{Nothing}
 use Rattle.lk_words.specs.declared.operation.Effect.{Effect}
-use Rattle.lk_locks.specs.Acts.{acts, announcement}
+use Rattle.lk_locks.specs.Change.{acts, announcement}
 use Rattle.lk_locks.specs.Change.{Change}
 use Rattle.lk_locks.specs.rw_fifo
 use Rattle.lk_locks.specs.rw_simple

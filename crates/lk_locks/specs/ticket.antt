@@ -4,7 +4,7 @@ use Rattle.std.specs.Prelude.{ℕ, List, [], ◌∷◌, Option, None, Some}
 use Rattle.lk_words.specs.declared.operation.Operation.{Operation}
 use Rattle.lk_words.specs.declared.operation.Answer.{Answer}
 use Rattle.lk_words.specs.declared.operation.Answer.TheVariants.{Found}
-use Rattle.lk_locks.specs.Acts.{acts}
+use Rattle.lk_locks.specs.Change.{acts}
 use Rattle.lk_locks.specs.laws.{take, after_take, look, after_look, read_serving}
 use Rattle.lk_locks.specs.laws.{after_read_serving, pass, after_pass}
 use Rattle.lk_locks.specs.Types.{Phase, Idle, TakeTicket, AwaitTurn, TicketInside, ReadServing}

@@ -3,12 +3,12 @@
 
 ghost use Rattle.std.specs.Prelude.{◌≡◌, [], IfOk};
 ghost use Rattle.lk_locks.specs.Holding.{holder_after, holding, IsListed};
-ghost use Rattle.lk_locks.specs.Tracked.{Tracked, tracked, after_tracked, holding_in, waiting_in};
+ghost use Rattle.lk_locks.specs.Play.{Tracked, tracked, after_tracked, holding_in, waiting_in};
 ghost use Rattle.lk_locks.specs.invariants.Kept.{IsRecorded, IsTracked};
 ghost use Rattle.lk_locks.specs.State.{start_of};
 ghost use Rattle.lk_locks.specs.Sequential.{nobody};
 ghost use Rattle.lk_locks.specs.Steps.{change_of, refusal_of, refused_with};
-ghost use Rattle.lk_locks.specs.Entries.{entries_of};
+ghost use Rattle.lk_locks.specs.Steps.{entries_of};
 
 use crate::entries::Added;
 use crate::holders::copy_of;

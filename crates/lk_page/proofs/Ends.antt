@@ -1,7 +1,7 @@
 -- What is written at the end is what the text says.
 use Rattle.std.proofs.Common.{◌≡◌, ℕ, List, [], ◌++◌, length, take, drop, Option}
 use Rattle.std.proofs.Common.{Result, Ok, refl, ap, ◌∙◌}
-use Rattle.lk_locks.specs.Tracked.{Tracked, tracked, holding_in, waiting_in}
+use Rattle.lk_locks.specs.Play.{Tracked, tracked, holding_in, waiting_in}
 use Rattle.lk_locks.specs.declared.kinds.Refusal.{Refusal}
 use Rattle.lk_replay.specs.Faults.{Fault}
 use Rattle.lk_replay.specs.Replay.{start_of, replay_from}

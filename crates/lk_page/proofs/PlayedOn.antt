@@ -3,8 +3,8 @@ use Rattle.std.proofs.Common.{◌≡◌, ℕ, ◌+◌, ◌*◌, List, ◌∷◌,
 use Rattle.std.proofs.Common.{subst, ◌∙◌, arith}
 use Rattle.lk_locks.specs.State.{State}
 use Rattle.lk_locks.specs.Steps.{refusal_of}
-use Rattle.lk_locks.specs.Entries.{entries_of}
-use Rattle.lk_locks.specs.Tracked.{Tracked, after_tracked}
+use Rattle.lk_locks.specs.Steps.{entries_of}
+use Rattle.lk_locks.specs.Play.{Tracked, after_tracked}
 use Rattle.lk_locks.specs.declared.kinds.Refusal.{Refusal}
 use Rattle.lk_replay.specs.declared.schedule.Line.{Line}
 use Rattle.lk_page.specs.Told.{Moment, IsRecord, after_line}

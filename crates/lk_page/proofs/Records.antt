@@ -6,7 +6,7 @@ use Rattle.lk_locks.specs.declared.kinds.StepKind.{StepKind}
 use Rattle.std.proofs.lemmas.List.{get_or-set_same}
 use Rattle.lk_locks.specs.State.{phase_at}
 use Rattle.lk_locks.specs.Steps.{refusal_of, change_of, next_state}
-use Rattle.lk_locks.specs.Tracked.{Tracked, tracked, after_tracked, holding_in, waiting_in}
+use Rattle.lk_locks.specs.Play.{Tracked, tracked, after_tracked, holding_in, waiting_in}
 use Rattle.lk_locks.specs.declared.kinds.Entry.{Entry}
 use Rattle.lk_locks.specs.declared.kinds.Move.{Move}
 use Rattle.lk_locks.specs.declared.kinds.Outcome.{Outcome}

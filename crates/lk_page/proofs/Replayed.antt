@@ -4,7 +4,7 @@ use Rattle.std.proofs.Common.{append-nil}
 use Rattle.std.specs.List.{flat_map}
 use Rattle.std.specs.Option.{option_map_or}
 use Rattle.lk_locks.specs.Steps.{refusal_of, next_state}
-use Rattle.lk_locks.specs.Entries.{entries_of}
+use Rattle.lk_locks.specs.Steps.{entries_of}
 use Rattle.lk_locks.specs.declared.kinds.Refusal.{Refusal}
 use Rattle.lk_replay.specs.Replay.{replay_from, made_by, with_move, refused_or}
 use Rattle.lk_replay.specs.declared.schedule.Line.{Line}

@@ -2,9 +2,9 @@
 use Rattle.std.proofs.Common.{◌≡◌, ℕ, List, ◌++◌, None, refl}
 use Rattle.lk_locks.specs.State.{State}
 use Rattle.lk_locks.specs.Steps.{refusal_of, next_state}
-use Rattle.lk_locks.specs.Entries.{entries_of}
+use Rattle.lk_locks.specs.Steps.{entries_of}
 use Rattle.lk_locks.specs.Sequential.{nobody}
-use Rattle.lk_locks.specs.Tracked.{tracked, followed, after_tracked}
+use Rattle.lk_locks.specs.Play.{tracked, followed, after_tracked}
 use Rattle.lk_locks.proofs.Histories.{after_append, holder_append}
 use Rattle.lk_locks.specs.declared.kinds.Move.{Move}
 use Rattle.lk_locks.specs.declared.kinds.Entry.{Entry}

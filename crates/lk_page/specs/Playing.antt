@@ -1,7 +1,7 @@
 -- Invariants. Moves that are played one after another.
 use Rattle.std.specs.Prelude.{◌≡◌, ℕ, ◌+◌, List, [], length, Option}
 use Rattle.lk_locks.specs.State.{State}
-use Rattle.lk_locks.specs.Tracked.{Tracked, tracked}
+use Rattle.lk_locks.specs.Play.{Tracked, tracked}
 use Rattle.lk_locks.specs.declared.kinds.Entry.{Entry}
 use Rattle.lk_locks.specs.declared.kinds.Refusal.{Refusal}
 use Rattle.lk_replay.specs.Replay.{replay_from}

@@ -8,7 +8,7 @@ use Rattle.lk_words.specs.Operations.{word_of}
 use Rattle.lk_locks.specs.State.{State, phase_at}
 use Rattle.lk_locks.specs.Locks.{operation_of, step_due}
 use Rattle.lk_locks.specs.Steps.{refusal_of, change_of, next_state}
-use Rattle.lk_locks.specs.Entries.{entries_of}
+use Rattle.lk_locks.specs.Steps.{entries_of}
 use Rattle.lk_locks.specs.Sequential.{has}
 use Rattle.lk_locks.specs.Holding.{Holding, Free, HeldBy, ReadBy, WrittenBy, holding_of, waiting_of}
 use Rattle.lk_locks.specs.declared.kinds.Move.{Move}

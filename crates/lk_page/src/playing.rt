@@ -1,7 +1,7 @@
 //! Plays the moves of a schedule, and writes a record of each.
 
 ghost use Rattle.std.specs.Prelude.{◌≡◌, ◌+◌, ◌*◌, ◌<◌, ◌≤◌, length, take, []};
-ghost use Rattle.lk_locks.specs.Tracked.{tracked};
+ghost use Rattle.lk_locks.specs.Play.{tracked};
 ghost use Rattle.lk_page.specs.Layout.{record_bytes};
 ghost use Rattle.lk_page.specs.Playing.{HavePlayed};
 ghost use Rattle.lk_page.specs.Written.{placed};

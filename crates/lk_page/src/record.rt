@@ -2,7 +2,7 @@
 
 ghost use Rattle.std.specs.Prelude.{◌≡◌, ◌<◌, ◌≤◌, List, length, IfOk, None, Some};
 ghost use Rattle.lk_locks.specs.Steps.{refusal_of, refused_with};
-ghost use Rattle.lk_locks.specs.Tracked.{tracked, after_tracked, holding_in, waiting_in};
+ghost use Rattle.lk_locks.specs.Play.{tracked, after_tracked, holding_in, waiting_in};
 ghost use Rattle.lk_locks.specs.declared.kinds.Entry.{Entry};
 ghost use Rattle.lk_page.specs.Told.{IsRecord, standing};
 ghost use Rattle.lk_page.specs.Layout.{record_bytes, touched_word, found_of, left_of};

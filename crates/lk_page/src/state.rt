@@ -2,7 +2,7 @@
 
 ghost use Rattle.std.specs.Prelude.{◌≡◌, ◌+◌, ◌<◌, ◌≤◌, ◌++◌, length};
 ghost use Rattle.lk_locks.specs.Holding.{holding};
-ghost use Rattle.lk_locks.specs.Tracked.{holding_in, waiting_in};
+ghost use Rattle.lk_locks.specs.Play.{holding_in, waiting_in};
 ghost use Rattle.lk_page.specs.Layout.{padded, holding_code, holder_list};
 ghost use Rattle.lk_page.specs.Layout.{thread_bytes, threads_bytes, stop_numbers};
 ghost use Rattle.lk_page.specs.Layout.{bytes_of_state, bytes_of_fault};

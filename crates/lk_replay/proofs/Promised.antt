@@ -11,7 +11,7 @@ use Rattle.std.proofs.lemmas.Result.{IfOk-at_ok}
 use Rattle.lk_locks.proofs.Runs.{every_run_is_as_promised}
 use Rattle.lk_locks.specs.MainTheorem.{IsAsPromised}
 use Rattle.lk_locks.specs.State.{State}
-use Rattle.lk_locks.specs.Runs.{entries_after}
+use Rattle.lk_locks.specs.Steps.{entries_after}
 use Rattle.lk_locks.specs.Locks.{word_count}
 use Rattle.lk_locks.specs.Steps.{refusal_of, next_state}
 use Rattle.lk_locks.specs.declared.kinds.Entry.{Entry}

@@ -3,7 +3,7 @@
 use Rattle.std.specs.Prelude.{◌≡◌, ℕ, List, [], map, Option, Ok}
 use Rattle.std.specs.Io.KnownBytes.{Appends}
 use Rattle.lk_locks.specs.MainTheorem.{IsAsPromised}
-use Rattle.lk_locks.specs.Runs.{entries_after}
+use Rattle.lk_locks.specs.Steps.{entries_after}
 use Rattle.lk_locks.specs.declared.kinds.Entry.{Entry}
 use Rattle.lk_replay.specs.Replay.{replay_of, replayed_of, start_of}
 use Rattle.lk_replay.specs.Report.{lines_text}

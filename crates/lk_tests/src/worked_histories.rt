@@ -21,7 +21,7 @@ ghost use Rattle.lk_locks.specs.Exclusion.{StopsWriting, HasOneWriter, IsNeverBe
 ghost use Rattle.lk_locks.specs.Exclusion.{IsAnnouncedFirst};
 ghost use Rattle.lk_locks.specs.Order.{requested, entered, IsInOrder};
 ghost use Rattle.lk_locks.specs.Calls.{ActsOnce, ActsInCalls, ReturnsNext};
-ghost use Rattle.lk_locks.specs.Runs.{entries_after};
+ghost use Rattle.lk_locks.specs.Steps.{entries_after};
 ghost use Rattle.lk_locks.specs.State.{start};
 ghost use Rattle.lk_locks.specs.MainTheorem.{IsAsPromised};
 ghost use Rattle.lk_locks.specs.declared.kinds.LockKind.TheVariants.{Ticket, Mcs, RwSimple, RwFifo};

@@ -13,7 +13,7 @@ use Rattle.lk_locks.proofs.Machines.{well_new}
 use Rattle.lk_locks.proofs.Moves.{accepted_of, well_kept}
 use Rattle.lk_locks.proofs.OneOperation.{operation_within}
 use Rattle.lk_locks.specs.Locks.{operation_of, word_count}
-use Rattle.lk_locks.specs.State.{State, phase_at}
+use Rattle.lk_locks.specs.State.{Shape, State, phase_at}
 use Rattle.lk_locks.specs.Steps.{refusal_of}
 use Rattle.lk_locks.specs.invariants.WellFormed.{WellFormed}
 use Rattle.lk_locks.specs.declared.kinds.LockKind.{LockKind}
@@ -21,7 +21,8 @@ use Rattle.lk_locks.specs.declared.kinds.Move.TheVariants.{Call, Step}
 use Rattle.lk_locks.specs.declared.kinds.Refusal.{Refusal}
 use Rattle.lk_trace.specs.Agreement.{Agrees, AgreesOn, AgreesOnWord, IsCounted, count_in}
 use Rattle.lk_trace.specs.Checks.{Checked, checked, count_given, difference_of, effect_of}
-use Rattle.lk_trace.specs.Checks.{effect_other, is_word, name_of, other_word, part_other}
+use Rattle.lk_trace.specs.Checks.{effect_other, is_word, name_of, new_lock, other_word}
+use Rattle.lk_trace.specs.Checks.{part_other}
 use Rattle.lk_trace.specs.Checks.{seen_other, values_other}
 use denote.Enum.Bare.{same_true, true_same}
 use Rattle.lk_locks.specs.contracts.kinds.Outcome.{the_type}
@@ -182,7 +183,15 @@ pub agreed : (c : Checked) (l : TraceLine) → WellFormed c.lock.state → Agree
     → difference_of c l ≡ None
 agreed c l w = (well_agreeing c l w).1
 
--- a lock stays well formed
+-- a new lock is well formed, and stays so
+pub new_is_well : (shape : Shape) → WellFormed (new_lock shape).lock.state
+new_is_well shape =
+    let count = word_count shape.kind shape.threads in
+    let ws : List ℕ = replicate count 0 in
+    let long : length ws ≡ count = length-replicate {A = ℕ} count 0 in
+    well_new shape.kind shape.bits shape.threads ws (omega (arith, long))
+    (λ i h. get_or-replicate count i 0 0 (omega (arith, long, h)))
+
 pub stays_well : (c : Checked) (l : TraceLine) → WellFormed c.lock.state
     → refusal_of c.lock.state l.thread l.action ≡ None → WellFormed (checked c l).lock.state
 stays_well c l w accepted =

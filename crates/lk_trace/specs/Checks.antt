@@ -12,8 +12,8 @@ use Rattle.lk_words.specs.declared.operation.Effect.{Effect}
 use Rattle.lk_locks.specs.Locks as locks
 use Rattle.lk_locks.specs.Locks.{operation_of}
 use Rattle.lk_locks.specs.Steps.{refusal_of, change_of, next_state}
-use Rattle.lk_locks.specs.Entries.{entries_of}
-use Rattle.lk_locks.specs.Tracked.{Tracked, tracked, followed}
+use Rattle.lk_locks.specs.Steps.{entries_of}
+use Rattle.lk_locks.specs.Play.{Tracked, tracked, followed}
 use Rattle.lk_locks.specs.declared.kinds.LockKind.{LockKind}
 use Rattle.lk_locks.specs.declared.kinds.Move.{Move}
 use Rattle.lk_locks.specs.declared.kinds.Move.TheVariants.{Call, Step}

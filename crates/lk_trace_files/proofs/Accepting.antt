@@ -161,7 +161,7 @@ a_header n line lines (Ok header) stays read accepted = record {
   read = read;
   behind =
       moves_are (n + 1) (new_lock header) lines
-      (new_is_well header.kind header.threads header.bits)
+      (new_is_well header)
       (sym (ending_of _ _ (header_line n line lines (Ok header) stays read)) ∙ accepted);
 }
 a_header n line lines (Err fault) stays read accepted =
@@ -190,7 +190,7 @@ trace_ends n (line ∷ lines) (inl trace) =
 trace_ends n (line ∷ lines) (inr trace) =
     ending_of _ _ (header_line n line lines (Ok trace.header) trace.kept trace.read)
     ∙ moves_end (n + 1) (new_lock trace.header) lines
-    (new_is_well trace.header.kind trace.header.threads trace.header.bits) trace.behind
+    (new_is_well trace.header) trace.behind
 
 -- a run that hangs is not accepted
 not_accepted : (e : Ending) (line : ℕ) → (hanging e line).ending ≡ Accepted → ⊥

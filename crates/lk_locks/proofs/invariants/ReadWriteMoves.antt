@@ -4,7 +4,7 @@ use Rattle.std.proofs.Common.{List, None, [], ap, arith, length, refl, set, sym,
 use Rattle.std.proofs.Common.{nat_lt, unwrap_or, ◌+◌, ◌<◌, ◌∙◌, ◌≡◌, ◌≢◌, ◌∷◌}
 use Rattle.std.proofs.lemmas.Bool.{lt-ltb}
 use Rattle.std.proofs.lemmas.List.{length-set}
-use Rattle.lk_locks.specs.Acts.{acts}
+use Rattle.lk_locks.specs.Change.{acts}
 use Rattle.lk_locks.specs.Sequential.{Sequential, after_entry, has, is_allowed, left_by}
 use Rattle.lk_locks.specs.invariants.Threads.{is_this}
 use Rattle.lk_locks.specs.invariants.read_write.{AgreeAsCounted, is_announced, is_reading, flag_of}

@@ -6,7 +6,7 @@ use Rattle.lk_locks.specs.State.{State, phase_at}
 use Rattle.lk_locks.specs.Sequential.{Sequential, nobody, thread_of}
 use Rattle.lk_locks.specs.Legal.{AreEnabled, after_entries, subhistory, whole_call}
 use Rattle.lk_locks.specs.Holding.{holder_after}
-use Rattle.lk_locks.specs.Tracked.{Tracked}
+use Rattle.lk_locks.specs.Play.{Tracked}
 use Rattle.lk_locks.specs.invariants.Locks.{AgreeAs, owed_of}
 use Rattle.lk_locks.specs.invariants.WellFormed.{WellFormed}
 use Rattle.lk_locks.specs.Types.{LockKind, Phase, Op, Entry}

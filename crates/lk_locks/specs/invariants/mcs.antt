@@ -5,7 +5,7 @@ use Rattle.std.specs.Prelude.{true, false, is_some, IsTrue}
 use Rattle.lk_words.specs.declared.operation.Answer.{Answer}
 use Rattle.lk_words.specs.declared.operation.Answer.TheVariants.{Found}
 use Rattle.lk_locks.specs.State.{phase_at}
-use Rattle.lk_locks.specs.Acts.{acts}
+use Rattle.lk_locks.specs.Change.{acts}
 use Rattle.lk_locks.specs.Sequential.{has, is_head}
 use Rattle.lk_locks.specs.mcs.{tail, next, locked, operation}
 use Rattle.lk_locks.specs.invariants.Threads.{EachOnce}

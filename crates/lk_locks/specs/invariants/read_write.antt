@@ -2,7 +2,7 @@
 -- reads, who writes and who has announced itself.
 use Rattle.std.specs.Prelude.{◌≡◌, ◌<◌, ◌^◌, ℕ, List, [], ◌++◌, length, Option, None, Some}
 use Rattle.std.specs.Prelude.{Bool, true, false, set, slice_index}
-use Rattle.lk_locks.specs.Acts.{acts, announcement}
+use Rattle.lk_locks.specs.Change.{acts, announcement}
 use Rattle.lk_locks.specs.Change.{Change}
 use Rattle.lk_locks.specs.State.{phase_at}
 use Rattle.lk_locks.specs.Sequential.{Sequential, has}

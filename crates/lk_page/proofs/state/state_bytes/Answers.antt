@@ -1,7 +1,7 @@
 -- Each part is what the lock says.
 use Rattle.std.proofs.Common.{ap, length, ◌∙◌, ◌++◌}
 use Rattle.lk_locks.specs.State.{State}
-use Rattle.lk_locks.specs.Tracked.{holding_in, waiting_in}
+use Rattle.lk_locks.specs.Play.{holding_in, waiting_in}
 use Rattle.lk_page.specs.Codes.{lock_code}
 use Rattle.lk_page.specs.Layout.{holding_code, holder_list, threads_bytes}
 use Rattle.lk_page.proofs.StateBytes.{state_put}
