@@ -1,21 +1,30 @@
 -- An ascending list of threads as the bits of a number, and what counting bits tells of its text.
 use Rattle.std.proofs.Common.{◌≡◌, ℕ, suc, ◌+◌, ◌-◌, ◌*◌, ◌^◌, ◌%◌, ◌<◌, ◌≤◌, List, [], ◌∷◌, ◌++◌}
-use Rattle.std.proofs.Common.{length, decimal, count_ones, eqb, nat_lt, true, refl, ap, ◌∙◌}
+use Rattle.std.proofs.Common.{length, decimal, count_ones, nat_lt, refl, ap, sym, ◌∙◌, take, drop}
+use Rattle.std.proofs.Common.{true, false}
 use Rattle.std.proofs.Common.{arith, if◌then◌else◌}
 use Rattle.std.proofs.Common.{inl, inr, length-append, pow_pos, pow_mono, pow-add, shl_exact}
 use Rattle.std.specs.Int.Count.{ones}
 use Rattle.std.specs.List.{AllByRecursion}
 use Rattle.std.proofs.Math.Nat.{add-mul, pow-suc}
-use Rattle.std.proofs.lemmas.Bool.{cases_Bool, eqb-true, ltb-true, ltb-false}
+use Rattle.std.proofs.lemmas.Bool.{cases_Bool, ltb-true, ltb-false}
 use Rattle.std.proofs.lemmas.Fmt.{decimal_digit}
 use Rattle.std.proofs.lemmas.Nat.{mod-mul-add, ones_cat, ones_le_self}
-use Rattle.lk_locks.specs.Sequential.{IsAscending, has, left_by}
-use Rattle.lk_replay.specs.Following.{below, bits_of}
+use Rattle.lk_locks.proofs.Ascending.{all_joined, all_left, ascending_joined, ascending_left}
+use Rattle.lk_locks.specs.Sequential.{IsAscending, has, joined, left_by}
+use Rattle.lk_replay.specs.Occupancy.{AreReaders, below, bits_of, numbers_in}
 use Rattle.lk_replay.specs.Report.{later_numbers}
 use Rattle.lk_replay.proofs.Digits.{two_digits}
-use Rattle.lk_replay.proofs.Listing.{each, later_append, split}
+use Rattle.lk_replay.proofs.Listing.{AreCut, cut_to_join, cut_to_leave, later_append, later_most}
+use Rattle.lk_replay.proofs.Listing.{numbers_read, put_in, taken_out}
 
 -- ---- a list cut at a number
+
+-- what follows from a fact of each
+each : (P Q : ℕ → Type 0) → ((u : ℕ) → P u → Q u) → (xs : List ℕ) → AllByRecursion P xs
+    → AllByRecursion Q xs
+each P Q follows [] all = tt
+each P Q follows (x ∷ xs) (here, rest) = (follows x here, each P Q follows xs rest)
 
 -- the threads that are not below it
 abbrev not_below : List ℕ → ℕ → List ℕ
@@ -123,38 +132,24 @@ lower_bits xs t ascending =
     ap (λ (n : ℕ). n % 2 ^ t) whole
     ∙ mod-mul-add more.0 (2 ^ t) (bits_of (below xs t)) (bits_fit (below xs t) t up lower)
 
--- a thread in the list is below 64
-member_fits : (xs : List ℕ) (t : ℕ) → AllByRecursion (λ u. u < 64) xs → has xs t ≡ true
-    → t < 64
-member_fits [] t all member = absurd (cc)
-member_fits (x ∷ xs) t (here, rest) member = elim (cases_Bool (eqb t x)) [
-  | inl e ↦ omega (arith, eqb-true t x e, here)
-  | inr e ↦ member_fits xs t rest (let g : has (x ∷ xs) t ≡ true = member in rw e at g)
-]
+-- the bit of a thread that a list is without and with
+pub record IsBit (less more : List ℕ) (t : ℕ) : Type 0 where
+  pub bit : bits_of more ≡ bits_of less + 1 * 2 ^ t % 2 ^ 64
+  pub fits : bits_of more < 2 ^ 64
 
--- the bit of a thread in the list, as it is shifted
-pub record HasBit (xs : List ℕ) (t : ℕ) : Type 0 where
-  pub small : t < 64
-  pub bit : bits_of xs ≡ bits_of (left_by xs t) + 1 * 2 ^ t % 2 ^ 64
-  pub fits : bits_of xs < 2 ^ 64
-
-pub has_bit : (xs : List ℕ) (t : ℕ) → IsAscending xs → AllByRecursion (λ u. u < 64) xs
-    → has xs t ≡ true → HasBit xs t
-has_bit xs t ascending fit member =
-    let s = split xs t ascending member in
-    let small = member_fits xs t fit member in
-    record {
-      small = small;
-      bit = omega (
-        arith,
-        shifted t small,
-        ap bits_of s.whole,
-        ap bits_of s.left,
-        bits_append (below xs t) (t ∷ s.after),
-        bits_append (below xs t) s.after,
-      );
-      fits = bits_fit xs 64 ascending fit;
-    }
+pub is_bit : (low less more : List ℕ) (t : ℕ) → AreCut low less more t → t < 64
+    → IsAscending more → AllByRecursion (λ u. u < 64) more → IsBit less more t
+is_bit low less more t cut small ascending fit = record {
+  bit = omega (
+    arith,
+    shifted t small,
+    ap bits_of cut.with_it,
+    ap bits_of cut.without,
+    bits_append low (t ∷ cut.after),
+    bits_append low cut.after,
+  );
+  fits = bits_fit more 64 ascending fit;
+}
 
 -- ---- the text
 
@@ -214,3 +209,77 @@ counted_place xs bits t is ascending fit small =
           ∙ counted_bits (below low 10) (cut low 10 up).3,
       text_size low up (kept (λ u. u < 64) xs t fit).0,
     )
+
+-- ---- the text and the bits together
+
+pub are_readers : (xs text : List ℕ) (bits : ℕ) → text ≡ later_numbers xs → bits ≡ bits_of xs
+    → IsAscending xs → AllByRecursion (λ u. u < 64) xs
+    → AreReaders text bits × (numbers_in text ≡ xs)
+are_readers xs text bits is bits_are ascending fit =
+    let same : numbers_in text ≡ xs = ap numbers_in is ∙ numbers_read xs fit in (
+      record {
+        listed = is ∙ ap later_numbers (sym same);
+        fit = rw same fit;
+        ascending = rw same ascending;
+        bits_are = bits_are ∙ ap bits_of (sym same);
+      },
+      same,
+    )
+
+-- what a thread that joins leaves
+pub record Joins (now text : List ℕ) (bits t at : ℕ) : Type 0 where
+  pub within : at ≤ length text
+  pub room : length text + 4 ≤ 320
+  pub fits : bits + 1 * 2 ^ t % 2 ^ 64 < 2 ^ 64
+  pub after : (new : List ℕ) (more : ℕ) → new ≡ (take at text ++ (44 ∷ decimal t)) ++ drop at text
+      → more ≡ bits + 1 * 2 ^ t % 2 ^ 64 → AreReaders new more × (numbers_in new ≡ joined now t)
+
+pub reader_joins : (now text : List ℕ) (bits t at : ℕ) → AreReaders text bits
+    → numbers_in text ≡ now → has now t ≡ false → t < 64 → length now < 64
+    → at ≡ length (later_numbers (below now t)) → Joins now text bits t at
+reader_joins now text bits t at readers is absent small few place =
+    let listed : text ≡ later_numbers now = readers.listed ∙ ap later_numbers is in
+    let fit : AllByRecursion (λ u. u < 64) now = rw (← is) readers.fit in
+    let ascending : IsAscending now = rw (← is) readers.ascending in
+    let bits_are : bits ≡ bits_of now = readers.bits_are ∙ ap bits_of is in
+    let cut = cut_to_join now t absent in
+    let put = put_in (below now t) now (joined now t) text t at cut listed place in
+    let all = all_joined (λ u. u < 64) now t small fit in
+    let up = ascending_joined now t ascending absent in
+    let one = is_bit (below now t) now (joined now t) t cut small up all in
+    record {
+      within = put.within;
+      room = omega (arith, ap length listed, later_most now fit, few);
+      fits = omega (arith, bits_are, one.bit, one.fits);
+      after = λ new more new_is more_is.
+          are_readers (joined now t) new more (new_is ∙ put.whole)
+          (omega (arith, more_is, bits_are, one.bit)) up all;
+    }
+
+-- what a thread that leaves leaves
+pub record Leaves (now text : List ℕ) (bits t at gone : ℕ) : Type 0 where
+  pub within : at + gone ≤ length text
+  pub fits : 1 * 2 ^ t % 2 ^ 64 ≤ bits
+  pub after : (new : List ℕ) (less : ℕ) → new ≡ take at text ++ drop (at + gone) text
+      → less ≡ bits - 1 * 2 ^ t % 2 ^ 64 → AreReaders new less × (numbers_in new ≡ left_by now t)
+
+pub reader_leaves : (now text : List ℕ) (bits t at gone : ℕ) → AreReaders text bits
+    → numbers_in text ≡ now → has now t ≡ true → t < 64
+    → at ≡ length (later_numbers (below now t)) → gone ≡ length (decimal t) + 1
+    → Leaves now text bits t at gone
+reader_leaves now text bits t at gone readers is present small place wide =
+    let listed : text ≡ later_numbers now = readers.listed ∙ ap later_numbers is in
+    let fit : AllByRecursion (λ u. u < 64) now = rw (← is) readers.fit in
+    let ascending : IsAscending now = rw (← is) readers.ascending in
+    let bits_are : bits ≡ bits_of now = readers.bits_are ∙ ap bits_of is in
+    let cut = cut_to_leave now t ascending present in
+    let taken = taken_out (below now t) (left_by now t) now text t at gone cut listed place wide in
+    let one = is_bit (below now t) (left_by now t) now t cut small ascending fit in
+    record {
+      within = taken.within;
+      fits = omega (arith, bits_are, one.bit);
+      after = λ new less new_is less_is.
+          are_readers (left_by now t) new less (new_is ∙ taken.rest)
+          (omega (arith, less_is, bits_are, one.bit))
+          (ascending_left now t ascending) (all_left (λ u. u < 64) now t fit);
+    }

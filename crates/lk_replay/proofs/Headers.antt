@@ -6,7 +6,7 @@ use Rattle.lk_replay.specs.Lines.{SkipsTo, lines_of, is_skipped}
 use Rattle.lk_replay.proofs.Skipped.{plan_skip}
 use Rattle.lk_replay.specs.Faults.{Fault, NoHeader}
 use Rattle.lk_replay.specs.Header.{size_of_words, header_of}
-use Rattle.lk_replay.specs.Reading.{IsOfText}
+use Rattle.lk_replay.specs.Reads.{IsOfText}
 use Rattle.lk_replay.specs.Reads.{Fails}
 use Rattle.lk_replay.specs.Schedule.{plan_of, plan_from, with_header, moves_from}
 use Rattle.lk_replay.specs.declared.schedule.ReadFault.{ReadFault}

@@ -1,27 +1,43 @@
--- The last line of a text, and how a report ends by it.
-use Rattle.std.proofs.Common.{◌≡◌, ℕ, ◌+◌, ◌%◌, ◌<◌, ◌^◌, List, [], ◌∷◌, ◌++◌, length, Bool, true}
-use Rattle.std.proofs.Common.{refl, sym, ap, ◌∙◌, arith, inl, inr, not, codes, decimal}
-use Rattle.std.specs.List.{onto_first, slice_split}
+-- How a report ends, by its last line.
+use Rattle.std.proofs.Common.{◌≡◌, ℕ, zero, suc, ◌+◌, ◌/◌, ◌%◌, ◌<◌, List, [], ◌∷◌, ◌++◌, length}
+use Rattle.std.proofs.Common.{true, false, refl, sym, ap, ◌∙◌, arith, inl, inr, not, codes, decimal, ◌==◌}
+use Rattle.std.proofs.Common.{append_assoc, length-append, Option, None, Some, Result, Ok, Err, Bool}
+use Rattle.std.specs.Fmt.{digit_glyph, digits, digits_onto}
+use Rattle.std.specs.List.{join_with_byte, list_all, onto_first, slice_split}
 use Rattle.std.proofs.lemmas.List.Folds.{list_all-append}
-use Rattle.std.proofs.lemmas.List.Splits.{slice_split-cons_yes}
-use Rattle.std.proofs.lemmas.Bool.{cases_Bool, ne_eqb}
-use Rattle.std.proofs.lemmas.Fmt.{decimal_by_steps}
+use Rattle.std.proofs.lemmas.List.Splits.{join_with_byte-slice_split, slice_split-cons_yes}
+use Rattle.std.proofs.lemmas.Bool.{cases_Bool, lt-ltb, ne_eqb}
+use Rattle.lk_locks.specs.Holding.{holding_of, waiting_of}
+use Rattle.lk_locks.specs.declared.kinds.Entry.{Entry}
+use Rattle.lk_locks.specs.declared.kinds.LockKind.{LockKind}
 use Rattle.lk_locks.specs.declared.kinds.Refusal.{Refusal}
 use Rattle.lk_locks.specs.declared.kinds.Refusal.TheVariants.{WrongStep}
 use Rattle.lk_locks.specs.declared.kinds.StepKind.TheVariants.{Read}
-use Rattle.lk_replay.proofs.Cuts.{has_piece}
-use Rattle.lk_replay.specs.Ending.{ending_of, ending_of_line, is_line, last_of}
+use Rattle.lk_replay.proofs.Cuts.{before_pieces, has_piece}
+use Rattle.lk_replay.specs.Ending.{ending_by, ending_of, ending_of_line, last_of}
+use Rattle.lk_replay.specs.Faults.{Fault, TooLong, NoHeader, BadHeader, BadThreads, BadLine}
+use Rattle.lk_replay.specs.Faults.{TooManyMoves, WordsTooNarrow}
+use Rattle.lk_replay.specs.Lines.{is_line_feed, lines_of, without_empty_end}
+use Rattle.lk_replay.specs.Reads.{IsOfText}
+use Rattle.lk_replay.specs.Reads.{Fails}
+use Rattle.lk_replay.specs.Replay.{Made, replay_of}
+use Rattle.lk_replay.specs.Report.{at_line, fault_text, holding_text, last_line, line_start}
+use Rattle.lk_replay.specs.Report.{lines_text, plan_text, queue_text, refusal_text, replay_text}
+use Rattle.lk_replay.specs.Report.{report_text, state_text}
+use Rattle.lk_replay.specs.Schedule.{Plan, plan_of}
 use Rattle.lk_replay.specs.declared.ending.Ending.{Ending}
-use Rattle.lk_replay.specs.declared.ending.Ending.TheVariants.{Accepted, Faulty}
-use Rattle.lk_replay.specs.Lines.{lines_of, without_empty_end, is_line_feed}
-use Rattle.lk_replay.specs.Report.{at_line, refusal_text}
+use Rattle.lk_replay.specs.declared.ending.Ending.TheVariants.{Faulty}
+use Rattle.lk_replay.specs.declared.schedule.ReadFault.{ReadFault}
+use Rattle.lk_replay.specs.declared.schedule.ReadFault.TheVariants.{OutOfMemory}
+
+-- ---- a text that is cut
 
 onto_prefix : (x : ℕ) (parts others : List (List ℕ)) → 0 < length parts
     → onto_first x (parts ++ others) ≡ onto_first x parts ++ others
 onto_prefix x [] others some = absurd (omega arith)
 onto_prefix x (part ∷ parts) others some = refl
 
--- a text is cut before and after a byte at which it is cut
+-- it is cut before and after a byte at which it is cut
 pub split_append : (p : ℕ → Bool) (xs : List ℕ) (y : ℕ) (ys : List ℕ) → p y ≡ true
     → slice_split p (xs ++ y ∷ ys) ≡ slice_split p xs ++ slice_split p ys
 split_append p [] y ys here = slice_split-cons_yes p y ys here
@@ -32,14 +48,58 @@ split_append p (x ∷ xs) y ys here = elim (cases_Bool (p x)) [
       ∙ onto_prefix x (slice_split p xs) (slice_split p ys) (has_piece p xs))
 ]
 
+some_lines : (pieces others : List (List ℕ)) → 0 < length others
+    → 0 < length (without_empty_end others) → 0 < length (without_empty_end (pieces ++ others))
+some_lines [] others some lines = lines
+some_lines (p ∷ ps) others some lines =
+    rw (before_pieces p (ps ++ others) (omega (arith, length-append ps others))) (omega arith)
+
+last_of_rest : (p : List ℕ) (ps : List (List ℕ)) → 0 < length ps → last_of (p ∷ ps) ≡ last_of ps
+last_of_rest p [] some = absurd (omega arith)
+last_of_rest p (q ∷ ps) some = refl
+
+last_of_others : (pieces others : List (List ℕ)) → 0 < length others
+    → 0 < length (without_empty_end others) → last_of (without_empty_end (pieces ++ others))
+    ≡ last_of (without_empty_end others)
+last_of_others [] others some lines = refl
+last_of_others (p ∷ ps) others some lines =
+    ap last_of (before_pieces p (ps ++ others) (omega (arith, length-append ps others)))
+    ∙ last_of_rest p (without_empty_end (ps ++ others)) (some_lines ps others some lines)
+    ∙ last_of_others ps others some lines
+
+some_piece : (text : List ℕ) (pieces : List (List ℕ)) → 0 < length text
+    → slice_split is_line_feed text ≡ pieces → 0 < length (without_empty_end pieces)
+some_piece text [] some cut = absurd (omega (arith, has_piece is_line_feed text, ap length cut))
+some_piece text (p ∷ q ∷ ps) some cut = omega arith
+some_piece text ([] ∷ []) some cut =
+    absurd (omega (
+      arith,
+      ap length (sym (join_with_byte-slice_split 10 text)
+          ∙ ap (join_with_byte 10) cut),
+    ))
+some_piece text ((b ∷ bs) ∷ []) some cut = omega arith
+
+-- a line before a text changes not how it ends
+ending_after_line : (line text : List ℕ) → 0 < length text → ending_of ((line ++ 10 ∷ []) ++ text)
+    ≡ ending_of text
+unfolding ending_of lines_of
+ending_after_line line text some =
+    rw (append_assoc line (10 ∷ []) text, split_append is_line_feed line 10 text refl)
+    (ap ending_of_line (last_of_others (slice_split is_line_feed line)
+    (slice_split is_line_feed text) (has_piece is_line_feed text)
+    (some_piece text (slice_split is_line_feed text) some refl)))
+
 -- no line before the first one
 pub last_of_none : (lines : List (List ℕ)) → last_of ([] ∷ lines) ≡ last_of lines
 last_of_none [] = refl
 last_of_none (line ∷ lines) = refl
 
--- ---- the ending of a line that has no line feed in it
+-- ---- a line that has no line feed in it
 
-one_piece : (text : List ℕ) → is_line text ≡ true → slice_split is_line_feed text ≡ text ∷ []
+abbrev pub is_line : List ℕ → Bool
+is_line text = list_all (λ b. not (is_line_feed b)) text
+
+pub one_piece : (text : List ℕ) → is_line text ≡ true → slice_split is_line_feed text ≡ text ∷ []
 one_piece [] is = refl
 one_piece (b ∷ text) is = elim (cases_Bool (is_line_feed b)) [
   | inl feed ↦ cc
@@ -54,44 +114,123 @@ ends_by line is =
     ap (λ ps. ending_of_line (last_of (without_empty_end ps)))
     (split_append is_line_feed line 10 [] refl ∙ ap (λ ps. ps ++ [] ∷ []) (one_piece line is))
 
-both_lines : (xs ys : List ℕ) → is_line xs ≡ true → is_line ys ≡ true → is_line (xs ++ ys) ≡ true
+pub both_lines : (xs ys : List ℕ) → is_line xs ≡ true → is_line ys ≡ true → is_line (xs ++ ys) ≡ true
 both_lines xs ys a b = cc (list_all-append (λ (b : ℕ). not (is_line_feed b)) xs ys)
 
-digit_is : (d : ℕ) → is_line ((48 + d) ∷ []) ≡ true
-digit_is d = rw (ne_eqb (48 + d) 10 (λ is. omega arith)) refl
+digit_is : (n : ℕ) (rest : List ℕ) → is_line rest ≡ true
+    → is_line (digit_glyph false (n % 10) ∷ rest) ≡ true
+digit_is n rest is = rw (lt-ltb (n % 10) 10 (omega arith), ne_eqb (48 + n % 10) 10 (λ e. omega (arith, e))) is
 
-digits_are : (n : ℕ) → n < 2 ^ 64 → is_line (decimal n) ≡ true
-digits_are n fits =
-    decimal_by_steps (λ n ds. is_line ds ≡ true) (λ n small. digit_is n)
-    (λ n ds large is. both_lines ds _ is (digit_is (n % 10))) n fits
+digits_are : (fuel n : ℕ) (rest : List ℕ) → is_line rest ≡ true
+    → is_line (digits_onto fuel 10 false n rest) ≡ true
+digits_are zero n rest is = is
+digits_are (suc fuel) n rest is = elim (cases_Bool (n / 10 == 0)) [
+  | inl last ↦ rw last (digit_is n rest is)
+  | inr more ↦ rw more (digits_are fuel (n / 10) (digit_glyph false (n % 10) ∷ rest) (digit_is n rest is))
+]
 
-pub accepted_ending : (text digits : List ℕ) (count : ℕ) → count < 2 ^ 32 → digits ≡ decimal count
-    → text ≡ (codes "end " ++ digits) ++ 10 ∷ [] → Accepted ≡ ending_of text
-accepted_ending text digits count fits is whole =
-    sym (ap ending_of whole
-    ∙ ends_by (codes "end " ++ digits) (both_lines (codes "end ") digits refl
-    (ap is_line is ∙ digits_are count (omega (arith, fits)))))
+number_is : (n : ℕ) → is_line (decimal n) ≡ true
+unfolding digits
+number_is n = digits_are 64 n [] refl
 
-pub at_line_is : (what : List ℕ) (number : ℕ) → number < 2 ^ 32 → is_line what ≡ true
-    → is_line (at_line what number) ≡ true
-at_line_is what number fits is =
-    both_lines ((what ++ codes " line ") ++ decimal number) (codes " ")
-    (both_lines (what ++ codes " line ") (decimal number) (both_lines what _ is refl)
-    (digits_are number (omega (arith, fits)))) refl
+-- ---- the last line
 
-pub reason_is : (r : Refusal) → is_line (refusal_text r) ≡ true
+reason_is : (r : Refusal) → is_line (refusal_text r) ≡ true
 unfolding refusal_text
 reason_is (WrongStep Read) = refl
 reason_is r = refl
 
--- the text of `WHAT line L ` and more
-pub marked_ending : (ending : Ending) (what text at rest : List ℕ) (number : ℕ)
-    → is_line at ≡ true → is_line rest ≡ true → at ≡ at_line what number
-    → text ≡ (at ++ rest) ++ 10 ∷ [] → ending_of_line (at_line what number ++ rest) ≡ ending
-    → ending ≡ ending_of text
-marked_ending ending what text at rest number clear clear_too is whole ends =
-    sym (ap ending_of whole ∙ ends_by (at ++ rest) (both_lines at rest clear clear_too)
-    ∙ ap (λ (a : List ℕ). ending_of_line (a ++ rest)) is ∙ ends)
+at_line_is : (what : List ℕ) (number : ℕ) → is_line what ≡ true
+    → is_line (at_line what number) ≡ true
+at_line_is what number is =
+    both_lines ((what ++ codes " line ") ++ decimal number) (codes " ")
+    (both_lines (what ++ codes " line ") (decimal number) (both_lines what _ is refl)
+    (number_is number)) refl
 
-pub too_long_ending : (text : List ℕ) → text ≡ codes "fault TooLong\n" → Faulty ≡ ending_of text
-too_long_ending text is = sym (ap ending_of is ∙ ends_by (codes "fault TooLong") refl)
+-- the text of `WHAT line L ` and more
+marked_ending : (what rest : List ℕ) (number : ℕ) → is_line what ≡ true → is_line rest ≡ true
+    → ending_of ((at_line what number ++ rest) ++ codes "\n")
+    ≡ ending_of_line (at_line what number ++ rest)
+marked_ending what rest number is clear =
+    ends_by (at_line what number ++ rest)
+    (both_lines (at_line what number) rest (at_line_is what number is) clear)
+
+last_ending : (count : ℕ) (refused : Option (ℕ × Refusal))
+    → ending_of (last_line count refused) ≡ ending_by refused
+last_ending count None =
+    ends_by (codes "end " ++ decimal count) (both_lines (codes "end ") (decimal count) refl (number_is count))
+last_ending count (Some (number, reason)) =
+    marked_ending (codes "refused") (refusal_text reason) number refl (reason_is reason)
+
+last_some : (count : ℕ) (refused : Option (ℕ × Refusal)) → 0 < length (last_line count refused)
+last_some count None = omega arith
+last_some count (Some refused) = omega arith
+
+lines_some : (kind : LockKind) (count : ℕ) (es : List Entry) (ms : List Made)
+    (refused : Option (ℕ × Refusal)) → 0 < length (lines_text kind count es ms refused)
+lines_some kind count es [] refused = last_some count refused
+lines_some kind count es (m ∷ ms) refused =
+    omega (
+      arith,
+      length-append (line_start (count + 1) m.accepted ++ state_text kind (es ++ m.entries))
+          (lines_text kind (count + 1) (es ++ m.entries) ms refused),
+      lines_some kind (count + 1) (es ++ m.entries) ms refused,
+    )
+
+lines_ending : (kind : LockKind) (count : ℕ) (es : List Entry) (ms : List Made)
+    (refused : Option (ℕ × Refusal))
+    → ending_of (lines_text kind count es ms refused) ≡ ending_by refused
+unfolding state_text
+lines_ending kind count es [] refused = last_ending count refused
+lines_ending kind count es (m ∷ ms) refused =
+    let now : List Entry = es ++ m.entries in
+    let shown : List ℕ =
+    (holding_text (holding_of kind now) ++ codes " queue ") ++ queue_text (waiting_of kind now) in
+    let start : List ℕ = line_start (count + 1) m.accepted in
+    let rest : List ℕ = lines_text kind (count + 1) now ms refused in
+    ap (λ (line : List ℕ). ending_of (line ++ rest)) (sym (append_assoc start shown (codes "\n")))
+    ∙ ending_after_line (start ++ shown) rest (lines_some kind (count + 1) now ms refused)
+    ∙ lines_ending kind (count + 1) now ms refused
+
+-- ---- the ending of a report
+
+abbrev pub plan_ending : Result Plan Fault → Ending
+plan_ending (Ok plan) = ending_by (replay_of plan).refused
+plan_ending (Err fault) = Faulty
+
+fault_ending : (fault : Fault) → ending_of (fault_text fault) ≡ Faulty
+fault_ending TooLong = ends_by (codes "fault TooLong") refl
+fault_ending (NoHeader n) = marked_ending (codes "fault") (codes "NoHeader") n refl refl
+fault_ending (BadHeader n) = marked_ending (codes "fault") (codes "BadHeader") n refl refl
+fault_ending (BadThreads n) = marked_ending (codes "fault") (codes "BadThreads") n refl refl
+fault_ending (BadLine n) = marked_ending (codes "fault") (codes "BadLine") n refl refl
+fault_ending (TooManyMoves n) = marked_ending (codes "fault") (codes "TooManyMoves") n refl refl
+fault_ending (WordsTooNarrow n) = marked_ending (codes "fault") (codes "WordsTooNarrow") n refl refl
+
+of_plan : (read : Result Plan Fault) → ending_of (plan_text read) ≡ plan_ending read
+of_plan (Ok plan) = lines_ending plan.kind 0 [] (replay_of plan).made (replay_of plan).refused
+of_plan (Err fault) = fault_ending fault
+
+report_ending : (text : List ℕ) → ending_of (report_text text) ≡ plan_ending (plan_of text)
+unfolding report_text
+report_ending text = of_plan (plan_of text)
+
+faulty : (fault : ReadFault) (read : Result Plan Fault) → IsOfText fault → Fails fault read
+    → plan_ending read ≡ Faulty
+faulty OutOfMemory read text fails = absurd text
+faulty fault read text fails = ap plan_ending fails
+
+pub ends_faulty : (fault : ReadFault) (text : List ℕ) → IsOfText fault
+    → Fails fault (plan_of text) → Faulty ≡ ending_of (report_text text)
+ends_faulty fault text of_text fails =
+    sym (report_ending text ∙ faulty fault (plan_of text) of_text fails)
+
+pub ends_by_plan : (text : List ℕ) (plan : Plan) → plan_of text ≡ Ok plan
+    → ending_by (replay_of plan).refused ≡ ending_of (report_text text)
+ends_by_plan text plan is = sym (report_ending text ∙ ap plan_ending is)
+
+-- the report of a schedule
+pub report_is : (text : List ℕ) (plan : Plan) → plan_of text ≡ Ok plan
+    → replay_text plan.kind (replay_of plan) ≡ report_text text
+unfolding report_text
+report_is text plan is = sym (ap plan_text is)

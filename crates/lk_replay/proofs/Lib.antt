@@ -3,6 +3,7 @@ pub mod Cuts
 pub mod Pieces
 pub mod Moves
 pub mod Headers
+pub mod FirstMoves
 pub mod Sofar
 pub mod Digits
 pub mod Transfers

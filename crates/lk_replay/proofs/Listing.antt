@@ -1,33 +1,30 @@
 -- The text of a list of threads that one joins or leaves.
-use Rattle.std.proofs.Common.{◌≡◌, ℕ, ◌+◌, ◌*◌, ◌<◌, ◌≤◌, List, [], ◌∷◌, ◌++◌, length, take}
-use Rattle.std.proofs.Common.{drop, decimal, eqb, nat_lt, true, false, refl, sym, ap}
-use Rattle.std.proofs.Common.{◌∙◌, subst, arith, append_assoc, length-append}
+use Rattle.std.proofs.Common.{◌≡◌, ℕ, ◌+◌, ◌*◌, ◌/◌, ◌%◌, ◌<◌, ◌≤◌, List, [], ◌∷◌, ◌++◌, length}
+use Rattle.std.proofs.Common.{drop, decimal, eqb, nat_lt, true, false, refl, sym, ap, take}
+use Rattle.std.proofs.Common.{◌∙◌, arith, append_assoc, append-nil, length-append}
 use Rattle.std.proofs.Common.{inl, inr}
 use Rattle.std.specs.List.{AllByRecursion}
 use Rattle.std.proofs.lemmas.List.{drop_at, take_at}
-use Rattle.std.proofs.lemmas.Bool.{cases_Bool, eq-eqb, eqb-true, le-ltb, lt-ltb, ne_eqb}
-use Rattle.std.proofs.lemmas.Fmt.{length-decimal-le}
-use Rattle.lk_locks.specs.Sequential.{Sequential, IsAscending, has, is_head, joined, left_by}
-use Rattle.lk_locks.proofs.Ascending.{all_joined, below_member}
+use Rattle.std.proofs.lemmas.Bool.{cases_Bool, eqb-true, le-ltb, lt-ltb, ltb-false, or_parts}
+use Rattle.std.proofs.lemmas.Bool.{ltb-true, ne_eqb}
+use Rattle.std.proofs.lemmas.Bool.Decides.{nat_tests}
+use Rattle.std.proofs.lemmas.Fmt.{decimal_digit, length-decimal-le}
+use Rattle.lk_locks.specs.Sequential.{IsAscending, has, is_head, joined, left_by}
+use Rattle.lk_locks.proofs.Ascending.{below_member}
 use Rattle.std.proofs.lemmas.Grind.{flat_map-append}
-use Rattle.lk_replay.specs.Following.{below, bits_of, AreListed}
+use Rattle.lk_replay.specs.Occupancy.{IsQueue, below, numbers_from, numbers_in}
 use Rattle.lk_replay.specs.Report.{later_numbers, queue_text}
+use Rattle.lk_replay.proofs.Digits.{two_digits}
 
 pub later_append : (xs ys : List ℕ)
     → later_numbers (xs ++ ys) ≡ later_numbers xs ++ later_numbers ys
 later_append xs ys = flat_map-append (λ (n : ℕ). 44 ∷ decimal n) xs ys
 
-abbrev pub AreBytes : List ℕ → Type 0
-AreBytes xs = AllByRecursion (λ t. t < 256) xs
-
--- what follows from a fact of each
-pub each : (P Q : ℕ → Type 0) → ((u : ℕ) → P u → Q u) → (xs : List ℕ) → AllByRecursion P xs
-    → AllByRecursion Q xs
-each P Q follows [] all = tt
-each P Q follows (x ∷ xs) (here, rest) = (follows x here, each P Q follows xs rest)
+abbrev pub AreThreads : List ℕ → Type 0
+AreThreads xs = AllByRecursion (λ t. t < 64) xs
 
 -- each number has at most three digits and a comma
-pub later_most : (xs : List ℕ) → AreBytes xs → length (later_numbers xs) ≤ 4 * length xs
+pub later_most : (xs : List ℕ) → AreThreads xs → length (later_numbers xs) ≤ 4 * length xs
 later_most [] a = omega arith
 later_most (x ∷ xs) (b, a) =
     omega (
@@ -37,12 +34,79 @@ later_most (x ∷ xs) (b, a) =
       length-append (decimal x) (later_numbers xs),
     )
 
--- the head is first
-pub head_listed : (queue text : List ℕ) (t gone : ℕ) → is_head queue t ≡ true
-    → text ≡ later_numbers queue → gone ≡ length (decimal t) + 1
-    → (gone ≤ length text) × (drop gone text ≡ later_numbers (drop 1 queue))
-head_listed [] text t gone head is wide = cc
-head_listed (x ∷ xs) text t gone head is wide =
+-- ---- the numbers of a text
+
+-- one more digit, which is no comma
+digit_read : (n d : ℕ) (rest : List ℕ)
+    → numbers_from n ((48 + d) ∷ rest) ≡ numbers_from (n * 10 + d) rest
+digit_read n d rest =
+    rw (ne_eqb (48 + d) 44 (λ is. omega (arith, is)))
+    (ap (λ (m : ℕ). numbers_from m rest) (omega arith))
+
+-- the digits of a thread's number
+number_read : (x : ℕ) (rest : List ℕ) → x < 64
+    → numbers_from 0 (decimal x ++ rest) ≡ numbers_from x rest
+number_read x rest small = elim (cases_Bool (nat_lt x 10)) [
+  | inl low ↦
+      ap (λ (ds : List ℕ). numbers_from 0 (ds ++ rest)) (decimal_digit x (ltb-true x 10 low))
+      ∙ digit_read 0 x rest ∙ ap (λ (m : ℕ). numbers_from m rest) (omega arith)
+  | inr high ↦
+      ap (λ (ds : List ℕ). numbers_from 0 (ds ++ rest))
+      (two_digits x (ltb-false x 10 high) (omega (arith, small)))
+      ∙ digit_read 0 (x / 10) ((48 + x % 10) ∷ rest) ∙ digit_read (0 * 10 + x / 10) (x % 10) rest
+      ∙ ap (λ (m : ℕ). numbers_from m rest) (omega arith)
+]
+
+more_read : (x : ℕ) (xs : List ℕ) → AreThreads xs
+    → numbers_from x (later_numbers xs) ≡ x ∷ xs
+more_read x [] all = refl
+more_read x (y ∷ ys) (small, all) =
+    ap (λ (ns : List ℕ). x ∷ ns) (number_read y (later_numbers ys) small ∙ more_read y ys all)
+
+-- the numbers of a list's text are the list
+pub numbers_read : (xs : List ℕ) → AreThreads xs → numbers_in (later_numbers xs) ≡ xs
+numbers_read [] all = refl
+numbers_read (x ∷ xs) (small, all) = number_read x (later_numbers xs) small ∙ more_read x xs all
+
+-- ---- a queue
+
+pub is_queue : (xs text : List ℕ) → text ≡ later_numbers xs → AreThreads xs
+    → IsQueue text × (numbers_in text ≡ xs)
+is_queue xs text is all =
+    let same : numbers_in text ≡ xs = ap numbers_in is ∙ numbers_read xs all in
+    (record { listed = is ∙ ap later_numbers (sym same); fit = rw same all }, same)
+
+all_more : (xs : List ℕ) (t : ℕ) → AreThreads xs → t < 64 → AreThreads (xs ++ t ∷ [])
+all_more [] t all small = (small, tt)
+all_more (x ∷ xs) t (here, rest) small = (here, all_more xs t rest small)
+
+all_rest : (xs : List ℕ) → AreThreads xs → AreThreads (drop 1 xs)
+all_rest [] all = all
+all_rest (x ∷ xs) (here, rest) = rest
+
+-- a thread came last
+pub request_came : (text new : List ℕ) (t : ℕ) → IsQueue text → t < 64
+    → new ≡ text ++ (44 ∷ decimal t)
+    → IsQueue new × (numbers_in new ≡ numbers_in text ++ t ∷ [])
+request_came text new t q small is =
+    let xs = numbers_in text in
+    is_queue (xs ++ t ∷ []) new
+    (is ∙ ap (λ (ys : List ℕ). ys ++ (44 ∷ decimal t)) q.listed
+    ∙ ap (λ (ys : List ℕ). later_numbers xs ++ ys) (sym (append-nil (44 ∷ decimal t)))
+    ∙ sym (later_append xs (t ∷ [])))
+    (all_more xs t q.fit small)
+
+-- the head is first, and the rest is left
+pub record IsHeadText (text : List ℕ) (gone : ℕ) : Type 0 where
+  pub within : gone ≤ length text
+  pub queue : IsQueue (drop gone text)
+  pub rest : numbers_in (drop gone text) ≡ drop 1 (numbers_in text)
+
+head_text : (xs text : List ℕ) (t gone : ℕ) → is_head xs t ≡ true → text ≡ later_numbers xs
+    → gone ≡ length (decimal t) + 1
+    → (gone ≤ length text) × (drop gone text ≡ later_numbers (drop 1 xs))
+head_text [] text t gone head is wide = cc
+head_text (x ∷ xs) text t gone head is wide =
     let same = ap (λ (y : ℕ). length (decimal y)) (eqb-true t x head) in
     let place : length (44 ∷ decimal x) ≡ gone = omega arith in
     rw is (
@@ -50,173 +114,111 @@ head_listed (x ∷ xs) text t gone head is wide =
       drop_at (44 ∷ decimal x) (later_numbers xs) gone place,
     )
 
--- a list with a thread, cut before it
-pub record IsSplit (xs : List ℕ) (t : ℕ) : Type 0 where
-  pub after : List ℕ
-  pub whole : xs ≡ below xs t ++ t ∷ after
-  pub left : left_by xs t ≡ below xs t ++ after
+pub head_left : (text : List ℕ) (t gone : ℕ) → IsQueue text → is_head (numbers_in text) t ≡ true
+    → gone ≡ length (decimal t) + 1 → IsHeadText text gone
+head_left text t gone q head wide =
+    let xs = numbers_in text in
+    let (within, is) = head_text xs text t gone head q.listed wide in
+    let (queue, rest) = is_queue (drop 1 xs) (drop gone text) is (all_rest xs q.fit) in
+    record { within = within; queue = queue; rest = rest }
 
-pub split : (xs : List ℕ) (t : ℕ) → IsAscending xs → has xs t ≡ true → IsSplit xs t
-split [] t a h = cc
-split (x ∷ xs) t (b, a) h = elim (cases_Bool (eqb t x)) [
+-- ---- a list of readers, without a thread and with it
+
+-- both lists are cut where the thread's place is
+pub record AreCut (low less more : List ℕ) (t : ℕ) : Type 0 where
+  pub after : List ℕ
+  pub without : less ≡ low ++ after
+  pub with_it : more ≡ low ++ t ∷ after
+
+pub cut_to_leave : (xs : List ℕ) (t : ℕ) → IsAscending xs → has xs t ≡ true
+    → AreCut (below xs t) (left_by xs t) xs t
+cut_to_leave [] t a h = cc
+cut_to_leave (x ∷ xs) t (b, a) h = elim (cases_Bool (eqb t x)) [
   | inl e ↦ let same : t ≡ x = eqb-true t x e in
       let low : nat_lt x t ≡ false = le-ltb x t (omega (arith, same)) in
-      record {
-        after = xs;
-        whole = rw low (ap (λ (y : ℕ). y ∷ xs) (sym same));
-        left = rw (e, low) refl;
-      }
+      rw (e, low) (record { after = xs; without = refl; with_it = ap (λ (y : ℕ). y ∷ xs) (sym same) })
   | inr e ↦ let g : has (x ∷ xs) t ≡ true = h in
-      let more : IsSplit xs t = split xs t a (rw e at g) in
+      let cut = cut_to_leave xs t a (rw e at g) in
       let high : nat_lt x t ≡ true = lt-ltb x t (below_member xs x t b (rw e at g)) in
-      record {
-        after = more.after;
-        whole = rw high (ap (λ (ys : List ℕ). x ∷ ys) more.whole);
-        left = rw (e, high) (ap (λ (ys : List ℕ). x ∷ ys) more.left);
-      }
+      rw (e, high) (record {
+        after = cut.after;
+        without = ap (λ (ys : List ℕ). x ∷ ys) cut.without;
+        with_it = ap (λ (ys : List ℕ). x ∷ ys) cut.with_it;
+      })
 ]
 
--- the texts of the list with the thread, and without it
-record AreParts (xs : List ℕ) (t : ℕ) : Type 0 where
-  rest : List ℕ
-  whole : later_numbers xs ≡ later_numbers (below xs t) ++ ((44 ∷ decimal t) ++ rest)
-  left : later_numbers (left_by xs t) ≡ later_numbers (below xs t) ++ rest
+pub cut_to_join : (xs : List ℕ) (t : ℕ) → has xs t ≡ false
+    → AreCut (below xs t) xs (joined xs t) t
+cut_to_join [] t absent = record { after = []; without = refl; with_it = refl }
+cut_to_join (x ∷ xs) t absent =
+    let (differ, others) = or_parts (eqb t x) (has xs t) absent in
+    elim (cases_Bool (nat_lt x t)) [
+      | inl low ↦ let less : x < t = ltb-true x t low in
+          let cut = cut_to_join xs t others in
+          rw (low, le-ltb t x (omega (arith, less))) (record {
+            after = cut.after;
+            without = ap (λ (ys : List ℕ). x ∷ ys) cut.without;
+            with_it = ap (λ (ys : List ℕ). x ∷ ys) cut.with_it;
+          })
+      | inr high ↦ let less : t < x = grind (arith, nat_tests, high, differ) in
+          rw (high, lt-ltb t x less)
+          (record { after = x ∷ xs; without = refl; with_it = refl })
+    ]
 
-text_parts : (xs : List ℕ) (t : ℕ) → IsAscending xs → has xs t ≡ true → AreParts xs t
-text_parts xs t a h =
-    let s = split xs t a h in
-    record {
-      rest = later_numbers s.after;
-      whole = ap later_numbers s.whole ∙ later_append (below xs t) (t ∷ s.after);
-      left = ap later_numbers s.left ∙ later_append (below xs t) s.after;
-    }
-
--- a reader comes. The text without it has room for it
-pub record IsPutIn (xs text : List ℕ) (t at : ℕ) : Type 0 where
+-- the number is put in after the text of the threads below
+pub record IsPutIn (text more : List ℕ) (t at : ℕ) : Type 0 where
   pub within : at ≤ length text
-  pub room : length text ≤ 4 * length xs
-  pub whole : (take at text ++ (44 ∷ decimal t)) ++ drop at text ≡ later_numbers xs
+  pub whole : (take at text ++ (44 ∷ decimal t)) ++ drop at text ≡ later_numbers more
 
-pub reader_listed : (xs text : List ℕ) (t at : ℕ) → IsAscending xs
-    → AllByRecursion (λ u. u < 64) xs → has xs t ≡ true → text ≡ later_numbers (left_by xs t)
-    → at ≡ length (later_numbers (below xs t)) → IsPutIn xs text t at
-reader_listed xs text t at a fit h is place =
-    let up = later_numbers (below xs t) in
-    let number : List ℕ = 44 ∷ decimal t in
-    let p = text_parts xs t a h in
+pub put_in : (low less more text : List ℕ) (t at : ℕ) → AreCut low less more t
+    → text ≡ later_numbers less → at ≡ length (later_numbers low) → IsPutIn text more t at
+put_in low less more text t at cut is place =
+    let first = later_numbers low in
+    let rest = later_numbers cut.after in
+    let parts : text ≡ first ++ rest =
+    is ∙ ap later_numbers cut.without ∙ later_append low cut.after in
     record {
-      within = omega (arith, place, ap length (is ∙ p.left), length-append up p.rest);
-      room = omega (
-        arith,
-        later_most xs (each (λ u. u < 64) (λ u. u < 256) (λ u b. omega (arith, b)) xs fit),
-        ap length (is ∙ p.left),
-        ap length p.whole,
-        length-append up p.rest,
-        length-append up (number ++ p.rest),
-        length-append number p.rest,
-      );
+      within = omega (arith, place, ap length parts, length-append first rest);
       whole =
-          rw (
-            is ∙ p.left,
-            take_at up p.rest at (sym place),
-            drop_at up p.rest at (sym place),
-          )
-          (append_assoc up number p.rest ∙ sym p.whole);
+          rw (parts, take_at first rest at (sym place), drop_at first rest at (sym place))
+          (append_assoc first (44 ∷ decimal t) rest
+          ∙ sym (ap later_numbers cut.with_it ∙ later_append low (t ∷ cut.after)));
     }
 
--- a reader goes
-pub record IsTakenOut (xs text : List ℕ) (t at gone : ℕ) : Type 0 where
+-- the number is taken out there
+pub record IsTakenOut (text less : List ℕ) (at gone : ℕ) : Type 0 where
   pub within : at + gone ≤ length text
-  pub rest : take at text ++ drop (at + gone) text ≡ later_numbers (left_by xs t)
+  pub rest : take at text ++ drop (at + gone) text ≡ later_numbers less
 
-pub reader_gone : (xs text : List ℕ) (t at gone : ℕ) → IsAscending xs → has xs t ≡ true
-    → text ≡ later_numbers xs → at ≡ length (later_numbers (below xs t))
-    → gone ≡ length (decimal t) + 1 → IsTakenOut xs text t at gone
-reader_gone xs text t at gone a h is place wide =
-    let up = later_numbers (below xs t) in
+pub taken_out : (low less more text : List ℕ) (t at gone : ℕ) → AreCut low less more t
+    → text ≡ later_numbers more → at ≡ length (later_numbers low)
+    → gone ≡ length (decimal t) + 1 → IsTakenOut text less at gone
+taken_out low less more text t at gone cut is place wide =
+    let first = later_numbers low in
+    let rest = later_numbers cut.after in
     let number : List ℕ = 44 ∷ decimal t in
-    let p = text_parts xs t a h in
-    let end : length (up ++ number) ≡ at + gone =
-    omega (arith, place, wide, length-append up number) in
-    let whole = is ∙ p.whole ∙ sym (append_assoc up number p.rest) in
+    let end : length (first ++ number) ≡ at + gone =
+    omega (arith, place, wide, length-append first number) in
+    let whole : text ≡ (first ++ number) ++ rest =
+    is ∙ ap later_numbers cut.with_it ∙ later_append low (t ∷ cut.after)
+    ∙ sym (append_assoc first number rest) in
     record {
-      within = omega (arith, end, ap length whole, length-append (up ++ number) p.rest);
+      within = omega (arith, end, ap length whole, length-append (first ++ number) rest);
       rest =
           rw (
             whole,
-            drop_at (up ++ number) p.rest (at + gone) end,
-            append_assoc up number p.rest,
-            take_at up (number ++ p.rest) at (sym place),
+            drop_at (first ++ number) rest (at + gone) end,
+            append_assoc first number rest,
+            take_at first (number ++ rest) at (sym place),
           )
-          (sym p.left);
+          (sym (ap later_numbers cut.without ∙ later_append low cut.after));
     }
-
--- ---- the lists after an act
-
--- who joins is in the list, and the list without it is the one before
-has_joined : (xs : List ℕ) (t : ℕ) → has (joined xs t) t ≡ true
-has_joined [] t = rw (eq-eqb t t refl) refl
-has_joined (x ∷ xs) t = elim (cases_Bool (nat_lt t x)) [
-  | inl h ↦ rw (h, eq-eqb t t refl) refl
-  | inr h ↦ rw h (elim (cases_Bool (eqb t x)) [
-    | inl e ↦ rw e refl
-    | inr e ↦ rw e (has_joined xs t)
-  ])
-]
-
-left_joined : (xs : List ℕ) (t : ℕ) → IsAscending (joined xs t) → left_by (joined xs t) t ≡ xs
-left_joined [] t a = rw (eq-eqb t t refl) refl
-left_joined (x ∷ xs) t a = elim (cases_Bool (nat_lt t x)) [
-  | inl h ↦ rw (h, eq-eqb t t refl) refl
-  | inr h ↦
-      let up : IsAscending (joined (x ∷ xs) t) = a in
-      let parts : IsAscending (x ∷ joined xs t) = rw h at up in
-      let differ : eqb t x ≡ false =
-      ne_eqb t x (λ e. omega (
-        arith,
-        e,
-        below_member (joined xs t) x t parts.0 (has_joined xs t),
-      )) in
-      rw (h, differ) (ap (λ (ys : List ℕ). x ∷ ys) (left_joined xs t parts.1))
-]
-
--- the texts and the bits as they are before the thread that joined is listed
-pub record HasJoined (now text : List ℕ) (bits t : ℕ) : Type 0 where
-  pub fit : AllByRecursion (λ u. u < 64) now
-  pub member : has now t ≡ true
-  pub listed : text ≡ later_numbers (left_by now t)
-  pub bits_are : bits ≡ bits_of (left_by now t)
-
-pub has_come : (q : Sequential) (requests text now : List ℕ) (bits t : ℕ)
-    → AreListed q requests text bits → now ≡ joined q.readers t → IsAscending now → t < 64
-    → HasJoined now text bits t
-has_come q requests text now bits t l joins ascending small =
-    let left = left_joined q.readers t (rw joins at ascending) in
-    rw joins (record {
-      fit = all_joined (λ u. u < 64) q.readers t small l.readers_fit;
-      member = has_joined q.readers t;
-      listed = l.readers_are ∙ ap later_numbers (sym left);
-      bits_are = l.bits_are ∙ ap bits_of (sym left);
-    })
-
--- the lists after a reader came or left
-pub readers_changed : (q r : Sequential) (requests text new now : List ℕ) (bits more : ℕ)
-    → AreListed q requests text bits → r.queue ≡ q.queue → now ≡ r.readers
-    → AllByRecursion (λ u. u < 64) now → new ≡ later_numbers now → more ≡ bits_of now
-    → AreListed r requests new more
-readers_changed q r requests text new now bits more l same are fit is bits_are = record {
-  requests_are = l.requests_are ∙ ap later_numbers (sym same);
-  readers_are = is ∙ ap later_numbers are;
-  bits_are = bits_are ∙ ap bits_of are;
-  requests_fit = subst AreBytes (sym same) l.requests_fit;
-  readers_fit = subst (AllByRecursion (λ (u : ℕ). u < 64)) are fit;
-}
 
 -- ---- the lists as they are shown
 
-pub none_listed : (xs text : List ℕ) → text ≡ later_numbers xs → length text ≡ 0 → xs ≡ []
-none_listed [] text is none = refl
-none_listed (x ∷ xs) text is none = absurd (omega (arith, ap length is))
+pub none_listed : (text : List ℕ) → length text ≡ 0 → numbers_in text ≡ []
+none_listed [] none = refl
+none_listed (c ∷ cs) none = absurd (omega (arith, none))
 
 pub queue_shown : (xs text : List ℕ) → text ≡ later_numbers xs → 0 < length text
     → drop 1 text ≡ queue_text xs

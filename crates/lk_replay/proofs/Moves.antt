@@ -1,14 +1,16 @@
 -- What one line does to what is read.
 use Rattle.std.proofs.Common.{◌≡◌, ℕ, ◌+◌, List, [], ◌∷◌, ◌++◌, Option, Some, None, Result}
 use Rattle.std.proofs.Common.{Ok, Err, Bool, true, false, ◌==◌, cond, ◌∙◌}
-use Rattle.std.proofs.lemmas.Bool.{cond-false}
+use Rattle.std.proofs.Common.{eq-eqb}
+use Rattle.std.proofs.lemmas.Bool.{cond-false, cond-true, ne_eqb}
 use Rattle.lk_replay.specs.declared.schedule.Line.{Line}
 use Rattle.lk_locks.specs.declared.kinds.Move.{Move}
-use Rattle.lk_replay.specs.Faults.{Fault}
+use Rattle.lk_replay.specs.Faults.{Fault, TooManyMoves}
+use Rattle.lk_replay.specs.FirstMove.{IsNextMove}
 use Rattle.lk_replay.specs.Reads.{WantsMemory}
-use Rattle.lk_replay.specs.Schedule.{moves_from, moves_after, move_of}
+use Rattle.lk_replay.specs.Schedule.{moves_from, moves_after, move_of, with_line}
 use Rattle.lk_replay.proofs.Skipped.{moves_skip}
-use Rattle.lk_replay.specs.Lines.{SkipsTo, is_skipped}
+use Rattle.lk_replay.specs.Lines.{Numbered, SkipsTo, is_skipped}
 
 -- what is read from the rest, after these lines
 abbrev pub with_lines : List Line → Result (List Line) Fault → Result (List Line) Fault
@@ -28,6 +30,31 @@ pub line_read : (from taken number : ℕ) (lines : List (List ℕ)) (line : List
     ≡ moves_after move number (taken == 65536) (moves_from (number + 1) (taken + 1) others)
 line_read from taken number lines line others move skips read is =
     rw (← is) (moves_skip from taken number lines (line ∷ others) skips ∙ cond-false _ _ _ read)
+
+-- no line is left but such as are skipped
+pub none_read : (from taken number : ℕ) (lines others : List (List ℕ))
+    → (others ≡ []) × SkipsTo from lines number [] → moves_from from taken lines ≡ Ok []
+none_read from taken number lines others (none, skips) =
+    moves_skip from taken number lines [] skips
+
+-- the next move is read, and then the moves of the other lines
+pub next_read : (old new : Numbered) (line : Line) (taken : ℕ)
+    → IsNextMove old line.number line.thread line.action new → (taken ≡ 65536 → ⊥)
+    → moves_from old.number taken old.lines
+    ≡ with_line line (moves_from new.number (taken + 1) new.lines)
+next_read old new line taken next room =
+    rw next.counted
+    (line_read old.number taken line.number old.lines next.line new.lines
+    (Some (line.thread, line.action)) next.found next.read next.move
+    ∙ cond-false _ _ _ (ne_eqb taken 65536 room))
+
+pub too_many : (old new : Numbered) (line : Line) (taken : ℕ)
+    → IsNextMove old line.number line.thread line.action new → taken ≡ 65536
+    → moves_from old.number taken old.lines ≡ Err (TooManyMoves line.number)
+too_many old new line taken next full =
+    line_read old.number taken line.number old.lines next.line new.lines
+    (Some (line.thread, line.action)) next.found next.read next.move
+    ∙ cond-true _ _ _ (eq-eqb taken 65536 full)
 
 wanted : (skipped full : Bool) (move : Option (ℕ × Move)) (number : ℕ)
     (rest others : Result (List Line) Fault) → WantsMemory rest → WantsMemory others

@@ -69,6 +69,11 @@ pub told : {T : Type 0} (r : Result T RunFault) (P : Type 0) → P → OnErr r P
 told (Ok _) P fact = tt
 told (Err _) P fact = fact
 
+pub at_error : {T : Type 0} (r : Result T RunFault) (fault : RunFault) (P : Type 0)
+    → r ≡ Err fault → OnErr r P → P
+at_error (Ok _) fault P is fact = absurd (cc)
+at_error (Err _) fault P is fact = fact
+
 -- ---- of a whole batch
 
 -- a part of it went on its way, and then a prefix of what follows went out
@@ -81,46 +86,41 @@ prefix_of_whole whole done waits text rest old mid new passed prefix parts =
     ∙ parts) (prefix_of_more [] (done ++ text) rest old new
     (prefix_after [] done waits text old mid new passed prefix))
 
--- some of it went, or waits, and the rest is left
-pub record IsUnderWay (whole rest waits : List ℕ) (old new : Option (List ℕ)) : Type 0 where
+-- some of it went, and the rest is left
+pub record IsUnderWay (whole rest : List ℕ) (old new : Option (List ℕ)) : Type 0 where
   pub done : List ℕ
-  pub passed : Passes [] old done waits new
+  pub sent : Appends old new done
   pub parts : done ++ rest ≡ whole
 
-pub goes_on : (whole rest between text more waits : List ℕ) (old mid new : Option (List ℕ))
-    → IsUnderWay whole rest between old mid → rest ≡ text ++ more
-    → Passes between mid text waits new → IsUnderWay whole more waits old new
-goes_on whole rest between text more waits old mid new way is passes = record {
+pub goes_on : (whole rest text more : List ℕ) (old mid new : Option (List ℕ))
+    → IsUnderWay whole rest old mid → rest ≡ text ++ more → Appends mid new text
+    → IsUnderWay whole more old new
+goes_on whole rest text more old mid new way is sent = record {
   done = way.done ++ text;
-  passed = passes_on [] way.done between text waits old mid new way.passed passes;
+  sent = Appends-trans old mid new way.done text way.sent sent;
   parts = append_assoc way.done text more ∙ ap (λ l. way.done ++ l) (sym is) ∙ way.parts;
 }
 
--- a line waits after what waited
-pub printed : (whole lines last between waits rest same : List ℕ) (old mid : Option (List ℕ))
-    → IsUnderWay whole (lines ++ last) between old mid
-    → (line : List ℕ) × (waits ≡ between ++ line) × (lines ≡ line ++ rest) → same ≡ last
-    → IsUnderWay whole (rest ++ same) waits old mid
-printed whole lines last between waits rest same old mid way (line, grown, is) kept =
-    rw (grown, kept)
-    (goes_on whole (lines ++ last) between line (rest ++ last) (between ++ line) old mid mid way
-    (ap (λ l. l ++ last) is ∙ append_assoc line rest last) (passes_kept between line mid))
+-- all of it went
+pub arrived : (whole rest : List ℕ) (old new : Option (List ℕ)) → IsUnderWay whole rest old new
+    → rest ≡ [] → Appends old new whole
+arrived whole rest old new way none =
+    subst (Appends old new)
+    (sym (append-nil way.done) ∙ ap (λ l. way.done ++ l) (sym none) ∙ way.parts) way.sent
 
--- no line is left but the last
-pub last_left : (lines last text : List ℕ) → lines ≡ [] → text ≡ last → lines ++ last ≡ text ++ []
-last_left lines last text none is = rw (none, is) (sym (append-nil last))
-
--- a prefix of what waited and the next text went out, or of what waited
-pub cut_short : (whole rest waits text more : List ℕ) (old mid new : Option (List ℕ))
-    → IsUnderWay whole rest waits old mid → rest ≡ text ++ more
-    → AppendsPrefix mid new (waits ++ text) → AppendsPrefix old new whole
-cut_short whole rest waits text more old mid new way is prefix =
-    prefix_of_whole whole way.done waits text more old mid new way.passed prefix
-    (ap (λ l. way.done ++ l) (sym is) ∙ way.parts)
-
-pub cut_waiting : (whole rest waits : List ℕ) (old mid new : Option (List ℕ))
-    → IsUnderWay whole rest waits old mid → AppendsPrefix mid new waits
+-- a prefix of the next text went
+pub cut_short : (whole rest text more : List ℕ) (old mid new : Option (List ℕ))
+    → IsUnderWay whole rest old mid → rest ≡ text ++ more → AppendsPrefix mid new text
     → AppendsPrefix old new whole
-cut_waiting whole rest waits old mid new way prefix =
-    cut_short whole rest waits [] rest old mid new way refl
-    (subst (AppendsPrefix mid new) (sym (append-nil waits)) prefix)
+cut_short whole rest text more old mid new way is (n, within, appends) =
+    let parts : way.done ++ (text ++ more) ≡ whole =
+    ap (λ l. way.done ++ l) (sym is) ∙ way.parts in
+    subst (AppendsPrefix old new) parts (
+      length way.done + n,
+      omega (arith, within, length-append way.done (text ++ more), length-append text more),
+      rw (
+        take-append-add way.done (text ++ more) n,
+        take-append-le n text more within,
+      )
+          (Appends-trans old mid new way.done _ way.sent appends),
+    )

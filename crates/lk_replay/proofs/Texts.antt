@@ -25,12 +25,15 @@ written_in xs now post tail at len cap within fits room =
     rw (take-take, append_assoc (take at xs) (now ++ post) tail, append_assoc now post tail)
     (written_after xs now (post ++ tail) at len within fits)
 
--- the same of a block that is copied whole
-pub block_pushed : (xs now block : List ℕ) (at len wide : ℕ) → now ≡ block → length block ≡ wide
-    → len ≤ wide → at ≤ length xs
+-- the same of a block, of which `wide` bytes were copied
+pub block_pushed : (xs now block : List ℕ) (at len wide : ℕ) → now ≡ take wide block
+    → wide ≤ length block → len ≤ wide → at ≤ length xs
     → take (at + len) (put_mid at (at + wide - at) xs now) ≡ take at xs ++ take len block
 block_pushed xs now block at len wide is size fits within =
-    rw is (written_after xs block (post_of at (at + wide - at) xs) at len within (omega arith))
+    let copied = length-take-le wide block size in
+    rw is (written_after xs (take wide block) (post_of at (at + wide - at) xs) at len within
+    (omega (arith, copied, fits)))
+    ∙ ap (λ (ys : List ℕ). take at xs ++ ys) (take-take len wide block fits)
 
 -- digits that were written after those before them
 pub digits_written : (xs now digits : List ℕ) (from at wide : ℕ) → from ≡ at → wide ≡ length digits
@@ -49,11 +52,11 @@ pub rest_put : (place now bytes text : List ℕ) (at len wide : ℕ) → now ≡
     → take (at + (len - 1)) (put_mid at (at + wide - at) place now) ≡ take at place ++ drop 1 text
 rest_put place now bytes text at len wide is most fit fits within some whole =
     let all : 1 + (len - 1) ≡ len = omega (arith, ap length whole, length-take-le len bytes fit) in
-    let size = length-take-le wide (drop 1 bytes) (omega (arith, length-drop 1 bytes)) in
-    block_pushed place now (take wide (drop 1 bytes)) at (len - 1) wide is size fits within
+    block_pushed place now (drop 1 bytes) at (len - 1) wide is
+    (omega (arith, most, length-drop 1 bytes)) fits within
     ∙ ap (λ (ys : List ℕ). take at place ++ ys)
-    (take-take (len - 1) wide (drop 1 bytes) fits ∙ sym (drop-take 1 (len - 1) bytes)
-    ∙ ap (λ (k : ℕ). drop 1 (take k bytes)) all ∙ ap (drop 1) whole)
+    (sym (drop-take 1 (len - 1) bytes) ∙ ap (λ (k : ℕ). drop 1 (take k bytes)) all
+    ∙ ap (drop 1) whole)
 
 -- bytes taken out
 pub removed : (xs now : List ℕ) (at count len : ℕ) → at + count ≤ len → len ≤ length xs

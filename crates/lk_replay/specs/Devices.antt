@@ -1,5 +1,5 @@
--- Definitions: what a reader or a writer holds after a transfer that may have stopped. This
--- project's own, over std's words for a device whose bytes are known.
+-- Definitions: what a reader or a writer holds after a transfer that may have stopped, over std's
+-- words for a device whose bytes are known.
 use Rattle.std.specs.Prelude.{◌≡◌, ℕ, ◌≤◌, List, ◌++◌, length, take, Option, Result, Err}
 use Rattle.std.specs.Io.KnownBytes.{Appends}
 use Rattle.lk_replay.specs.declared.devices.RunFault.{RunFault}

@@ -1,4 +1,4 @@
--- Definitions: the numbers that decimal digits write. This project's own.
+-- Definitions: the numbers that decimal digits write.
 use Rattle.std.specs.Prelude.{ℕ, ◌+◌, ◌-◌, ◌*◌, List, [], ◌∷◌, Option, Some, None, Bool}
 use Rattle.std.specs.Prelude.{if◌then◌else◌, ◌==◌, ◌&&◌, ◌||◌, not, length, nat_lt, nat_le}
 use Rattle.std.specs.Prelude.{slice_index}

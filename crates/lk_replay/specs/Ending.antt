@@ -1,8 +1,9 @@
--- Definitions: how a report ends, by its last line. This project's own.
-use Rattle.std.specs.Prelude.{ℕ, List, [], ◌∷◌, Bool, not, if◌then◌else◌, codes, nat_eq}
+-- Definitions: how a report ends, by its last line.
+use Rattle.std.specs.Prelude.{ℕ, List, [], ◌∷◌, if◌then◌else◌, codes, nat_eq, Option, None, Some}
 use Rattle.std.specs.Prelude.{Result, Ok, Err}
-use Rattle.std.specs.List.{list_all, starts_with}
-use Rattle.lk_replay.specs.Lines.{is_line_feed, lines_of}
+use Rattle.std.specs.List.{starts_with}
+use Rattle.lk_locks.specs.declared.kinds.Refusal.{Refusal}
+use Rattle.lk_replay.specs.Lines.{lines_of}
 use Rattle.lk_replay.specs.declared.devices.RunFault.{RunFault}
 use Rattle.lk_replay.specs.declared.ending.Ending.{Ending}
 use Rattle.lk_replay.specs.declared.ending.Ending.TheVariants.{Accepted, Refused, Faulty}
@@ -18,13 +19,14 @@ ending_of_line line =
     if starts_with nat_eq line (codes "end ") then Accepted else
     if starts_with nat_eq line (codes "refused ") then Refused else Faulty
 
--- no byte of a text is a line feed
-abbrev pub is_line : List ℕ → Bool
-is_line text = list_all (λ b. not (is_line_feed b)) text
-
 -- how the text of a report ends
 unfoldable pub ending_of : List ℕ → Ending
 ending_of report = ending_of_line (last_of (lines_of report))
+
+-- how a replay ends
+abbrev pub ending_by : Option (ℕ × Refusal) → Ending
+ending_by None = Accepted
+ending_by (Some refused) = Refused
 
 -- the exit status of a run
 abbrev pub status_of : Result Ending RunFault → ℕ

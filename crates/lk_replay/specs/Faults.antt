@@ -1,4 +1,4 @@
--- Definitions: why a text is no schedule. This project's own.
+-- Definitions: why a text is no schedule.
 use Rattle.std.specs.Prelude.{ℕ}
 
 -- What is wrong with a text, with the number of the line. The program's `ReadFault` has these and

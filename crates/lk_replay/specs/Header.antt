@@ -1,5 +1,5 @@
 -- Definitions: the first line of a schedule text, `lock NAME threads N` or `lock NAME threads N
--- bits B`. This project's own.
+-- bits B`.
 use Rattle.std.specs.Prelude.{ℕ, ◌^◌, List, [], ◌∷◌, Option, Some, None, if◌then◌else◌, ◌&&◌}
 use Rattle.std.specs.Prelude.{nat_lt, codes, Result, Ok, Err}
 use Rattle.std.specs.Option.{option_map, option_zip}

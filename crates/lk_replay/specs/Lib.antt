@@ -4,13 +4,13 @@ pub mod Vocabulary
 pub mod Faults
 pub mod Header
 pub mod Schedule
+pub mod FirstMove
 pub mod Reads
 pub mod Replay
 pub mod Report
-pub mod Following
-pub mod Printing
-pub mod Whole
 pub mod Ending
+pub mod Occupancy
+pub mod ReportRest
+pub mod Whole
 pub mod Devices
-pub mod Reading
 pub mod Unreadable

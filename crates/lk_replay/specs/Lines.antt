@@ -1,5 +1,4 @@
--- Definitions: the lines of a text and the words of a line. This project's own; the cut at each
--- line feed is POSIX's.
+-- Definitions: the lines of a text, as POSIX cuts it at each line feed, and the words of a line.
 use Rattle.std.specs.Prelude.{◌≡◌, ℕ, ◌+◌, List, [], ◌∷◌, ◌++◌, Bool, true, ◌==◌, ◌||◌, length}
 use Rattle.std.specs.Prelude.{slice_index}
 use Rattle.std.specs.List.{list_all, slice_split}

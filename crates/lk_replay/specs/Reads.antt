@@ -1,8 +1,8 @@
--- Definitions: how the answer of a call that reads a text relates to what the text says. This
--- project's own.
-use Rattle.std.specs.Prelude.{◌≡◌, Result, Ok, Err}
+-- Definitions: how the answer of a call that reads a text relates to what the text says.
+use Rattle.std.specs.Prelude.{◌≡◌, ℕ, List, [], ◌∷◌, length, Option, None, Some, Result, Ok, Err}
 use Rattle.lk_replay.specs.Faults.{Fault}
 use Rattle.lk_replay.specs.Faults as text
+use Rattle.lk_replay.specs.declared.schedule.Line.{Line}
 use Rattle.lk_replay.specs.declared.schedule.ReadFault.{ReadFault}
 use Rattle.lk_replay.specs.declared.schedule.ReadFault.TheVariants.{TooLong, NoHeader, BadHeader}
 use Rattle.lk_replay.specs.declared.schedule.ReadFault.TheVariants.{BadThreads, BadLine}
@@ -32,3 +32,24 @@ Fails OutOfMemory read = WantsMemory read
 abbrev pub Gives : {X Y : Type 0} → (X → Y) → Result X ReadFault → Result Y Fault → Type 0
 Gives view (Ok x) read = read ≡ Ok (view x)
 Gives view (Err fault) read = Fails fault read
+
+-- ---- reading without memory
+
+-- a fault that a text can have
+abbrev pub IsOfText : ReadFault → Type 0
+IsOfText OutOfMemory = ⊥
+IsOfText fault = Unit {0}
+
+-- how many moves were read
+abbrev pub move_count : Result (List Line) Fault → Result ℕ Fault
+move_count (Ok moves) = Ok (length moves)
+move_count (Err fault) = Err fault
+
+-- the moves that were read, if there is no fault
+abbrev pub moves_in : Result (List Line) Fault → List Line
+moves_in (Ok moves) = moves
+moves_in (Err fault) = []
+
+abbrev pub first_of : List Line → Option Line
+first_of [] = None
+first_of (line ∷ lines) = Some line

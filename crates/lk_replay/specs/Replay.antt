@@ -1,5 +1,5 @@
--- Definitions: the replay of a schedule, its moves in order up to the first refused one. This
--- project's own; what a move does is said by the definitions of the locks alone.
+-- Definitions: the replay of a schedule, its moves in order up to the first refused one. The
+-- definitions of the locks alone say what a move does.
 use Rattle.std.specs.Prelude.{ℕ, List, [], ◌∷◌, map, Option, None, Some, replicate}
 use Rattle.std.specs.List.{flat_map}
 use Rattle.lk_locks.specs.State.{State, start}

@@ -1,5 +1,5 @@
--- Definitions: the report text of a schedule text. This project's own. Who holds and who waits is
--- read off the entries so far, never off words or phases.
+-- Definitions: the report text of a schedule text. Who holds and who waits is read off the entries
+-- so far, never off words or phases.
 use Rattle.std.specs.Prelude.{ℕ, ◌+◌, List, [], ◌∷◌, ◌++◌, Option, None, Some, Result, Ok, Err}
 use Rattle.std.specs.Prelude.{codes, decimal}
 use Rattle.std.specs.List.{flat_map}
@@ -48,8 +48,8 @@ unfoldable pub state_text : LockKind → List Entry → List ℕ
 state_text kind es = shown_text (holding_of kind es) (waiting_of kind es)
 
 -- `K T WORD OUTCOME hold `
-unfoldable pub move_text : ℕ → Accepted → List ℕ
-move_text count a =
+unfoldable pub line_start : ℕ → Accepted → List ℕ
+line_start count a =
     decimal count ++ codes " " ++ decimal a.thread ++ codes " " ++ move_word a.action ++ codes " "
     ++ outcome_word a.outcome ++ codes " hold "
 
@@ -72,7 +72,7 @@ last_line count (Some refused) =
 abbrev pub lines_text : LockKind → ℕ → List Entry → List Made → Option (ℕ × Refusal) → List ℕ
 lines_text kind count es [] refused = last_line count refused
 lines_text kind count es (m ∷ ms) refused =
-    (move_text (count + 1) m.accepted ++ state_text kind (es ++ m.entries))
+    (line_start (count + 1) m.accepted ++ state_text kind (es ++ m.entries))
     ++ lines_text kind (count + 1) (es ++ m.entries) ms refused
 
 abbrev pub replay_text : LockKind → Replay → List ℕ

@@ -1,4 +1,4 @@
--- Definitions: the schedule that a text has, or else its one fault. This project's own.
+-- Definitions: the schedule that a text has, or else its one fault.
 use Rattle.std.specs.Prelude.{ℕ, ◌+◌, List, [], ◌∷◌, Option, Some, None, Bool, if◌then◌else◌, ◌==◌}
 use Rattle.std.specs.Prelude.{length, nat_lt, Result, Ok, Err}
 use Rattle.std.specs.Option.{option_zip}

@@ -1,4 +1,4 @@
--- Definitions: the first place of a line at which something else is expected. This project's own.
+-- Definitions: the first place of a line at which something else is expected.
 use Rattle.std.specs.Prelude.{ℕ, ◌+◌, List, [], ◌∷◌, Option, Some, None, Bool, true, false, is_some}
 use Rattle.std.specs.Prelude.{if◌then◌else◌, codes, length, Result, Ok, Err}
 use Rattle.std.specs.Str.{bytes_eq}

@@ -1,5 +1,4 @@
--- Definitions: the numbers and the names of a schedule text, and what they mean. This
--- project's own.
+-- Definitions: the numbers and the names of a schedule text, and what they mean.
 use Rattle.std.specs.Prelude.{ℕ, List, [], ◌∷◌, Option, Some, None, if◌then◌else◌, ◌&&◌, nat_le}
 use Rattle.std.specs.Prelude.{codes, find}
 use Rattle.std.specs.Str.{bytes_eq}

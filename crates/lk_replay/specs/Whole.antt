@@ -1,5 +1,5 @@
--- Definitions: the theorem from bytes to bytes. A report describes a history that keeps
--- the whole theorem. This project's own.
+-- Definitions: the theorem from bytes to bytes. A report describes a history that keeps the whole
+-- theorem.
 use Rattle.std.specs.Prelude.{◌≡◌, ℕ, List, [], map, Option, Ok}
 use Rattle.std.specs.Io.KnownBytes.{Appends}
 use Rattle.lk_locks.specs.MainTheorem.{IsAsPromised}

@@ -6,7 +6,7 @@ ghost use Rattle.std.specs.Option.{option_zip};
 ghost use Rattle.lk_replay.specs.Lines.{words_of};
 ghost use Rattle.lk_replay.specs.Header.{size_of_words, shape_of_words, header_of};
 ghost use Rattle.lk_replay.specs.Reads.{Gives};
-ghost use Rattle.lk_replay.specs.Reading.{IsOfText};
+ghost use Rattle.lk_replay.specs.Reads.{IsOfText};
 
 use crate::ReadFault;
 use crate::lines::cut_word;

@@ -3,8 +3,13 @@
 ghost use Rattle.std.specs.Prelude.{◌≡◌, [], ◌==◌, ◌∷◌, ◌+◌, ◌<◌, MatchOption, IfSome, length};
 ghost use Rattle.std.specs.Prelude.{◌^◌, IfNone, false};
 ghost use Rattle.std.specs.List.{slice_split};
+ghost use Rattle.lk_replay.specs.FirstMove.{IsNextMove};
 ghost use Rattle.lk_replay.specs.Lines.{lines_of, words_of, is_skipped, Numbered, SkipsTo};
 
+mod first_move;
+
+use first_move::first_move;
+use lk_locks::Move;
 use std::marker::Model;
 
 /// The text before the first such byte, and the text after it. Lines and words are short, so one
@@ -80,7 +85,7 @@ impl<'a> Lines<'a> {
         }
     }
 
-    /// The same lines once more, for who goes through them twice.
+    /// The same lines, to go through them a second time.
     pub fn copy(&self) -> Lines<'a>
         ensures { result ≡ self.now }
     {
@@ -95,6 +100,19 @@ impl<'a> Lines<'a> {
         ensures { result ≡ self.now.number }
     {
         self.number
+    }
+
+    /// The next line's number and move, if it is a move as most are. Else nothing was read.
+    pub(crate) fn next_move(&mut self) -> Option<(u32, u8, Move)>
+        ensures read { IfSome result (λ read.
+            IsNextMove self.old read.0 read.1 read.2 self.new) }
+        ensures none { IfNone result (self.new ≡ self.old) }
+    {
+        let (thread, action, rest) = first_move(self.rest)?;
+        let number = self.number;
+        self.rest = rest;
+        self.number = number + 1;
+        Some((number, thread, action))
     }
 
     /// The next line that is not skipped, and its number. After the last one no line is left.

@@ -3,13 +3,12 @@
 //!
 //! It is std's `BufWriter` with a contract that says what was written if a write fails.
 
-ghost use Rattle.std.specs.Prelude.{◌≡◌, ℕ, List, ◌+◌, ◌++◌, ◌<◌, ◌≤◌, [], length, IfErr, IfOk};
-ghost use Rattle.std.specs.Prelude.{MatchBool, OnErr, OnOk, take};
+ghost use Rattle.std.specs.Prelude.{◌≡◌, ℕ, List, ◌++◌, ◌≤◌, [], length, IfErr, IfOk, OnErr, OnOk};
+ghost use Rattle.std.specs.Prelude.{take};
 ghost use Rattle.std.specs.Io.KnownBytes.{Appends};
 ghost use Rattle.lk_replay.specs.Devices.{AppendsPrefix, Passes};
 
 use crate::devices::{RunFault, send, write_whole};
-use crate::report::{LEAST_PLACE, Replay};
 use std::alloc::{AllocError, Global};
 use std::io::Write;
 use std::marker::Model;
@@ -74,37 +73,6 @@ impl OutputBuffer {
         self.bytes[self.len..end].copy_from_slice(bytes);
         self.len = end;
         Ok(())
-    }
-
-    // Writes what waits, if a line might have no room after it.
-    pub(crate) fn make_room<W: Write>(&mut self, output: &mut W) -> Result<(), RunFault>
-        ensures passed { OnOk result
-            (Passes self.old (W.contents output.old) [] self.new (W.contents output.new)) }
-        ensures room { OnOk result (length self.new + 448 ≤ 65536) }
-        ensures prefix { OnErr result
-            (AppendsPrefix (W.contents output.old) (W.contents output.new) self.old) }
-        ensures fault { IfErr result (λ e. e ≡ RunFault.Write) }
-    {
-        if MOST_WAITING - self.len >= LEAST_PLACE {
-            return Ok(());
-        }
-        write_whole(output, &self.bytes[..self.len])?;
-        self.len = 0;
-        Ok(())
-    }
-
-    // Prints lines after what waits, as many as have room, and returns whether there are any.
-    pub(crate) fn print(&mut self, replay: &mut Replay<'_>) -> bool
-        requires { length self.old + 448 ≤ 65536 }
-        ensures lines { (lines : List ℕ) × (self.new ≡ self.old ++ lines)
-            × (replay.old.lines ≡ lines ++ replay.new.lines) }
-        ensures left { MatchBool result (replay.new.left < replay.old.left)
-            ((replay.new.lines ≡ []) × (replay.new.left ≡ 0)) }
-        ensures last { replay.new.last ≡ replay.old.last }
-    {
-        let len = replay.fill(&mut self.bytes[self.len..]);
-        self.len += len;
-        len > 0
     }
 
     /// Sends all that waits, and flushes. Nothing waits then.

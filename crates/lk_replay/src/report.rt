@@ -1,23 +1,22 @@
 //! The report of a schedule text.
 //!
 //! The whole text is read first. Then its moves are played, and each is printed as it is played, by
-//! one `Replay`: into a `Vec` here, and into a buffer that goes out in `run`.
+//! one `Replay`: into a `Vec` here, and into bytes that go out in `run`.
 
 ghost use Rattle.std.specs.Prelude.{◌≡◌, ◌++◌, IfOk, OnOk};
 ghost use Rattle.lk_replay.specs.Report.{report_text};
 ghost use Rattle.lk_replay.specs.Whole.{IsReportOfText};
 
 mod closings;
+mod lists;
 mod numerals;
+mod occupancy;
 mod replay;
-mod status;
 mod text;
-mod words;
 
 use crate::read_schedule;
-use closings::Closing;
 pub use closings::fault_text;
-pub use replay::{LEAST_PLACE, Replay};
+pub use replay::Replay;
 use std::alloc::{AllocError, Global};
 
 // The most bytes of a move's line without its longer list, of holders or of the queue, of a thread
@@ -35,19 +34,16 @@ const PLACE: usize = 4_096;
 // be refused at its first.
 const FIRST_LINES: usize = 1_024;
 
-// Appends the lines that are printed, and returns the last one.
-fn print_into(out: &mut Vec<u8>, replay: &mut Replay<'_>) -> Result<Closing, AllocError>
-    ensures lines { OnOk result (out.new.items ≡ out.old.items ++ replay.old.lines) }
-    ensures last { IfOk result (λ closing. closing.line ≡ replay.old.last) }
+// Appends what is left of a report.
+fn push_rest(out: &mut Vec<u8>, replay: &mut Replay<'_>) -> Result<(), AllocError>
+    ensures { OnOk result (out.new.items ≡ out.old.items ++ replay.old.text) }
 {
-    let mut lines = [0; PLACE];
-    loop {
-        let len = replay.fill(&mut lines);
-        if len == 0 {
-            return Ok(replay.closing());
-        }
-        out.extend_from_slice(&lines[..len])?;
+    let mut place = [0; PLACE];
+    while replay.ending().is_none() {
+        let len = replay.fill(&mut place);
+        out.extend_from_slice(&place[..len])?;
     }
+    Ok(())
 }
 
 // The bytes of the report.
@@ -56,16 +52,15 @@ fn print_report(alloc: Global, bytes: &[u8]) -> Result<Vec<u8>, AllocError>
     ensures { IfOk result (λ report. report.items ≡ report_text bytes.now) }
 {
     let mut text = Vec::new(alloc);
-    let closing = match read_schedule(alloc, bytes) {
+    match read_schedule(alloc, bytes) {
         Ok(schedule) => {
             let longest = LONGEST_LINE + LONGEST_LISTED * usize::from(schedule.threads());
             let lines = schedule.moves().len().min(FIRST_LINES);
             text.reserve(longest * lines + LONGEST_LAST)?;
-            print_into(&mut text, &mut Replay::new(&schedule))?
+            push_rest(&mut text, &mut Replay::new(&schedule))?;
         }
-        Err(fault) => fault_text(fault)?,
-    };
-    text.extend_from_slice(closing.line.as_slice())?;
+        Err(fault) => text.extend_from_slice(fault_text(fault)?.as_slice())?,
+    }
     text.shrink_to_fit();
     Ok(text)
 }

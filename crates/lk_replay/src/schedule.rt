@@ -1,9 +1,11 @@
 //! The schedule that a text has: its lock and its moves, each with its line.
 
 ghost use Rattle.std.specs.Prelude.{◌≡◌, ◌≢◌, ◌+◌, ◌<◌, ◌≤◌, ◌^◌, [], length, IfErr, IfNone, IfOk};
-ghost use Rattle.std.specs.Prelude.{IfSome, MatchOption, Ok};
+ghost use Rattle.std.specs.Prelude.{IfSome, MatchOption, Ok, ℕ};
+ghost use Rattle.lk_replay.specs.FirstMove.{IsNextMove};
+ghost use Rattle.lk_replay.specs.Lines.{SkipsTo};
 ghost use Rattle.lk_replay.specs.Reads.{Fails, Gives};
-ghost use Rattle.lk_replay.specs.Reading.{IsOfText};
+ghost use Rattle.lk_replay.specs.Reads.{IsOfText};
 ghost use Rattle.lk_replay.specs.Schedule.{move_of, moves_from, plan_of, plan_with, with_header};
 ghost use Rattle.lk_replay.specs.Schedule.{Plan, with_line};
 
@@ -154,6 +156,35 @@ fn read_header(text: &[u8]) -> Result<(Shape, Lines<'_>), ReadFault>
     Ok((header, lines))
 }
 
+// The next line that is not skipped, which has to be a move.
+fn next_line(lines: &mut Lines<'_>) -> Result<Option<Line>, ReadFault>
+    ensures read { IfOk result (λ next. MatchOption next
+        ((lines.new.lines ≡ []) × SkipsTo lines.old.number lines.old.lines lines.new.number [])
+        (λ line. IsNextMove lines.old line.number line.thread line.action lines.new)) }
+    ensures fault { IfErr result (λ fault. (taken : ℕ)
+        → Fails fault (moves_from lines.old.number taken lines.old.lines)) }
+    ensures no_memory { IfErr result IsOfText }
+{
+    if let Some((number, thread, action)) = lines.next_move() {
+        return Ok(Some(Line {
+            number,
+            thread,
+            action,
+        }));
+    }
+    let Some((number, line)) = lines.next_line() else {
+        return Ok(None);
+    };
+    let Some((thread, action)) = move_of(line) else {
+        return Err(ReadFault::BadLine(number));
+    };
+    Ok(Some(Line {
+        number,
+        thread,
+        action,
+    }))
+}
+
 // The next move of these lines, if `taken` came before it.
 fn next_move(lines: &mut Lines<'_>, taken: usize) -> Result<Option<Line>, ReadFault>
     ensures read { IfOk result (λ next. MatchOption next
@@ -168,20 +199,13 @@ fn next_move(lines: &mut Lines<'_>, taken: usize) -> Result<Option<Line>, ReadFa
         (λ fault. Fails fault (moves_from lines.old.number taken lines.old.lines)) }
     ensures no_memory { IfErr result IsOfText }
 {
-    let Some((number, line)) = lines.next_line() else {
+    let Some(line) = next_line(lines)? else {
         return Ok(None);
     };
-    let Some((thread, action)) = move_of(line) else {
-        return Err(ReadFault::BadLine(number));
-    };
     if taken == MOST_MOVES {
-        return Err(ReadFault::TooManyMoves(number));
+        return Err(ReadFault::TooManyMoves(line.number));
     }
-    Ok(Some(Line {
-        number,
-        thread,
-        action,
-    }))
+    Ok(Some(line))
 }
 
 // The moves of these lines, for which there is room for `most` at first.

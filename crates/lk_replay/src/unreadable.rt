@@ -1,6 +1,6 @@
-//! Where a line of a schedule text stops being one, and what could be there: what a message to
-//! its writer needs. Whether a line is a header or a move, `header_of` and `move_of` say; this goes
-//! along with them word by word.
+//! Where a line of a schedule text stops being one, and what could be there, for a message to its
+//! writer. `header_of` and `move_of` say whether a line is a header or a move; this goes along with
+//! them word by word.
 
 ghost use Rattle.std.specs.Prelude.{◌≡◌, IsSome, IsNone, ◌↔◌, ℕ};
 ghost use Rattle.lk_replay.specs.Header.{header_of};

@@ -1,7 +1,7 @@
 //! What a word of a text means: a number, a lock, a call, a step or an outcome. Each word is
 //! written once, in a table that is read both ways and listed.
 
-ghost use Rattle.std.specs.Prelude.{◌≡◌, ◌≤◌, IfSome, length};
+ghost use Rattle.std.specs.Prelude.{◌≡◌, ◌≤◌, ◌++◌, ◌∷◌, IfSome, codes, length, take};
 ghost use Rattle.lk_replay.specs.Digits.{whole_number};
 ghost use Rattle.lk_replay.specs.Vocabulary.{lock_name, lock_named, move_named, move_word};
 ghost use Rattle.lk_replay.specs.Vocabulary.{number_of, outcome_named, outcome_word};
@@ -65,6 +65,24 @@ macro_rules! named {
 macro_rules! text {
     ($value:expr; $([$($pattern:tt)+] $text:literal,)+) => {
         match $value { $($($pattern)+ => $text,)+ }
+    };
+}
+
+// The word of a value and a space, at the front of at least 16 bytes, and how long that is.
+macro_rules! block {
+    ($value:expr; $([$($pattern:tt)+] $text:literal,)+) => {
+        match $value {
+            $($($pattern)+ => (concat!($text, "                ").as_bytes(), $text.len() + 1),)+
+        }
+    };
+}
+
+// What such a word and a line feed at the front of a text mean, and the text after them.
+macro_rules! first {
+    ($whole:expr; $([$($value:tt)+] $text:literal,)+) => {
+        $(if let Some(rest) = rest_after($whole, concat!($text, "\n").as_bytes()) {
+            Some(($($value)+, rest))
+        } else)+ { None }
     };
 }
 
@@ -145,6 +163,30 @@ pub fn move_text(action: Move) -> &'static str
     move_words!(text, action)
 }
 
+/// The word of a move and a space, at the front of a block, and how long that is.
+pub fn move_block(action: Move) -> (&'static [u8], usize)
+    ensures text { take result.1 result.0.now ≡ move_word action ++ codes " " }
+    ensures wide { 16 ≤ length result.0.now }
+    ensures fits { result.1 ≤ 16 }
+{
+    move_words!(block, action)
+}
+
+// The text after the bytes with which it begins.
+#[inline(always)]
+fn rest_after<'a>(text: &'a [u8], bytes: &[u8]) -> Option<&'a [u8]>
+    ensures { IfSome result (λ rest. text.now ≡ bytes.now ++ rest.now) }
+{
+    text.strip_prefix(bytes)
+}
+
+/// The move whose word comes first in a text, before a line feed, and the text after that.
+pub fn first_word(text: &[u8]) -> Option<(Move, &[u8])>
+    ensures { IfSome result (λ first. text.now ≡ move_word first.0 ++ 10 ∷ first.1.now) }
+{
+    move_words!(first, text)
+}
+
 /// The outcome of a step that has this word.
 #[tactic(auto, unfolding(crate::specs::Vocabulary::outcome_named))]
 pub fn outcome_named(word: &[u8]) -> Option<Outcome>
@@ -158,4 +200,13 @@ pub fn outcome_text(outcome: Outcome) -> &'static str
     ensures { result.now ≡ outcome_word outcome }
 {
     outcome_words!(text, outcome, [Outcome::Called] "called",)
+}
+
+/// The word of an outcome and a space, at the front of a block, and how long that is.
+pub fn outcome_block(outcome: Outcome) -> (&'static [u8], usize)
+    ensures text { take result.1 result.0.now ≡ outcome_word outcome ++ codes " " }
+    ensures wide { 16 ≤ length result.0.now }
+    ensures fits { result.1 ≤ 16 }
+{
+    outcome_words!(block, outcome, [Outcome::Called] "called",)
 }

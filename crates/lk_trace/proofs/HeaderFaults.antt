@@ -3,7 +3,7 @@ use Rattle.std.proofs.Common.{◌≡◌, Result, Err, sym, ap}
 use Rattle.lk_locks.specs.State.{Shape}
 use Rattle.lk_replay.specs.Faults.{Fault}
 use Rattle.lk_replay.specs.Reads.{Fails}
-use Rattle.lk_replay.specs.Reading.{IsOfText}
+use Rattle.lk_replay.specs.Reads.{IsOfText}
 use Rattle.lk_replay.specs.declared.schedule.ReadFault.{ReadFault}
 use Rattle.lk_replay.specs.declared.schedule.ReadFault.TheVariants.{OutOfMemory}
 use Rattle.lk_trace.specs.Traces.{fault_named, header_read}

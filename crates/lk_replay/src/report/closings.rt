@@ -1,34 +1,23 @@
 //! The last line of a report: its end, a refused move, or the fault of its text.
 
-ghost use Rattle.std.specs.Prelude.{◌≡◌, ◌≤◌, ◌++◌, length, IfOk, List, OnErr, true, ℕ};
-ghost use Rattle.lk_replay.specs.Ending.{ending_of, is_line};
+ghost use Rattle.std.specs.Prelude.{◌≡◌, ◌≤◌, ◌++◌, length, IfOk, List, OnErr, take, ℕ};
+ghost use Rattle.lk_replay.specs.Reads.{IsOfText};
 ghost use Rattle.lk_replay.specs.Reads.{Fails};
 ghost use Rattle.lk_replay.specs.Report.{at_line, fault_line, last_line, refusal_text, report_text};
 ghost use Rattle.lk_replay.specs.Schedule.{plan_of};
 
 use crate::ReadFault;
-use crate::ending::Ending;
 use crate::report::text::Text;
 use crate::vocabulary::move_text;
 use itoa::Buffer;
 use lk_locks::{Move, Refusal};
 use std::alloc::AllocError;
 
-/// The last line of a report, and how the report ends by it.
-#[derive(Drop)]
-pub struct Closing {
-    pub line: Text,
-    pub ending: Ending,
-    ghost told: { ending ≡ ending_of line },
-}
-
 // `WHAT line L `
 fn at_line(what: &[u8], line: u32) -> Text
-    requires short { length what.now ≤ 16 }
-    requires whole { is_line what.now ≡ true }
+    requires { length what.now ≤ 16 }
     ensures text { result ≡ at_line what.now line }
     ensures short { length result ≤ 64 }
-    ensures whole { is_line result ≡ true }
 {
     let mut number = Buffer::new();
     let mut text = Text::new();
@@ -53,43 +42,46 @@ fn push_reason(text: &mut Text, refusal: Refusal)
     }
 }
 
-/// The last line of a replay with so many accepted moves.
-pub fn last_line(count: u32, refused: Option<(u32, Refusal)>) -> Closing
-    ensures { result.line ≡ last_line count refused }
+// The last line of a replay with `count` accepted moves.
+fn last_line(count: u32, refused: Option<(u32, Refusal)>) -> Text
+    ensures text { result ≡ last_line count refused }
+    ensures short { length result ≤ 320 }
 {
     if let Some((number, refusal)) = refused {
         let mut line = at_line(b"refused", number);
         push_reason(&mut line, refusal);
         line.push(b"\n");
-        return Closing {
-            line,
-            ending: Ending::Refused,
-        };
+        return line;
     }
     let mut number = Buffer::new();
     let mut line = Text::new();
     line.push(b"end ");
     line.push(number.format(count).as_bytes());
     line.push(b"\n");
-    Closing {
-        line,
-        ending: Ending::Accepted,
-    }
+    line
+}
+
+/// Puts the last line at the front of a place, and returns how long it is.
+pub fn put_last(place: &mut [u8], count: u32, refused: Option<(u32, Refusal)>) -> usize
+    requires { 320 ≤ length place.old }
+    ensures text { take result place.new ≡ last_line count refused }
+    ensures fits { result ≤ length place.new }
+{
+    let line = last_line(count, refused);
+    let text = line.as_slice();
+    place[..text.len()].copy_from_slice(text);
+    text.len()
 }
 
 // The line of a fault that has a line.
-fn fault_line(number: u32, name: &[u8]) -> Closing
-    requires short { length name.now ≤ 16 }
-    requires whole { is_line name.now ≡ true }
-    ensures { result.line ≡ fault_line number name.now }
+fn fault_line(number: u32, name: &[u8]) -> Text
+    requires { length name.now ≤ 16 }
+    ensures { result ≡ fault_line number name.now }
 {
     let mut line = at_line(b"fault", number);
     line.push(name);
     line.push(b"\n");
-    Closing {
-        line,
-        ending: Ending::Faulty,
-    }
+    line
 }
 
 /// The line of a text's fault, which is the whole report of the text.
@@ -98,9 +90,10 @@ fn fault_line(number: u32, name: &[u8]) -> Closing
 ///
 /// `OutOfMemory` is no fault of a text.
 #[tactic(auto, unfolding(crate::specs::Report::report_text))]
-pub fn fault_text(fault: ReadFault) -> Result<Closing, AllocError>
-    ensures line { IfOk result (λ closing.
-        (bytes : List ℕ) → Fails fault (plan_of bytes) → closing.line ≡ report_text bytes) }
+pub fn fault_text(fault: ReadFault) -> Result<Text, AllocError>
+    ensures line { IfOk result (λ line.
+        (bytes : List ℕ) → Fails fault (plan_of bytes) → line ≡ report_text bytes) }
+    ensures no_memory { IfOk result (λ line. IsOfText fault) }
     ensures none { OnErr result (fault ≡ ReadFault.OutOfMemory) }
 {
     Ok(match fault {
@@ -113,10 +106,7 @@ pub fn fault_text(fault: ReadFault) -> Result<Closing, AllocError>
         ReadFault::TooLong => {
             let mut line = Text::new();
             line.push(b"fault TooLong\n");
-            Closing {
-                line,
-                ending: Ending::Faulty,
-            }
+            line
         }
         ReadFault::OutOfMemory => return Err(AllocError),
     })

@@ -18,17 +18,27 @@ const MOST: usize = 320;
 const SHORT: usize = 32;
 
 /// Puts the first `len` bytes of a block into a place, from `at` on, and returns where they end.
-/// The block is copied whole, and what is too much of it is overwritten by the next: a short text
-/// costs one store, whatever its length.
-pub fn put_block<const N: usize>(place: &mut [u8], at: usize, block: &[u8; N], len: usize) -> usize
+/// The first N bytes are copied, and what is too much of them is overwritten by the next block: a
+/// short text costs one store, whatever its length.
+pub fn put_block<const N: usize>(place: &mut [u8], at: usize, block: &[u8], len: usize) -> usize
     requires room { at + N ≤ length place.old }
+    requires wide { N ≤ length block.now }
     requires fits { len ≤ N }
     ensures text { take result place.new ≡ take at place.old ++ take len block.now }
     ensures end { result ≡ at + len }
 {
-    let bytes = *block;
-    place[at..at + N].copy_from_slice(&bytes);
+    place[at..at + N].copy_from_slice(&block[..N]);
     at + len
+}
+
+/// Puts bytes into a place, from `at` on, and returns where they end.
+pub fn put<const N: usize>(place: &mut [u8], at: usize, bytes: &[u8; N]) -> usize
+    requires { at + N ≤ length place.old }
+    ensures text { take result place.new ≡ take at place.old ++ bytes.now }
+    ensures end { result ≡ at + N }
+{
+    place[at..at + N].copy_from_slice(bytes);
+    at + N
 }
 
 /// A text of at most 320 bytes.
@@ -87,7 +97,7 @@ impl Text {
         requires fits { len ≤ 4 }
         ensures { self.new ≡ self.old ++ take len block.now }
     {
-        self.len = put_block(&mut self.bytes, self.len, block, len);
+        self.len = put_block::<4>(&mut self.bytes, self.len, block, len);
     }
 
     /// Puts all but the first byte into a place, from `at` on, and returns where that ends.

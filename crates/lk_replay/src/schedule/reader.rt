@@ -1,10 +1,9 @@
-//! A schedule text that is read in place, move after move, for who may take no memory. This
-//! project's own: the text is gone through once before its first move, so that each fault is known
-//! by then, and its moves are read again as they are asked for.
+//! Reads a schedule in place, without allocating. The text is gone through once before its first
+//! move, so that each fault is known by then. Its moves are read again as they are asked for.
 
 ghost use Rattle.std.specs.Prelude.{◌≡◌, ◌≤◌, length, IfOk, IfErr, ◌+◌, Ok, drop};
 ghost use Rattle.lk_replay.specs.Reads.{Gives};
-ghost use Rattle.lk_replay.specs.Reading.{IsOfText, counted, moves_in, first_of};
+ghost use Rattle.lk_replay.specs.Reads.{IsOfText, move_count, moves_in, first_of};
 ghost use Rattle.lk_replay.specs.Schedule.{moves_from, Plan, plan_of, plan_with};
 
 use super::{Line, ReadFault, next_move, read_header};
@@ -88,7 +87,7 @@ impl<'a> ScheduleReader<'a> {
 fn count_moves(lines: Lines<'_>) -> Result<usize, ReadFault>
     ensures few { IfOk result (λ count. count ≤ 65536) }
     ensures read { Gives (λ count. count) result
-        (counted (moves_from lines.entry.number 0 lines.entry.lines)) }
+        (move_count (moves_from lines.entry.number 0 lines.entry.lines)) }
     ensures no_memory { IfErr result IsOfText }
 {
     let mut lines = lines;

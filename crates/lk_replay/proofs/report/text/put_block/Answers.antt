@@ -7,4 +7,4 @@ pub returns-clause-text : goal.returns-clause-text
 returns-clause-text g c =
     block_pushed c.args.place.now c.copy_from_slice.new.self c.args.block.now c.args.at c.args.len
     g.row.N
-    c.copy_from_slice.ensures.after c.told-block c.requires.fits (omega (arith, c.requires.room))
+    c.copy_from_slice.ensures.after c.requires.wide c.requires.fits (omega (arith, c.requires.room))

@@ -1,14 +1,14 @@
 -- What was counted, and then what the rest gives, is what the lines give.
 use Rattle.std.proofs.Common.{◌≡◌, ◌≤◌, length}
 use Rattle.lk_replay.specs.Schedule.{moves_from}
-use Rattle.lk_replay.specs.Reading.{counted}
+use Rattle.lk_replay.specs.Reads.{move_count}
 use Rattle.lk_replay.proofs.Moves.{more}
 use Rattle.lk_replay.proofs.schedule.reader.count_moves.Given as goal
 
 abbrev pub invariant-loop-taken : goal.invariant-loop-taken
 invariant-loop-taken l = record {
-  read : more l.taken (counted (moves_from l.lines.number l.taken l.lines.lines))
-      ≡ more 0 (counted (moves_from l.initial.lines.number 0 l.initial.lines.lines));
+  read : more l.taken (move_count (moves_from l.lines.number l.taken l.lines.lines))
+      ≡ more 0 (move_count (moves_from l.initial.lines.number 0 l.initial.lines.lines));
   small : l.taken ≤ 65536;
 }
 
