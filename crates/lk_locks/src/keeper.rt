@@ -10,8 +10,9 @@ ghost use Rattle.lk_locks.specs.Locks.{step_due, word_count};
 ghost use Rattle.lk_locks.specs.MainTheorem.{IsAsPromised};
 ghost use Rattle.lk_locks.specs.Holding.{holding, holding_of, waiting_of, IsListed};
 
-use crate::{Entry, History, Holders, LockKind, Machine, Move, Outcome, PlayFault, Shape, StepKind};
-use crate::Tracker;
+use crate::{
+    Entry, History, Holders, LockKind, Machine, Move, Outcome, PlayFault, Shape, StepKind, Tracker,
+};
 use arrayvec::ArrayVec;
 use lk_words::{WordArray, Words};
 use std::alloc::Global;

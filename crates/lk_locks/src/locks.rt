@@ -172,11 +172,7 @@ pub(crate) fn effect_of(
         }
         LockKind::RwSimple | LockKind::RwFifo => {
             read_write::step_due(phase)?;
-            Some(StepEffect::Monitor(read_write::effect(
-                words,
-                family_of(kind),
-                phase,
-            )))
+            Some(StepEffect::Monitor(read_write::effect(words, family_of(kind), phase)))
         }
     }
 }

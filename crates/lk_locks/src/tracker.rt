@@ -13,7 +13,9 @@ ghost use Rattle.lk_locks.specs.Steps.{entries_of};
 use crate::entries::Added;
 use crate::holders::copy_of;
 use crate::locks::family_of;
-use crate::{Entry, Family, Holders, LockKind, Machine, Move, Op, Outcome, Refusal, SeqLock, Shape};
+use crate::{
+    Entry, Family, Holders, LockKind, Machine, Move, Op, Outcome, Refusal, SeqLock, Shape,
+};
 use arrayvec::ArrayVec;
 use lk_words::{WordArray, Words};
 use std::marker::Model;

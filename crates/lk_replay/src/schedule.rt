@@ -86,7 +86,10 @@ impl Schedule {
     /// The lock, its threads and its words.
     pub fn shape(&self) -> Shape
         ensures { result ≡ record {
-            kind = self.now.kind; threads = self.now.threads; bits = self.now.bits } }
+          kind = self.now.kind;
+          threads = self.now.threads;
+          bits = self.now.bits;
+        } }
     {
         self.shape
     }

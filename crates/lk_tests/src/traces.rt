@@ -108,8 +108,16 @@ fn makes(rt: &impl Abort, mut checker: Checker, lines: &[Made]) {
 
 #[test]
 fn lines_that_differ(rt: HostRuntime) {
-    makes(&rt, Checker::new(Shape::new(LockKind::Mcs, 2, 64)), &ON_AN_MCS_LOCK);
-    makes(&rt, Checker::new(Shape::new(LockKind::RwFifo, 2, 4)), &ON_A_FIFO_LOCK);
+    makes(
+        &rt,
+        Checker::new(Shape::new(LockKind::Mcs, 2, 64)),
+        &ON_AN_MCS_LOCK,
+    );
+    makes(
+        &rt,
+        Checker::new(Shape::new(LockKind::RwFifo, 2, 4)),
+        &ON_A_FIFO_LOCK,
+    );
 }
 
 // The lines of a trace, and what each is.

@@ -4,7 +4,8 @@ use Rattle.std.proofs.Common.{List, ap, arith, inl, inr, refl, set, slice_index,
 use Rattle.std.proofs.Common.{sym, ℕ, ◌*◌, ◌+◌, ◌-◌, ◌<◌, ◌∙◌, ◌≡◌, ◌^◌}
 use Rattle.std.proofs.lemmas.Bool.{eq-eqb, cases_lt}
 use Rattle.std.proofs.lemmas.Bool.Decides.{eqb_tells}
-use Rattle.std.proofs.lemmas.List.{get_or-set_same, get_or-set_other, length-set, set-get_or, set_past}
+use Rattle.std.proofs.lemmas.List.{get_or-set_same, get_or-set_other, length-set, set-get_or}
+use Rattle.std.proofs.lemmas.List.{set_past}
 use Rattle.std.proofs.lemmas.Grind.{common_steps}
 use Rattle.lk_locks.specs.Sequential.{nobody}
 use Rattle.lk_locks.specs.State.{start}

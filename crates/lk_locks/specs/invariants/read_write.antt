@@ -8,7 +8,8 @@ use Rattle.lk_locks.specs.State.{phase_at}
 use Rattle.lk_locks.specs.Sequential.{Sequential, has}
 use Rattle.lk_locks.specs.invariants.Threads.{EachOnce, is_this}
 use Rattle.lk_locks.specs.declared.read_write.Section.{Section}
-use Rattle.lk_locks.specs.Types.{Entry, Family, FifoReadWrite, ReadLock, ReadUnlock, WriteLock, WriteUnlock}
+use Rattle.lk_locks.specs.Types.{Entry, Family, FifoReadWrite, ReadLock, ReadUnlock, WriteLock}
+use Rattle.lk_locks.specs.Types.{WriteUnlock}
 use Rattle.lk_locks.specs.Types.{Downgrade, Phase, TryRead, Reading, LeaveRead, TryWrite}
 use Rattle.lk_locks.specs.Types.{AwaitReaders, Writing, LeaveWrite, TryDowngrade}
 

@@ -29,7 +29,10 @@ returns-clause-told c = λ enough.
     c.play_moves-stopped.result.refused
     c.args.records.now c.play_moves-stopped.new.records c.args.state.now _
     c.state_bytes-bytes.result.items
-    c.in-Ok.ensures.read (rw (c.header.ensures.kind, c.header.ensures.threads, c.header.ensures.bits) at c.at_start-lock.ensures.start) c.play_moves-stopped.ensures.played
+    c.in-Ok.ensures.read
+    (rw (c.header.ensures.kind, c.header.ensures.threads, c.header.ensures.bits)
+    at c.at_start-lock.ensures.start)
+    c.play_moves-stopped.ensures.played
     (c.from.ensures ∙ ap from_bool c.is_some.ensures ∙ one_if_refused _)
     c.moves_left-moves.ensures.moves c.state_bytes-bytes.ensures.bytes
     (ap (λ (xs : List ℕ). xs ++ drop 2304 c.args.state.now)

@@ -16,8 +16,14 @@ returns c =
     c.third_of.ensures c.section_on-section.ensures.first c.section_on-section.ensures.other in
     record {
       value =
-          rw (c.change_to.ensures, c.change_to-2.ensures, section.outcome, ← section.words,
-          first_is c.args.words.now.0 _ _ writes, second_is c.args.words.now.0 _ _ writes) refl;
+          rw (
+            c.change_to.ensures,
+            c.change_to-2.ensures,
+            section.outcome,
+            ← section.words,
+            first_is c.args.words.now.0 _ _ writes,
+            second_is c.args.words.now.0 _ _ writes,
+          ) refl;
       tells =
           rw (c.change_to.ensures, c.change_to-2.ensures, ← section.words)
           (told c.args.words.now.0 _ _ c.section_on-section.result.outcome writes);
