@@ -78,7 +78,8 @@ first_line text thread rest after action is word =
       line = line;
       first = line_first text line after (ap (slice_split is_line_feed) whole
           ∙ split_append is_line_feed line 10 after refl
-          ∙ ap (λ (ps : List (List ℕ)). ps ++ slice_split is_line_feed after) (one_piece line clear));
+          ∙ ap (λ (ps : List (List ℕ)). ps ++ slice_split is_line_feed after)
+          (one_piece line clear));
       read = digits_read number tail is.some is.digits;
       move = move_read line number (move_word action) (Some thread) (Some action)
           (digits_cut 32 number (move_word action) is.digits (omega arith)) is.value
@@ -101,7 +102,8 @@ two_first (a ∷ []) long = absurd (omega (arith, long))
 two_first (a ∷ b ∷ cs) long = refl
 
 three_first : (text : List ℕ) → 3 ≤ length text
-    → text ≡ slice_index_or text 0 0 ∷ slice_index_or text 1 0 ∷ slice_index_or text 2 0 ∷ drop 3 text
+    → text
+    ≡ slice_index_or text 0 0 ∷ slice_index_or text 1 0 ∷ slice_index_or text 2 0 ∷ drop 3 text
 three_first [] long = absurd (omega (arith, long))
 three_first (a ∷ []) long = absurd (omega (arith, long))
 three_first (a ∷ b ∷ []) long = absurd (omega (arith, long))

@@ -1,7 +1,9 @@
 -- How a report ends, by its last line.
 use Rattle.std.proofs.Common.{◌≡◌, ℕ, zero, suc, ◌+◌, ◌/◌, ◌%◌, ◌<◌, List, [], ◌∷◌, ◌++◌, length}
-use Rattle.std.proofs.Common.{true, false, refl, sym, ap, ◌∙◌, arith, inl, inr, not, codes, decimal, ◌==◌}
-use Rattle.std.proofs.Common.{append_assoc, length-append, Option, None, Some, Result, Ok, Err, Bool}
+use Rattle.std.proofs.Common.{true, false, refl, sym, ap, ◌∙◌, arith, inl, inr, not, codes, decimal}
+use Rattle.std.proofs.Common.{◌==◌}
+use Rattle.std.proofs.Common.{append_assoc, length-append, Option, None, Some, Result, Ok, Err}
+use Rattle.std.proofs.Common.{Bool}
 use Rattle.std.specs.Fmt.{digit_glyph, digits, digits_onto}
 use Rattle.std.specs.List.{join_with_byte, list_all, onto_first, slice_split}
 use Rattle.std.proofs.lemmas.List.Folds.{list_all-append}
@@ -114,19 +116,23 @@ ends_by line is =
     ap (λ ps. ending_of_line (last_of (without_empty_end ps)))
     (split_append is_line_feed line 10 [] refl ∙ ap (λ ps. ps ++ [] ∷ []) (one_piece line is))
 
-pub both_lines : (xs ys : List ℕ) → is_line xs ≡ true → is_line ys ≡ true → is_line (xs ++ ys) ≡ true
+pub both_lines : (xs ys : List ℕ) → is_line xs ≡ true → is_line ys ≡ true
+    → is_line (xs ++ ys) ≡ true
 both_lines xs ys a b = cc (list_all-append (λ (b : ℕ). not (is_line_feed b)) xs ys)
 
 digit_is : (n : ℕ) (rest : List ℕ) → is_line rest ≡ true
     → is_line (digit_glyph false (n % 10) ∷ rest) ≡ true
-digit_is n rest is = rw (lt-ltb (n % 10) 10 (omega arith), ne_eqb (48 + n % 10) 10 (λ e. omega (arith, e))) is
+digit_is n rest is =
+    rw (lt-ltb (n % 10) 10 (omega arith), ne_eqb (48 + n % 10) 10 (λ e. omega (arith, e))) is
 
 digits_are : (fuel n : ℕ) (rest : List ℕ) → is_line rest ≡ true
     → is_line (digits_onto fuel 10 false n rest) ≡ true
 digits_are zero n rest is = is
 digits_are (suc fuel) n rest is = elim (cases_Bool (n / 10 == 0)) [
   | inl last ↦ rw last (digit_is n rest is)
-  | inr more ↦ rw more (digits_are fuel (n / 10) (digit_glyph false (n % 10) ∷ rest) (digit_is n rest is))
+  | inr more ↦
+      rw more
+      (digits_are fuel (n / 10) (digit_glyph false (n % 10) ∷ rest) (digit_is n rest is))
 ]
 
 number_is : (n : ℕ) → is_line (decimal n) ≡ true
@@ -158,7 +164,8 @@ marked_ending what rest number is clear =
 last_ending : (count : ℕ) (refused : Option (ℕ × Refusal))
     → ending_of (last_line count refused) ≡ ending_by refused
 last_ending count None =
-    ends_by (codes "end " ++ decimal count) (both_lines (codes "end ") (decimal count) refl (number_is count))
+    ends_by (codes "end " ++ decimal count)
+    (both_lines (codes "end ") (decimal count) refl (number_is count))
 last_ending count (Some (number, reason)) =
     marked_ending (codes "refused") (refusal_text reason) number refl (reason_is reason)
 

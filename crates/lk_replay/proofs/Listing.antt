@@ -136,7 +136,8 @@ cut_to_leave [] t a h = cc
 cut_to_leave (x ∷ xs) t (b, a) h = elim (cases_Bool (eqb t x)) [
   | inl e ↦ let same : t ≡ x = eqb-true t x e in
       let low : nat_lt x t ≡ false = le-ltb x t (omega (arith, same)) in
-      rw (e, low) (record { after = xs; without = refl; with_it = ap (λ (y : ℕ). y ∷ xs) (sym same) })
+      rw (e, low)
+      (record { after = xs; without = refl; with_it = ap (λ (y : ℕ). y ∷ xs) (sym same) })
   | inr e ↦ let g : has (x ∷ xs) t ≡ true = h in
       let cut = cut_to_leave xs t a (rw e at g) in
       let high : nat_lt x t ≡ true = lt-ltb x t (below_member xs x t b (rw e at g)) in

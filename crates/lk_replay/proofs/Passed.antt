@@ -86,41 +86,41 @@ prefix_of_whole whole done waits text rest old mid new passed prefix parts =
     ∙ parts) (prefix_of_more [] (done ++ text) rest old new
     (prefix_after [] done waits text old mid new passed prefix))
 
--- some of it went, and the rest is left
-pub record IsUnderWay (whole rest : List ℕ) (old new : Option (List ℕ)) : Type 0 where
+-- some of it went, or waits, and the rest is left
+pub record IsUnderWay (whole rest waits : List ℕ) (old new : Option (List ℕ)) : Type 0 where
   pub done : List ℕ
-  pub sent : Appends old new done
+  pub passed : Passes [] old done waits new
   pub parts : done ++ rest ≡ whole
 
-pub goes_on : (whole rest text more : List ℕ) (old mid new : Option (List ℕ))
-    → IsUnderWay whole rest old mid → rest ≡ text ++ more → Appends mid new text
-    → IsUnderWay whole more old new
-goes_on whole rest text more old mid new way is sent = record {
+pub goes_on : (whole rest between text more waits : List ℕ) (old mid new : Option (List ℕ))
+    → IsUnderWay whole rest between old mid → rest ≡ text ++ more
+    → Passes between mid text waits new → IsUnderWay whole more waits old new
+goes_on whole rest between text more waits old mid new way is passes = record {
   done = way.done ++ text;
-  sent = Appends-trans old mid new way.done text way.sent sent;
+  passed = passes_on [] way.done between text waits old mid new way.passed passes;
   parts = append_assoc way.done text more ∙ ap (λ l. way.done ++ l) (sym is) ∙ way.parts;
 }
 
--- all of it went
-pub arrived : (whole rest : List ℕ) (old new : Option (List ℕ)) → IsUnderWay whole rest old new
+-- a prefix of what waited and the next text went out, or of what waited
+pub cut_short : (whole rest waits text more : List ℕ) (old mid new : Option (List ℕ))
+    → IsUnderWay whole rest waits old mid → rest ≡ text ++ more
+    → AppendsPrefix mid new (waits ++ text) → AppendsPrefix old new whole
+cut_short whole rest waits text more old mid new way is prefix =
+    prefix_of_whole whole way.done waits text more old mid new way.passed prefix
+    (ap (λ l. way.done ++ l) (sym is) ∙ way.parts)
+
+pub cut_waiting : (whole rest waits : List ℕ) (old mid new : Option (List ℕ))
+    → IsUnderWay whole rest waits old mid → AppendsPrefix mid new waits
+    → AppendsPrefix old new whole
+cut_waiting whole rest waits old mid new way prefix =
+    cut_short whole rest waits [] rest old mid new way refl
+    (subst (AppendsPrefix mid new) (sym (append-nil waits)) prefix)
+
+-- nothing is left, and nothing waits
+pub arrived : (whole rest : List ℕ) (old new : Option (List ℕ)) → IsUnderWay whole rest [] old new
     → rest ≡ [] → Appends old new whole
 arrived whole rest old new way none =
+    let (sent, appended, all) = way.passed in
     subst (Appends old new)
-    (sym (append-nil way.done) ∙ ap (λ l. way.done ++ l) (sym none) ∙ way.parts) way.sent
-
--- a prefix of the next text went
-pub cut_short : (whole rest text more : List ℕ) (old mid new : Option (List ℕ))
-    → IsUnderWay whole rest old mid → rest ≡ text ++ more → AppendsPrefix mid new text
-    → AppendsPrefix old new whole
-cut_short whole rest text more old mid new way is (n, within, appends) =
-    let parts : way.done ++ (text ++ more) ≡ whole =
-    ap (λ l. way.done ++ l) (sym is) ∙ way.parts in
-    subst (AppendsPrefix old new) parts (
-      length way.done + n,
-      omega (arith, within, length-append way.done (text ++ more), length-append text more),
-      rw (
-        take-append-add way.done (text ++ more) n,
-        take-append-le n text more within,
-      )
-          (Appends-trans old mid new way.done _ way.sent appends),
-    )
+    (sym (append-nil sent) ∙ all ∙ sym (append-nil way.done)
+    ∙ ap (λ l. way.done ++ l) (sym none) ∙ way.parts) appended

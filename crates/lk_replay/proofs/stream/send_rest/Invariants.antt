@@ -1,11 +1,11 @@
 -- What went and what is left are the whole text.
-use Rattle.std.proofs.Common.{◌≡◌, ◌<◌, ◌≤◌, length}
+use Rattle.std.proofs.Common.{[], ◌≡◌, ◌<◌, ◌≤◌, length}
 use Rattle.lk_replay.proofs.Passed.{IsUnderWay}
 use Rattle.lk_replay.proofs.stream.send_rest.Given as goal
 
 abbrev pub invariant-loop-ending : goal.invariant-loop-ending
 invariant-loop-ending g l = record {
-  way : IsUnderWay l.initial.replay.text l.replay.text (g.W.Write.contents l.initial.output)
+  way : IsUnderWay l.initial.replay.text l.replay.text [] (g.W.Write.contents l.initial.output)
       (g.W.Write.contents l.output);
   ending : l.replay.ending ≡ l.initial.replay.ending;
   some : 0 < l.replay.left;

@@ -6,6 +6,7 @@ use Rattle.lk_replay.proofs.report.occupancy.OccupancyText.follow.Given as goal
 
 abbrev pub invariant-loop-entry : goal.invariant-loop-entry
 invariant-loop-entry l = record {
-  rest : occupancy_after l.self (drop l.entry-index l.entries) ≡ occupancy_after l.fn.self l.entries;
+  rest : occupancy_after l.self (drop l.entry-index l.entries)
+      ≡ occupancy_after l.fn.self l.entries;
   may : AreEnabled l.self.sequential (drop l.entry-index l.entries);
 }
