@@ -1,13 +1,15 @@
 -- How a report ends, by its last line.
 use Rattle.std.proofs.Common.{◌≡◌, ℕ, zero, suc, ◌+◌, ◌/◌, ◌%◌, ◌<◌, List, [], ◌∷◌, ◌++◌, length}
 use Rattle.std.proofs.Common.{true, false, refl, sym, ap, ◌∙◌, arith, inl, inr, not, codes, decimal}
-use Rattle.std.proofs.Common.{◌==◌}
-use Rattle.std.proofs.Common.{append_assoc, length-append, Option, None, Some, Result, Ok, Err}
-use Rattle.std.proofs.Common.{Bool}
+use Rattle.std.proofs.Common.{◌==◌, append_assoc, length-append, Option, None, Some, Result, Ok}
+use Rattle.std.proofs.Common.{Err, Bool, ◌≢◌, ◌⊎◌, ◌-◌, ◌≤◌, get_or, take, drop, subst}
+use Rattle.std.proofs.Common.{take-append-drop, length-drop, Bor, MatchOption}
+use Rattle.std.specs.Option.{unwrap_or}
 use Rattle.std.specs.Fmt.{digit_glyph, digits, digits_onto}
 use Rattle.std.specs.List.{join_with_byte, list_all, onto_first, slice_split}
 use Rattle.std.proofs.lemmas.List.Folds.{list_all-append}
 use Rattle.std.proofs.lemmas.List.Splits.{join_with_byte-slice_split, slice_split-cons_yes}
+use Rattle.std.proofs.lemmas.List.{drop_more, get_or-drop, take_rest}
 use Rattle.std.proofs.lemmas.Bool.{cases_Bool, lt-ltb, ne_eqb}
 use Rattle.lk_locks.specs.Holding.{holding_of, waiting_of}
 use Rattle.lk_locks.specs.declared.kinds.Entry.{Entry}
@@ -15,7 +17,7 @@ use Rattle.lk_locks.specs.declared.kinds.LockKind.{LockKind}
 use Rattle.lk_locks.specs.declared.kinds.Refusal.{Refusal}
 use Rattle.lk_locks.specs.declared.kinds.Refusal.TheVariants.{WrongStep}
 use Rattle.lk_locks.specs.declared.kinds.StepKind.TheVariants.{Read}
-use Rattle.lk_replay.proofs.Cuts.{before_pieces, has_piece}
+use Rattle.lk_replay.proofs.Cuts.{before_pieces, cut_nowhere, has_piece}
 use Rattle.lk_replay.specs.Ending.{ending_by, ending_of, ending_of_line, last_of}
 use Rattle.lk_replay.specs.Faults.{Fault, TooLong, NoHeader, BadHeader, BadThreads, BadLine}
 use Rattle.lk_replay.specs.Faults.{TooManyMoves, WordsTooNarrow}
@@ -81,20 +83,22 @@ some_piece text ([] ∷ []) some cut =
     ))
 some_piece text ((b ∷ bs) ∷ []) some cut = omega arith
 
--- a line before a text changes not how it ends
+-- a line before a text changes not the last line
+last_after_line : (line text : List ℕ) → 0 < length text
+    → last_of (lines_of (line ++ 10 ∷ text)) ≡ last_of (lines_of text)
+unfolding lines_of
+last_after_line line text some =
+    rw (split_append is_line_feed line 10 text refl)
+    (last_of_others (slice_split is_line_feed line)
+    (slice_split is_line_feed text) (has_piece is_line_feed text)
+    (some_piece text (slice_split is_line_feed text) some refl))
+
+-- nor how the text ends
 ending_after_line : (line text : List ℕ) → 0 < length text → ending_of ((line ++ 10 ∷ []) ++ text)
     ≡ ending_of text
-unfolding ending_of lines_of
+unfolding ending_of
 ending_after_line line text some =
-    rw (append_assoc line (10 ∷ []) text, split_append is_line_feed line 10 text refl)
-    (ap ending_of_line (last_of_others (slice_split is_line_feed line)
-    (slice_split is_line_feed text) (has_piece is_line_feed text)
-    (some_piece text (slice_split is_line_feed text) some refl)))
-
--- no line before the first one
-pub last_of_none : (lines : List (List ℕ)) → last_of ([] ∷ lines) ≡ last_of lines
-last_of_none [] = refl
-last_of_none (line ∷ lines) = refl
+    rw (append_assoc line (10 ∷ []) text) (ap ending_of_line (last_after_line line text some))
 
 -- ---- a line that has no line feed in it
 
@@ -109,12 +113,24 @@ one_piece (b ∷ text) is = elim (cases_Bool (is_line_feed b)) [
 ]
 
 -- the text of one line
+last_of_one : (line : List ℕ) → slice_split is_line_feed line ≡ line ∷ []
+    → last_of (lines_of (line ++ 10 ∷ [])) ≡ line
+unfolding lines_of
+last_of_one line whole =
+    ap (λ ps. last_of (without_empty_end ps))
+    (split_append is_line_feed line 10 [] refl ∙ ap (λ ps. ps ++ [] ∷ []) whole)
+
 ends_by : (line : List ℕ) → is_line line ≡ true
     → ending_of (line ++ 10 ∷ []) ≡ ending_of_line line
-unfolding ending_of lines_of
-ends_by line is =
-    ap (λ ps. ending_of_line (last_of (without_empty_end ps)))
-    (split_append is_line_feed line 10 [] refl ∙ ap (λ ps. ps ++ [] ∷ []) (one_piece line is))
+unfolding ending_of
+ends_by line is = ap ending_of_line (last_of_one line (one_piece line is))
+
+-- the text of one line with no line feed at its end
+last_of_open : (line : List ℕ) → slice_split is_line_feed line ≡ line ∷ []
+    → last_of (lines_of line) ≡ line
+unfolding lines_of
+last_of_open [] whole = refl
+last_of_open (b ∷ bs) whole = ap (λ ps. last_of (without_empty_end ps)) whole
 
 pub both_lines : (xs ys : List ℕ) → is_line xs ≡ true → is_line ys ≡ true
     → is_line (xs ++ ys) ≡ true
@@ -138,6 +154,51 @@ digits_are (suc fuel) n rest is = elim (cases_Bool (n / 10 == 0)) [
 number_is : (n : ℕ) → is_line (decimal n) ≡ true
 unfolding digits
 number_is n = digits_are 64 n [] refl
+
+-- ---- the last line of a text, found from its end
+
+-- the text, without the line feed at its end if there is one
+abbrev pub IsBodyOf : List ℕ → List ℕ → Type 0
+IsBodyOf text body = (text ≡ body ++ 10 ∷ [])
+    ⊎ ((text ≡ body) × ((front : List ℕ) → body ≢ front ++ 10 ∷ []))
+
+pub body_is : (text body : Bor (List ℕ)) (cut : Option (Bor (List ℕ))) → body ≡ unwrap_or cut text
+    → MatchOption cut ((front : List ℕ) → text.now ≢ front ++ 10 ∷ [])
+    (λ front. text.now ≡ front.now ++ 10 ∷ []) → IsBodyOf text.now body.now
+body_is text body (Some front) is closed = rw is (inl closed)
+body_is text body None is bare = rw is (inr (refl, bare))
+
+pub body_alone : (text body : List ℕ) → IsBodyOf text body
+    → ((k : ℕ) → k < length body → get_or body k 0 ≢ 10) → body ≡ last_of (lines_of text)
+body_alone text body (inl closed) none =
+    rw closed (sym (last_of_one body (cut_nowhere 10 body none)))
+body_alone text body (inr bare) none =
+    rw bare.0 (sym (last_of_open body (cut_nowhere 10 body none)))
+
+after_cut : (text xs ys : List ℕ) → IsBodyOf text (xs ++ 10 ∷ ys)
+    → slice_split is_line_feed ys ≡ ys ∷ [] → last_of (lines_of text) ≡ ys
+after_cut text xs ys (inl closed) whole =
+    rw (closed, append_assoc xs (10 ∷ ys) (10 ∷ []))
+    (last_after_line xs (ys ++ 10 ∷ []) (omega (arith, length-append ys (10 ∷ [])))
+    ∙ last_of_one ys whole)
+after_cut text xs [] (inr bare) whole = absurd (bare.1 xs refl)
+after_cut text xs (y ∷ ys) (inr bare) whole =
+    rw bare.0 (last_after_line xs (y ∷ ys) (omega arith) ∙ last_of_open (y ∷ ys) whole)
+
+pub body_after : (text body : List ℕ) (at : ℕ) → IsBodyOf text body → at < length body
+    → get_or body at 0 ≡ 10 → ((k : ℕ) → at + 1 ≤ k → k < length body → get_or body k 0 ≢ 10)
+    → take (length body - (at + 1)) (drop (at + 1) body) ≡ last_of (lines_of text)
+body_after text body at is within here none =
+    let rest : List ℕ = drop (at + 1) body in
+    let parts : body ≡ take at body ++ 10 ∷ rest =
+    sym (take-append-drop at body)
+    ∙ ap (λ (l : List ℕ). take at body ++ l)
+    (drop_more body at 0 within ∙ ap (λ b. b ∷ rest) here) in
+    let whole : slice_split is_line_feed rest ≡ rest ∷ [] =
+    cut_nowhere 10 rest (λ k low e. none (at + 1 + k) (omega arith)
+    (omega (arith, low, length-drop (at + 1) body)) (sym (get_or-drop (at + 1) body k 0) ∙ e)) in
+    take_rest body (at + 1)
+    ∙ sym (after_cut text (take at body) rest (subst (IsBodyOf text) parts is) whole)
 
 -- ---- the last line
 

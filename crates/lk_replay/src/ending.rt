@@ -5,8 +5,6 @@ ghost use Rattle.std.specs.Prelude.{◌≡◌};
 ghost use Rattle.lk_replay.specs.Lines.{lines_of};
 ghost use Rattle.lk_replay.specs.Ending.{last_of, ending_of};
 
-use crate::lines::cut_line;
-
 /// What became of a schedule text.
 #[derive(Clone, Copy, PartialEq, Eq, Debug)]
 pub enum Ending {
@@ -18,18 +16,16 @@ pub enum Ending {
     Faulty,
 }
 
-// The last line of a text, and an empty one if there is none.
+// The last line of a text, and an empty one if there is none. A report is long and its last line
+// is short, so the search for it begins at the end.
 fn last_line(text: &[u8]) -> &[u8]
     ensures { result.now ≡ last_of (lines_of text.now) }
 {
-    let mut last: &[u8] = &[];
-    let mut rest = text;
-    while !rest.is_empty() {
-        let (line, after) = cut_line(rest);
-        last = line;
-        rest = after;
+    let body = text.strip_suffix(b"\n").unwrap_or(text);
+    match body.iter().rposition(|&b| b == b'\n') {
+        Some(at) => &body[at + 1..],
+        None => body,
     }
-    last
 }
 
 /// How a report ends, by its last line. A report with no line is `Faulty`.
