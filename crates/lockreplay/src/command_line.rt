@@ -194,3 +194,72 @@ pub fn parse_words(alloc: Global, words: &[String]) -> Result<Job, ParseFault>
         None => Ok(Job::Replay),
     }
 }
+
+#[cfg(test)]
+mod tests {
+    use super::{Job, MOST_FILES, ParseFault, copied, parse_words};
+    use std::test::Fail;
+
+    // What words ask for, by itself.
+    enum Due {
+        Replay,
+        Batch(u8, &'static [&'static str]),
+        Help,
+        Usage,
+    }
+
+    const LINES: [(&[&str], Due); 8] = [
+        (&["replay"], Due::Replay),
+        (
+            &["batch", "--workers", "2", "a", "b"],
+            Due::Batch(2, &["a", "b"]),
+        ),
+        (&["batch", "--workers", "9", "a"], Due::Usage),
+        (&["batch", "a"], Due::Usage),
+        (&["batch", "--workers", "2"], Due::Usage),
+        (&["replay", "x"], Due::Usage),
+        (&[], Due::Usage),
+        (&["--help"], Due::Help),
+    ];
+
+    fn are_named(files: &[String], names: &[&str]) -> bool {
+        for (file, name) in files.iter().zip(names) {
+            if file.as_str() != *name {
+                return false;
+            }
+        }
+        files.len() == names.len()
+    }
+
+    fn is_due(answer: &Result<Job, ParseFault>, due: &Due) -> bool {
+        match (answer, due) {
+            (Ok(Job::Replay), Due::Replay)
+            | (Err(ParseFault::Help(_)), Due::Help)
+            | (Err(ParseFault::Usage(_)), Due::Usage) => true,
+            (Ok(Job::Batch { workers, files }), Due::Batch(count, names)) => {
+                workers == count && are_named(files, names)
+            }
+            _ => false,
+        }
+    }
+
+    #[test]
+    fn jobs_of_words(rt: HostRuntime) -> Result<(), Fail> {
+        for (words, due) in &LINES {
+            let answer = parse_words(rt.alloc(), &copied(rt.alloc(), words)?);
+            assert!(rt; is_due(&answer, due), "{words:?}");
+        }
+        Ok(())
+    }
+
+    #[test]
+    fn too_many_files(rt: HostRuntime) -> Result<(), Fail> {
+        let mut words = copied(rt.alloc(), &["batch", "--workers", "1"])?;
+        for _ in 0..=MOST_FILES {
+            words.push(String::from_str(rt.alloc(), "a")?)?;
+        }
+        let answer = parse_words(rt.alloc(), &words);
+        assert!(rt; matches!(&answer, Err(ParseFault::TooManyFiles)));
+        Ok(())
+    }
+}
