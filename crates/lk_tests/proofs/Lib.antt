@@ -1,1 +1,2 @@
 pub mod WorkedHistories
+pub mod WritingAlone

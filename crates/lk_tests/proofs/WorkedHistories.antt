@@ -1,7 +1,7 @@
 -- Histories that are written out: those that are legal, and what the others lack.
 use Rattle.std.proofs.Common.{◌≡◌, ℕ, zero, suc, ◌<◌, List, [], ◌∷◌, ◌++◌, refl, ap, ◌∙◌, arith}
 use Rattle.std.proofs.Common.{rules, inl, inr}
-use Rattle.std.specs.List.{flat_map, Any}
+use Rattle.std.specs.List.{flat_map, AllByRecursion, Any}
 use Rattle.lk_locks.specs.Legal.{Legal, subhistory, whole_call}
 use Rattle.lk_locks.specs.Calls.{HasDone}
 use Rattle.lk_locks.proofs.Places.{HasOne, any_of, one_of}
@@ -92,6 +92,17 @@ not_of_two P x y f g a = elim (one_of P (x ∷ y ∷ []) a) [
   | inl d ↦ f d
   | inr r ↦ not_of_one P y g (any_of P (y ∷ []) r)
 ]
+
+-- what no entry of a list meets, the list does not have
+none_meets : (P : Entry → Type 0) (es : List Entry) → AllByRecursion (λ e. P e → ⊥) es
+    → HasOne P es → ⊥
+none_meets P [] none h = h
+none_meets P (e ∷ es) (differs, none) (inl p) = differs p
+none_meets P (e ∷ es) (differs, none) (inr h) = none_meets P es none h
+
+pub not_in : (P : Entry → Type 0) (es : List Entry) → AllByRecursion (λ e. P e → ⊥) es
+    → Any P es → ⊥
+not_in P es none a = none_meets P es none (one_of P es a)
 
 -- the call is in the list
 abbrev IsCalled : ℕ → Op → List Entry → Type 0

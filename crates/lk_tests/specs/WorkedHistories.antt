@@ -1,7 +1,11 @@
 -- Definitions. Histories written out, and moves that lead to some of them. On these the laws are
 -- evaluated: each holds of histories that are as they should be, and fails of one that is not. This
 -- project's own.
-use Rattle.std.specs.Prelude.{ℕ, List, [], ◌∷◌, ◌++◌}
+use Rattle.std.specs.Prelude.{◌≡◌, ℕ, List, [], ◌∷◌, ◌++◌, Some}
+use Rattle.lk_locks.specs.Legal.{after_entries}
+use Rattle.lk_locks.specs.MainTheorem.{IsAsPromised}
+use Rattle.lk_locks.specs.Sequential.{Sequential, nobody}
+use Rattle.lk_locks.specs.declared.kinds.LockKind.{LockKind}
 use Rattle.lk_locks.specs.declared.kinds.Op.TheVariants.{Acquire, Release, ReadLock, ReadUnlock}
 use Rattle.lk_locks.specs.declared.kinds.Op.TheVariants.{WriteLock, WriteUnlock, Downgrade}
 use Rattle.lk_locks.specs.declared.kinds.StepKind.TheVariants.{Read, Write, Swap, Add, Section}
@@ -26,9 +30,12 @@ left_free = one_inside ++ Called 0 Release ∷ Acted 0 Release ∷ Returned 0 Re
 abbrev pub handed_on : List Entry
 handed_on = left_free ++ Returned 1 Acquire ∷ []
 
--- thread 1 enters beside thread 0
-abbrev pub two_inside : List Entry
-two_inside = one_inside ++ Returned 1 Acquire ∷ []
+-- a thread enters beside another one, or once more
+abbrev pub enters : ℕ → List Entry
+enters t = Called t Acquire ∷ Acted t Acquire ∷ Returned t Acquire ∷ []
+
+abbrev pub two_inside : ℕ → ℕ → List Entry
+two_inside t u = enters t ++ enters u
 
 -- thread 1 enters before thread 0, which asked before it
 abbrev pub overtaken : List Entry
@@ -79,18 +86,26 @@ two_readers = writes 0 ++ downgrades 0 ++ reads 1
 abbrev pub writers_in_turn : List Entry
 writers_in_turn = two_readers ++ unreads 0 ++ unreads 1 ++ writes 1
 
--- thread 1 comes in beside thread 0, which writes, reads, or wrote and reads
-abbrev pub two_writers : List Entry
-two_writers = writes 0 ++ writes 1
+-- thread u comes in beside thread t, which writes, reads, or wrote and reads
+abbrev pub two_writers : ℕ → ℕ → List Entry
+two_writers t u = writes t ++ writes u
 
-abbrev pub reader_beside_writer : List Entry
-reader_beside_writer = writes 0 ++ reads 1
+abbrev pub reader_beside_writer : ℕ → ℕ → List Entry
+reader_beside_writer t u = writes t ++ reads u
 
-abbrev pub writer_beside_reader : List Entry
-writer_beside_reader = reads 0 ++ writes 1
+abbrev pub writer_beside_reader : ℕ → ℕ → List Entry
+writer_beside_reader t u = reads t ++ writes u
 
-abbrev pub writer_beside_downgraded : List Entry
-writer_beside_downgraded = writes 0 ++ downgrades 0 ++ writes 1
+abbrev pub writer_beside_downgraded : ℕ → ℕ → List Entry
+writer_beside_downgraded t u = writes t ++ downgrades t ++ writes u
+
+-- thread 1 unlocks what thread 0 writes, and thread 2 reads
+abbrev pub unlocked_by_another : List Entry
+unlocked_by_another = writes 0 ++ unwrites 1 ++ reads 2
+
+-- thread 0 reads twice and leaves once, and thread 1 writes
+abbrev pub left_once : List Entry
+left_once = reads 0 ++ reads 0 ++ unreads 0 ++ writes 1
 
 -- a FIFO writer is announced while thread 0 reads, and enters when that has left
 abbrev pub announced : List Entry
@@ -105,6 +120,20 @@ reader_passes = announced ++ reads 2
 
 abbrev pub writer_passes : List Entry
 writer_passes = announced ++ Called 2 WriteLock ∷ Announced 2 ∷ []
+
+-- what the theorem says of a history
+
+-- it says this of every history that is as promised
+abbrev pub OfEachPromised : (LockKind → ℕ → List Entry → Type 0) → Type 0
+OfEachPromised Holds =
+    (kind : LockKind) (n : ℕ) (es : List Entry) → IsAsPromised kind n es → Holds kind n es
+
+-- after whatever beginning of the history: if there is a writer, there is no reader
+abbrev pub WritesAlone : LockKind → List Entry → Type 0
+WritesAlone kind es =
+    (before after : List Entry) → es ≡ before ++ after
+    → let now : Sequential = after_entries (nobody kind) before in
+    (w : ℕ) → now.writer ≡ Some w → now.readers ≡ []
 
 -- moves: those that are refused leave no entry
 

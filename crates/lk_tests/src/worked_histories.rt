@@ -4,8 +4,10 @@
 //! Each function's contract evaluates the definitions of one file on worked histories, and its body
 //! is empty.
 
-ghost use Rattle.std.specs.Prelude.{◌≡◌, ◌++◌, [], ◌∷◌, None, Some, Any};
+ghost use Rattle.std.specs.Prelude.{◌≡◌, ℕ, ◌++◌, List, [], ◌∷◌, None, Some, Any};
 ghost use Rattle.lk_tests.specs.WorkedHistories.{one_inside, left_free, handed_on, two_inside};
+ghost use Rattle.lk_tests.specs.WorkedHistories.{unlocked_by_another, left_once, OfEachPromised};
+ghost use Rattle.lk_tests.specs.WorkedHistories.{WritesAlone};
 ghost use Rattle.lk_tests.specs.WorkedHistories.{overtaken, released_by_another, unasked};
 ghost use Rattle.lk_tests.specs.WorkedHistories.{asked_twice, uncalled, reads, writes, two_readers};
 ghost use Rattle.lk_tests.specs.WorkedHistories.{writers_in_turn, two_writers};
@@ -18,15 +20,18 @@ ghost use Rattle.lk_locks.specs.Holding.{holder_after, holding_of, waiting_of, I
 ghost use Rattle.lk_locks.specs.Holding.{HeldBy, ReadBy, WrittenBy};
 ghost use Rattle.lk_locks.specs.Exclusion.{IsQueueLock, HasOneHolder, IsHeldInTurn, IsHeldByHead};
 ghost use Rattle.lk_locks.specs.Exclusion.{StopsWriting, HasOneWriter, IsNeverBesideReader};
-ghost use Rattle.lk_locks.specs.Exclusion.{IsAnnouncedFirst};
+ghost use Rattle.lk_locks.specs.Exclusion.{IsAnnouncedFirst, Between};
 ghost use Rattle.lk_locks.specs.Order.{requested, entered, IsInOrder};
 ghost use Rattle.lk_locks.specs.Calls.{ActsOnce, ActsInCalls, ReturnsNext};
 ghost use Rattle.lk_locks.specs.Steps.{entries_after};
 ghost use Rattle.lk_locks.specs.State.{start};
 ghost use Rattle.lk_locks.specs.MainTheorem.{IsAsPromised};
 ghost use Rattle.lk_locks.specs.declared.kinds.LockKind.TheVariants.{Ticket, Mcs, RwSimple, RwFifo};
-ghost use Rattle.lk_locks.specs.declared.kinds.Op.TheVariants.{Acquire, Release, WriteLock};
-ghost use Rattle.lk_locks.specs.declared.kinds.Op.TheVariants.{WriteUnlock, Downgrade};
+ghost use Rattle.lk_locks.specs.declared.kinds.Op.TheVariants.{Acquire, Release, ReadLock};
+ghost use Rattle.lk_locks.specs.declared.kinds.Op.TheVariants.{ReadUnlock, WriteLock, WriteUnlock};
+ghost use Rattle.lk_locks.specs.declared.kinds.Op.TheVariants.{Downgrade};
+ghost use Rattle.lk_locks.specs.declared.kinds.LockKind.{LockKind};
+ghost use Rattle.lk_locks.specs.declared.kinds.Entry.{Entry};
 ghost use Rattle.lk_locks.specs.declared.kinds.Entry.TheVariants.{Called, Acted, Returned};
 
 /// Hand-overs are legal. No thread enters before its turn, releases what another holds, or acts in
@@ -40,8 +45,9 @@ pub fn legal_histories()
     ensures another { Legal Ticket 2 released_by_another → ⊥ }
     ensures unasked { Legal Ticket 2 unasked → ⊥ }
     ensures uncalled { Legal Mcs 2 uncalled → ⊥ }
-    ensures writers { Legal RwSimple 2 two_writers → ⊥ }
+    ensures writers { Legal RwSimple 2 (two_writers 0 1) → ⊥ }
     ensures passed { Legal RwFifo 3 reader_passes → ⊥ }
+    ensures announced { Legal RwFifo 3 writer_passes → ⊥ }
     ensures strangers { Legal Ticket 1 handed_on → ⊥ }
     ensures own { subhistory 1 handed_on
         ≡ Called 1 Acquire ∷ Acted 1 Acquire ∷ Returned 1 Acquire ∷ [] }
@@ -75,9 +81,9 @@ pub fn holders_of_queue_locks()
     ensures simple { IsQueueLock RwSimple → ⊥ }
     ensures fifo { IsQueueLock RwFifo → ⊥ }
     ensures apart { HasOneHolder handed_on }
-    ensures beside { HasOneHolder two_inside → ⊥ }
+    ensures beside { (t u : ℕ) → HasOneHolder (two_inside t u) → ⊥ }
     ensures in_turn { IsHeldInTurn None handed_on }
-    ensures not_in_turn { IsHeldInTurn None two_inside → ⊥ }
+    ensures not_in_turn { IsHeldInTurn None (two_inside 0 1) → ⊥ }
     ensures another { IsHeldInTurn None released_by_another → ⊥ }
     ensures head { IsHeldByHead Mcs handed_on }
     ensures overtakes { IsHeldByHead Mcs overtaken → ⊥ }
@@ -89,11 +95,14 @@ pub fn writers_of_read_write_locks()
     ensures downgraded { StopsWriting 0 (Acted 0 Downgrade) }
     ensures another { Any (StopsWriting 0) (Acted 1 WriteUnlock ∷ Acted 1 Downgrade ∷ []) → ⊥ }
     ensures in_turn { HasOneWriter writers_in_turn }
-    ensures at_once { HasOneWriter two_writers → ⊥ }
+    ensures at_once { (t u : ℕ) → HasOneWriter (two_writers t u) → ⊥ }
     ensures alone { IsNeverBesideReader RwSimple writers_in_turn }
-    ensures reader { IsNeverBesideReader RwSimple reader_beside_writer → ⊥ }
-    ensures writer { IsNeverBesideReader RwSimple writer_beside_reader → ⊥ }
-    ensures downgraded_reader { IsNeverBesideReader RwSimple writer_beside_downgraded → ⊥ }
+    ensures reader { (t u : ℕ) → IsNeverBesideReader RwSimple (reader_beside_writer t u) → ⊥ }
+    ensures another_unlocks { IsNeverBesideReader RwSimple unlocked_by_another → ⊥ }
+    ensures left_once { IsNeverBesideReader RwSimple left_once → ⊥ }
+    ensures writer { (t u : ℕ) → IsNeverBesideReader RwSimple (writer_beside_reader t u) → ⊥ }
+    ensures downgraded_reader { (t u : ℕ)
+        → IsNeverBesideReader RwSimple (writer_beside_downgraded t u) → ⊥ }
     ensures first { IsAnnouncedFirst announced_entered }
     ensures reader_passes { IsAnnouncedFirst reader_passes → ⊥ }
     ensures writer_passes { IsAnnouncedFirst writer_passes → ⊥ }
@@ -120,6 +129,27 @@ pub fn acts_of_calls()
     ensures called { ActsInCalls Mcs handed_on }
     ensures not_called { ActsInCalls Mcs uncalled → ⊥ }
     ensures acts_next { ActsInCalls Mcs asked_twice → ⊥ }
+{}
+
+/// Each part of the theorem is in it.
+///
+/// Histories fail of one part alone: `two_inside` has two holders, `overtaken` no order,
+/// `two_writers` two writers, and `uncalled` no call. None of them is legal, and every legal
+/// history has the other four parts (`lk_locks::theorems`). So no history tells the theorem from
+/// one with a part less, and each is taken out of it here. Of the parts of `IsNeverBesideReader`
+/// the last one implies the second and the third.
+pub fn parts_of_the_theorem()
+    ensures legal { OfEachPromised Legal }
+    ensures one_holder { OfEachPromised (λ kind n. HasOneHolder) }
+    ensures in_order { OfEachPromised (λ kind n. IsInOrder) }
+    ensures one_writer { OfEachPromised (λ kind n. HasOneWriter) }
+    ensures no_reader_beside { OfEachPromised (λ kind n. IsNeverBesideReader kind) }
+    ensures after_reader { (kind : LockKind) (es : List Entry) → WritesAlone kind es
+        → (t u : ℕ) → Between (Acted t ReadLock) (Acted u WriteLock)
+        (λ e. e ≡ Acted t ReadUnlock) es }
+    ensures after_downgraded { (kind : LockKind) (es : List Entry) → WritesAlone kind es
+        → (t u : ℕ) → Between (Acted t Downgrade) (Acted u WriteLock)
+        (λ e. e ≡ Acted t ReadUnlock) es }
 {}
 
 /// Moves lead to the entries that they are due, and refused ones to none. What they lead to is as

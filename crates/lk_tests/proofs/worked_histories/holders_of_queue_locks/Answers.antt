@@ -12,10 +12,10 @@ pub returns-clause-apart : goal.returns-clause-apart
 returns-clause-apart c = holders_are_apart Ticket 2 handed_on ticket_legal
 
 pub returns-clause-beside : goal.returns-clause-beside
-returns-clause-beside c = λ h.
-    not_of_two (λ e. e ≡ Acted 0 Release) (Called 1 Acquire) (Acted 1 Acquire) (λ e. cc) (λ e. cc)
-    (h 0 1 (Called 0 Acquire ∷ Acted 0 Acquire ∷ [])
-    (Called 1 Acquire ∷ Acted 1 Acquire ∷ []) [] refl)
+returns-clause-beside c = λ t u h.
+    not_of_two (λ e. e ≡ Acted t Release) (Called u Acquire) (Acted u Acquire) (λ e. cc) (λ e. cc)
+    (h t u (Called t Acquire ∷ Acted t Acquire ∷ [])
+    (Called u Acquire ∷ Acted u Acquire ∷ []) [] refl)
 
 pub returns-clause-overtakes : goal.returns-clause-overtakes
 returns-clause-overtakes c = λ h. false≢true (h 1 refl)

@@ -1,0 +1,23 @@
+use Rattle.lk_tests.proofs.WritingAlone.{after_reader, after_downgraded}
+use Rattle.lk_tests.proofs.worked_histories.parts_of_the_theorem.Goals as goal
+
+pub returns-clause-legal : goal.returns-clause-legal
+returns-clause-legal c = λ kind n es promised. promised.legal
+
+pub returns-clause-one_holder : goal.returns-clause-one_holder
+returns-clause-one_holder c = λ kind n es promised. promised.one_holder
+
+pub returns-clause-in_order : goal.returns-clause-in_order
+returns-clause-in_order c = λ kind n es promised. promised.in_order
+
+pub returns-clause-one_writer : goal.returns-clause-one_writer
+returns-clause-one_writer c = λ kind n es promised. promised.one_writer
+
+pub returns-clause-no_reader_beside : goal.returns-clause-no_reader_beside
+returns-clause-no_reader_beside c = λ kind n es promised. promised.no_reader_beside
+
+pub returns-clause-after_reader : goal.returns-clause-after_reader
+returns-clause-after_reader c = after_reader
+
+pub returns-clause-after_downgraded : goal.returns-clause-after_downgraded
+returns-clause-after_downgraded c = after_downgraded
