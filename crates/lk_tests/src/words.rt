@@ -1,76 +1,176 @@
-//! Each operation once, at each kind of words. What they expect was made by hand.
+//! Operations on words, one after another, and what they answer. The rows were made by hand.
 
-ghost use Rattle.std.specs.Prelude.{◌≡◌};
-ghost use Rattle.lk_words.specs.declared.operation.Operation.TheVariants.{CompareAndSwap};
+ghost use Rattle.std.specs.Prelude.{◌≡◌, ◌≤◌, true};
+ghost use Rattle.lk_words.specs.Operations.{Fits};
 
+use crate::holding::holds;
 use Answer::{Found, Nothing, Swapped};
 use Operation::{CompareAndSwap, FetchAndAdd, Read, Swap, Write};
-use lk_words::{Answer, CountingWords, Operation, WordArray, Words, perform};
+use lk_words::{Answer, CountingWords, Operation, WordArray, Words, greatest_of, perform};
 
-// The five operations on two words, which are 0.
+type Row = (Operation, Answer);
+
+// On two words, which are 0.
+const ON_TWO: [Row; 9] = [
+    (
+        FetchAndAdd {
+            word: 0,
+            addend: u64::MAX,
+        },
+        Found(0),
+    ),
+    (FetchAndAdd { word: 0, addend: 1 }, Found(u64::MAX)),
+    (Read { word: 0 }, Found(0)),
+    (Swap { word: 1, value: 7 }, Found(0)),
+    (
+        CompareAndSwap {
+            word: 1,
+            old: 7,
+            new: 9,
+        },
+        Swapped(true),
+    ),
+    (
+        CompareAndSwap {
+            word: 1,
+            old: 7,
+            new: 8,
+        },
+        Swapped(false),
+    ),
+    (Read { word: 1 }, Found(9)),
+    (Write { word: 1, value: 3 }, Nothing),
+    (Read { word: 1 }, Found(3)),
+];
+
+// On one word of two bits, in which sums go round at 4.
+const ON_TWO_BITS: [Row; 8] = [
+    (FetchAndAdd { word: 0, addend: 3 }, Found(0)),
+    (FetchAndAdd { word: 0, addend: 1 }, Found(3)),
+    (Read { word: 0 }, Found(0)),
+    (Write { word: 0, value: 3 }, Nothing),
+    (Swap { word: 0, value: 2 }, Found(3)),
+    (
+        CompareAndSwap {
+            word: 0,
+            old: 2,
+            new: 3,
+        },
+        Swapped(true),
+    ),
+    (
+        CompareAndSwap {
+            word: 0,
+            old: 2,
+            new: 1,
+        },
+        Swapped(false),
+    ),
+    (Read { word: 0 }, Found(3)),
+];
+
+// On two words of two bits.
+const ON_TWO_OF_TWO_BITS: [Row; 8] = [
+    (Write { word: 1, value: 3 }, Nothing),
+    (Read { word: 1 }, Found(3)),
+    (FetchAndAdd { word: 1, addend: 2 }, Found(3)),
+    (Swap { word: 0, value: 2 }, Found(0)),
+    (
+        CompareAndSwap {
+            word: 0,
+            old: 1,
+            new: 3,
+        },
+        Swapped(false),
+    ),
+    (
+        CompareAndSwap {
+            word: 0,
+            old: 2,
+            new: 3,
+        },
+        Swapped(true),
+    ),
+    (Read { word: 0 }, Found(3)),
+    (Read { word: 1 }, Found(1)),
+];
+
+// On one word: each operation once, and a second that swaps nothing.
+const EACH_ONCE: [Row; 6] = [
+    (Read { word: 0 }, Found(0)),
+    (Write { word: 0, value: 5 }, Nothing),
+    (Swap { word: 0, value: 6 }, Found(5)),
+    (
+        CompareAndSwap {
+            word: 0,
+            old: 6,
+            new: 7,
+        },
+        Swapped(true),
+    ),
+    (
+        CompareAndSwap {
+            word: 0,
+            old: 6,
+            new: 8,
+        },
+        Swapped(false),
+    ),
+    (FetchAndAdd { word: 0, addend: 1 }, Found(7)),
+];
+
+fn fits(bits: u8, size: usize, operation: Operation) -> bool
+    requires { (2 ≤ bits) × (bits ≤ 64) }
+    ensures { result ≡ true → Fits bits size operation }
+{
+    let most = greatest_of(bits);
+    match operation {
+        Read { word } => word < size,
+        Write { word, value } | Swap { word, value } => word < size && value <= most,
+        CompareAndSwap { word, old, new } => word < size && old <= most && new <= most,
+        FetchAndAdd { word, addend } => word < size && addend <= most,
+    }
+}
+
+// Whether each operation answers so.
+fn answer<W: Words>(words: &mut W, rows: &[Row]) -> bool {
+    for (operation, due) in rows {
+        if !fits(words.bits(), words.size(), *operation) || perform(words, *operation) != *due {
+            return false;
+        }
+    }
+    true
+}
+
 #[test]
-fn five_operations(rt: HostRuntime) {
-    let mut words = WordArray::new(2);
-    let (first, second) = (words.fetch_and_add(0, u64::MAX), words.fetch_and_add(0, 1));
-    let are_added = first == 0 && second == u64::MAX && words.read(0) == 0;
-    let swapped = words.swap(1, 7);
-    let (done, failed) = (
-        words.compare_and_swap(1, 7, 9),
-        words.compare_and_swap(1, 7, 8),
+fn answers_of_operations(rt: HostRuntime) {
+    let (mut words, mut bits) = (WordArray::new(2), WordArray::with_bits(1, 2));
+    holds(&rt, answer(&mut words, &ON_TWO), "two words");
+    holds(&rt, answer(&mut bits, &ON_TWO_BITS), "two bits");
+    let mut words = WordArray::with_bits(2, 2);
+    holds(
+        &rt,
+        answer(&mut words, &ON_TWO_OF_TWO_BITS),
+        "two of two bits",
     );
-    let are_swapped = swapped == 0 && done && !failed && words.read(1) == 9;
-    words.write(1, 3);
-    assert!(rt; are_added && are_swapped);
-    assert!(rt; words.get(0) == 0 && words.get(1) == 3);
 }
 
 type Twice = CountingWords<CountingWords<WordArray>>;
 
-fn both_count(words: &Twice, count: u64) -> bool {
-    words.count() == count && words.inner().count() == count
+// Whether each operation is passed on once, to words that count inside words that count.
+fn are_counted(words: &mut Twice) -> bool {
+    for i in 0..EACH_ONCE.len() {
+        let count = i as u64 + 1;
+        let is_answered = answer(words, &EACH_ONCE[i..=i]);
+        if !is_answered || words.count() != count || words.inner().count() != count {
+            return false;
+        }
+    }
+    true
 }
 
-// Words that count inside words that count: each operation is passed on once.
 #[test]
 fn each_operation_is_passed_on_once(rt: HostRuntime) {
     let mut words = CountingWords::new(CountingWords::new(WordArray::new(1)));
-    let _ = words.read(0);
-    let mut are_counted = both_count(&words, 1);
-    words.write(0, 5);
-    are_counted = are_counted && both_count(&words, 2);
-    let _ = words.swap(0, 6);
-    are_counted = are_counted && both_count(&words, 3);
-    let _ = words.compare_and_swap(0, 6, 7);
-    are_counted = are_counted && both_count(&words, 4);
-    let _ = words.compare_and_swap(0, 6, 8);
-    are_counted = are_counted && both_count(&words, 5);
-    let _ = words.fetch_and_add(0, 1);
-    assert!(rt; are_counted && both_count(&words, 6));
-}
-
-// Operations as values, on two words of two bits, in which 3 is the greatest value. The rows of
-// `locks` show what each finds and leaves.
-#[test]
-fn answers_of_operations(rt: HostRuntime) {
-    let mut words = WordArray::with_bits(2, 2);
-    let written = perform(&mut words, Write { word: 1, value: 3 });
-    let read = perform(&mut words, Read { word: 1 });
-    let added = perform(&mut words, FetchAndAdd { word: 1, addend: 2 });
-    let swapped = perform(&mut words, Swap { word: 0, value: 2 });
-    let failed = perform(&mut words, compare_and_swap(1));
-    let done = perform(&mut words, compare_and_swap(2));
-    assert!(rt; written == Nothing && read == Found(3) && added == Found(3));
-    assert!(rt; swapped == Found(0) && failed == Swapped(false) && done == Swapped(true));
-    assert!(rt; words.get(0) == 3 && words.get(1) == 1);
-}
-
-// Of the first word from this value to 3.
-fn compare_and_swap(old: u64) -> Operation
-    ensures { result ≡ CompareAndSwap 0 old 3 }
-{
-    CompareAndSwap {
-        word: 0,
-        old,
-        new: 3,
-    }
+    holds(&rt, are_counted(&mut words), "words that count");
 }
