@@ -4,7 +4,6 @@ use lk_replay::{Ending, OutputBuffer, RunFault, read_text, report_of, run, send,
 use std::alloc::{AllocError, Global};
 use std::io;
 use std::io::{ErrorKind, Read, Write};
-use std::process::Abort;
 use std::test::Fail;
 
 const TEXT: &[u8] = b"lock ticket threads 2\n0 acquire\n0 add\n0 read\n1 acquire\n1 add\n1 read\n\
@@ -98,7 +97,7 @@ fn fails(answer: &Result<Ending, RunFault>, fault: RunFault) -> bool {
 }
 
 // After the first `count` bytes, of which each is a call.
-fn reads_no_more(rt: &impl Abort, alloc: Global, count: usize, kind: ErrorKind) {
+fn reads_no_more(alloc: Global, count: usize, kind: ErrorKind) -> bool {
     let mut input = Input {
         all: TEXT,
         rest: &TEXT[..count.min(TEXT.len())],
@@ -109,76 +108,89 @@ fn reads_no_more(rt: &impl Abort, alloc: Global, count: usize, kind: ErrorKind) 
     };
     let mut output = Output::new(b"");
     let answer = run(alloc, &mut input, &mut output);
-    assert!(rt; fails(&answer, RunFault::Read) && input.calls == (count as u64).wrapping_add(1));
+    fails(&answer, RunFault::Read) && input.calls == (count as u64).wrapping_add(1)
+}
+
+fn reads_all(alloc: Global) -> bool {
+    let mut input = TEXT;
+    match read_text(alloc, &mut input) {
+        Ok(text) => text.as_slice() == TEXT,
+        Err(_) => false,
+    }
 }
 
 #[test]
-fn readers_that_fail(rt: HostRuntime) -> Result<(), Fail> {
+fn readers_that_fail(rt: HostRuntime) {
     for count in 0..=TEXT.len() {
-        reads_no_more(&rt, rt.alloc(), count, ErrorKind::Other);
-        reads_no_more(&rt, rt.alloc(), count, ErrorKind::Interrupted);
+        let is_read = reads_no_more(rt.alloc(), count, ErrorKind::Other)
+            && reads_no_more(rt.alloc(), count, ErrorKind::Interrupted);
+        assert!(rt; is_read);
     }
-    let mut input = b"lock ticket threads 1\n".as_slice();
-    assert!(rt; read_text(rt.alloc(), &mut input)?.len() == 22);
-    Ok(())
+    assert!(rt; reads_all(rt.alloc()));
+}
+
+// After the last byte that is of use.
+fn reads_too_much(alloc: Global, all: &[u8], most: usize) -> bool {
+    let mut input = Input {
+        all,
+        rest: all,
+        most,
+        failure: None,
+        taken: 0,
+        calls: 0,
+    };
+    let mut output = Output::new(b"fault TooLong\n");
+    let answer = run(alloc, &mut input, &mut output);
+    let is_faulty = answer == Ok(Ending::Faulty) && status_of(&answer) == 1;
+    is_faulty && output.rest.is_empty() && input.taken == 1_048_577 && input.calls <= 1_048_578
 }
 
 #[test]
 fn readers_without_end(rt: HostRuntime) -> Result<(), Fail> {
     let all = Vec::from_elem(rt.alloc(), b'#', 1_000_000)?;
     for most in [1, 1_000, 1_000_000] {
-        let mut input = Input {
-            all: &all,
-            rest: &all,
-            most,
-            failure: None,
-            taken: 0,
-            calls: 0,
-        };
-        let mut output = Output::new(b"fault TooLong\n");
-        let answer = run(rt.alloc(), &mut input, &mut output);
-        let is_faulty = answer == Ok(Ending::Faulty) && status_of(&answer) == 1;
-        assert!(rt; is_faulty && output.rest.is_empty());
-        assert!(rt; input.taken == 1_048_577 && input.calls <= 1_048_578);
+        assert!(rt; reads_too_much(rt.alloc(), &all, most));
     }
     Ok(())
 }
 
 // A writer of a report that takes all but the last so many bytes.
-fn writes_no_more(rt: &impl Abort, alloc: Global, report: &[u8], left: usize, by_zero: bool) {
+fn writes_no_more(alloc: Global, report: &[u8], left: usize, by_zero: bool) -> bool {
     let mut input = TEXT;
     let mut output = Output::new(report);
     output.room = report.len().saturating_sub(left);
     output.most = 9;
     output.by_zero = by_zero;
     let answer = run(alloc, &mut input, &mut output);
-    assert!(rt; fails(&answer, RunFault::Write) && output.rest.len() == left);
+    fails(&answer, RunFault::Write) && output.rest.len() == left
+}
+
+// One that takes a byte a call, and passes on or not.
+fn writes_bytes(alloc: Global, report: &[u8], flushes: bool) -> bool {
+    let mut input = TEXT;
+    let mut output = Output::new(report);
+    output.most = 1;
+    output.flushes = flushes;
+    let answer = run(alloc, &mut input, &mut output);
+    let is_right = if flushes {
+        answer == Ok(Ending::Accepted) && status_of(&answer) == 0
+    } else {
+        fails(&answer, RunFault::Write)
+    };
+    is_right && output.rest.is_empty() && send(&mut output, b"").is_ok() == flushes
 }
 
 #[test]
 fn writers_that_fail(rt: HostRuntime) -> Result<(), Fail> {
     let report = report_of(rt.alloc(), TEXT)?;
     for left in 1..=report.len() {
-        writes_no_more(&rt, rt.alloc(), &report, left, false);
-        writes_no_more(&rt, rt.alloc(), &report, left, true);
+        let is_cut = writes_no_more(rt.alloc(), &report, left, false)
+            && writes_no_more(rt.alloc(), &report, left, true);
+        assert!(rt; is_cut);
     }
-    Ok(())
-}
-
-#[test]
-fn writers_of_one_byte(rt: HostRuntime) -> Result<(), Fail> {
-    let report = report_of(rt.alloc(), TEXT)?;
-    for flushes in [false, true] {
-        let mut input = TEXT;
-        let mut output = Output::new(&report);
-        output.most = 1;
-        output.flushes = flushes;
-        let answer = run(rt.alloc(), &mut input, &mut output);
-        let is_whole = answer == Ok(Ending::Accepted);
-        assert!(rt; output.rest.is_empty() && is_whole == flushes);
-        assert!(rt; flushes || fails(&answer, RunFault::Write));
-        assert!(rt; send(&mut output, b"").is_ok() == flushes);
-    }
+    let is_whole = writes_bytes(rt.alloc(), &report, true)
+        && writes_bytes(rt.alloc(), &report, false);
+    assert!(rt; is_whole);
     Ok(())
 }
 
@@ -193,8 +205,8 @@ fn long_text(alloc: Global) -> Result<Vec<u8>, AllocError> {
 }
 
 // Whether the report is whole after so many writes. What was written if a write fails is a prefix
-// of it, of as many writes as went before.
-fn is_written(rt: &impl Abort, alloc: Global, text: &[u8], report: &[u8], writes: usize) -> bool {
+// of it, of as many writes as went before; none is told if that is not so.
+fn is_written(alloc: Global, text: &[u8], report: &[u8], writes: usize) -> Option<bool> {
     let mut input = text;
     let mut output = Output::new(report);
     output.writes = writes;
@@ -207,53 +219,56 @@ fn is_written(rt: &impl Abort, alloc: Global, text: &[u8], report: &[u8], writes
         let is_cut = answer == Err(RunFault::Write) && output.writes == 0;
         is_cut && written >= writes.saturating_mul(65_000)
     };
-    assert!(rt; is_right && written <= writes.saturating_mul(65_536));
-    is_whole
+    if is_right && written <= writes.saturating_mul(65_536) {
+        return Some(is_whole);
+    }
+    None
+}
+
+// Whether each write of the report fails in turn, of fewer than 100.
+fn each_fails(alloc: Global, text: &[u8], report: &[u8]) -> bool {
+    for writes in 0..100usize {
+        match is_written(alloc, text, report, writes) {
+            Some(true) => return true,
+            Some(false) => {}
+            None => return false,
+        }
+    }
+    false
 }
 
 #[test]
 fn each_write_of_a_long_report_fails(rt: HostRuntime) -> Result<(), Fail> {
     let text = long_text(rt.alloc())?;
     let report = report_of(rt.alloc(), &text)?;
-    assert!(rt; report.len() > 2_000_000);
-    for writes in 0..100usize {
-        if is_written(&rt, rt.alloc(), &text, &report, writes) {
-            return Ok(());
-        }
-    }
-    panic!(rt; "the report is longer than that")
+    assert!(rt; report.len() > 2_000_000 && each_fails(rt.alloc(), &text, &report));
+    Ok(())
 }
 
-const PIECES: [(u8, usize); 6] = [
-    (b'a', 0),
-    (b'b', 65_536),
-    (b'c', 1),
-    (b'd', 65_536),
-    (b'e', 65_537),
-    (b'f', 3),
-];
+// The lengths of pieces: none, as long as the buffer, longer, and shorter.
+const PIECES: [usize; 6] = [0, 65_536, 1, 65_536, 65_537, 3];
 
-fn all_pieces(alloc: Global) -> Result<Vec<u8>, AllocError> {
-    let mut all = Vec::new(alloc);
-    for (byte, len) in PIECES {
-        all.extend_from_slice(&Vec::from_elem(alloc, byte, len)?)?;
-    }
-    Ok(all)
-}
-
-#[test]
-fn buffers_pass_texts_in_order(rt: HostRuntime) -> Result<(), Fail> {
-    let due = all_pieces(rt.alloc())?;
-    let mut output = Output::new(&due);
-    let mut buffer = OutputBuffer::new(rt.alloc())?;
-    let mut rest = due.as_slice();
-    for (_, len) in PIECES {
+// Whether the text, which is as long as the pieces are together, is passed on in order.
+fn passes(alloc: Global, text: &[u8]) -> Result<bool, RunFault> {
+    let Ok(mut buffer) = OutputBuffer::new(alloc) else {
+        return Ok(false);
+    };
+    let mut output = Output::new(text);
+    let mut rest = text;
+    for len in PIECES {
         let (piece, after) = rest.split_at(len.min(rest.len()));
         buffer.push(&mut output, piece)?;
         rest = after;
     }
-    assert!(rt; output.rest.len() == 3);
+    let is_kept = output.rest.len() == 3;
     buffer.send_whole(&mut output)?;
-    assert!(rt; output.rest.is_empty());
+    Ok(is_kept && output.rest.is_empty())
+}
+
+#[test]
+fn buffers_pass_texts_in_order(rt: HostRuntime) -> Result<(), Fail> {
+    let text = long_text(rt.alloc())?;
+    let is_passed = passes(rt.alloc(), &text[..text.len().min(196_613)]);
+    assert!(rt; is_passed == Ok(true));
     Ok(())
 }

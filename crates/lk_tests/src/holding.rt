@@ -11,3 +11,10 @@ pub fn holds(rt: &impl Abort, is_right: bool, row: &str)
 {
     assert!(rt; is_right, "{row}");
 }
+
+/// The same at a line of the row.
+pub fn holds_at(rt: &impl Abort, is_right: bool, row: &str, line: u32)
+    ensures { is_right ≡ true }
+{
+    assert!(rt; is_right, "{row}: line {line}");
+}

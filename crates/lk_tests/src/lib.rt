@@ -17,6 +17,8 @@ mod devices;
 #[cfg(test)]
 mod holding;
 #[cfg(test)]
+mod lines;
+#[cfg(test)]
 mod locks;
 #[cfg(test)]
 mod parts;

@@ -1,110 +1,38 @@
-//! Each worked row, played by one body for all four locks: on a machine whose words count, on a
-//! keeper, and as a schedule. After each move it compares the operation and the new entries.
+//! The worked rows on a machine, on a keeper and as schedules, with each request for memory refused
+//! in turn. A move that is refused asks for none, and changes nothing.
 
-ghost use Rattle.std.specs.Prelude.{◌≡◌, ◌<◌, ◌≤◌, ◌^◌, length};
+ghost use Rattle.std.specs.Prelude.{◌<◌, ◌≤◌, ◌^◌};
 
-use crate::holding::holds;
+use crate::holding::{holds, holds_at};
+use crate::lines::{Done, Said, are_recorded, done_by, first_word, is_named, said};
+use crate::refusals::REFUSED;
+use crate::refusing::{MOST_REQUESTS, is_refusing, refuse, was_refused};
 use crate::rows::{ROWS, Row};
 use lk_locks::{
-    Entry, Holders, Keeper, LockKind, Machine, Move, Op, Outcome, StepKind, words_needed,
+    Entry, Holders, Keeper, LockKind, Machine, Move, Op, Outcome, PlayFault, Refusal, StepKind,
+    words_needed,
 };
-use lk_replay::parts::{
-    Lines, cut_word, header_of, move_named, number_of, outcome_named, whole_number,
-};
-use lk_replay::{Accepted, read_schedule, replay};
-use lk_words::{CountingWords, Operation, WordArray, Words};
+use lk_replay::parts::{Lines, cut_line, is_skipped};
+use lk_replay::{Accepted, Played, Schedule, read_schedule, replay};
+use lk_words::{CountingWords, WordArray, Words};
 use std::alloc::{AllocError, Global};
 use std::process::Abort;
 use std::test::Fail;
 
-/// More than the lines of a row.
-pub const MOST_LINES: u32 = 40;
+// More than the lines of a row.
+const MOST_LINES: u32 = 40;
 
-/// A move of a row, what comes of it, and the rest of its line.
-pub type Played<'a> = (u8, Move, Outcome, &'a [u8]);
-
-// An operation, and what its word holds before and after.
-type Done = (Operation, u64, u64);
-
-// The first word of a line, and the line after it.
-fn first_word(line: &[u8]) -> (&[u8], &[u8]) {
-    match cut_word(line) {
-        Some(cut) => cut,
-        None => (line, b"".as_slice()),
-    }
+// A machine and a keeper of one lock, on which the same moves are made, and the last call of each
+// thread.
+#[derive(Drop)]
+struct Both {
+    machine: Machine<CountingWords<WordArray>>,
+    keeper: Keeper<WordArray>,
+    ops: [Op; 64],
 }
 
-// The outcome of that word.
-fn outcome_of(word: &[u8]) -> Option<Outcome> {
-    if word == b"called".as_slice() {
-        return Some(Outcome::Called);
-    }
-    outcome_named(word)
-}
-
-/// The move that a line of a row begins with.
-pub fn played(line: &[u8]) -> Option<Played> {
-    let (thread, line) = first_word(line);
-    let (action, line) = first_word(line);
-    let (outcome, rest) = first_word(line);
-    Some((
-        number_of(thread, 0, 63)?,
-        move_named(action)?,
-        outcome_of(outcome)?,
-        rest,
-    ))
-}
-
-// The number that a line begins with, and the rest of it.
-fn first_number(line: &[u8]) -> Option<(u64, &[u8])> {
-    let (word, rest) = first_word(line);
-    Some((whole_number(word)?, rest))
-}
-
-// The operation of a step of this kind, which leaves this value if it writes.
-fn operation_on(kind: StepKind, thread: u8, word: usize, left: u64) -> Option<Operation> {
-    match kind {
-        StepKind::Read => Some(Operation::Read { word }),
-        StepKind::Write => Some(Operation::Write { word, value: left }),
-        StepKind::Swap => Some(Operation::Swap { word, value: left }),
-        StepKind::Cas => Some(Operation::CompareAndSwap {
-            word,
-            old: u64::from(thread) + 1,
-            new: 0,
-        }),
-        StepKind::Add => Some(Operation::FetchAndAdd { word, addend: 1 }),
-        StepKind::Section => None,
-    }
-}
-
-// What a line says of a step of this kind, and the rest of it.
-fn done(kind: StepKind, thread: u8, line: &[u8]) -> Option<(Done, &[u8])> {
-    let (word, line) = first_number(line)?;
-    let (found, line) = first_number(line)?;
-    let (left, rest) = first_number(line)?;
-    let operation = operation_on(kind, thread, usize::try_from(word).ok()?, left)?;
-    Some(((operation, found, left), rest))
-}
-
-// The entry that a word of a line is.
-fn entry_named(word: &[u8], thread: u8, op: Op) -> Option<Entry> {
-    if word == b"called".as_slice() {
-        return Some(Entry::Called(thread, op));
-    }
-    if word == b"announced".as_slice() {
-        return Some(Entry::Announced(thread));
-    }
-    if word == b"acted".as_slice() {
-        return Some(Entry::Acted(thread, op));
-    }
-    if word == b"returned".as_slice() {
-        return Some(Entry::Returned(thread, op));
-    }
-    None
-}
-
-/// Who holds, in a form that compares: a mode, and the threads as bits.
-pub fn told(holders: &Holders) -> (char, u64) {
+// Who holds, in a form that compares: a mode, and the threads as bits.
+fn told(holders: &Holders) -> (char, u64) {
     match holders {
         Holders::Nobody => ('-', 0),
         Holders::Holder(t) => ('h', 1 << (t & 63)),
@@ -129,8 +57,8 @@ fn agrees(holders: &Holders, thread: u8, outcome: Outcome) -> bool {
     }
 }
 
-/// A machine whose words count.
-pub fn new_machine(kind: LockKind, threads: u8, bits: u8) -> Machine<CountingWords<WordArray>>
+// A machine whose words count.
+fn new_machine(kind: LockKind, threads: u8, bits: u8) -> Machine<CountingWords<WordArray>>
     requires some { 0 < threads }
     requires few { threads ≤ 64 }
     requires narrow { threads < 2 ^ bits }
@@ -182,39 +110,96 @@ fn made(
     )
 }
 
-// Whether the entries after the first `count` are those that the rest of a line names.
-fn are_recorded(entries: &[Entry], count: usize, line: &[u8], thread: u8, op: Op) -> bool {
-    let mut rest = line;
-    for entry in entries.iter().skip(count) {
-        let (word, after) = first_word(rest);
-        if entry_named(word, thread, op) != Some(*entry) {
-            return false;
-        }
-        rest = after;
+// What a keeper shows, in a form that compares.
+fn shown(keeper: &Keeper<WordArray>) -> (usize, (char, u64), u64) {
+    let mut queue = 0u64;
+    for t in keeper.queue().as_slice() {
+        queue = queue.wrapping_mul(65).wrapping_add(u64::from(*t) + 1);
     }
-    rest.is_empty()
+    (keeper.entries().len(), told(&keeper.holders()), queue)
 }
 
-// Plays a line on both, and says whether both did what it says. `op` is the thread's last call.
-fn play_line(
-    machine: &mut Machine<CountingWords<WordArray>>,
-    keeper: &mut Keeper<WordArray>,
-    (thread, action, outcome, line): Played,
-    op: Op,
-) -> Option<bool> {
-    let (said, is_made) = made(machine, thread, action, outcome);
-    let (due, rest) = match action {
-        Move::Step(kind) if kind != StepKind::Section => {
-            let (due, rest) = done(kind, thread, line)?;
-            (Some(due), rest)
+// Plays the move, once more if memory was refused. Then nothing had changed.
+fn play_at_last(keeper: &mut Keeper<WordArray>, thread: u8, action: Move) -> Option<Outcome> {
+    let before = shown(keeper);
+    let answer = keeper.play(thread, action);
+    if answer != Err(PlayFault::OutOfMemory) {
+        return answer.ok();
+    }
+    if shown(keeper) != before {
+        return None;
+    }
+    keeper.play(thread, action).ok()
+}
+
+impl Both {
+    fn new(alloc: Global, schedule: &Schedule) -> Both {
+        let (kind, threads, bits) = (schedule.kind(), schedule.threads(), schedule.bits());
+        Both {
+            machine: new_machine(kind, threads, bits),
+            keeper: new_keeper(alloc, kind, threads, bits),
+            ops: [Op::Acquire; 64],
         }
-        _ => (None, line),
-    };
-    let count = keeper.entries().len();
-    let is_played = keeper.play(thread, action) == Ok(outcome);
-    let is_kept = are_recorded(keeper.entries(), count, rest, thread, op)
-        && agrees(&keeper.holders(), thread, outcome);
-    Some(is_made && said == due && is_played && is_kept)
+    }
+
+    // Makes the move on both, and says whether both did what the line says.
+    fn accepts(&mut self, (thread, action, _, line): Said, outcome: Outcome) -> bool {
+        let place = usize::from(thread & 63);
+        if let Move::Call(op) = action {
+            self.ops[place] = op;
+        }
+        let Some((due, rest)) = done_by(action, thread, line) else {
+            return false;
+        };
+        let (said, is_made) = made(&mut self.machine, thread, action, outcome);
+        let count = self.keeper.entries().len();
+        let is_played = play_at_last(&mut self.keeper, thread, action) == Some(outcome);
+        is_made
+            && said == due
+            && is_played
+            && are_recorded(self.keeper.entries(), count, rest, thread, self.ops[place])
+            && agrees(&self.keeper.holders(), thread, outcome)
+    }
+
+    // Tries the move on both, and says whether both refuse it as the line says.
+    fn refuses(&mut self, (thread, action, _, name): Said) -> bool {
+        let (count, before) = (self.machine.words().count(), shown(&self.keeper));
+        let checked = self.machine.check(thread, action).err();
+        let applied = self.machine.apply(thread, action).err();
+        let played = self.keeper.play(thread, action).err();
+        let is_kept = self.machine.words().count() == count && shown(&self.keeper) == before;
+        match applied {
+            Some(refusal) => {
+                is_kept
+                    && checked == applied
+                    && played == Some(PlayFault::Refused(refusal))
+                    && is_named(refusal, name)
+            }
+            None => false,
+        }
+    }
+
+    // A line of those that are accepted, or of those that are refused. The others are left out.
+    fn does(&mut self, said: Said, refused: bool) -> bool {
+        match said.2 {
+            Some(outcome) => refused || self.accepts(said, outcome),
+            None => !refused || self.refuses(said),
+        }
+    }
+}
+
+fn does_lines(rt: &impl Abort, both: &mut Both, row: &Row, refused: bool) {
+    let mut lines = lines_of(row);
+    for _ in 0..MOST_LINES {
+        let Some((number, line)) = lines.next_line() else {
+            return;
+        };
+        let is_right = match said(line) {
+            Some(said) => both.does(said, refused),
+            None => false,
+        };
+        holds_at(rt, is_right, row.header, number);
+    }
 }
 
 // The words are those that the row leaves.
@@ -230,97 +215,142 @@ fn leaves(rt: &impl Abort, machine: &Machine<CountingWords<WordArray>>, row: &Ro
     }
 }
 
-// The keeper that a row was played on.
-fn plays(rt: &impl Abort, alloc: Global, row: &Row) -> Result<Keeper<WordArray>, Fail> {
-    let header = header_of(row.header.as_bytes(), 1)?;
-    let (kind, threads, bits) = (header.kind(), header.threads(), header.bits());
-    let mut machine = new_machine(kind, threads, bits);
-    let mut keeper = new_keeper(alloc, kind, threads, bits);
-    let mut ops = [Op::Acquire; 64];
-    let mut lines = lines_of(rt, row.lines);
-    for _ in 0..MOST_LINES {
-        let Some((number, line)) = lines.next_line() else {
-            break;
-        };
-        let Some(played) = played(line) else {
-            panic!(rt; "{}: line {number}", row.header)
-        };
-        let place = usize::from(played.0 & 63);
-        if let Move::Call(op) = played.1 {
-            ops[place] = op;
-        }
-        let told = play_line(&mut machine, &mut keeper, played, ops[place]);
-        assert!(rt; told == Some(true), "{}: line {number}", row.header);
-    }
-    leaves(rt, &machine, row);
-    Ok(keeper)
+// The lines of a row. One that is too long would be cut, and fail.
+fn lines_of(row: &Row) -> Lines<'static> {
+    let lines = row.lines.as_bytes();
+    Lines::new(&lines[..lines.len().min(10_000)])
 }
 
-/// The lines of a row.
-pub fn lines_of<'a>(rt: &impl Abort, lines: &'a str) -> Lines<'a> {
-    assert!(rt; lines.len() < 10_000);
-    Lines::new(lines.as_bytes())
-}
-
-// Adds the move of a line to the text of a schedule.
+// Adds the move of a line to the text of a schedule, or a line that is skipped.
 fn push_move(text: &mut Vec<u8>, line: &[u8]) -> Result<(), AllocError> {
+    if is_skipped(line) {
+        text.extend_from_slice(line)?;
+        return text.extend_from_slice(b"\n");
+    }
     let (thread, rest) = first_word(line);
-    let (action, _) = first_word(rest);
-    for word in [thread, b" ", action, b"\n"] {
+    for word in [thread, b" ", first_word(rest).0, b"\n"] {
         text.extend_from_slice(word)?;
     }
     Ok(())
 }
 
 // The text of the row's schedule.
-fn text_of(rt: &impl Abort, alloc: Global, row: &Row) -> Result<Vec<u8>, AllocError> {
+fn text_of(alloc: Global, row: &Row) -> Result<Vec<u8>, AllocError> {
     let mut text = Vec::from_slice(alloc, row.header.as_bytes())?;
-    text.push(b'\n')?;
-    let mut lines = lines_of(rt, row.lines);
+    text.extend_from_slice(b"\n")?;
+    let mut rest = row.lines.as_bytes();
     for _ in 0..MOST_LINES {
-        let Some((_, line)) = lines.next_line() else {
+        if rest.is_empty() {
             break;
-        };
+        }
+        let (line, after) = cut_line(rest);
         push_move(&mut text, line)?;
+        rest = after;
     }
     Ok(text)
 }
 
 // Whether this is the move of a line of the row, which is a line after it in the schedule.
 fn is_accepted(accepted: &Accepted, number: u32, line: &[u8]) -> bool {
-    let place = (accepted.line, accepted.thread);
-    match played(line) {
+    match said(line) {
         Some((thread, action, outcome, _)) => {
-            place == (number.saturating_add(1), thread)
+            (accepted.line, accepted.thread) == (number.saturating_add(1), thread)
                 && accepted.action == action
-                && accepted.outcome == outcome
+                && outcome == Some(accepted.outcome)
         }
         None => false,
     }
 }
 
-// As a schedule, the row is accepted, with these entries.
-fn replays(rt: &impl Abort, alloc: Global, row: &Row, entries: &[Entry]) -> Result<(), Fail> {
-    let schedule = read_schedule(alloc, &text_of(rt, alloc, row)?)?;
-    let replayed = replay(alloc, &schedule)?;
-    let mut lines = lines_of(rt, row.lines);
-    for accepted in replayed.accepted() {
+// Whether the first line that was not accepted is the one that the replay ends with, if there is
+// one.
+fn ends(next: Option<(u32, &[u8])>, refused: Option<(u32, Refusal)>) -> bool {
+    match (next, refused) {
+        (None, None) => true,
+        (Some((number, line)), Some((at, refusal))) => match said(line) {
+            Some((_, _, None, name)) => at == number.saturating_add(1) && is_named(refusal, name),
+            _ => false,
+        },
+        _ => false,
+    }
+}
+
+// Whether the row was replayed, and left these entries.
+fn is_replayed(played: &Played, row: &Row, entries: &[Entry]) -> bool {
+    let mut lines = lines_of(row);
+    for accepted in played.accepted() {
         let is_next = match lines.next_line() {
             Some((number, line)) => is_accepted(accepted, number, line),
             None => false,
         };
-        holds(rt, is_next, row.header);
+        if !is_next {
+            return false;
+        }
     }
-    let is_whole = lines.next_line() == None && replayed.refused() == None;
-    holds(rt, is_whole && replayed.entries() == entries, row.header);
-    Ok(())
+    ends(lines.next_line(), played.refused()) && played.entries() == entries
+}
+
+// As a schedule, the row has these entries. Whether a request was refused.
+fn replays(
+    rt: &impl Abort,
+    alloc: Global,
+    row: &Row,
+    schedule: &Schedule,
+    entries: &[Entry],
+) -> bool {
+    let answer = replay(alloc, schedule);
+    let refused = was_refused(alloc);
+    let is_right = match &answer {
+        Ok(played) => is_replayed(played, row, entries),
+        Err(_) => refused,
+    };
+    holds(rt, is_right, row.header);
+    refused
+}
+
+// Plays the row on both, and says whether a request was refused.
+fn plays(rt: &impl Abort, alloc: Global, row: &Row, both: &mut Both, number: usize) -> bool {
+    refuse(alloc, number);
+    does_lines(rt, both, row, false);
+    let refused = was_refused(alloc);
+    // the first entries need memory
+    let asks = number == 1 && !both.keeper.entries().is_empty();
+    holds(rt, !asks || refused == is_refusing(alloc), row.header);
+    refuse(alloc, 1);
+    does_lines(rt, both, row, true);
+    holds(rt, !was_refused(alloc), row.header);
+    leaves(rt, &both.machine, row);
+    refused
+}
+
+// With the request of this number refused: whether there was one.
+fn once(rt: &impl Abort, alloc: Global, row: &Row, schedule: &Schedule, number: usize) -> bool {
+    let mut both = Both::new(alloc, schedule);
+    let refused = plays(rt, alloc, row, &mut both, number);
+    refuse(alloc, number);
+    replays(rt, alloc, row, schedule, both.keeper.entries()) || refused
+}
+
+// Each request in turn, until there is no such one.
+fn each_request(rt: &impl Abort, alloc: Global, row: &Row, schedule: &Schedule) {
+    for number in 1..MOST_REQUESTS {
+        if !once(rt, alloc, row, schedule, number) {
+            return;
+        }
+    }
+    holds(rt, false, row.header);
+}
+
+fn schedule_of(alloc: Global, row: &Row) -> Result<Schedule, Fail> {
+    let text = text_of(alloc, row)?;
+    Ok(read_schedule(alloc, &text)?)
 }
 
 #[test]
-fn worked_rows(rt: HostRuntime) -> Result<(), Fail> {
-    for row in &ROWS {
-        let keeper = plays(&rt, rt.alloc(), row)?;
-        replays(&rt, rt.alloc(), row, keeper.entries())?;
+fn worked_rows_with_each_request_refused(rt: HostRuntime) -> Result<(), Fail> {
+    for row in ROWS.iter().chain(&REFUSED) {
+        let schedule = schedule_of(rt.alloc(), row)?;
+        each_request(&rt, rt.alloc(), row, &schedule);
     }
     Ok(())
 }

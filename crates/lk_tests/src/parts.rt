@@ -1,10 +1,13 @@
 //! The sequential lock, the history and a keeper by themselves.
 
+use crate::holding::holds;
 use crate::locks::new_keeper;
 use crate::refusing::{refuse, was_refused};
 use Act::{Acquire, Announce, Downgrade, ReadLock, ReadUnlock, Release, WriteLock};
 use lk_locks::{Act, Entry, History, Keeper, LockKind, Move, Op, SeqLock, StepKind, words_needed};
+use lk_replay::parts::lock_text;
 use lk_words::WordArray;
+use std::alloc::Global;
 use std::process::Abort;
 
 // Acts, and whether each is allowed. Those that are, are done.
@@ -46,32 +49,47 @@ fn acts(rt: &impl Abort, lock: &mut SeqLock, acts: &[(Act, bool)]) {
 }
 
 #[test]
-fn sequential_locks(rt: HostRuntime) {
+fn sequential_queues(rt: HostRuntime) {
     let mut lock = SeqLock::new(LockKind::Ticket);
     acts(&rt, &mut lock, &ON_A_QUEUE);
     assert!(rt; lock.queue() == [2].as_slice());
-    let mut lock = SeqLock::new(LockKind::RwFifo);
-    acts(&rt, &mut lock, &BY_READERS);
-    assert!(rt; lock.readers() == [2, 5].as_slice() && lock.announced() == Some(1));
-    acts(&rt, &mut lock, &BY_A_WRITER);
-    assert!(rt; lock.writer() == Some(1) && lock.announced() == None);
-    acts(&rt, &mut lock, &[(Downgrade(1), true)]);
-    assert!(rt; lock.writer() == None && lock.readers() == [1].as_slice());
 }
 
-// With room for three entries a history asks for no memory.
+fn are_held(lock: &SeqLock, readers: &[u8], writer: Option<u8>, announced: Option<u8>) -> bool {
+    lock.readers() == readers && lock.writer() == writer && lock.announced() == announced
+}
+
+#[test]
+fn sequential_read_write_locks(rt: HostRuntime) {
+    let mut lock = SeqLock::new(LockKind::RwFifo);
+    acts(&rt, &mut lock, &BY_READERS);
+    assert!(rt; are_held(&lock, &[2, 5], None, Some(1)));
+    acts(&rt, &mut lock, &BY_A_WRITER);
+    assert!(rt; are_held(&lock, &[], Some(1), None));
+    acts(&rt, &mut lock, &[(Downgrade(1), true)]);
+    assert!(rt; are_held(&lock, &[1], None, None));
+}
+
+// Whether a history with room for three entries asks for no memory, and has those that it is given.
+fn has_room(alloc: Global) -> bool {
+    let mut history = History::new(alloc);
+    let is_made = history.entries().is_empty() && history.make_room().is_ok();
+    if !is_made || history.room() < 3 {
+        return false;
+    }
+    refuse(alloc, 1);
+    let is_kept = history.make_room().is_ok() && history.room() >= 3;
+    let entries = [Entry::Called(7, Op::Acquire), Entry::Acted(7, Op::Acquire)];
+    if was_refused(alloc) || !is_kept {
+        return false;
+    }
+    history.append(&entries);
+    history.entries() == entries.as_slice()
+}
+
 #[test]
 fn no_request_with_room_for_three(rt: HostRuntime) {
-    let alloc = rt.alloc();
-    let mut history = History::new(alloc);
-    assert!(rt; history.entries().is_empty() && history.make_room().is_ok());
-    assert!(rt; history.room() >= 3);
-    refuse(alloc, 1);
-    assert!(rt; history.make_room().is_ok());
-    assert!(rt; !was_refused(alloc));
-    let entries = [Entry::Called(7, Op::Acquire), Entry::Acted(7, Op::Acquire)];
-    history.append(&entries);
-    assert!(rt; history.entries() == entries.as_slice());
+    assert!(rt; has_room(rt.alloc()));
 }
 
 #[test]
@@ -82,16 +100,20 @@ fn words_of_each_lock(rt: HostRuntime) {
         (LockKind::RwSimple, 2),
         (LockKind::RwFifo, 3),
     ] {
-        assert!(rt; words_needed(kind, 64) == words, "{kind:?}");
+        holds(&rt, words_needed(kind, 64) == words, lock_text(kind));
     }
+}
+
+fn steps_are_next(alloc: Global) -> bool {
+    let mut keeper = Keeper::new(alloc, LockKind::Ticket, 2, WordArray::new(2));
+    let is_idle = keeper.next_step(1) == None;
+    let is_called = keeper.play(1, Move::Call(Op::Acquire)).is_ok();
+    is_idle && is_called && keeper.next_step(1) == Some(StepKind::Add)
 }
 
 #[test]
 fn next_steps(rt: HostRuntime) {
-    let mut keeper = Keeper::new(rt.alloc(), LockKind::Ticket, 2, WordArray::new(2));
-    assert!(rt; keeper.next_step(1) == None);
-    assert!(rt; keeper.play(1, Move::Call(Op::Acquire)).is_ok());
-    assert!(rt; keeper.next_step(1) == Some(StepKind::Add));
+    assert!(rt; steps_are_next(rt.alloc()));
 }
 
 // A thread alone enters and leaves a ticket lock.
@@ -113,17 +135,27 @@ const ENTRIES: [Entry; 6] = [
     Entry::Returned(0, Op::Release),
 ];
 
+fn are_rounds(entries: &[Entry]) -> bool {
+    for i in 0..entries.len() {
+        if entries[i] != ENTRIES[i % 6] {
+            return false;
+        }
+    }
+    true
+}
+
 // More entries than 16 bits count, and tickets that wrap in words of four bits.
+fn goes_round(alloc: Global) -> bool {
+    let mut keeper = new_keeper(alloc, LockKind::Ticket, 1, 4);
+    for i in 0..66_000usize {
+        if keeper.play(0, ROUND[i % 6]).is_err() {
+            return false;
+        }
+    }
+    keeper.entries().len() == 66_000 && are_rounds(keeper.entries())
+}
+
 #[test]
 fn eleven_thousand_rounds(rt: HostRuntime) {
-    let mut keeper = new_keeper(rt.alloc(), LockKind::Ticket, 1, 4);
-    for i in 0..66_000usize {
-        let answer = keeper.play(0, ROUND[i % 6]);
-        assert!(rt; answer.is_ok(), "move {i}");
-    }
-    let entries = keeper.entries();
-    assert!(rt; entries.len() == 66_000);
-    for i in 0..entries.len() {
-        assert!(rt; entries[i] == ENTRIES[i % 6], "entry {i}");
-    }
+    assert!(rt; goes_round(rt.alloc()));
 }

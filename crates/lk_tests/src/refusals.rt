@@ -1,166 +1,197 @@
-//! Each refusal by library calls, and which of two is answered. A refused move changes nothing.
-//! tests/rows/refusals.txt has each pair on each lock.
+//! Moves that a machine, a keeper and a replay refuse, after the accepted ones of each row, and the
+//! texts of refusals. tests/rows/refusals.txt has each two that can meet, on each lock.
 
 use crate::holding::holds;
-use crate::locks::{new_keeper, new_machine};
+use crate::rows::Row;
 use Refusal::{AlreadyHolds, Busy, NoCall, NoSuchThread, NotHolder, WrongLock, WrongStep};
-use lk_locks::{Keeper, Machine, PlayFault, Refusal, StepKind};
-use lk_replay::{Line, read_schedule, replay};
-use lk_words::{CountingWords, WordArray};
+use lk_locks::{PlayFault, Refusal, StepKind};
 use std::alloc::{AllocError, Global};
-use std::process::Abort;
-use std::test::Fail;
 
-// A schedule whose last line is refused, the number of that line, and the refusal.
-type Row = (&'static str, u32, Refusal);
+pub static REFUSED: [Row; 13] = [
+    Row {
+        header: "lock ticket threads 2",
+        lines: "\
+2 acquire refused NoSuchThread
+2 rlock refused NoSuchThread
+255 acquire refused NoSuchThread
+0 rlock refused WrongLock
+0 section refused WrongLock
+0 downgrade refused WrongLock
+0 release refused NotHolder
+0 add refused NoCall
+",
+        operations: 0,
+        words: &[],
+    },
+    Row {
+        header: "lock ticket threads 2",
+        lines: "\
+0 acquire called called
+0 acquire refused Busy
+0 release refused Busy
+0 read refused WrongStep next add
+0 section refused WrongLock
+",
+        operations: 0,
+        words: &[],
+    },
+    Row {
+        header: "lock ticket threads 2",
+        lines: "\
+0 acquire called called
+0 add moved 0 0 1 acted
+0 read entered 1 0 0 returned
+0 acquire refused AlreadyHolds
+0 read refused NoCall
+0 wlock refused WrongLock
+1 release refused NotHolder
+",
+        operations: 2,
+        words: &[1],
+    },
+    Row {
+        header: "lock ticket threads 2",
+        lines: "\
+0 acquire called called
+0 add moved 0 0 1 acted
+0 read entered 1 0 0 returned
+0 release called called
+0 acquire refused Busy
+0 write refused WrongStep next read
+",
+        operations: 2,
+        words: &[1],
+    },
+    Row {
+        header: "lock mcs threads 2",
+        lines: "\
+0 acquire called called
+0 swap refused WrongStep next write
+0 rlock refused WrongLock
+0 section refused WrongLock
+0 acquire refused Busy
+1 swap refused NoCall
+1 release refused NotHolder
+2 release refused NoSuchThread
+",
+        operations: 0,
+        words: &[],
+    },
+    // A release that looked for its link waits for it, and does not grant yet.
+    Row {
+        header: "lock mcs threads 2",
+        lines: "\
+0 acquire called called
+0 write moved 1 0 0
+0 swap entered 0 0 1 acted returned
+1 acquire called called
+1 write moved 3 0 0
+0 release called called
+0 read moved 1 0 0
+1 swap moved 0 1 2 acted
+0 cas moved 0 2 2
+0 read waits 1 0 0
+0 read waits 1 0 0
+0 write refused WrongStep next read
+0 acquire refused Busy
+",
+        operations: 8,
+        words: &[2],
+    },
+    Row {
+        header: "lock mcs threads 1",
+        lines: "\
+0 acquire called called
+0 write moved 1 0 0
+0 swap entered 0 0 1 acted returned
+0 acquire refused AlreadyHolds
+",
+        operations: 2,
+        words: &[1],
+    },
+    Row {
+        header: "lock rw-simple threads 2",
+        lines: "\
+0 rlock called called
+0 section entered acted returned
+0 wunlock refused NotHolder
+0 downgrade refused NotHolder
+0 wlock refused AlreadyHolds
+0 section refused NoCall
+0 release refused WrongLock
+2 rlock refused NoSuchThread
+",
+        operations: 0,
+        words: &[1],
+    },
+    Row {
+        header: "lock rw-simple threads 2",
+        lines: "\
+0 wlock called called
+0 section entered acted returned
+1 rlock called called
+0 runlock refused NotHolder
+1 wlock refused Busy
+",
+        operations: 0,
+        words: &[0, 1],
+    },
+    Row {
+        header: "lock rw-fifo threads 2",
+        lines: "\
+0 rlock called called
+0 section entered acted returned
+0 downgrade refused NotHolder
+0 acquire refused WrongLock
+1 section refused NoCall
+2 section refused NoSuchThread
+",
+        operations: 0,
+        words: &[1],
+    },
+    Row {
+        header: "lock rw-fifo threads 2",
+        lines: "\
+0 wlock called called
+0 section entered announced acted returned
+0 downgrade called called
+0 wunlock refused Busy
+0 rlock refused Busy
+",
+        operations: 0,
+        words: &[0, 0, 1],
+    },
+    Row {
+        header: "lock rw-fifo threads 2",
+        lines: "\
+0 wlock called called
+0 section entered announced acted returned
+0 downgrade called called
+0 section entered acted returned
+0 wunlock refused NotHolder
+",
+        operations: 0,
+        words: &[1],
+    },
+    // Lines that are skipped count.
+    Row {
+        header: "lock rw-fifo threads 2 bits 9",
+        lines: "\
+# x
+0 wlock called called
 
-const READ: Refusal = WrongStep {
-    next: StepKind::Read,
-};
+0 section entered announced acted returned
+0 wlock refused AlreadyHolds
+0 rlock refused AlreadyHolds
+",
+        operations: 0,
+        words: &[0, 0, 1],
+    },
+];
 
 const ADD: Refusal = WrongStep {
     next: StepKind::Add,
 };
-
-const WRITE: Refusal = WrongStep {
-    next: StepKind::Write,
-};
-
-// Each refusal alone, when no other could be answered.
-const ALONE: [Row; 18] = [
-    ("lock ticket threads 2\n255 acquire", 2, NoSuchThread),
-    ("lock ticket threads 2\n0 downgrade", 2, WrongLock),
-    ("lock ticket threads 2\n0 acquire\n0 acquire", 3, Busy),
-    ("lock ticket threads 2\n0 release", 2, NotHolder),
-    (
-        "lock ticket threads 2\n0 acquire\n0 add\n0 read\n0 acquire",
-        5,
-        AlreadyHolds,
-    ),
-    ("lock ticket threads 2\n0 add", 2, NoCall),
-    (
-        "lock ticket threads 2\n0 acquire\n0 add\n0 read\n0 read",
-        5,
-        NoCall,
-    ),
-    ("lock ticket threads 2\n0 acquire\n0 read", 3, ADD),
-    ("lock mcs threads 2\n0 acquire\n0 swap", 3, WRITE),
-    (LINKED_LATE, 13, READ),
-    (
-        "lock rw-simple threads 2\n0 rlock\n0 section\n0 wunlock",
-        4,
-        NotHolder,
-    ),
-    (
-        "lock rw-simple threads 2\n0 rlock\n0 section\n0 downgrade",
-        4,
-        NotHolder,
-    ),
-    (
-        "lock rw-simple threads 2\n0 rlock\n0 section\n0 wlock",
-        4,
-        AlreadyHolds,
-    ),
-    (
-        "lock rw-simple threads 2\n0 wlock\n0 section\n0 runlock",
-        4,
-        NotHolder,
-    ),
-    (
-        "lock rw-fifo threads 2\n0 rlock\n0 section\n0 downgrade",
-        4,
-        NotHolder,
-    ),
-    (
-        "lock rw-fifo threads 2\n0 wlock\n0 section\n0 rlock",
-        4,
-        AlreadyHolds,
-    ),
-    (DOWNGRADED, 6, NotHolder),
-    (
-        "# x\nlock rw-fifo threads 2 bits 9\n0 wlock\n\n0 section\n0 wlock",
-        6,
-        AlreadyHolds,
-    ),
-];
-
-// A release that looked for its link waits for it, and does not grant yet.
-const LINKED_LATE: &str = "lock mcs threads 2\n0 acquire\n0 write\n0 swap\n1 acquire\n1 write\n\
-     0 release\n0 read\n1 swap\n0 cas\n0 read\n0 read\n0 write";
-
-const DOWNGRADED: &str =
-    "lock rw-fifo threads 2\n0 wlock\n0 section\n0 downgrade\n0 section\n0 wunlock";
-
-// Of each two that can meet, the one that is answered.
-const FIRST_OF_TWO: [Row; 10] = [
-    ("lock ticket threads 2\n2 rlock", 2, NoSuchThread),
-    ("lock mcs threads 2\n2 release", 2, NoSuchThread),
-    ("lock rw-fifo threads 2\n2 section", 2, NoSuchThread),
-    ("lock mcs threads 2\n0 acquire\n0 rlock", 3, WrongLock),
-    ("lock rw-simple threads 2\n0 release", 2, WrongLock),
-    (
-        "lock rw-fifo threads 2\n0 rlock\n0 section\n0 acquire",
-        4,
-        WrongLock,
-    ),
-    ("lock ticket threads 2\n0 section", 2, WrongLock),
-    ("lock mcs threads 2\n0 acquire\n0 section", 3, WrongLock),
-    (
-        "lock rw-fifo threads 2\n0 wlock\n0 section\n0 downgrade\n0 wunlock",
-        5,
-        Busy,
-    ),
-    (
-        "lock ticket threads 2\n0 acquire\n0 add\n0 read\n0 release\n0 acquire",
-        6,
-        Busy,
-    ),
-];
-
-// The refusal of a machine and a keeper, if they refuse the line. Then nothing has changed.
-fn refusal_of(
-    rt: &impl Abort,
-    machine: &mut Machine<CountingWords<WordArray>>,
-    keeper: &mut Keeper<WordArray>,
-    line: &Line,
-) -> Option<Refusal> {
-    let (count, entries) = (machine.words().count(), keeper.entries().len());
-    let checked = machine.check(line.thread, line.action).err();
-    let applied = machine.apply(line.thread, line.action).err();
-    let played = keeper.play(line.thread, line.action).err();
-    let is_kept = machine.words().count() == count && keeper.entries().len() == entries;
-    assert!(rt; checked == applied && played == applied.map(PlayFault::Refused));
-    assert!(rt; applied == None || is_kept);
-    applied
-}
-
-// A machine, a keeper and a replay accept all lines but the last, which each of them refuses.
-fn refuses(rt: &impl Abort, alloc: Global, (text, last, refusal): Row) -> Result<(), Fail> {
-    let schedule = read_schedule(alloc, text.as_bytes())?;
-    let (kind, threads, bits) = (schedule.kind(), schedule.threads(), schedule.bits());
-    let mut machine = new_machine(kind, threads, bits);
-    let mut keeper = new_keeper(alloc, kind, threads, bits);
-    for line in schedule.moves() {
-        let found = refusal_of(rt, &mut machine, &mut keeper, line);
-        let due = if line.number == last {
-            Some(refusal)
-        } else {
-            None
-        };
-        holds(rt, found == due, text);
-    }
-    let replayed = replay(alloc, &schedule)?;
-    holds(rt, replayed.refused() == Some((last, refusal)), text);
-    Ok(())
-}
-
-#[test]
-fn refusals(rt: HostRuntime) -> Result<(), Fail> {
-    for row in ALONE.iter().chain(&FIRST_OF_TWO) {
-        refuses(&rt, rt.alloc(), *row)?;
-    }
-    Ok(())
-}
 
 const TEXTS: [(Refusal, &str); 7] = [
     (NoSuchThread, "no such thread"),
@@ -179,14 +210,16 @@ fn is_text(told: Result<String, AllocError>, text: &str) -> bool {
     }
 }
 
+fn is_shown(alloc: Global, fault: PlayFault, text: &str) -> bool {
+    is_text(format!(in alloc; "{fault}"), text)
+}
+
 #[test]
 fn texts_of_refusals(rt: HostRuntime) {
-    let alloc = rt.alloc();
     for (refusal, text) in TEXTS {
-        holds(&rt, is_text(format!(in alloc; "{refusal}"), text), text);
+        let is_told = is_text(format!(in rt.alloc(); "{refusal}"), text);
         let fault = PlayFault::Refused(refusal);
-        holds(&rt, is_text(format!(in alloc; "{fault}"), text), text);
+        holds(&rt, is_told && is_shown(rt.alloc(), fault, text), text);
     }
-    let memory = PlayFault::OutOfMemory;
-    assert!(rt; is_text(format!(in alloc; "{memory}"), "out of memory"));
+    assert!(rt; is_shown(rt.alloc(), PlayFault::OutOfMemory, "out of memory"));
 }

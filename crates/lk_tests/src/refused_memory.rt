@@ -6,10 +6,12 @@ mod of_replays;
 mod of_searches;
 mod of_workers;
 
+use crate::holding::holds;
 use crate::locks::new_keeper;
-use crate::refusing::{MOST_REQUESTS, met_none, refuse, was_refused};
-use lk_locks::{LockKind, Move, Op, PlayFault, Refusal, StepKind};
+use crate::refusing::{MOST_REQUESTS, is_refusing, met_none, refuse, was_refused};
+use lk_locks::{Keeper, LockKind, Move, Op, PlayFault, Refusal, StepKind};
 use lk_replay::{ReadFault, read_schedule};
+use lk_words::WordArray;
 use of_replays::{TEXTS, Text};
 use std::alloc::Global;
 use std::process::Abort;
@@ -20,29 +22,22 @@ use std::thread::Threads;
 #[derive(Clone, Copy)]
 enum Call {
     MakeRoom,
-    Play,
     ReadSchedule,
-    Replay,
     ReportOf,
     ReadText,
     Run,
     OpenDraws,
     OpenLock,
     ReplayMany,
-    BatchText,
     Explore,
-    Tour,
 }
 
-const WITHOUT_A_TEXT: [Call; 8] = [
+const WITHOUT_A_TEXT: [Call; 5] = [
     Call::MakeRoom,
-    Call::Play,
     Call::OpenDraws,
     Call::OpenLock,
     Call::ReplayMany,
-    Call::BatchText,
     Call::Explore,
-    Call::Tour,
 ];
 
 const OF_EACH_TEXT: [Call; 4] = [
@@ -62,18 +57,14 @@ fn once<R: Abort + Threads + Sync>(
 ) -> bool {
     match call {
         Call::MakeRoom => of_locks::make_room(rt, alloc, number),
-        Call::Play => of_locks::play(rt, alloc, number),
         Call::ReadSchedule => of_replays::read(rt, alloc, number, text),
-        Call::Replay => of_replays::play_all(rt, alloc, number, text),
         Call::ReportOf => of_replays::report(rt, alloc, number, text),
         Call::ReadText => of_replays::read_input(rt, alloc, number, text),
         Call::Run => of_replays::run_all(rt, alloc, number, text),
         Call::OpenDraws => of_workers::open_draws(rt, alloc, number),
         Call::OpenLock => of_workers::open_lock(rt, alloc, number),
         Call::ReplayMany => of_workers::batch(rt, alloc, number),
-        Call::BatchText => of_workers::text(rt, alloc, number),
         Call::Explore => of_searches::explore(rt, alloc, number),
-        Call::Tour => of_searches::take_tour(rt, alloc, number),
     }
 }
 
@@ -97,26 +88,65 @@ fn each_request_refused_in_each_call(rt: HostRuntime) {
             each_request(&rt, alloc, call, text);
         }
     }
-    // the third is no schedule
-    each_request(&rt, alloc, Call::Replay, TEXTS[0]);
-    each_request(&rt, alloc, Call::Replay, TEXTS[1]);
 }
 
+const ENTERS: [Move; 3] = [
+    Move::Call(Op::Acquire),
+    Move::Step(StepKind::Add),
+    Move::Step(StepKind::Read),
+];
+
+// Thread 0 is inside, and each of the threads 1 to 59 has called: each refusal is due at once.
+const REFUSED: [(u8, Move, Refusal); 7] = [
+    (64, Move::Call(Op::Acquire), Refusal::NoSuchThread),
+    (0, Move::Step(StepKind::Section), Refusal::WrongLock),
+    (1, Move::Call(Op::Acquire), Refusal::Busy),
+    (60, Move::Call(Op::Release), Refusal::NotHolder),
+    (0, Move::Call(Op::Acquire), Refusal::AlreadyHolds),
+    (0, Move::Step(StepKind::Read), Refusal::NoCall),
+    (
+        1,
+        Move::Step(StepKind::Read),
+        Refusal::WrongStep {
+            next: StepKind::Add,
+        },
+    ),
+];
+
+fn enters(keeper: &mut Keeper<WordArray>) -> bool {
+    for action in ENTERS {
+        if keeper.play(0, action).is_err() {
+            return false;
+        }
+    }
+    for thread in 1..60u8 {
+        if keeper.play(thread, Move::Call(Op::Acquire)).is_err() {
+            return false;
+        }
+    }
+    keeper.entries().len() == 62
+}
+
+fn refuses(keeper: &mut Keeper<WordArray>) -> bool {
+    for (thread, action, refusal) in REFUSED {
+        if keeper.play(thread, action) != Err(PlayFault::Refused(refusal)) {
+            return false;
+        }
+    }
+    keeper.entries().len() == 62
+}
+
+// After 62 entries the next move asks for memory, since room is made for 64 at once.
 #[test]
 fn no_request_in_a_refused_play(rt: HostRuntime) {
     let alloc = rt.alloc();
-    let mut keeper = new_keeper(alloc, LockKind::Ticket, 2, 64);
+    let mut keeper = new_keeper(alloc, LockKind::Ticket, 64, 64);
+    assert!(rt; enters(&mut keeper));
     refuse(alloc, 1);
-    for (thread, action, refusal) in [
-        (2, Move::Call(Op::Acquire), Refusal::NoSuchThread),
-        (0, Move::Step(StepKind::Section), Refusal::WrongLock),
-        (0, Move::Call(Op::Release), Refusal::NotHolder),
-        (0, Move::Step(StepKind::Add), Refusal::NoCall),
-    ] {
-        let answer = keeper.play(thread, action);
-        assert!(rt; answer == Err(PlayFault::Refused(refusal)));
-    }
-    assert!(rt; !was_refused(alloc) && keeper.entries().is_empty());
+    assert!(rt; refuses(&mut keeper) && !was_refused(alloc));
+    refuse(alloc, 1);
+    let is_refused = keeper.play(60, Move::Call(Op::Acquire)).is_err();
+    assert!(rt; was_refused(alloc) == is_refused && is_refusing(alloc) == is_refused);
 }
 
 // A header's fault, or a text that is too long.
@@ -134,24 +164,22 @@ const HEADERS: [(&str, ReadFault); 5] = [
     ),
 ];
 
-fn asks_for_none(rt: &impl Abort, alloc: Global, text: &[u8], fault: &ReadFault) {
+fn asks_for_none(alloc: Global, text: &[u8], fault: &ReadFault) -> bool {
     refuse(alloc, 1);
-    let answer = read_schedule(alloc, text);
-    let refused = was_refused(alloc);
-    let is_right = match &answer {
+    let is_right = match read_schedule(alloc, text) {
         Ok(_) => false,
-        Err(found) => found == fault,
+        Err(found) => found == *fault,
     };
-    assert!(rt; is_right && !refused, "{fault}");
+    is_right && !was_refused(alloc)
 }
 
 #[test]
 fn no_request_in_a_faulty_header(rt: HostRuntime) -> Result<(), Fail> {
     let alloc = rt.alloc();
     for (text, fault) in &HEADERS {
-        asks_for_none(&rt, alloc, text.as_bytes(), fault);
+        holds(&rt, asks_for_none(alloc, text.as_bytes(), fault), text);
     }
     let long = Vec::from_elem(alloc, b'#', 1_048_577)?;
-    asks_for_none(&rt, alloc, &long, &ReadFault::TooLong);
+    assert!(rt; asks_for_none(alloc, &long, &ReadFault::TooLong));
     Ok(())
 }

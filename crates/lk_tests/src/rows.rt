@@ -3,9 +3,8 @@
 //!
 //! A line says who moves, the move, what comes of it, and for a step of a queue lock the word that
 //! it is on, with its value before and after. The rest are the entries that the move adds to the
-//! history. Each is the thread's own, and of its last call.
-
-use lk_locks::{Entry, Op};
+//! history. Each is the thread's own, and of its last call. Moves that are refused come last, with
+//! their refusals.
 
 /// A lock, and what is done on it.
 pub struct Row {
@@ -297,7 +296,7 @@ const WRITER_BECOMES_READER: &str = "\
 ";
 
 // In a FIFO lock an announced writer goes before a later reader.
-pub const ANNOUNCED_WRITER_FIRST: &str = "\
+const ANNOUNCED_WRITER_FIRST: &str = "\
 0 rlock called called
 0 section entered acted returned
 1 wlock called called
@@ -314,26 +313,6 @@ pub const ANNOUNCED_WRITER_FIRST: &str = "\
 1 section left acted returned
 2 section entered acted returned
 ";
-
-/// The entries of `ANNOUNCED_WRITER_FIRST`.
-pub const ANNOUNCED_WRITER_ENTRIES: [Entry; 16] = [
-    Entry::Called(0, Op::ReadLock),
-    Entry::Acted(0, Op::ReadLock),
-    Entry::Returned(0, Op::ReadLock),
-    Entry::Called(1, Op::WriteLock),
-    Entry::Announced(1),
-    Entry::Called(2, Op::ReadLock),
-    Entry::Called(0, Op::ReadUnlock),
-    Entry::Acted(0, Op::ReadUnlock),
-    Entry::Returned(0, Op::ReadUnlock),
-    Entry::Acted(1, Op::WriteLock),
-    Entry::Returned(1, Op::WriteLock),
-    Entry::Called(1, Op::WriteUnlock),
-    Entry::Acted(1, Op::WriteUnlock),
-    Entry::Returned(1, Op::WriteUnlock),
-    Entry::Acted(2, Op::ReadLock),
-    Entry::Returned(2, Op::ReadLock),
-];
 
 // A FIFO writer announces itself and enters in one section.
 const ANNOUNCES_AND_ENTERS: &str = "\

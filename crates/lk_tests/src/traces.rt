@@ -5,6 +5,7 @@ use crate::holding::holds;
 use Difference::{CountNotAbove, FoundOther, LeftOther, OtherOutcome, OtherWord, WroteOther};
 use Outcome::{Called, Entered, Left, Moved};
 use lk_locks::{LockKind, Outcome, Phase, Refusal, operation_of};
+use lk_replay::parts::lock_text;
 use lk_trace::{Checker, Difference, Event, TextFault, TraceReader, WordName, name_at, read_line};
 use lk_words::Operation;
 use std::process::Abort;
@@ -24,7 +25,7 @@ const NAMES: [(LockKind, usize, Option<WordName>); 9] = [
 #[test]
 fn words_have_names(rt: HostRuntime) {
     for (kind, place, name) in NAMES {
-        assert!(rt; name_at(kind, place) == name, "{kind:?} {place}");
+        holds(&rt, name_at(kind, place) == name, lock_text(kind));
     }
     let granting = Operation::Write { word: 4, value: 0 };
     assert!(rt; operation_of(LockKind::Mcs, 64, 4, Phase::Grant(1)) == Some(granting));
@@ -146,7 +147,7 @@ fn event_name(event: Event) -> &'static str {
 fn events_of_a_trace(rt: HostRuntime) {
     let mut reader = TraceReader::new();
     for (line, due) in EVENTS {
-        assert!(rt; event_name(reader.line(line.as_bytes())) == due, "{line}");
+        holds(&rt, event_name(reader.line(line.as_bytes())) == due, line);
     }
     assert!(rt; reader.checker().is_some());
 }

@@ -1,11 +1,11 @@
-//! What reading a text, playing and reporting answer if memory is refused.
+//! What reading a text and reporting answer if memory is refused.
 
 use crate::devices::Output;
 use crate::holding::holds;
 use crate::refusing::{refuse, was_refused};
 use lk_replay::{
-    Ending, Played, ReadFault, RunFault, Schedule, ending_of, read_schedule, read_text, replay,
-    report_of, run, status_of,
+    Ending, ReadFault, RunFault, Schedule, ending_of, read_schedule, read_text, report_of, run,
+    status_of,
 };
 use std::alloc::Global;
 use std::process::Abort;
@@ -54,36 +54,6 @@ pub fn read(rt: &impl Abort, alloc: Global, number: usize, (text, _, _): Text) -
     let is_memory = matches!(&answer, Err(ReadFault::OutOfMemory));
     holds(rt, refused && is_memory || are_alike(&answer, &due), text);
     refused
-}
-
-fn is_replayed(played: &Played, due: &Played) -> bool {
-    played.accepted() == due.accepted()
-        && played.entries() == due.entries()
-        && played.refused() == due.refused()
-}
-
-// Whether a request was refused. The other replay is one with ample memory.
-fn replay_as(rt: &impl Abort, alloc: Global, number: usize, read: &Schedule, due: &Played) -> bool {
-    refuse(alloc, number);
-    let answer = replay(alloc, read);
-    let refused = was_refused(alloc);
-    let is_right = match &answer {
-        Ok(played) => is_replayed(played, due),
-        Err(_) => refused,
-    };
-    holds(rt, is_right, "a replay");
-    refused
-}
-
-/// A text that is no schedule has nothing to play.
-pub fn play_all(rt: &impl Abort, alloc: Global, number: usize, (text, _, _): Text) -> bool {
-    let Ok(schedule) = read_schedule(alloc, text.as_bytes()) else {
-        return false;
-    };
-    match replay(alloc, &schedule) {
-        Ok(due) => replay_as(rt, alloc, number, &schedule, &due),
-        Err(_) => panic!(rt; "there is memory"),
-    }
 }
 
 pub fn report(rt: &impl Abort, alloc: Global, number: usize, (text, due, ending): Text) -> bool {

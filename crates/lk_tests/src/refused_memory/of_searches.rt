@@ -15,33 +15,25 @@ fn explored(alloc: Global) -> Result<Space<'static, Heap>, SearchFault>
     Space::explore(Heap::new(alloc)?, ticket_lock(), Bounds::new(1, &[]), 41)
 }
 
+// Whether the lock has its states and a tour. An error says whether memory ran out.
+fn is_toured(alloc: Global) -> Result<bool, bool> {
+    match explored(alloc) {
+        Ok(space) => match tour(alloc, &space) {
+            Ok(runs) => Ok(space.states() == 41 && !runs.is_empty()),
+            Err(fault) => Err(fault == TourFault::OutOfMemory),
+        },
+        Err(fault) => Err(fault == SearchFault::OutOfMemory),
+    }
+}
+
 pub fn explore(rt: &impl Abort, alloc: Global, number: usize) -> bool {
     refuse(alloc, number);
-    let found = explored(alloc);
+    let answer = is_toured(alloc);
     let refused = was_refused(alloc);
-    match found {
-        Ok(space) => holds(rt, space.states() == 41, "a search"),
-        Err(fault) => holds(rt, refused && fault == SearchFault::OutOfMemory, "a search"),
-    }
-    refused
-}
-
-pub fn take_tour(rt: &impl Abort, alloc: Global, number: usize) -> bool {
-    match explored(alloc) {
-        Ok(space) => tour_of(rt, alloc, number, &space),
-        Err(_) => panic!(rt; "41 states"),
-    }
-}
-
-fn tour_of(rt: &impl Abort, alloc: Global, number: usize, space: &Space<'static, Heap>) -> bool
-    requires { space.now.bounds.sketch ≡ [] }
-{
-    refuse(alloc, number);
-    let found = tour(alloc, space);
-    let refused = was_refused(alloc);
-    match found {
-        Ok(runs) => holds(rt, !runs.is_empty(), "a search"),
-        Err(fault) => holds(rt, refused && fault == TourFault::OutOfMemory, "a search"),
-    }
+    let is_right = match answer {
+        Ok(is_whole) => is_whole,
+        Err(is_memory) => refused && is_memory,
+    };
+    holds(rt, is_right, "a search");
     refused
 }

@@ -1,11 +1,14 @@
 //! Batches: worked reports, and a begin and an end of each text.
 
+ghost use Rattle.std.specs.Prelude.{◌≤◌, length};
+
 use lk_workers::{Gate, OpenGate, batch_text, replay_many};
 use std::alloc::{AllocError, Global};
 use std::sync::atomic::{AtomicU32, Ordering};
 use std::test::Fail;
+use std::thread::Threads;
 
-const NO_MOVES: &str = "lock ticket threads 1\n";
+pub const NO_MOVES: &str = "lock ticket threads 1\n";
 
 pub const ONE_ENTERS: &str = "lock ticket threads 2\n0 acquire\n0 add\n0 read\n";
 
@@ -47,33 +50,33 @@ pub fn texts_of(alloc: Global, texts: &[&str]) -> Result<Vec<Vec<u8>>, AllocErro
     Ok(all)
 }
 
+// An end counts as much as so many begins.
+const END: u32 = 65_536;
+
 // The begins and ends of each text.
 #[derive(Drop)]
 pub struct Counts {
-    begun: Vec<AtomicU32>,
-    ended: Vec<AtomicU32>,
+    each: Vec<AtomicU32>,
     strangers: AtomicU32,
 }
 
 impl Counts {
     pub fn new(alloc: Global, count: usize) -> Result<Counts, AllocError> {
-        let mut begun = Vec::new(alloc);
-        let mut ended = Vec::new(alloc);
+        let mut each = Vec::new(alloc);
         for _ in 0..count {
-            begun.push(AtomicU32::new(0))?;
-            ended.push(AtomicU32::new(0))?;
+            each.push(AtomicU32::new(0))?;
         }
         Ok(Counts {
-            begun,
-            ended,
+            each,
             strangers: AtomicU32::new(0),
         })
     }
 
-    fn add(&self, counts: &[AtomicU32], number: u32) {
+    fn add(&self, number: u32, amount: u32) {
+        let counts = self.each.as_slice();
         let place = number as usize;
         if place < counts.len() {
-            counts[place].fetch_add(1, Ordering::SeqCst);
+            counts[place].fetch_add(amount, Ordering::SeqCst);
         } else {
             self.strangers.fetch_add(1, Ordering::SeqCst);
         }
@@ -81,23 +84,38 @@ impl Counts {
 
     /// Each text ended as often as it began, and this often if that is told. No other did.
     pub fn agree(&self, times: Option<u32>) -> bool {
-        let mut agree = self.strangers.load(Ordering::SeqCst) == 0;
-        for (begun, ended) in self.begun.iter().zip(self.ended.iter()) {
-            let (begun, ended) = (begun.load(Ordering::SeqCst), ended.load(Ordering::SeqCst));
-            agree = agree && begun == ended && begun == times.unwrap_or(begun);
+        for count in self.each.as_slice() {
+            let count = count.load(Ordering::SeqCst);
+            let (begun, ended) = (count % END, count / END);
+            if begun != ended || begun != times.unwrap_or(begun) {
+                return false;
+            }
         }
-        agree
+        self.strangers.load(Ordering::SeqCst) == 0
     }
 }
 
 impl Gate for Counts {
     fn begin(&self, number: u32) {
-        self.add(self.begun.as_slice(), number);
+        self.add(number, 1);
     }
 
     fn end(&self, number: u32) {
-        self.add(self.ended.as_slice(), number);
+        self.add(number, END);
     }
+}
+
+fn batch_of<R: Threads + Sync>(
+    rt: &R,
+    alloc: Global,
+    texts: &[Vec<u8>],
+    workers: u8,
+) -> Result<Vec<u8>, AllocError>
+    requires workers { (1 ≤ workers) × (workers ≤ 8) }
+    requires texts { length texts.now ≤ 65536 }
+{
+    let reports = replay_many(rt, alloc, texts, workers, &OpenGate)?;
+    batch_text(alloc, &reports)
 }
 
 #[test]
@@ -106,12 +124,25 @@ fn batches_of_five_and_of_none(rt: HostRuntime) -> Result<(), Fail> {
     assert!(rt; texts.len() == 5);
     for workers in [1u8, 2, 8] {
         for (texts, due) in [(texts.as_slice(), REPORTS), (&[], "")] {
-            let reports = replay_many(&rt, rt.alloc(), texts, workers, &OpenGate)?;
-            let text = batch_text(rt.alloc(), &reports)?;
+            let text = batch_of(&rt, rt.alloc(), texts, workers)?;
             assert!(rt; text.as_slice() == due.as_bytes(), "{workers} workers");
         }
     }
     Ok(())
+}
+
+fn is_each_once<R: Threads + Sync>(
+    rt: &R,
+    alloc: Global,
+    texts: &[Vec<u8>],
+    workers: u8,
+) -> Result<bool, AllocError>
+    requires workers { (1 ≤ workers) × (workers ≤ 8) }
+    requires texts { length texts.now ≤ 65536 }
+{
+    let gate = Counts::new(alloc, texts.len())?;
+    let reports = replay_many(rt, alloc, texts, workers, &gate)?;
+    Ok(reports.len() == texts.len() && gate.agree(Some(1)))
 }
 
 #[test]
@@ -119,10 +150,8 @@ fn each_text_once(rt: HostRuntime) -> Result<(), Fail> {
     let texts = texts_of(rt.alloc(), &[ONE_ENTERS; 100])?;
     assert!(rt; texts.len() == 100);
     for workers in [1u8, 2, 8] {
-        let gate = Counts::new(rt.alloc(), 100)?;
-        let reports = replay_many(&rt, rt.alloc(), &texts, workers, &gate)?;
         assert!(rt;
-            reports.len() == 100 && gate.agree(Some(1)),
+            is_each_once(&rt, rt.alloc(), &texts, workers)?,
             "{workers} workers"
         );
     }

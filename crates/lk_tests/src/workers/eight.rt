@@ -1,5 +1,5 @@
-//! Eight seats in four threads. Then half of them are dropped while they wait, and the others are
-//! joined again.
+//! Eight seats in four threads by `join`, which needs no `Wait`. Then half of the seats are dropped
+//! while they wait, and the others are joined again.
 
 ghost use Rattle.std.specs.Prelude.{◌≡◌, ◌+◌, ◌*◌, IfSome};
 ghost use Rattle.std.specs.Thread.{IsSync};
@@ -11,9 +11,9 @@ use std::test::Fail;
 use std::thread::{Threads, join};
 
 // The rounds of one seat, and its takes, of which some are left over.
-const ROUNDS: u64 = 100;
+const ROUNDS: u64 = 500;
 
-const TAKES: u64 = 103;
+const TAKES: u64 = 503;
 
 type Two = (LiveSeat, LiveSeat);
 
@@ -114,11 +114,11 @@ fn eight_seats_in_four_threads(rt: HostRuntime) -> Result<(), Fail> {
     lock.join(&mut all, second);
     lock.join(&mut all, third);
     lock.join(&mut all, fourth);
-    // four seats came back with 100 tickets each taken, and three left
-    assert!(rt; all.taken() == 400);
+    // four seats came back with 500 tickets each taken, and three left
+    assert!(rt; all.taken() == 2000);
     assert!(rt; all.left() == 12);
-    // the four that were dropped took 101 each, and the first of their last tickets is served for
+    // the four that were dropped took 501 each, and the first of their last tickets is served for
     // ever
-    assert!(rt; lock.close(all) == (804, 800));
+    assert!(rt; lock.close(all) == (4004, 4000));
     Ok(())
 }

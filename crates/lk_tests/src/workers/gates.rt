@@ -2,7 +2,7 @@
 
 ghost use Rattle.std.specs.Prelude.{◌≤◌};
 
-use super::batches::{ONE_ENTERS, texts_of};
+use super::batches::{NO_MOVES, ONE_ENTERS, texts_of};
 use lk_workers::{Gate, replay_many};
 use std::alloc::Global;
 use std::sync::atomic::{AtomicBool, AtomicU32, Ordering};
@@ -23,15 +23,6 @@ struct Gathering {
 }
 
 impl Gathering {
-    fn new(wanted: u32, all_wait: bool) -> Gathering {
-        Gathering {
-            wanted,
-            all_wait,
-            begun: AtomicU32::new(0),
-            failed: AtomicBool::new(false),
-        }
-    }
-
     fn failed(&self) -> bool {
         self.failed.load(Ordering::SeqCst)
     }
@@ -55,6 +46,11 @@ impl Gate for Gathering {
     fn end(&self, _number: u32) {}
 }
 
+// The first two differ.
+const TEXTS: [&str; 8] = [
+    NO_MOVES, ONE_ENTERS, NO_MOVES, ONE_ENTERS, NO_MOVES, ONE_ENTERS, NO_MOVES, ONE_ENTERS,
+];
+
 // Whether the workers pass a gate at which as many texts as there are wait for each other, or the
 // first for all others. A worker that waits draws no other text.
 fn pass<R: Threads + Sync>(
@@ -66,11 +62,16 @@ fn pass<R: Threads + Sync>(
 ) -> Result<bool, Fail>
     requires { (1 ≤ workers) × (workers ≤ 8) }
 {
-    let texts = texts_of(alloc, &[ONE_ENTERS; 8][..texts.min(8)])?;
+    let texts = texts_of(alloc, &TEXTS[..texts.min(8)])?;
     if texts.len() > 8 {
         return Ok(false);
     }
-    let gate = Gathering::new(texts.len() as u32, all_wait);
+    let gate = Gathering {
+        wanted: texts.len() as u32,
+        all_wait,
+        begun: AtomicU32::new(0),
+        failed: AtomicBool::new(false),
+    };
     let reports = replay_many(rt, alloc, &texts, workers, &gate)?;
     Ok(reports.len() == texts.len() && !gate.failed())
 }

@@ -8,39 +8,94 @@ use std::snapshot::Snapshot;
 use std::sync::Wait;
 use std::test::Fail;
 use std::thread;
-use std::thread::{Promise, Threads, join};
+use std::thread::{Promise, Threads};
 
 // How often a round polls before it gives up.
 const TURNS: u64 = 100_000_000;
 
 const ROUNDS: u64 = 1000;
 
+// What a seat does, and what it answers.
+#[derive(Clone, Copy)]
+enum Deed {
+    Take(u64),
+    Look(bool),
+    ReadServing,
+    Pass,
+}
+
+// Whether the second of two seats does it, what it does, and its ticket and what it has seen then.
+type Row = (bool, Deed, Option<u64>, u64);
+
+const IN_TURN: [Row; 5] = [
+    (false, Deed::Take(0), Some(0), 0),
+    (true, Deed::Take(1), Some(1), 0),
+    (true, Deed::Look(false), Some(1), 0),
+    (false, Deed::Look(true), Some(0), 0),
+    (false, Deed::ReadServing, Some(0), 0),
+];
+
+// The second one's load finds what the first one's store left.
+const HANDED_ON: [Row; 4] = [
+    (false, Deed::Pass, None, 1),
+    (true, Deed::Look(true), Some(1), 1),
+    (true, Deed::ReadServing, Some(1), 1),
+    (true, Deed::Pass, None, 2),
+];
+
+// Whether the seat is where it may do that, and answers so.
+fn does(lock: &LiveTicket, seat: &mut LiveSeat, deed: Deed) -> bool
+    requires { seat.old.table ≡ lock.now }
+    ensures { seat.new.table ≡ lock.now }
+{
+    match (seat.phase(), deed) {
+        (LivePhase::Idle, Deed::Take(due)) => seat.left() > 0 && lock.take(seat) == due,
+        (LivePhase::Waiting, Deed::Look(due)) => lock.look(seat) == due,
+        (LivePhase::Inside, Deed::ReadServing) => {
+            lock.read_serving(seat);
+            true
+        }
+        (LivePhase::Leaving, Deed::Pass) => {
+            lock.pass(seat);
+            true
+        }
+        _ => false,
+    }
+}
+
+fn knows(seat: &LiveSeat, ticket: Option<u64>, seen: u64) -> bool {
+    seat.ticket() == ticket && seat.seen() == seen
+}
+
+// Whether all rows are done.
+fn are_done(lock: &LiveTicket, a: &mut LiveSeat, b: &mut LiveSeat, rows: &[Row]) -> bool
+    requires { (a.old.table ≡ lock.now) × (b.old.table ≡ lock.now) }
+    ensures { (a.new.table ≡ lock.now) × (b.new.table ≡ lock.now) }
+{
+    for (is_second, deed, ticket, seen) in rows {
+        let is_done = if *is_second {
+            does(lock, b, *deed) && knows(b, *ticket, *seen)
+        } else {
+            does(lock, a, *deed) && knows(a, *ticket, *seen)
+        };
+        if !is_done {
+            return false;
+        }
+    }
+    true
+}
+
 #[test]
 fn two_seats_by_hand(rt: HostRuntime) -> Result<(), Fail> {
     let (lock, mut a) = LiveTicket::open(rt.alloc(), 5)?;
-    let is_new = a.phase() == LivePhase::Idle && a.ticket() == None && a.seen() == 0;
     let mut b = lock.split(&mut a, 2);
-    let is_split = a.left() == 3;
-    let taken = (lock.take(&mut a), lock.take(&mut b));
-    assert!(rt; is_new && is_split && taken == (0, 1));
-    assert!(rt; a.ticket() == Some(0) && b.ticket() == Some(1));
-    let early = lock.look(&mut b);
-    assert!(rt; !early && b.phase() == LivePhase::Waiting);
-    let first = lock.look(&mut a);
-    assert!(rt; first && a.phase() == LivePhase::Inside);
-    lock.read_serving(&mut a);
-    assert!(rt; a.phase() == LivePhase::Leaving);
+    let is_split = a.left() == 3 && knows(&a, None, 0);
+    assert!(rt; is_split && are_done(&lock, &mut a, &mut b, &IN_TURN));
     let mut b = lock.apart(&mut a, b);
-    lock.pass(&mut a);
-    assert!(rt; a.seen() == 1 && a.phase() == LivePhase::Idle);
-    // the load finds what the store left
-    let second = lock.look(&mut b);
-    assert!(rt; second && b.seen() == 1 && b.phase() == LivePhase::Inside);
-    lock.read_serving(&mut b);
-    lock.pass(&mut b);
+    assert!(rt; are_done(&lock, &mut a, &mut b, &HANDED_ON));
+    assert!(rt; a.phase() == LivePhase::Idle && b.phase() == LivePhase::Idle);
     lock.join(&mut a, b);
-    assert!(rt; a.left() == 3 && a.taken() == 2);
-    assert!(rt; lock.close(a) == (2, 2));
+    assert!(rt; a.left() == 3 && a.taken() == 2 && lock.close(a) == (2, 2));
     Ok(())
 }
 
@@ -48,15 +103,11 @@ fn two_seats_by_hand(rt: HostRuntime) -> Result<(), Fail> {
 fn a_waiting_seat_is_dropped(rt: HostRuntime) -> Result<(), Fail> {
     let (lock, mut a) = LiveTicket::open(rt.alloc(), 5)?;
     let mut b = lock.split(&mut a, 2);
-    lock.take(&mut a);
-    lock.take(&mut b);
-    let first = lock.look(&mut a);
-    assert!(rt; first && a.phase() == LivePhase::Inside);
-    lock.read_serving(&mut a);
-    lock.pass(&mut a);
+    let is_passed = are_done(&lock, &mut a, &mut b, &IN_TURN)
+        && are_done(&lock, &mut a, &mut b, &HANDED_ON[..1]);
     drop(b);
-    assert!(rt; a.taken() == 1);
-    assert!(rt; lock.close(a) == (2, 1));
+    assert!(rt; is_passed && a.phase() == LivePhase::Idle);
+    assert!(rt; a.taken() == 1 && lock.close(a) == (2, 1));
     Ok(())
 }
 
@@ -91,35 +142,6 @@ pub fn rounds(lock: &LiveTicket, mut seat: LiveSeat, count: u64) -> Option<LiveS
         }
     }
     Some(seat)
-}
-
-// Two threads by `join`, which needs no `Wait`.
-fn both<R: Threads + Sync>(rt: &R, lock: LiveTicket, a: LiveSeat, b: LiveSeat) -> Option<(u64, u64)>
-    requires { IsIdleOf lock ROUNDS a × IsIdleOf lock ROUNDS b }
-{
-    let shared = &lock;
-    let (a, b) = join(
-        rt,
-        move || -> Option<LiveSeat>
-            requires { IsIdleOf shared.now ROUNDS a }
-            ensures { IfSome result (λ s. IsIdleOf shared.entry.now 0 s) }
-        { rounds(shared, a, ROUNDS) },
-        move || -> Option<LiveSeat>
-            requires { IsIdleOf shared.now ROUNDS b }
-            ensures { IfSome result (λ s. IsIdleOf shared.entry.now 0 s) }
-        { rounds(shared, b, ROUNDS) },
-    );
-    let mut a = a?;
-    lock.join(&mut a, b?);
-    Some(lock.close(a))
-}
-
-#[test]
-fn two_threads(rt: HostRuntime) -> Result<(), Fail> {
-    let (lock, mut a) = LiveTicket::open(rt.alloc(), 2 * ROUNDS)?;
-    let b = lock.split(&mut a, ROUNDS);
-    assert!(rt; both(&rt, lock, a, b) == Some((2000, 2000)));
-    Ok(())
 }
 
 // A seat of this lock comes back, and is idle.
