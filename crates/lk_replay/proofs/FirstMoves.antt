@@ -2,7 +2,8 @@
 use Rattle.std.proofs.Common.{◌≡◌, ◌≢◌, ℕ, ◌+◌, ◌-◌, ◌*◌, ◌<◌, ◌≤◌, List, [], ◌∷◌, ◌++◌, Some}
 use Rattle.std.proofs.Common.{length, length-append, true, false, refl, sym, ap, ◌∙◌, arith, Bool}
 use Rattle.std.proofs.Common.{append_assoc, eq-eqb, subst, nat_le, not, ◌==◌, ◌&&◌, ◌||◌, suc}
-use Rattle.std.proofs.Common.{slice_index_or, take, drop, Option, None, IfSome, MatchOption}
+use Rattle.std.proofs.Common.{slice_index_or, take, drop, take-append-drop, Option, None, IfSome}
+use Rattle.std.proofs.Common.{MatchOption}
 use Rattle.std.proofs.lemmas.List.{take_rest}
 use Rattle.lk_replay.specs.Digits.{is_plain_number, value_from}
 use Rattle.std.proofs.lemmas.List.Splits.{slice_split-cons_no, slice_split-cons_yes}
@@ -155,11 +156,19 @@ two_digits text rest thread long digit no_zero next space is value =
           (omega (arith, value, digit_most a digit, digit_most b next));
     }
 
--- what is stripped comes first
-pub some_of : {A : Type 0} (r : Option A) (P : Type 0) (Q : A → Type 0) → MatchOption r P Q
-    → IfSome r Q
-some_of None P Q fact = tt
-some_of (Some x) P Q fact = fact
+-- bytes that are stripped in two parts come first
+pub some_gives : {A : Type 0} (r : Option A) (P : Type 0) (Q R : A → Type 0) → MatchOption r P Q
+    → ((x : A) → Q x → R x) → IfSome r R
+some_gives None P Q R fact gives = tt
+some_gives (Some x) P Q R fact gives = gives x fact
+
+pub both_stripped : (text bytes mid part rest : List ℕ) → text ≡ take 4 bytes ++ mid
+    → part ≡ take (length bytes - 4) (drop 4 bytes) → mid ≡ part ++ rest → text ≡ bytes ++ rest
+both_stripped text bytes mid part rest first is next =
+    first ∙ ap (λ (ys : List ℕ). take 4 bytes ++ ys) next
+    ∙ sym (append_assoc (take 4 bytes) part rest)
+    ∙ ap (λ (ys : List ℕ). (take 4 bytes ++ ys) ++ rest) (is ∙ take_rest bytes 4)
+    ∙ ap (λ (ys : List ℕ). ys ++ rest) (take-append-drop 4 bytes)
 
 -- ---- the lines after it
 

@@ -172,12 +172,17 @@ pub fn move_block(action: Move) -> (&'static [u8], usize)
     move_words!(block, action)
 }
 
-// The text after the bytes with which it begins.
+// The text after the bytes with which it begins. Most words differ from it in their first four
+// bytes, which are compared at once.
 #[inline(always)]
 fn rest_after<'a>(text: &'a [u8], bytes: &[u8]) -> Option<&'a [u8]>
+    requires { 4 ≤ length bytes.now }
     ensures { IfSome result (λ rest. text.now ≡ bytes.now ++ rest.now) }
 {
-    text.strip_prefix(bytes)
+    let Some(rest) = text.strip_prefix(&bytes[..4]) else {
+        return None;
+    };
+    rest.strip_prefix(&bytes[4..])
 }
 
 /// The move whose word comes first in a text, before a line feed, and the text after that.

@@ -27,7 +27,9 @@ pub fn put_block<const N: usize>(place: &mut [u8], at: usize, block: &[u8], len:
     ensures text { take result place.new ≡ take at place.old ++ take len block.now }
     ensures end { result ≡ at + len }
 {
-    place[at..at + N].copy_from_slice(&block[..N]);
+    let mut bytes = [0; N];
+    bytes.copy_from_slice(&block[..N]);
+    place[at..at + N].copy_from_slice(&bytes);
     at + len
 }
 
@@ -37,7 +39,8 @@ pub fn put<const N: usize>(place: &mut [u8], at: usize, bytes: &[u8; N]) -> usiz
     ensures text { take result place.new ≡ take at place.old ++ bytes.now }
     ensures end { result ≡ at + N }
 {
-    place[at..at + N].copy_from_slice(bytes);
+    let bytes = *bytes;
+    place[at..at + N].copy_from_slice(&bytes);
     at + N
 }
 
