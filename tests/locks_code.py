@@ -2,8 +2,9 @@
 """Compares the code of docs/LOCKS.md with the definitions of the locks.
 
 Each line names a phase and the kind of step that is due in it. The definitions `operation` and
-`after_call` of crates/lk_locks/specs say the same of every phase of a queue lock. The calls of the
-read-write locks are in a file that they share; which phases each of these has, its own `step`
+`after_call` of crates/lk_locks/specs say the same of every phase of a queue lock; the operations of
+the ticket lock have names, and are in the file `laws`. The calls of the read-write locks are in a
+file that they share; which phases each of these has, its own `step`
 tells, and each of them takes a section. Both must name the same phases with the same kinds, and the
 same calls. The table above a lock's code has the numbers of its words, from which the page takes
 them: they are those of the definitions. Each model of bench/spin has a label for each phase, and no
@@ -21,7 +22,7 @@ MODELS = TOP / "bench" / "spin"
 sys.path.append(str(TOP / "fuzz"))
 from locks import LOCKS
 
-SHARED = "read_write.antt"
+SHARED, NAMED = "read_write.antt", "laws.antt"
 CALLS = {"Acquire": "acquire", "Release": "release", "ReadLock": "rlock", "ReadUnlock": "runlock",
          "WriteLock": "wlock", "WriteUnlock": "wunlock", "Downgrade": "downgrade"}
 KINDS = {"Read": "read", "Write": "write", "Swap": "swap", "CompareAndSwap": "cas",
@@ -30,6 +31,7 @@ LINE = re.compile(r"-- (\w+) (\w+)(?: looks at .*)?$", re.MULTILINE)
 NUMBERED = re.compile(r"^\| (\d+) \| `(\w+)` \|$", re.MULTILINE)
 WORD = re.compile(r"^abbrev pub (\w+) : ℕ\n\1 = (\d+)$", re.MULTILINE)
 LABEL = re.compile(r"^(\w+):", re.MULTILINE)
+NAME = re.compile(rf"^(\w+)(?: \w+)* = ({'|'.join(KINDS)})\b", re.MULTILINE)
 STEP = re.compile(r"^step .*?\(?\b([A-Z]\w+)[^=]*=", re.MULTILINE)
 
 
@@ -39,14 +41,21 @@ def in_document(lock):
     return set(LINE.findall(re.search(rf"```{lock}\n(.*?)\n```", text, re.DOTALL).group(1)))
 
 
+def definitions_of(lock):
+    """The file of a lock, and that of its operations if they have names."""
+    text = (SPECS / f"{lock.replace('-', '_')}.antt").read_text()
+    return text + (SPECS / NAMED).read_text() if "specs.laws." in text else text
+
+
 def in_definitions(lock):
     """The same by the definitions."""
-    text = (SPECS / f"{lock.replace('-', '_')}.antt").read_text()
+    text = definitions_of(lock)
     phases = STEP.findall(text)
     if "after_call" not in text:
         text = (SPECS / SHARED).read_text()
-    due = {(KINDS[operation], phase) for phase, operation in
-           re.findall(r"^operation \w+ \(?([A-Z]\w+).* = Some \((\w+)", text, re.MULTILINE)}
+    named = dict(NAME.findall(text))
+    due = {(KINDS[named.get(operation, operation)], phase) for phase, operation in
+           re.findall(r"^operation \w+ \(?([A-Z]\w+).* = Some \(?(\w+)", text, re.MULTILINE)}
     calls = re.findall(r"^after_call .* (\w+) = Some", text, re.MULTILINE)
     inside = re.findall(r"^after_call \(?([A-Z]\w+).* = Some", text, re.MULTILINE)
     return ((due or {("section", phase) for phase in phases})
@@ -64,8 +73,7 @@ def words_in_document(lock):
 
 def words_in_definitions(lock):
     """The same by the definitions."""
-    text = (SPECS / f"{lock.replace('-', '_')}.antt").read_text()
-    return {name: int(number) for name, number in WORD.findall(text)}
+    return {name: int(number) for name, number in WORD.findall(definitions_of(lock))}
 
 
 def labels(lock):
