@@ -1,5 +1,5 @@
 -- Definitions. Each finished call acted exactly once, between its call and its return: laws of
--- every legal history. This project's own.
+-- every legal history.
 use Rattle.std.specs.Prelude.{◌≡◌, ℕ, List, [], ◌∷◌, ◌++◌}
 use Rattle.lk_locks.specs.Locks.{family_of}
 use Rattle.lk_locks.specs.Change.{announcement}

@@ -8,6 +8,9 @@ use Rattle.lk_locks.specs.Types.{StepKind, Read, Write, Swap, Cas, Add, Phase, O
 use Rattle.lk_locks.specs.Types.{Family, FifoReadWrite, Op, Acquire, Release, ReadLock, ReadUnlock}
 use Rattle.lk_locks.specs.Types.{WriteLock, WriteUnlock, Downgrade, Entry, Announced, Acted}
 use Rattle.lk_locks.specs.Types.{Returned}
+use Rattle.lk_locks.specs.declared.entries.Added.{Added}
+use Rattle.lk_locks.specs.declared.entries.Added.TheVariants as added
+use Rattle.lk_locks.specs.declared.kinds.Entry.TheVariants.{Called}
 use Rattle.lk_words.specs.declared.operation.Operation.TheVariants as op
 
 -- the words, the phase of the thread that stepped, and the outcome
@@ -52,3 +55,13 @@ announcement family t op = []
 
 abbrev pub acts : ℕ → Op → List Entry
 acts t op = Acted t op ∷ Returned t op ∷ []
+
+-- the entries of a move of thread t that adds this
+abbrev pub entries_by : ℕ → Added → List Entry
+entries_by t added.Nothing = []
+entries_by t (added.Call op) = Called t op ∷ []
+entries_by t added.Announcement = Announced t ∷ []
+entries_by t (added.Act op) = Acted t op ∷ []
+entries_by t (added.Return op) = Returned t op ∷ []
+entries_by t (added.ActAndReturn op) = acts t op
+entries_by t added.AnnouncedWrite = Announced t ∷ acts t WriteLock

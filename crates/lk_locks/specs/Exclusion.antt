@@ -1,4 +1,4 @@
--- Definitions. Mutual exclusion, in its own words: laws of every legal history. This project's own.
+-- Definitions. Mutual exclusion, in its own words: laws of every legal history.
 use Rattle.std.specs.Prelude.{◌≡◌, ℕ, List, [], ◌∷◌, ◌++◌, Option, None, Some, ◌⊎◌, IsTrue, Any}
 use Rattle.lk_locks.specs.Locks.{family_of}
 use Rattle.lk_locks.specs.Sequential.{Sequential, nobody, is_head}

@@ -1,5 +1,5 @@
 -- Definitions. What the module of each lock defines, by the lock, and the family that it belongs
--- to. Definitions that the locks share use these, and know no lock. This project's own.
+-- to. Definitions that the locks share use these, and know no lock.
 use Rattle.std.specs.Prelude.{ℕ, ◌+◌, ◌*◌, List, [], ◌∷◌, Option, None, option_map}
 use Rattle.lk_words.specs.Operations.{effect_on}
 use Rattle.lk_words.specs.declared.operation.Operation.{Operation}

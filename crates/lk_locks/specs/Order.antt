@@ -1,5 +1,4 @@
--- Definitions. The order in which a queue lock is entered: a law of every legal history. This
--- project's own.
+-- Definitions. The order in which a queue lock is entered: a law of every legal history.
 use Rattle.std.specs.Prelude.{◌≡◌, ℕ, List, [], ◌∷◌, ◌++◌}
 use Rattle.lk_locks.specs.Types.{Acquire, Entry, Acted, Returned}
 

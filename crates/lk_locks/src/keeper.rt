@@ -85,7 +85,7 @@ impl<W: Words> Keeper<W> {
         self.history.make_room().or(Err(PlayFault::OutOfMemory))?;
         match self.lock.play(t, m) {
             Ok((outcome, added)) => {
-                self.history.append(added.as_slice());
+                self.history.append(added.entries(t).as_slice());
                 Ok(outcome)
             }
             Err(refusal) => Err(PlayFault::Refused(refusal)),

@@ -3,7 +3,7 @@
 
 ghost use Rattle.std.specs.Prelude.{◌≡◌, ◌≤◌, ℕ, IfSome};
 ghost use Rattle.std.specs.List.{list_any};
-ghost use Rattle.lk_locks.specs.Change.{kind_of};
+ghost use Rattle.lk_locks.specs.Change.{entries_by, kind_of};
 ghost use Rattle.lk_locks.specs.Locks.{family_of, word_count, steps_of, after_call, step_due};
 ghost use Rattle.lk_locks.specs.Locks.{operation_of, effect_of, step_of, step_entries};
 ghost use Rattle.lk_locks.specs.Effects.{IsEffectOf};
@@ -179,14 +179,14 @@ pub(crate) fn effect_of(
 
 /// The entries of a step.
 #[inline(always)]
-pub(crate) fn step_entries(kind: LockKind, thread: u8, phase: Phase, outcome: Outcome) -> Added
-    ensures { result ≡ step_entries kind thread phase outcome }
+pub(crate) fn step_entries(kind: LockKind, phase: Phase, outcome: Outcome) -> Added
+    ensures { (t : ℕ) → entries_by t result ≡ step_entries kind t phase outcome }
 {
     match kind {
-        LockKind::Ticket => ticket::entries(thread, phase, outcome),
-        LockKind::Mcs => mcs::entries(thread, phase, outcome),
+        LockKind::Ticket => ticket::entries(phase, outcome),
+        LockKind::Mcs => mcs::entries(phase, outcome),
         LockKind::RwSimple | LockKind::RwFifo => {
-            read_write::entries(family_of(kind), thread, phase, outcome)
+            read_write::entries(family_of(kind), phase, outcome)
         }
     }
 }

@@ -9,12 +9,13 @@
 //! In contracts `after_call`, `operation`, `after` and `entries` are the definitions of
 //! `specs/mcs.antt`.
 
-ghost use Rattle.std.specs.Prelude.{◌≡◌, ◌+◌, ◌-◌, ◌<◌, ◌≤◌};
+ghost use Rattle.std.specs.Prelude.{◌≡◌, ◌+◌, ◌-◌, ◌<◌, ◌≤◌, ℕ};
+ghost use Rattle.lk_locks.specs.Change.{entries_by};
 ghost use Rattle.lk_locks.specs.mcs.{next, locked, after_call, operation, after, entries};
 ghost use Rattle.lk_locks.specs.invariants.mcs.{IsInRange};
 
 use crate::entries::Added;
-use crate::{Entry, Op, Outcome, Phase};
+use crate::{Op, Outcome, Phase};
 use lk_words::{Answer, Operation};
 
 const TAIL: usize = 0;
@@ -137,14 +138,14 @@ pub fn after(phase: Phase, answer: Answer) -> (Phase, Outcome)
 
 /// The history entries of a step with this outcome.
 #[inline(always)]
-pub fn entries(thread: u8, phase: Phase, outcome: Outcome) -> Added
-    ensures { result ≡ entries thread phase outcome }
+pub fn entries(phase: Phase, outcome: Outcome) -> Added
+    ensures { (t : ℕ) → entries_by t result ≡ entries t phase outcome }
 {
     match (phase, outcome) {
-        (Phase::SwapTail, Outcome::Moved) => Added::one(Entry::Acted(thread, Op::Acquire)),
-        (Phase::SwapTail, Outcome::Entered) => Added::acts(thread, Op::Acquire),
-        (Phase::AwaitGrant, Outcome::Entered) => Added::one(Entry::Returned(thread, Op::Acquire)),
-        (_, Outcome::Left) => Added::acts(thread, Op::Release),
-        _ => Added::none(),
+        (Phase::SwapTail, Outcome::Moved) => Added::Act(Op::Acquire),
+        (Phase::SwapTail, Outcome::Entered) => Added::ActAndReturn(Op::Acquire),
+        (Phase::AwaitGrant, Outcome::Entered) => Added::Return(Op::Acquire),
+        (_, Outcome::Left) => Added::ActAndReturn(Op::Release),
+        _ => Added::Nothing,
     }
 }

@@ -5,12 +5,13 @@
 //! addition.
 
 ghost use Rattle.std.specs.Prelude.{◌≡◌, ◌<◌, ◌≤◌, ◌^◌, List, ℕ, IfSome, length, slice_index};
+ghost use Rattle.lk_locks.specs.Change.{entries_by};
 ghost use Rattle.lk_locks.specs.read_write.{word_count, after_call, step_due, step, entries};
 ghost use Rattle.lk_locks.specs.read_write.{Tells, change_to, effect};
 ghost use Rattle.lk_locks.specs.invariants.read_write.{IsSection, count_with, third_word};
 
 use crate::entries::Added;
-use crate::{Entry, Family, Op, Outcome, Phase, SectionEffect, StepKind, rw_fifo, rw_simple};
+use crate::{Family, Op, Outcome, Phase, SectionEffect, StepKind, rw_fifo, rw_simple};
 use lk_words::{Effect, Operation, WordArray, Words};
 
 /// What a section does: the words that it writes, each with its index and its new value; its
@@ -167,21 +168,21 @@ pub fn effect(words: &WordArray, family: Family, phase: Phase) -> SectionEffect
 
 /// The entries of a section.
 #[inline(always)]
-pub fn entries(family: Family, thread: u8, phase: Phase, outcome: Outcome) -> Added
-    ensures { result ≡ entries family thread phase outcome }
+pub fn entries(family: Family, phase: Phase, outcome: Outcome) -> Added
+    ensures { (t : ℕ) → entries_by t result ≡ entries family t phase outcome }
 {
     match (phase, outcome) {
-        (Phase::TryRead, Outcome::Entered) => Added::acts(thread, Op::ReadLock),
-        (Phase::LeaveRead, Outcome::Left) => Added::acts(thread, Op::ReadUnlock),
-        (Phase::TryWrite, Outcome::Moved) => Added::one(Entry::Announced(thread)),
+        (Phase::TryRead, Outcome::Entered) => Added::ActAndReturn(Op::ReadLock),
+        (Phase::LeaveRead, Outcome::Left) => Added::ActAndReturn(Op::ReadUnlock),
+        (Phase::TryWrite, Outcome::Moved) => Added::Announcement,
         (Phase::TryWrite, Outcome::Entered) if matches!(family, Family::FifoReadWrite) => {
-            Added::one(Entry::Announced(thread)).and_acts(thread, Op::WriteLock)
+            Added::AnnouncedWrite
         }
         (Phase::TryWrite | Phase::AwaitReaders, Outcome::Entered) => {
-            Added::acts(thread, Op::WriteLock)
+            Added::ActAndReturn(Op::WriteLock)
         }
-        (Phase::LeaveWrite, Outcome::Left) => Added::acts(thread, Op::WriteUnlock),
-        (Phase::TryDowngrade, Outcome::Entered) => Added::acts(thread, Op::Downgrade),
-        _ => Added::none(),
+        (Phase::LeaveWrite, Outcome::Left) => Added::ActAndReturn(Op::WriteUnlock),
+        (Phase::TryDowngrade, Outcome::Entered) => Added::ActAndReturn(Op::Downgrade),
+        _ => Added::Nothing,
     }
 }

@@ -1,5 +1,5 @@
-//! The name of each refusal, and what it says. The names are this project's own. Each text is
-//! written once: reports, messages and the library for C have theirs from here.
+//! The name of each refusal, and what it says. Each text is written once: reports, messages and the
+//! library for C have theirs from here.
 
 ghost use Rattle.std.specs.Prelude.{◌≡◌, ◌≤◌, length};
 ghost use Rattle.lk_locks.specs.Refusals.{message_of, name_of, text_of};

@@ -8,11 +8,12 @@
 //! In contracts `after_call`, `operation`, `after` and `entries` are the definitions of
 //! `specs/ticket.antt`.
 
-ghost use Rattle.std.specs.Prelude.{◌≡◌, ◌≤◌};
+ghost use Rattle.std.specs.Prelude.{◌≡◌, ◌≤◌, ℕ};
+ghost use Rattle.lk_locks.specs.Change.{entries_by};
 ghost use Rattle.lk_locks.specs.ticket.{after_call, operation, after, entries};
 
 use crate::entries::Added;
-use crate::{Entry, Op, Outcome, Phase};
+use crate::{Op, Outcome, Phase};
 use lk_words::{Answer, Operation, sum};
 
 const NEXT_TICKET: usize = 0;
@@ -75,13 +76,13 @@ pub fn after(phase: Phase, answer: Answer) -> (Phase, Outcome)
 
 /// The history entries of a step with this outcome.
 #[inline(always)]
-pub fn entries(thread: u8, phase: Phase, outcome: Outcome) -> Added
-    ensures { result ≡ entries thread phase outcome }
+pub fn entries(phase: Phase, outcome: Outcome) -> Added
+    ensures { (t : ℕ) → entries_by t result ≡ entries t phase outcome }
 {
     match (phase, outcome) {
-        (Phase::TakeTicket, Outcome::Moved) => Added::one(Entry::Acted(thread, Op::Acquire)),
-        (Phase::AwaitTurn(_), Outcome::Entered) => Added::one(Entry::Returned(thread, Op::Acquire)),
-        (Phase::PassOn(_), Outcome::Left) => Added::acts(thread, Op::Release),
-        _ => Added::none(),
+        (Phase::TakeTicket, Outcome::Moved) => Added::Act(Op::Acquire),
+        (Phase::AwaitTurn(_), Outcome::Entered) => Added::Return(Op::Acquire),
+        (Phase::PassOn(_), Outcome::Left) => Added::ActAndReturn(Op::Release),
+        _ => Added::Nothing,
     }
 }

@@ -2,6 +2,7 @@
 //! keeps no history and takes no memory; `Keeper` adds the history.
 
 ghost use Rattle.std.specs.Prelude.{◌≡◌, [], IfOk};
+ghost use Rattle.lk_locks.specs.Change.{entries_by};
 ghost use Rattle.lk_locks.specs.Holding.{holder_after, holding, IsListed};
 ghost use Rattle.lk_locks.specs.Play.{Tracked, tracked, after_tracked, holding_in, waiting_in};
 ghost use Rattle.lk_locks.specs.invariants.Kept.{IsRecorded, IsTracked};
@@ -75,14 +76,16 @@ impl<W: Words> Tracker<W> {
         ensures refused { refused_with result ≡ refusal_of self.old.state t m }
         ensures outcome { IfOk result
             (λ played. played.0 ≡ (change_of self.old.state t m).outcome) }
-        ensures entries { IfOk result (λ played. played.1 ≡ entries_of self.old.state t m) }
+        ensures entries { IfOk result
+            (λ played. entries_by t played.1 ≡ entries_of self.old.state t m) }
         ensures after { self.new ≡ after_tracked self.old t m }
     {
         let (outcome, added) = self.machine.play(t, m)?;
         // a call is no act, so the sequential object and the holder stay
         if let Move::Step(_) = m {
-            self.sequential.follow(added.as_slice());
-            self.holder = holder_after(self.holder, added.as_slice());
+            let entries = added.entries(t);
+            self.sequential.follow(entries.as_slice());
+            self.holder = holder_after(self.holder, entries.as_slice());
         }
         Ok((outcome, added))
     }

@@ -1,6 +1,8 @@
 //! Who holds a lock and who waits for it, as text that changes with each entry of the history.
 
 ghost use Rattle.std.specs.Prelude.{◌≡◌, ◌+◌, ◌++◌, ◌∷◌, ◌≤◌, [], length, take};
+ghost use Rattle.lk_locks.specs.Change.{entries_by};
+ghost use Rattle.lk_locks.specs.declared.kinds.Entry.TheVariants.{Acted, Announced, Returned};
 ghost use Rattle.lk_locks.specs.Holding.{held_by_one, one_or_none, shared_by};
 ghost use Rattle.lk_locks.specs.Legal.{AreEnabled, IsEnabled};
 ghost use Rattle.lk_locks.specs.invariants.SequentialKept.{IsSequential};
@@ -11,7 +13,7 @@ ghost use Rattle.lk_replay.specs.Report.{holding_text, queue_text};
 use crate::report::lists::{Readers, Requests};
 use crate::report::numerals::put_number;
 use crate::report::text::put;
-use lk_locks::{Entry, Family, LockKind, Op, family_of};
+use lk_locks::{Added, Family, LockKind, Op, family_of};
 use std::marker::Model;
 
 /// Who holds and who waits after the entries so far. Of a queue lock the holder is the thread whose
@@ -94,41 +96,66 @@ impl OccupancyText {
         }
     }
 
-    // Applies one enabled entry.
-    fn note(&mut self, entry: Entry)
-        requires { IsEnabled self.old.sequential entry }
-        ensures { self.new ≡ occupancy_after self.old (entry ∷ []) }
+    // A writer announces itself.
+    fn announce(&mut self, t: u8)
+        requires { IsEnabled self.old.sequential (Announced t) }
+        ensures { self.new ≡ occupancy_after self.old (Announced t ∷ []) }
     {
-        match entry {
-            Entry::Announced(t) => self.announced = Some(t),
-            Entry::Acted(t, Op::Acquire) => self.requests.join(t),
-            Entry::Returned(t, Op::Acquire) => self.holder = Some(t),
-            Entry::Acted(t, Op::Release) => {
+        self.announced = Some(t);
+    }
+
+    // A call takes effect.
+    fn act(&mut self, t: u8, op: Op)
+        requires { IsEnabled self.old.sequential (Acted t op) }
+        ensures { self.new ≡ occupancy_after self.old (Acted t op ∷ []) }
+    {
+        match op {
+            Op::Acquire => self.requests.join(t),
+            Op::Release => {
                 self.requests.leave(t);
                 self.holder = None;
             }
-            Entry::Acted(t, Op::ReadLock) => self.readers.join(t),
-            Entry::Acted(t, Op::ReadUnlock) => self.readers.leave(t),
-            Entry::Acted(t, Op::WriteLock) => {
+            Op::ReadLock => self.readers.join(t),
+            Op::ReadUnlock => self.readers.leave(t),
+            Op::WriteLock => {
                 self.writer = Some(t);
                 self.announced = None;
             }
-            Entry::Acted(_, Op::WriteUnlock) => self.writer = None,
-            Entry::Acted(t, Op::Downgrade) => {
+            Op::WriteUnlock => self.writer = None,
+            Op::Downgrade => {
                 self.readers.join(t);
                 self.writer = None;
             }
-            _ => {}
         }
     }
 
-    /// Applies the next entries of a legal history.
-    pub fn follow(&mut self, entries: &[Entry])
-        requires { AreEnabled self.old.sequential entries.now }
-        ensures { self.new ≡ occupancy_after self.old entries.now }
+    // A call returns.
+    fn enter(&mut self, t: u8, op: Op)
+        ensures { self.new ≡ occupancy_after self.old (Returned t op ∷ []) }
     {
-        for entry in entries {
-            self.note(*entry);
+        if op == Op::Acquire {
+            self.holder = Some(t);
+        }
+    }
+
+    /// Applies what the next move of a legal history adds.
+    pub fn follow(&mut self, t: u8, added: Added)
+        requires { AreEnabled self.old.sequential (entries_by t added) }
+        ensures { self.new ≡ occupancy_after self.old (entries_by t added) }
+    {
+        match added {
+            Added::Nothing | Added::Call(_) => {}
+            Added::Announcement => self.announce(t),
+            Added::Act(op) => self.act(t, op),
+            Added::Return(op) => self.enter(t, op),
+            Added::ActAndReturn(op) => {
+                self.act(t, op);
+                self.enter(t, op);
+            }
+            Added::AnnouncedWrite => {
+                self.announce(t);
+                self.act(t, Op::WriteLock);
+            }
         }
     }
 

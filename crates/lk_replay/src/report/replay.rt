@@ -102,7 +102,7 @@ impl<'a> Replay<'a> {
                 return put_last(place, self.count.number(), Some((line.number, refusal)));
             }
         };
-        self.occupancy.follow(added.as_slice());
+        self.occupancy.follow(line.thread, added);
         self.moves = rest;
         self.count.count_on();
         let accepted = Accepted {

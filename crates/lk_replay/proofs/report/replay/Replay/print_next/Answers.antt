@@ -11,7 +11,7 @@ follow-requires c =
     let line = c.in-Some.line.now in
     let accepted : refusal_of c.self.inside.machine line.thread line.action ≡ None =
     sym c.play.ensures.refused ∙ ap refused_with c.in-Ok.is in
-    rw (c.as_slice.ensures.entries ∙ c.in-Ok.ensures.entries)
+    rw c.in-Ok.ensures.entries
     (entries_may_come c.self.inside.machine c.self.inside.occupancy.sequential _ _
     c.self.invariant.1 accepted)
 
@@ -22,8 +22,7 @@ invariant_of-self-2 c =
     sym c.play.ensures.refused ∙ ap refused_with c.in-Ok.is in (
       omega (arith, c.self.invariant.0, c.count_on.ensures, c.in-Some.ensures.cases.1),
       tracked_on c.self.inside.machine _ c.self.inside.occupancy.sequential _
-          c.as_slice.result.now _ _ c.self.invariant.1 accepted
-          (c.as_slice.ensures.entries ∙ c.in-Ok.ensures.entries)
+          _ _ _ c.self.invariant.1 accepted c.in-Ok.ensures.entries
           (accepted_next _ c.self.inside.machine line.thread line.action accepted
           c.play.ensures.after)
           (ap (λ (o : Occupancy). o.sequential) c.follow.ensures),

@@ -4,7 +4,7 @@ use Rattle.lk_locks.proofs.Requests.{reader_fits, request_fits, sequential_kept}
 use Rattle.lk_locks.specs.Sequential.{Sequential}
 use Rattle.lk_locks.specs.declared.kinds.Entry.TheVariants.{Acted}
 use Rattle.lk_locks.specs.declared.kinds.Op.TheVariants.{Acquire, ReadLock, ReadUnlock, Release}
-use Rattle.lk_replay.proofs.report.occupancy.OccupancyText.note.Goals as goal
+use Rattle.lk_replay.proofs.report.occupancy.OccupancyText.act.Goals as goal
 
 pub join-requires-clause-few : goal.join-requires-clause-few
 join-requires-clause-few c =
@@ -15,10 +15,10 @@ join-requires-clause-few c =
       writer = c.self.inside.writer;
       announced = c.self.inside.announced;
     } in
-    request_fits q c.in-Acted-default-Acquire.t c.self.invariant (search rules)
+    request_fits q c.args.t c.self.invariant (search rules)
 
-pub invariant_of-self-in-Acquire-1 : goal.invariant_of-self-in-Acquire-1
-invariant_of-self-in-Acquire-1 c =
+pub invariant_of-self : goal.invariant_of-self
+invariant_of-self c =
     let q : Sequential = record {
       kind = c.self.inside.kind;
       queue = c.self.inside.requests;
@@ -27,10 +27,10 @@ invariant_of-self-in-Acquire-1 c =
       announced = c.self.inside.announced;
     } in
     rw c.join.ensures
-    (sequential_kept q (Acted c.in-Acted-default-Acquire.t Acquire) c.self.invariant (search rules))
+    (sequential_kept q (Acted c.args.t Acquire) c.self.invariant (search rules))
 
-pub invariant_of-self-in-Release-1 : goal.invariant_of-self-in-Release-1
-invariant_of-self-in-Release-1 c =
+pub invariant_of-self-in-Release : goal.invariant_of-self-in-Release
+invariant_of-self-in-Release c =
     let q : Sequential = record {
       kind = c.self.inside.kind;
       queue = c.self.inside.requests;
@@ -39,11 +39,11 @@ invariant_of-self-in-Release-1 c =
       announced = c.self.inside.announced;
     } in
     rw c.leave.ensures
-    (sequential_kept q (Acted c.in-Acted-default-Release.t Release) c.self.invariant (search rules))
+    (sequential_kept q (Acted c.args.t Release) c.self.invariant (search rules))
 
-pub join-requires-in-Acted-default-ReadLock-clause-few :
-    goal.join-requires-in-Acted-default-ReadLock-clause-few
-join-requires-in-Acted-default-ReadLock-clause-few c =
+pub join-requires-in-ReadLock-clause-few :
+    goal.join-requires-in-ReadLock-clause-few
+join-requires-in-ReadLock-clause-few c =
     let q : Sequential = record {
       kind = c.self.inside.kind;
       queue = c.self.inside.requests;
@@ -51,10 +51,10 @@ join-requires-in-Acted-default-ReadLock-clause-few c =
       writer = c.self.inside.writer;
       announced = c.self.inside.announced;
     } in
-    reader_fits q c.in-Acted-default-ReadLock.t c.self.invariant (search rules)
+    reader_fits q c.args.t c.self.invariant (search rules)
 
-pub invariant_of-self-in-ReadLock-1 : goal.invariant_of-self-in-ReadLock-1
-invariant_of-self-in-ReadLock-1 c =
+pub invariant_of-self-in-ReadLock : goal.invariant_of-self-in-ReadLock
+invariant_of-self-in-ReadLock c =
     let q : Sequential = record {
       kind = c.self.inside.kind;
       queue = c.self.inside.requests;
@@ -62,12 +62,12 @@ invariant_of-self-in-ReadLock-1 c =
       writer = c.self.inside.writer;
       announced = c.self.inside.announced;
     } in
-    rw c.join-in-Acted-default-ReadLock.ensures
-    (sequential_kept q (Acted c.in-Acted-default-ReadLock.t ReadLock) c.self.invariant
+    rw c.join-in-ReadLock.ensures
+    (sequential_kept q (Acted c.args.t ReadLock) c.self.invariant
     (search rules))
 
-pub invariant_of-self-in-ReadUnlock-1 : goal.invariant_of-self-in-ReadUnlock-1
-invariant_of-self-in-ReadUnlock-1 c =
+pub invariant_of-self-in-ReadUnlock : goal.invariant_of-self-in-ReadUnlock
+invariant_of-self-in-ReadUnlock c =
     let q : Sequential = record {
       kind = c.self.inside.kind;
       queue = c.self.inside.requests;
@@ -75,6 +75,6 @@ invariant_of-self-in-ReadUnlock-1 c =
       writer = c.self.inside.writer;
       announced = c.self.inside.announced;
     } in
-    rw c.leave-in-Acted-default-ReadUnlock.ensures
-    (sequential_kept q (Acted c.in-Acted-default-ReadUnlock.t ReadUnlock) c.self.invariant
+    rw c.leave-in-ReadUnlock.ensures
+    (sequential_kept q (Acted c.args.t ReadUnlock) c.self.invariant
     (search rules))
