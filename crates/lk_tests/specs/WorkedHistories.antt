@@ -1,6 +1,5 @@
 -- Definitions. Histories written out, and moves that lead to some of them. On these the laws are
--- evaluated: each holds of histories that are as they should be, and fails of one that is not. This
--- project's own.
+-- evaluated: each holds of histories that are as they should be, and fails of one that is not.
 use Rattle.std.specs.Prelude.{◌≡◌, ℕ, List, [], ◌∷◌, ◌++◌, Some}
 use Rattle.lk_locks.specs.Legal.{after_entries}
 use Rattle.lk_locks.specs.MainTheorem.{IsAsPromised}

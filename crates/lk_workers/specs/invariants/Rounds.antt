@@ -7,7 +7,3 @@ use Rattle.lk_workers.specs.Seats.{Live}
 -- an idle seat of this lock, which may take so many tickets at least
 abbrev pub IsIdleOf : TableId → ℕ → Live → Type 0
 IsIdleOf lock takes s = (s.table ≡ lock) × (s.state.phase ≡ Idle) × (takes ≤ s.state.left)
-
--- two of them
-abbrev pub AreIdleOf : TableId → ℕ → Live × Live → Type 0
-AreIdleOf lock takes p = IsIdleOf lock takes p.0 × IsIdleOf lock takes p.1
