@@ -1,5 +1,5 @@
 -- Definitions. An order that is cut into pieces: each of its moves is in a piece or left out. A
--- piece begins where nobody is in a call and nobody holds. This project's own.
+-- piece begins where nobody is in a call and nobody holds.
 use Rattle.std.specs.Prelude.{◌≡◌, ◌+◌, ◌<◌, ◌≤◌, ◌⊎◌, ℕ, length}
 use Rattle.lk_order.specs.Orders.{Ordered, IsQuiet}
 use Rattle.lk_order.specs.declared.pieces.Piece.{Piece}

@@ -1,4 +1,4 @@
--- Definitions. The log of one thread, and how it is read line by line. This project's own.
+-- Definitions. The log of one thread, and how it is read line by line.
 use Rattle.std.specs.Prelude.{◌≡◌, ◌<◌, ◌+◌, ◌==◌, ◌++◌, ◌∷◌, [], ℕ, List, length, drop}
 use Rattle.std.specs.Prelude.{Bool, Option, Some, None, Result, Ok, Err, is_some, nat_eq, nat_lt}
 use Rattle.std.specs.Prelude.{codes, if◌then◌else◌, ok_or, option_map}

@@ -1,5 +1,5 @@
 -- Definitions. An order of a run's steps: of each thread it has the first lines of its log, in
--- order, and each line agrees with the lock as it is then. This project's own.
+-- order, and each line agrees with the lock as it is then.
 use Rattle.std.specs.Prelude.{◌≡◌, ℕ, ◌<◌, ◌==◌, ◌++◌, ◌∷◌, [], List, length, take}
 use Rattle.std.specs.Prelude.{Option, Some, None, Result, Ok, Err, filter}
 use Rattle.std.specs.List.{All, slice_get}

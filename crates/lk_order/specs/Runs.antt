@@ -1,5 +1,5 @@
 -- Definitions. The logs of one run: one of each thread, in the order of the threads, and all of one
--- header. This project's own.
+-- header.
 use Rattle.std.specs.Prelude.{◌≡◌, ℕ, List, length, map, Some, IsSomeAnd, slice_index_or, []}
 use Rattle.std.specs.List.{All, slice_get}
 use Rattle.lk_locks.specs.State.{Shape}

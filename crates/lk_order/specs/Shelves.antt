@@ -1,5 +1,4 @@
--- Definitions. The logs of a run that were taken so far, and which log is none of the run. This
--- project's own.
+-- Definitions. The logs of a run that were taken so far, and which log is none of the run.
 use Rattle.std.specs.Prelude.{◌≡◌, ◌≢◌, ◌<◌, ℕ, List, replicate, slice_set, slice_index_or}
 use Rattle.std.specs.Prelude.{Option, Some, None, IfSome, IsSome, IsSomeAnd}
 use Rattle.std.specs.List.{flat_map}

@@ -1,5 +1,4 @@
--- Definitions: the bytes of a record and of a state. This project's own. All numbers are
--- little-endian.
+-- Definitions: the bytes of a record and of a state. All numbers are little-endian.
 use Rattle.std.specs.Prelude.{ℕ, zero, suc, ◌+◌, ◌-◌, ◌*◌, List, [], ◌∷◌, ◌++◌, length, replicate}
 use Rattle.std.specs.Prelude.{Option, None, Some, if◌then◌else◌, nat_lt}
 use Rattle.std.specs.Int.{to_le_bytes, w16, w32, w64}

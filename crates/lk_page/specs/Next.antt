@@ -1,4 +1,4 @@
--- Definitions: what a thread may do next, as the machine would answer. This project's own.
+-- Definitions: what a thread may do next, as the machine would answer.
 use Rattle.std.specs.Prelude.{ℕ, ◌+◌, ◌*◌, Bool, true, false, ◌&&◌, is_none, is_some}
 use Rattle.lk_locks.specs.State.{State, phase_at}
 use Rattle.lk_locks.specs.Steps.{refusal_of}

@@ -1,5 +1,5 @@
 -- Definitions: what is a thread's own in an MCS lock, by the operations of the steps in which it is
--- used first. This project's own.
+-- used first.
 use Rattle.std.specs.Prelude.{ℕ, Option}
 use Rattle.std.specs.Option.{option_map_or}
 use Rattle.lk_words.specs.Operations.{word_of, left_by}

@@ -1,5 +1,4 @@
--- Definitions: where a line stops being a header or a move, and what could be there. This
--- project's own.
+-- Definitions: where a line stops being a header or a move, and what could be there.
 use Rattle.std.specs.Prelude.{ℕ, ◌==◌, List, Option, if◌then◌else◌}
 use Rattle.lk_replay.specs.Lines.{words_of}
 use Rattle.lk_replay.specs.Unreadable.{unreadable_from}

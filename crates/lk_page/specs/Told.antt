@@ -1,6 +1,6 @@
--- Definitions: what a page learns of each move that is made, and of the lock after the last. This
--- project's own; what a move does, who holds and who waits is said by the definitions of the locks
--- and of the replay alone.
+-- Definitions: what a page learns of each move that is made, and of the lock after the last. What a
+-- move does, who holds and who waits is said by the definitions of the locks and of the replay
+-- alone.
 use Rattle.std.specs.Prelude.{◌≡◌, ◌≢◌, ℕ, ◌<◌, List, [], ◌∷◌, ◌++◌, length, slice_index, Option}
 use Rattle.std.specs.Prelude.{None, Some, option_map, IfSome, IsSomeAnd, Bool, false, eqb}
 use Rattle.std.specs.Option.{option_map_or}

@@ -1,4 +1,4 @@
--- Definitions: what a page finds in the slices that it lent. This project's own.
+-- Definitions: what a page finds in the slices that it lent.
 use Rattle.std.specs.Prelude.{◌≡◌, ℕ, ◌+◌, ◌*◌, List, [], ◌∷◌, ◌++◌, length, take, drop, Option}
 use Rattle.std.specs.Prelude.{MatchOption, None, Some, Result, Ok, Err, if◌then◌else◌, nat_le}
 use Rattle.std.specs.List.{flat_map}

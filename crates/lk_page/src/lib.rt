@@ -1,6 +1,6 @@
-//! A schedule in a page: its text is read and played by the proved machine, and written out move
-//! by move for a page to draw; a shortest run is looked for that has the lines of a sketch; and of
-//! a line that cannot be read, it is told where it stops. This project's own.
+//! A schedule in a page: its text is read and played by the proved machine, and written out move by
+//! move for a page to draw; a shortest run is looked for that has the lines of a sketch; and of a
+//! line that cannot be read, it is told where it stops.
 //!
 //! It is built to a WebAssembly module that imports nothing. An exported function takes no memory
 //! there, so all that it reads and writes are slices that the page lends. page/MODULE.md lists

@@ -1,4 +1,4 @@
--- Definitions. The statuses of the program as numbers. This project's own.
+-- Definitions. The statuses of the program as numbers.
 use Rattle.std.specs.Prelude.{ℕ}
 use Rattle.lk_replay.specs.declared.status.Status.{Status}
 use Rattle.lk_replay.specs.declared.status.Status.TheVariants.{Accepted, Refused, Misused}

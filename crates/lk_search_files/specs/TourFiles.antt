@@ -1,4 +1,4 @@
--- Definitions. The names of a tour's schedules. This project's own.
+-- Definitions. The names of a tour's schedules.
 use Rattle.std.specs.Prelude.{◌≡◌, ℕ, ◌<◌, ◌++◌, List, codes, length, true}
 use Rattle.std.specs.Char.{is_ascii_digit}
 use Rattle.std.specs.List.{list_all}

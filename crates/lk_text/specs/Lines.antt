@@ -1,5 +1,4 @@
 -- Definitions. The lines of an input, taken one after another; of each its first 97 bytes are kept.
--- This project's own.
 use Rattle.std.specs.Prelude.{◌≡◌, ℕ, List, [], ◌∷◌, ◌++◌, take, slice_range}
 use Rattle.std.specs.Prelude.{Option, IfSome, IsSomeAnd, Bool, true, false}
 use Rattle.std.specs.Io.KnownBytes.{prepend_known}

@@ -1,5 +1,5 @@
--- Definitions. The check of a move with what its thread saw: where they differ first. This
--- project's own; what a move does is said by the definitions of the locks alone.
+-- Definitions. The check of a move with what its thread saw: where they differ first. What a move
+-- does is said by the definitions of the locks alone.
 use Rattle.std.specs.Prelude.{ℕ, ◌==◌, [], slice_index, Option, Some, None, option_map}
 use Rattle.std.specs.Prelude.{Result, Ok, Err, Bool, false, not, nat_lt, if◌then◌else◌}
 use Rattle.std.specs.Bool.{beq}

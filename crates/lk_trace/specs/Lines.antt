@@ -1,5 +1,5 @@
 -- Definitions. A line of a trace, and a line of a log: a move, and what its thread saw. Or where it
--- stops being one, and what could be there. This project's own.
+-- stops being one, and what could be there.
 use Rattle.std.specs.Prelude.{ℕ, List, [], ◌∷◌, Option, Some, None, Bool, true, false, Result, Ok}
 use Rattle.std.specs.Prelude.{Err, if◌then◌else◌, nat_lt, codes, length, ok_or, unwrap_or}
 use Rattle.std.specs.Option.{option_map_or}

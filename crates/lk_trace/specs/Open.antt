@@ -1,5 +1,5 @@
 -- Definitions. A line of a sketch: a line of a trace in which `*` is any thread, and what follows
--- the move may be left out, the name of the word too. This project's own.
+-- the move may be left out, the name of the word too.
 use Rattle.std.specs.Prelude.{ℕ, List, [], ◌∷◌, Option, Some, None, Result, Err}
 use Rattle.std.specs.Prelude.{if◌then◌else◌, codes, length, nat_lt, option_map}
 use Rattle.std.specs.Result.{result_ok}

@@ -1,5 +1,5 @@
 -- Definitions. A trace, line by line: the header, and then the moves, each checked on the header's
--- lock. This project's own.
+-- lock.
 use Rattle.std.specs.Prelude.{ℕ, List, Option, Some, None, Result, Ok, Err, length, nat_lt}
 use Rattle.std.specs.Prelude.{if◌then◌else◌}
 use Rattle.lk_replay.specs.Lines.{is_skipped}

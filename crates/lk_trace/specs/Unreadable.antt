@@ -1,5 +1,4 @@
 -- Definitions. Where a line of a trace or of a sketch stops being one, and what could be there.
--- This project's own.
 use Rattle.std.specs.Prelude.{ℕ, ◌+◌, ◌-◌, List, [], ◌∷◌, Option, Some, None, Result, Err, Bool}
 use Rattle.std.specs.Prelude.{◌||◌, ◌&&◌, if◌then◌else◌, is_some, length, nat_lt, option_map}
 use Rattle.std.specs.Result.{result_err}

@@ -1,4 +1,4 @@
--- Definitions. Differences as numbers. This project's own; `record/locktrace.h` has the same.
+-- Definitions. Differences as numbers. `record/locktrace.h` has the same.
 use Rattle.std.specs.Prelude.{ℕ}
 use Rattle.lk_trace.specs.Codes.{refusal_number}
 use Rattle.lk_trace.specs.declared.difference.Difference.{Difference}

@@ -1,6 +1,6 @@
 -- Definitions. What a text's lines come to, up to the first with a fault: the numbers of the
--- answer, and a record for each move that is made. This project's own; what a line comes to is said
--- by the traces' definitions alone.
+-- answer, and a record for each move that is made. What a line comes to is said by the traces'
+-- definitions alone.
 use Rattle.std.specs.Prelude.{ℕ, ◌+◌, ◌-◌, ◌^◌, ◌==◌, min, nat_lt, List, [], ◌∷◌, Option, Some}
 use Rattle.std.specs.Prelude.{None, slice_set, if◌then◌else◌}
 use Rattle.std.specs.Option.{option_map_or}

@@ -1,4 +1,4 @@
--- Definitions. The text of a fault's number. This project's own.
+-- Definitions. The text of a fault's number.
 use Rattle.std.specs.Prelude.{ℕ, ◌==◌, List, codes, if◌then◌else◌}
 use Rattle.lk_locks.specs.Refusals.{text_of}
 use Rattle.lk_locks.specs.declared.kinds.Refusal.TheVariants as refused

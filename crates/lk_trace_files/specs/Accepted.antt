@@ -1,5 +1,5 @@
--- Definitions. What an accepted trace is, line by line. This project's own, over what it is that a
--- line agrees with the lock.
+-- Definitions. What an accepted trace is, line by line. It rests on what it is that a line agrees
+-- with the lock.
 use Rattle.std.specs.Prelude.{◌≡◌, ◌⊎◌, ℕ, List, [], ◌∷◌, true, false, Some, Ok}
 use Rattle.lk_replay.specs.Lines.{is_skipped}
 use Rattle.lk_locks.specs.State.{Shape}

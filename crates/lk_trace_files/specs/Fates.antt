@@ -1,5 +1,4 @@
 -- Definitions. Whether a run hangs, by its moves and by what the text says of its threads' ends.
--- This project's own.
 use Rattle.std.specs.Prelude.{ℕ, ◌-◌, List, [], ◌∷◌, length, take, drop, codes, nat_eq, nat_lt}
 use Rattle.std.specs.Prelude.{Bool, true, false, Option, None, Some, option_map, slice_index_or}
 use Rattle.std.specs.Prelude.{replicate, slice_set, if◌then◌else◌, ◌&&◌}

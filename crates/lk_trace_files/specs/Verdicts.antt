@@ -1,5 +1,5 @@
 -- Definitions. How a whole text ends: its lines are read one after another, up to the first that
--- ends it. And the status of the program by it. This project's own.
+-- ends it. And the status of the program by it.
 use Rattle.std.specs.Prelude.{◌≡◌, ◌≢◌, ◌↔◌, ◌⊎◌, ◌+◌, ◌<◌, ℕ, List, [], ◌∷◌, length}
 use Rattle.std.specs.Prelude.{fold, max, slice_index_or}
 use Rattle.std.specs.Prelude.{Option, None, Some, IfSome, Result, IfOk, Bool, true, false}

@@ -1,6 +1,6 @@
 //! The first line of a text, if it is a move as most are: a thread's number of one or two digits, a
-//! word and a line feed. Here each byte is looked at once. To cut the line from the text, and then
-//! its words from it, took longer than to play the move.
+//! word and a line feed. Nothing is cut from the text: to cut its line, and then words from that,
+//! took longer than to play the move.
 
 ghost use Rattle.std.specs.Prelude.{◌≡◌, ◌++◌, ◌∷◌, IfSome};
 ghost use Rattle.lk_replay.specs.FirstMove.{IsFirstMove, IsFirstThread};
