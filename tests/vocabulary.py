@@ -93,7 +93,7 @@ LISTS = (
     List(DUE, r"OPEN: \[&str; \d+\] = \[", r"\];", "places values results", in_order),
     List(f"{FILES}/texts.rt", r"impl Shown", r"\n// ", "records values results", word=r'" (\w+)'),
     List(f"{FILES}/formats.rt", r"WroteOther \{ wrote \} =>", r"\};", "results", repeated),
-    List(f"{FILES}/ordering/telling.rt", r"fn missing_in", r"\n\}\n", "values results",
+    List("crates/lk_order_files/src/telling.rt", r"fn missing_in", r"\n\}\n", "values results",
          among, r"'(\w+)'"),
     List(f"{RECORDING}/run.h", r"enum \{ (?=LR_PLACE)", r"\};", "places", in_order, ENUM),
     List(f"{RECORDING}/run.h", r"enum \{ (?=LR_PART)", r"\};", "values results outcomes",

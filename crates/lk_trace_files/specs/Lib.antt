@@ -1,5 +1,4 @@
 pub mod Accepted
 pub mod Fates
-pub mod Searches
 pub mod Verdicts
 pub mod invariants

@@ -9,7 +9,6 @@ ghost use Rattle.lk_trace_files.specs.declared.course.Fate.{Fate as OfThread};
 ghost use Rattle.std.specs.List.{list_all, list_any};
 
 use lk_locks::{Move, Outcome, StepKind};
-use lk_order::MOST_THREADS;
 use lk_replay::parts::number_of;
 use lk_trace::{Event, Made, TraceLine};
 use std::marker::Model;
@@ -69,6 +68,9 @@ pub fn said_of(line: &[u8]) -> Option<(u8, bool)>
     let text = line.strip_prefix(b"# thread ".as_slice())?;
     said_before(text.strip_suffix(b" ended".as_slice())?)
 }
+
+// The most threads of a lock.
+const MOST_THREADS: usize = 64;
 
 // The most words of a lock: those of an MCS lock.
 const MOST_WORDS: usize = 129;

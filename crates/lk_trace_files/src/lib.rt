@@ -1,10 +1,8 @@
-//! Traces and logs as files: traces are checked, explained and written as schedules, and the logs
-//! of a run's threads are put into one order.
+//! Traces as files: they are checked, explained and written as schedules.
 //!
 //! `check_input` checks one input, and `check_files` the files of a job, with their reports in the
-//! form that it asks for. `explain_input` describes each move of a trace, `write_schedule` writes
-//! it without its values, and `order_logs` orders logs. The program `locktrace` gives them its
-//! files.
+//! form that it asks for. `explain_input` describes each move of a trace, and `write_schedule`
+//! writes it without its values. The program `locktrace` gives them its files.
 #![tactic(auto)]
 
 mod blame;
@@ -13,7 +11,7 @@ mod checking;
 mod course;
 mod explain;
 mod formats;
-mod ordering;
+pub mod parts;
 mod progress;
 mod scheduling;
 mod sentences;
@@ -24,5 +22,4 @@ pub use check::{Ending, Report, check_input, unread, worst};
 pub use checking::{CheckJob, check_files, check_side_by_side};
 pub use explain::{Asked, explain_input};
 pub use formats::Format;
-pub use ordering::{BadLog, OrderJob, Search, Sought, order_logs, search_logs};
 pub use scheduling::write_schedule;

@@ -1,6 +1,5 @@
 //! What is shown on a terminal while a long file is read, or long logs are put into one order.
 
-use lk_order::Log;
 use std::io::Eprint;
 
 // Lines between two words of progress.
@@ -35,11 +34,8 @@ impl<'a, R: Eprint> Progress<'a, R> {
         }
     }
 
-    /// Says what is done with these logs, if they are long.
-    pub fn begin(&mut self, done: &str, logs: &[Log]) {
-        let moves = logs
-            .iter()
-            .fold(0usize, |sum, log| sum.saturating_add(log.moves().len()));
+    /// Says what is done with so many moves, if they are many.
+    pub fn begin(&mut self, done: &str, moves: usize) {
         if self.is_terminal && moves >= MANY {
             let _ = eprint!(self.rt; "\r\x1b[K{done} {moves} moves");
             self.shown = true;

@@ -3,7 +3,8 @@
 use crate::searches::{self, SearchJob};
 use clap::error::ErrorKind;
 use clap::{Arg, ArgAction, ArgMatches, Command, value_parser};
-use lk_trace_files::{CheckJob, Format, OrderJob};
+use lk_order_files::OrderJob;
+use lk_trace_files::{CheckJob, Format};
 use std::alloc::{AllocError, Global};
 use thiserror::Error;
 

@@ -1,8 +1,8 @@
 -- Each line is read, and the last one read or the end says what the log is.
 use Rattle.std.proofs.Common.{ℕ, Bool, Ok, Option, ap}
 use Rattle.lk_order.specs.Logs.{ThreadLog}
-use Rattle.lk_trace_files.proofs.LogReading.{read_end, read_none, read_off, read_on}
-use Rattle.lk_trace_files.proofs.ordering.reading.read_input.Goals as goal
+use Rattle.lk_order_files.proofs.LogReading.{read_end, read_none, read_off, read_on}
+use Rattle.lk_order_files.proofs.reading.read_input.Goals as goal
 
 pub loop-number-init : goal.loop-number-init
 loop-number-init g c = read_none _ _ _ c.in_ok-lines.ensures c.new-reader.ensures

@@ -3,14 +3,13 @@
 ghost use Rattle.std.specs.Prelude.{◌≡◌, ◌⊎◌, IfErr, IfOk, IfSome, MatchResult, Ok, Err};
 ghost use Rattle.lk_order.specs.Logs.{log_read};
 ghost use Rattle.lk_order.specs.Shelves.{HaveLogs, IsTaken, threads_of};
-ghost use Rattle.lk_trace_files.specs.Searches.{IsBad, IsInFile, IsNoLog, IsText};
-ghost use Rattle.lk_trace_files.specs.invariants.{IsBadBeside, IsKept, IsOwn};
+ghost use Rattle.lk_order_files.specs.Searches.{IsBad, IsInFile, IsNoLog, IsText};
+ghost use Rattle.lk_order_files.specs.invariants.{IsBadBeside, IsKept, IsOwn};
 
-use super::search::BadLog;
-use crate::course::said_of;
-use crate::texts::Notes;
+use crate::search::BadLog;
 use lk_order::{Log, LogFault, LogReader, MOST_THREADS, Shelf, Unfit};
 use lk_text::{Line, Lines};
+use lk_trace_files::parts::{Notes, said_of};
 use std::alloc::{AllocError, Global};
 use std::io::{Error, ErrorKind, Read};
 use std::rt::Files;

@@ -15,11 +15,11 @@ use Rattle.lk_trace_files.specs.declared.check.Ending.{Ending}
 use Rattle.lk_trace_files.specs.declared.check.Ending.TheVariants.{Accepted, Refused, Unread}
 use Rattle.lk_trace_files.specs.declared.check.Ending.TheVariants.{Faulty, Hangs}
 use Rattle.lk_trace_files.specs.declared.course.Fate.{Fate}
-use Rattle.lk_trace_files.specs.declared.ordering.search.BadLog.{BadLog}
-use Rattle.lk_trace_files.specs.declared.ordering.search.BadLog.TheVariants as bad
-use Rattle.lk_trace_files.specs.declared.ordering.search.Search.{Search}
-use Rattle.lk_trace_files.specs.declared.ordering.search.Sought.{Sought}
-use Rattle.lk_trace_files.specs.declared.ordering.search.Sought.TheVariants as sought
+use Rattle.lk_order_files.specs.declared.search.BadLog.{BadLog}
+use Rattle.lk_order_files.specs.declared.search.BadLog.TheVariants as bad
+use Rattle.lk_order_files.specs.declared.search.Search.{Search}
+use Rattle.lk_order_files.specs.declared.search.Sought.{Sought}
+use Rattle.lk_order_files.specs.declared.search.Sought.TheVariants as sought
 
 -- the lines of a text are read as a log's, one after another, up to what is left of it
 pub data Reads (text : List ℕ) : List ℕ → Reading → Type 0 where

@@ -7,15 +7,13 @@
 
 ghost use Rattle.std.specs.Prelude.{◌≡◌, ◌↔◌, IfOk, IfSome, IsSome};
 ghost use Rattle.lk_order.specs.Runs.{IsOneRun};
-ghost use Rattle.lk_trace_files.specs.Searches.{IsHung, IsSearch, ending_of_bad, ending_of_search};
-ghost use Rattle.lk_trace_files.specs.Searches.{ending_of_sought};
+ghost use Rattle.lk_order_files.specs.Searches.{IsHung, IsSearch, ending_of_bad, ending_of_search};
+ghost use Rattle.lk_order_files.specs.Searches.{ending_of_sought};
 
-use crate::blame::Waiting;
-use crate::check::Ending;
-use crate::course::{Course, Fate};
-use crate::formats::put_code;
 use lk_order::{Found, Log, LogFault, Order, Unfit, find_order};
 use lk_trace::{Checker, Event};
+use lk_trace_files::Ending;
+use lk_trace_files::parts::{Course, Fate, Waiting, put_code};
 use std::alloc::{AllocError, Global};
 use std::fmt::Write;
 use thiserror::Error;

@@ -1,6 +1,6 @@
 -- Nothing is on a new shelf.
-use Rattle.lk_trace_files.proofs.Shelves.{kept_none}
-use Rattle.lk_trace_files.proofs.ordering.reading.take_logs.Goals as goal
+use Rattle.lk_order_files.proofs.Shelves.{kept_none}
+use Rattle.lk_order_files.proofs.reading.take_logs.Goals as goal
 
 pub loop-name-init : goal.loop-name-init
 loop-name-init g c = record {

@@ -1,7 +1,7 @@
 -- Logs of which none is missing are those of one run.
 use Rattle.std.proofs.Common.{◌≡◌, IsSome, None, Option, false, subst, true}
-use Rattle.lk_trace_files.proofs.Shelves.{run_taken}
-use Rattle.lk_trace_files.proofs.ordering.order_into.Goals as goal
+use Rattle.lk_order_files.proofs.Shelves.{run_taken}
+use Rattle.lk_order_files.proofs.order_into.Goals as goal
 
 none_is : {X : Type 0} (o : Option X) → o ≡ None → IsSome o → ⊥
 none_is {X} o is some =

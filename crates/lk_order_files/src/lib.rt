@@ -1,21 +1,26 @@
-//! The job of putting the logs of a run into one order, and writing its trace and its schedules.
+//! Logs as files: those of a run's threads are put into one order, which is written as a trace and
+//! as schedules.
+//!
+//! `order_logs` does that with the files of a job, and says in the form that it asks for what is
+//! wrong. `search_logs` orders logs that were read. The program `locktrace` gives `order_logs` its
+//! files.
+#![tactic(auto)]
 
 ghost use Rattle.std.specs.Prelude.{IfOk};
-ghost use Rattle.lk_trace_files.specs.Searches.{IsSought};
+ghost use Rattle.lk_order_files.specs.Searches.{IsSought};
 
 mod reading;
 mod search;
 mod telling;
 mod writing;
 
-use crate::course::Course;
-use crate::formats::Format;
-use crate::progress::Progress;
-use lk_order::Order;
+use lk_order::{Log, Order};
 use lk_text::{Count, Failure};
+use lk_trace_files::Format;
+use lk_trace_files::parts::{Course, Progress};
 use reading::take_logs;
 pub use search::{BadLog, Search, Sought, search_logs};
-use std::alloc::Global;
+use std::alloc::{AllocError, Global};
 use std::fs;
 use std::io::{Eprint, Write};
 use std::rt::Files;
@@ -61,6 +66,47 @@ fn write_found<R: Files>(
     Ok(())
 }
 
+// Writes an order, to the output or into the job's folder.
+fn write_order<R: Files, O: Write>(
+    rt: &R,
+    alloc: Global,
+    search: &Search,
+    folder: &str,
+    report: &mut OrderReport,
+    output: &mut O,
+) -> Result<(), Failure> {
+    let (order, hung) = (&search.found.order, search.hung.as_ref());
+    if folder == OUTPUT {
+        write_trace(alloc, order, hung, output)
+    } else {
+        write_found(rt, alloc, order, hung, folder, report)
+    }
+}
+
+// Says how far an order came, and why not further. `names` has the files of the threads, and `open`
+// those that have not ended.
+fn put_ending(
+    report: &mut OrderReport,
+    search: &Search,
+    names: &[&str],
+    open: &[bool],
+) -> Result<(), AllocError> {
+    let order = &search.found.order;
+    report.placed = order.len();
+    match (search.found.ending, &search.hung) {
+        (lk_order::Ending::Stuck(stuck), _) => put_stuck(report, order, names, stuck),
+        (_, Some(course)) => put_hang(report, order, names, course),
+        (lk_order::Ending::Cut, None) => put_cut(report, order, names, open),
+        (lk_order::Ending::Whole, None) => Ok(()),
+    }
+}
+
+// How many moves logs have.
+fn moves_of(logs: &[Log]) -> usize {
+    logs.iter()
+        .fold(0, |sum, log| sum.saturating_add(log.moves().len()))
+}
+
 // Looks for the order of the logs, and writes it.
 fn order_into<R: Files + Eprint, O: Write>(
     rt: &R,
@@ -80,7 +126,7 @@ fn order_into<R: Files + Eprint, O: Write>(
         }
     };
     let logs = taken.shelf.logs(alloc)?;
-    progress.begin("ordering", &logs);
+    progress.begin("ordering", moves_of(&logs));
     let search = match search_logs(alloc, logs, &taken.open)? {
         Some(search) => search,
         None => {
@@ -88,21 +134,31 @@ fn order_into<R: Files + Eprint, O: Write>(
             return Ok(Sought::Bad(BadLog::OtherLock));
         }
     };
-    let (order, hung, names) = (&search.found.order, search.hung.as_ref(), &taken.names);
-    progress.begin("writing", order.logs());
-    if job.folder.as_str() == OUTPUT {
-        write_trace(alloc, order, hung, output)?;
-    } else {
-        write_found(rt, alloc, order, hung, &job.folder, report)?;
-    }
-    report.placed = order.len();
-    match (search.found.ending, hung) {
-        (lk_order::Ending::Stuck(stuck), _) => put_stuck(report, order, names, stuck)?,
-        (_, Some(course)) => put_hang(report, order, names, course)?,
-        (lk_order::Ending::Cut, None) => put_cut(report, order, names, &taken.open)?,
-        (lk_order::Ending::Whole, None) => {}
-    }
+    progress.begin("writing", moves_of(search.found.order.logs()));
+    write_order(rt, alloc, &search, &job.folder, report, output)?;
+    put_ending(report, &search, &taken.names, &taken.open)?;
     Ok(Sought::Order(search))
+}
+
+// Writes what is said of a job. Where the output has the trace, all of it goes to `errors`.
+fn put_report<O: Write>(
+    alloc: Global,
+    report: &OrderReport,
+    sought: &Sought,
+    job: &OrderJob,
+    output: &mut O,
+    errors: &mut String,
+) -> Result<(), Failure> {
+    let folder = job.folder.as_str();
+    let mut text = String::new(alloc);
+    report.put(sought.ending(), job.format, folder, &mut text, errors)?;
+    if folder == OUTPUT {
+        errors.push_str(&text)?;
+    } else {
+        output.write_all(text.as_bytes())?;
+        output.flush()?;
+    }
+    Ok(())
 }
 
 /// Puts the logs into one order and writes its trace and its schedules into the folder. What there
@@ -130,14 +186,6 @@ pub fn order_logs<R: Files + Eprint, O: Write>(
     if job.quiet {
         return Ok(sought);
     }
-    let folder = job.folder.as_str();
-    let mut text = String::new(alloc);
-    report.put(sought.ending(), job.format, folder, &mut text, errors)?;
-    if folder == OUTPUT {
-        errors.push_str(&text)?;
-    } else {
-        output.write_all(text.as_bytes())?;
-        output.flush()?;
-    }
+    put_report(alloc, &report, &sought, job, output, errors)?;
     Ok(sought)
 }

@@ -1,17 +1,15 @@
 //! What is said of an order that does not reach the end of the logs, or whose run hangs. It is
 //! written as lines on standard error, or on standard output as TAP or JSON.
 
-use crate::blame::{HANGS, put_waits};
-use crate::check::Ending;
-use crate::course::Course;
-use crate::formats::{
-    Format, Quoted, put_code, put_comments, put_note_fields, put_noted, put_refused,
-};
-use crate::texts::{Called, Notes, Shown, Standing, Wrong};
 use lk_locks::{LockKind, Move, StepKind};
 use lk_order::{Log, Order, Stuck};
 use lk_text::Count;
 use lk_trace::{Seen, TraceLine};
+use lk_trace_files::parts::{
+    Called, Course, HANGS, Notes, Quoted, Shown, Standing, Wrong, put_code, put_comments,
+    put_note_fields, put_noted, put_refused, put_waits,
+};
+use lk_trace_files::{Ending, Format};
 use std::alloc::{AllocError, Global};
 use std::fmt;
 use std::fmt::Write;

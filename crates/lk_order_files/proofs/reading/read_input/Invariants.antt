@@ -1,7 +1,7 @@
 -- So much of the log was read.
 use Rattle.lk_text.specs.Lines.{left}
-use Rattle.lk_trace_files.specs.invariants.{ReadsInput}
-use Rattle.lk_trace_files.proofs.ordering.reading.read_input.Given as goal
+use Rattle.lk_order_files.specs.invariants.{ReadsInput}
+use Rattle.lk_order_files.proofs.reading.read_input.Given as goal
 
 abbrev pub invariant-loop-number : goal.invariant-loop-number
 invariant-loop-number g l =

@@ -2,11 +2,11 @@
 use Rattle.std.proofs.Common.{ℕ, Bool, Option, subst}
 use Rattle.std.proofs.lemmas.Result.{MatchResult-at_ok}
 use Rattle.lk_order.specs.Logs.{ThreadLog}
-use Rattle.lk_trace_files.specs.Searches.{IsBad, IsInFile}
-use Rattle.lk_trace_files.specs.declared.ordering.search.BadLog.TheVariants as bad
-use Rattle.lk_trace_files.specs.invariants.{IsBadBeside}
-use Rattle.lk_trace_files.proofs.Shelves.{bad_beside, kept_after}
-use Rattle.lk_trace_files.proofs.ordering.reading.Taken.read.Goals as goal
+use Rattle.lk_order_files.specs.Searches.{IsBad, IsInFile}
+use Rattle.lk_order_files.specs.declared.search.BadLog.TheVariants as bad
+use Rattle.lk_order_files.specs.invariants.{IsBadBeside}
+use Rattle.lk_order_files.proofs.Shelves.{bad_beside, kept_after}
+use Rattle.lk_order_files.proofs.reading.Taken.read.Goals as goal
 
 pub returns-in_default : goal.returns-in_default
 returns-in_default g c = λ kept.

@@ -6,8 +6,8 @@ use Rattle.lk_order.specs.Logs.{IsFaultOf, Reading, ThreadLog, line_read, log_re
 use Rattle.lk_order.specs.declared.log.reader.LogFault.{LogFault}
 use Rattle.lk_text.specs.Lines.{TakesLine, kept}
 use Rattle.lk_text.specs.declared.lines.Line.{Line}
-use Rattle.lk_trace_files.specs.Searches.{IsNoLog, IsText, Reads, at_end, at_line, begins, goes_on}
-use Rattle.lk_trace_files.specs.invariants.{ReadsInput}
+use Rattle.lk_order_files.specs.Searches.{IsNoLog, IsText, Reads, at_end, at_line, begins, goes_on}
+use Rattle.lk_order_files.specs.invariants.{ReadsInput}
 
 -- no line yet
 pub read_none : (all left : Option (List ℕ)) (reading : Reading) → Keeps all left

@@ -10,10 +10,10 @@ use Rattle.lk_order.specs.Runs.{IsOneRun, IsRunOf}
 use Rattle.lk_order.specs.Shelves.{HaveLogs, IsTaken, Shelved, empty_shelf}
 use Rattle.lk_order.specs.Shelves.{logs_of, threads_of}
 use Rattle.lk_locks.specs.State.{Shape}
-use Rattle.lk_trace_files.specs.Searches.{IsBad, IsInFile, OfOtherLocks}
-use Rattle.lk_trace_files.specs.declared.ordering.search.BadLog.{BadLog}
-use Rattle.lk_trace_files.specs.declared.ordering.search.BadLog.TheVariants as bad
-use Rattle.lk_trace_files.specs.invariants.{IsBadBeside, IsKept, IsOfLog, IsOwn, Stands}
+use Rattle.lk_order_files.specs.Searches.{IsBad, IsInFile, OfOtherLocks}
+use Rattle.lk_order_files.specs.declared.search.BadLog.{BadLog}
+use Rattle.lk_order_files.specs.declared.search.BadLog.TheVariants as bad
+use Rattle.lk_order_files.specs.invariants.{IsBadBeside, IsKept, IsOfLog, IsOwn, Stands}
 
 none_there : {X : Type 0} (n t : ℕ) (x : X) → get_or (replicate n None) t None ≡ Some x → ⊥
 none_there zero t x at = none-some x at

@@ -1,0 +1,2 @@
+pub mod LogReading
+pub mod Shelves
