@@ -54,16 +54,26 @@ fn is_due(answer: &Result<Vec<u8>, AllocError>, gate: &Counts, refused: bool) ->
     }
 }
 
+// Whether the batch is as it should be, with this request refused, and whether one was.
+fn is_batched<R: Threads + Sync>(
+    rt: &R,
+    alloc: Global,
+    number: usize,
+) -> Result<(bool, bool), AllocError> {
+    let texts = texts_of(alloc, &FIVE)?;
+    let gate = Counts::new(alloc, 5)?;
+    refuse(alloc, number);
+    let answer = batched(rt, alloc, &texts[..texts.len().min(5)], &gate);
+    let refused = was_refused(alloc);
+    Ok((is_due(&answer, &gate, refused), refused))
+}
+
 /// If the system has no memory for a thread, its work is done by another: so a refusal need not
 /// show.
 pub fn batch<R: Abort + Threads + Sync>(rt: &R, alloc: Global, number: usize) -> bool {
-    let (Ok(texts), Ok(gate)) = (texts_of(alloc, &FIVE), Counts::new(alloc, 5)) else {
+    let Ok((is_right, refused)) = is_batched(rt, alloc, number) else {
         panic!(rt; "there is memory")
     };
-    holds(rt, texts.len() == 5, "a batch");
-    refuse(alloc, number);
-    let answer = batched(rt, alloc, &texts, &gate);
-    let refused = was_refused(alloc);
-    holds(rt, is_due(&answer, &gate, refused), "a batch");
+    holds(rt, is_right, "a batch");
     refused
 }

@@ -105,17 +105,19 @@ impl Gate for Counts {
     }
 }
 
-fn batch_of<R: Threads + Sync>(
+// Whether the batch of the texts is this.
+fn is_batch<R: Threads + Sync>(
     rt: &R,
     alloc: Global,
     texts: &[Vec<u8>],
     workers: u8,
-) -> Result<Vec<u8>, AllocError>
+    due: &str,
+) -> Result<bool, AllocError>
     requires workers { (1 ≤ workers) × (workers ≤ 8) }
     requires texts { length texts.now ≤ 65536 }
 {
     let reports = replay_many(rt, alloc, texts, workers, &OpenGate)?;
-    batch_text(alloc, &reports)
+    Ok(batch_text(alloc, &reports)?.as_slice() == due.as_bytes())
 }
 
 #[test]
@@ -123,10 +125,9 @@ fn batches_of_five_and_of_none(rt: HostRuntime) -> Result<(), Fail> {
     let texts = texts_of(rt.alloc(), &FIVE)?;
     assert!(rt; texts.len() == 5);
     for workers in [1u8, 2, 8] {
-        for (texts, due) in [(texts.as_slice(), REPORTS), (&[], "")] {
-            let text = batch_of(&rt, rt.alloc(), texts, workers)?;
-            assert!(rt; text.as_slice() == due.as_bytes(), "{workers} workers");
-        }
+        let are_right = is_batch(&rt, rt.alloc(), &texts, workers, REPORTS)?
+            && is_batch(&rt, rt.alloc(), &[], workers, "")?;
+        assert!(rt; are_right, "{workers} workers");
     }
     Ok(())
 }
@@ -150,10 +151,8 @@ fn each_text_once(rt: HostRuntime) -> Result<(), Fail> {
     let texts = texts_of(rt.alloc(), &[ONE_ENTERS; 100])?;
     assert!(rt; texts.len() == 100);
     for workers in [1u8, 2, 8] {
-        assert!(rt;
-            is_each_once(&rt, rt.alloc(), &texts, workers)?,
-            "{workers} workers"
-        );
+        let is_once = is_each_once(&rt, rt.alloc(), &texts, workers)?;
+        assert!(rt; is_once, "{workers} workers");
     }
     Ok(())
 }

@@ -85,29 +85,48 @@ fn are_done(lock: &LiveTicket, a: &mut LiveSeat, b: &mut LiveSeat, rows: &[Row])
     true
 }
 
-#[test]
-fn two_seats_by_hand(rt: HostRuntime) -> Result<(), Fail> {
-    let (lock, mut a) = LiveTicket::open(rt.alloc(), 5)?;
+// Whether two seats hand the lock on, and are one again.
+fn is_handed_on(lock: LiveTicket, mut a: LiveSeat) -> bool
+    requires { IsIdleOf lock 5 a }
+{
     let mut b = lock.split(&mut a, 2);
     let is_split = a.left() == 3 && knows(&a, None, 0);
-    assert!(rt; is_split && are_done(&lock, &mut a, &mut b, &IN_TURN));
+    let are_in_turn = are_done(&lock, &mut a, &mut b, &IN_TURN);
     let mut b = lock.apart(&mut a, b);
-    assert!(rt; are_done(&lock, &mut a, &mut b, &HANDED_ON));
-    assert!(rt; a.phase() == LivePhase::Idle && b.phase() == LivePhase::Idle);
+    let are_through = are_done(&lock, &mut a, &mut b, &HANDED_ON);
+    if a.phase() != LivePhase::Idle || b.phase() != LivePhase::Idle {
+        return false;
+    }
     lock.join(&mut a, b);
-    assert!(rt; a.left() == 3 && a.taken() == 2 && lock.close(a) == (2, 2));
-    Ok(())
+    let is_joined = a.left() == 3 && a.taken() == 2;
+    is_split && are_in_turn && are_through && is_joined && lock.close(a) == (2, 2)
 }
 
 #[test]
-fn a_waiting_seat_is_dropped(rt: HostRuntime) -> Result<(), Fail> {
-    let (lock, mut a) = LiveTicket::open(rt.alloc(), 5)?;
+fn two_seats_by_hand(rt: HostRuntime) -> Result<(), Fail> {
+    let (lock, seat) = LiveTicket::open(rt.alloc(), 5)?;
+    assert!(rt; is_handed_on(lock, seat));
+    Ok(())
+}
+
+// Whether a seat passes the lock on to one that is dropped while it waits.
+fn is_left_waiting(lock: LiveTicket, mut a: LiveSeat) -> bool
+    requires { IsIdleOf lock 5 a }
+{
     let mut b = lock.split(&mut a, 2);
     let is_passed = are_done(&lock, &mut a, &mut b, &IN_TURN)
         && are_done(&lock, &mut a, &mut b, &HANDED_ON[..1]);
     drop(b);
-    assert!(rt; is_passed && a.phase() == LivePhase::Idle);
-    assert!(rt; a.taken() == 1 && lock.close(a) == (2, 1));
+    if a.phase() != LivePhase::Idle {
+        return false;
+    }
+    is_passed && a.taken() == 1 && lock.close(a) == (2, 1)
+}
+
+#[test]
+fn a_waiting_seat_is_dropped(rt: HostRuntime) -> Result<(), Fail> {
+    let (lock, seat) = LiveTicket::open(rt.alloc(), 5)?;
+    assert!(rt; is_left_waiting(lock, seat));
     Ok(())
 }
 
