@@ -12,7 +12,9 @@ readonly TARGET=wasm64-unknown-unknown
 export JOBS=${JOBS:-$(nproc)}
 
 kit=$(dirname "$(rt doc)")
-[ -n "${BUILT-}" ] || (cd crates/lk_search && rt lib --jobs "$JOBS")
+for crate in lk_replay lk_search; do
+    [ -n "${BUILT-}" ] || (cd "crates/$crate" && rt lib --jobs "$JOBS")
+done
 tests/static_library.py lk_page "$TARGET" out/liblk_page_wasm.a
 cd crates/lk_page/out
 "$kit/bin/rattle-link" --target "$TARGET" --toolchain "$kit/toolchain" \

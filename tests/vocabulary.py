@@ -3,7 +3,7 @@
 
     vocabulary.py
 
-The words of locks, calls, steps and outcomes are in crates/lk_replay/src/vocabulary.rt, those for
+The words of locks, calls, steps and outcomes are in crates/lk_lines/src/vocabulary.rt, those for
 the places of a lock in crates/lk_trace/src/names.rt, and the parts that may follow a place in
 due.rt beside it. The names of refusals, faults and differences are those of their variants.
 The texts of faults and differences are beside these, and those of refusals in
@@ -143,7 +143,7 @@ LISTS = (
 )
 # sentences that name every word of a kind, and lists of a shell
 SENTENCES = (
-    ("crates/lk_replay/src/unreadable.rt", "locks"), ("crates/locktrace/src/searches.rt", "locks"),
+    ("crates/lk_lines/src/unreadable.rt", "locks"), ("crates/locktrace/src/searches.rt", "locks"),
     ("record/lockreplay_record.h", "locks"), (f"{RECORDING}/open.h", "locks"),
     ("record/lockreplay_record.h", "calls"), (DUE, "outcomes"), (DUE, "places"),
 )
@@ -169,7 +169,7 @@ def variants(path, name):
 
 def table(name, enum, variant):
     """The word of each variant, in a table of vocabulary.rt."""
-    text = read("crates/lk_replay/src/vocabulary.rt")
+    text = read("crates/lk_lines/src/vocabulary.rt")
     rows = re.search(rf"macro_rules! {name} \{{(.*?)\n\}}\n", text, re.DOTALL).group(1)
     words = dict(re.findall(rf'\[{variant}(\w+)\)*\] "([\w-]+)",', rows))
     return {name: words[name] for name in variants(KINDS, enum) if name in words}
@@ -207,7 +207,7 @@ def of_traces():
 def of_faults():
     """The names of refusals, faults and differences, and the texts that are written again."""
     refusals = variants(KINDS, "Refusal")
-    faults = variants("crates/lk_replay/src/schedule.rt", "ReadFault")
+    faults = variants("crates/lk_lines/src/faults.rt", "ReadFault")
     of_a_trace = variants(f"{TRACE}/trace.rt", "TextFault")
     differences = variants(f"{TRACE}/difference.rt", "Difference")
     names = {

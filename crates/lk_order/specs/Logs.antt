@@ -6,9 +6,9 @@ use Rattle.std.specs.List.{All, starts_with}
 use Rattle.std.specs.Option.{option_and_then}
 use Rattle.std.specs.Result.{result_ok}
 use Rattle.std.specs.Str.{bytes_eq}
-use Rattle.lk_replay.specs.Lines.{is_skipped}
-use Rattle.lk_replay.specs.Digits.{whole_number}
-use Rattle.lk_replay.specs.Vocabulary.{number_of}
+use Rattle.lk_lines.specs.Lines.{is_skipped}
+use Rattle.lk_lines.specs.Digits.{whole_number}
+use Rattle.lk_lines.specs.Vocabulary.{number_of}
 use Rattle.lk_locks.specs.State.{Shape}
 use Rattle.lk_trace.specs.Lines.{short_log_line_of}
 use Rattle.lk_trace.specs.Traces.{read_header_of}

@@ -1,8 +1,8 @@
 //! An order as text: its trace, and schedules that are cut where nobody is in a call and nobody
 //! holds.
 
+use lk_lines::{lock_text, move_text};
 use lk_order::{Order, Piece, Pieces};
-use lk_replay::parts::{lock_text, move_text};
 use lk_text::Failure;
 use lk_trace_files::parts::{Course, Fate, Shown, write_waiting};
 use std::alloc::{AllocError, Global};

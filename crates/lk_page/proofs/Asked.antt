@@ -2,7 +2,7 @@
 use Rattle.std.proofs.Common.{◌≡◌, ℕ, zero, suc, ◌+◌, ◌-◌, ◌<◌, List, [], ◌∷◌, length, take}
 use Rattle.std.proofs.Common.{drop, Some, ap, ◌∙◌, arith}
 use Rattle.std.proofs.lemmas.Option.{none-some, same_Some}
-use Rattle.lk_replay.specs.Reads.{first_of}
+use Rattle.lk_replay.specs.Schedule.{first_of}
 use Rattle.lk_replay.specs.declared.schedule.Line.{Line}
 
 prefix : (n : ℕ) (l : Line) (ls : List Line) → 0 < n → take n (l ∷ ls) ≡ l ∷ take (n - 1) ls

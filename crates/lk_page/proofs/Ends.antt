@@ -3,7 +3,7 @@ use Rattle.std.proofs.Common.{◌≡◌, ℕ, List, [], ◌++◌, length, take, 
 use Rattle.std.proofs.Common.{Result, Ok, refl, ap, ◌∙◌}
 use Rattle.lk_locks.specs.Play.{Tracked, tracked, holding_in, waiting_in}
 use Rattle.lk_locks.specs.declared.kinds.Refusal.{Refusal}
-use Rattle.lk_replay.specs.Faults.{Fault}
+use Rattle.lk_lines.specs.Faults.{Fault}
 use Rattle.lk_replay.specs.Replay.{start_of, replay_from}
 use Rattle.lk_replay.specs.Schedule.{Plan}
 use Rattle.lk_page.specs.Layout.{bytes_of_state, state_bytes}

@@ -9,7 +9,7 @@ use Rattle.lk_locks.specs.declared.kinds.Entry.{Entry}
 use Rattle.lk_locks.specs.declared.kinds.Move.{Move}
 use Rattle.lk_locks.specs.declared.kinds.Refusal.{Refusal}
 use Rattle.lk_locks.proofs.Moves.{same_length}
-use Rattle.lk_replay.specs.Reads.{first_of}
+use Rattle.lk_replay.specs.Schedule.{first_of}
 use Rattle.lk_replay.specs.declared.schedule.Line.{Line}
 use Rattle.lk_page.specs.Told.{IsRecord}
 use Rattle.lk_page.specs.Layout.{record_bytes}

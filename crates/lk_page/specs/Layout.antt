@@ -8,7 +8,7 @@ use Rattle.lk_locks.specs.State.{State, phase_at}
 use Rattle.lk_locks.specs.Locks.{step_due}
 use Rattle.lk_locks.specs.Holding.{Holding, Free, HeldBy, ReadBy, WrittenBy, holding_of, waiting_of}
 use Rattle.lk_locks.specs.declared.kinds.Refusal.{Refusal}
-use Rattle.lk_replay.specs.Faults.{Fault}
+use Rattle.lk_lines.specs.Faults.{Fault}
 use Rattle.lk_search.specs.Phases.{phase_code, phase_number}
 use Rattle.lk_trace.specs.Codes.{move_number, outcome_number, refusal_number}
 use Rattle.lk_page.specs.Codes.{bit, lock_code, is_unlinked, due_code, refusal_step, fault_codes}

@@ -4,7 +4,7 @@ use Rattle.std.specs.Prelude.{MatchOption, None, Some, Result, Ok, Err, if◌the
 use Rattle.std.specs.List.{flat_map}
 use Rattle.lk_locks.specs.Steps.{refusal_of}
 use Rattle.lk_locks.specs.declared.kinds.Refusal.{Refusal}
-use Rattle.lk_replay.specs.Faults.{Fault}
+use Rattle.lk_lines.specs.Faults.{Fault}
 use Rattle.lk_replay.specs.Schedule.{Plan}
 use Rattle.lk_replay.specs.Replay.{Replay, replay_from, start_of}
 use Rattle.lk_replay.specs.declared.schedule.Line.{Line}

@@ -8,9 +8,8 @@ ghost use Rattle.lk_page.specs.Codes.{lock_code, is_unlinked, due_code};
 ghost use Rattle.lk_page.specs.Codes.{refusal_step, fault_codes, as_fault, expected_code};
 ghost use Rattle.lk_trace.specs.Codes.{fault_number};
 
+use lk_lines::{Expected, ReadFault};
 use lk_locks::{LockKind, Move, Phase, Refusal, StepKind};
-use lk_replay::ReadFault;
-use lk_replay::parts::Expected;
 use lk_trace::{TextFault, fault_number, move_number};
 
 /// The number of a lock.

@@ -1,22 +1,16 @@
 -- What the first line says.
-use Rattle.std.proofs.Common.{◌≡◌, ℕ, ◌+◌, ◌<◌, ◌≤◌, List, [], ◌∷◌, length, None, Result, Err}
-use Rattle.std.proofs.Common.{false, ap, ◌∙◌, arith, refl}
+use Rattle.std.proofs.Common.{◌≡◌, ℕ, ◌+◌, ◌≤◌, List, [], ◌∷◌, length, Result, Err}
+use Rattle.std.proofs.Common.{false, ap, ◌∙◌}
 use Rattle.std.proofs.lemmas.Bool.{cond-false, le-ltb}
-use Rattle.lk_replay.specs.Lines.{SkipsTo, lines_of, is_skipped}
+use Rattle.lk_lines.specs.Lines.{SkipsTo, lines_of, is_skipped}
 use Rattle.lk_replay.proofs.Skipped.{plan_skip}
-use Rattle.lk_replay.specs.Faults.{Fault, NoHeader}
-use Rattle.lk_replay.specs.Header.{size_of_words, header_of}
-use Rattle.lk_replay.specs.Reads.{IsOfText}
-use Rattle.lk_replay.specs.Reads.{Fails}
+use Rattle.lk_lines.specs.Faults.{Fault, NoHeader}
+use Rattle.lk_lines.specs.Header.{header_of}
+use Rattle.lk_lines.specs.Reads.{IsOfText}
+use Rattle.lk_lines.specs.Reads.{Fails}
 use Rattle.lk_replay.specs.Schedule.{plan_of, plan_from, with_header, moves_from}
-use Rattle.lk_replay.specs.declared.schedule.ReadFault.{ReadFault}
-use Rattle.lk_replay.specs.declared.schedule.ReadFault.TheVariants.{OutOfMemory}
-
--- a word after the number of bits
-pub more_words : (count bits number : List ℕ) (words : List (List ℕ)) → 0 < length words
-    → size_of_words (count ∷ bits ∷ number ∷ words) ≡ None
-more_words count bits number [] some = absurd (omega arith)
-more_words count bits number (word ∷ words) some = refl
+use Rattle.lk_lines.specs.declared.faults.ReadFault.{ReadFault}
+use Rattle.lk_lines.specs.declared.faults.ReadFault.TheVariants.{OutOfMemory}
 
 -- no line but such as are skipped
 pub no_header : (text : List ℕ) (number : ℕ) (others : List (List ℕ)) → length text ≤ 1048576

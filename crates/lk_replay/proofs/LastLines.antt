@@ -1,14 +1,13 @@
 -- How a report ends, by its last line.
 use Rattle.std.proofs.Common.{◌≡◌, ℕ, zero, suc, ◌+◌, ◌/◌, ◌%◌, ◌<◌, List, [], ◌∷◌, ◌++◌, length}
-use Rattle.std.proofs.Common.{true, false, refl, sym, ap, ◌∙◌, arith, inl, inr, not, codes, decimal}
+use Rattle.std.proofs.Common.{true, false, refl, sym, ap, ◌∙◌, arith, inl, inr, codes, decimal}
 use Rattle.std.proofs.Common.{◌==◌, append_assoc, length-append, Option, None, Some, Result, Ok}
-use Rattle.std.proofs.Common.{Err, Bool, ◌≢◌, ◌⊎◌, ◌-◌, ◌≤◌, get_or, take, drop, subst}
+use Rattle.std.proofs.Common.{Err, ◌≢◌, ◌⊎◌, ◌-◌, ◌≤◌, get_or, take, drop, subst}
 use Rattle.std.proofs.Common.{take-append-drop, length-drop, Bor, MatchOption}
 use Rattle.std.specs.Option.{unwrap_or}
 use Rattle.std.specs.Fmt.{digit_glyph, digits, digits_onto}
-use Rattle.std.specs.List.{join_with_byte, list_all, onto_first, slice_split}
-use Rattle.std.proofs.lemmas.List.Folds.{list_all-append}
-use Rattle.std.proofs.lemmas.List.Splits.{join_with_byte-slice_split, slice_split-cons_yes}
+use Rattle.std.specs.List.{join_with_byte, slice_split}
+use Rattle.std.proofs.lemmas.List.Splits.{join_with_byte-slice_split}
 use Rattle.std.proofs.lemmas.List.{drop_more, get_or-drop, take_rest}
 use Rattle.std.proofs.lemmas.Bool.{cases_Bool, lt-ltb, ne_eqb}
 use Rattle.lk_locks.specs.Holding.{holding_of, waiting_of}
@@ -17,13 +16,14 @@ use Rattle.lk_locks.specs.declared.kinds.LockKind.{LockKind}
 use Rattle.lk_locks.specs.declared.kinds.Refusal.{Refusal}
 use Rattle.lk_locks.specs.declared.kinds.Refusal.TheVariants.{WrongStep}
 use Rattle.lk_locks.specs.declared.kinds.StepKind.TheVariants.{Read}
-use Rattle.lk_replay.proofs.Cuts.{before_pieces, cut_nowhere, has_piece}
+use Rattle.lk_lines.proofs.Cuts.{before_pieces, both_lines, cut_nowhere, has_piece, is_line}
+use Rattle.lk_lines.proofs.Cuts.{one_piece, split_append}
 use Rattle.lk_replay.specs.Ending.{ending_by, ending_of, ending_of_line, last_of}
-use Rattle.lk_replay.specs.Faults.{Fault, TooLong, NoHeader, BadHeader, BadThreads, BadLine}
-use Rattle.lk_replay.specs.Faults.{TooManyMoves, WordsTooNarrow}
-use Rattle.lk_replay.specs.Lines.{is_line_feed, lines_of, without_empty_end}
-use Rattle.lk_replay.specs.Reads.{IsOfText}
-use Rattle.lk_replay.specs.Reads.{Fails}
+use Rattle.lk_lines.specs.Faults.{Fault, TooLong, NoHeader, BadHeader, BadThreads, BadLine}
+use Rattle.lk_lines.specs.Faults.{TooManyMoves, WordsTooNarrow}
+use Rattle.lk_lines.specs.Lines.{is_line_feed, lines_of, without_empty_end}
+use Rattle.lk_lines.specs.Reads.{IsOfText}
+use Rattle.lk_lines.specs.Reads.{Fails}
 use Rattle.lk_replay.specs.Replay.{Made, replay_of}
 use Rattle.lk_replay.specs.Report.{at_line, fault_text, holding_text, last_line, line_start}
 use Rattle.lk_replay.specs.Report.{lines_text, plan_text, queue_text, refusal_text, replay_text}
@@ -31,26 +31,10 @@ use Rattle.lk_replay.specs.Report.{report_text, state_text}
 use Rattle.lk_replay.specs.Schedule.{Plan, plan_of}
 use Rattle.lk_replay.specs.declared.ending.Ending.{Ending}
 use Rattle.lk_replay.specs.declared.ending.Ending.TheVariants.{Faulty}
-use Rattle.lk_replay.specs.declared.schedule.ReadFault.{ReadFault}
-use Rattle.lk_replay.specs.declared.schedule.ReadFault.TheVariants.{OutOfMemory}
+use Rattle.lk_lines.specs.declared.faults.ReadFault.{ReadFault}
+use Rattle.lk_lines.specs.declared.faults.ReadFault.TheVariants.{OutOfMemory}
 
 -- ---- a text that is cut
-
-onto_prefix : (x : ℕ) (parts others : List (List ℕ)) → 0 < length parts
-    → onto_first x (parts ++ others) ≡ onto_first x parts ++ others
-onto_prefix x [] others some = absurd (omega arith)
-onto_prefix x (part ∷ parts) others some = refl
-
--- it is cut before and after a byte at which it is cut
-pub split_append : (p : ℕ → Bool) (xs : List ℕ) (y : ℕ) (ys : List ℕ) → p y ≡ true
-    → slice_split p (xs ++ y ∷ ys) ≡ slice_split p xs ++ slice_split p ys
-split_append p [] y ys here = slice_split-cons_yes p y ys here
-split_append p (x ∷ xs) y ys here = elim (cases_Bool (p x)) [
-  | inl cuts ↦ rw cuts (ap (λ (parts : List (List ℕ)). [] ∷ parts) (split_append p xs y ys here))
-  | inr keeps ↦
-      rw keeps (ap (onto_first x) (split_append p xs y ys here)
-      ∙ onto_prefix x (slice_split p xs) (slice_split p ys) (has_piece p xs))
-]
 
 some_lines : (pieces others : List (List ℕ)) → 0 < length others
     → 0 < length (without_empty_end others) → 0 < length (without_empty_end (pieces ++ others))
@@ -102,16 +86,6 @@ ending_after_line line text some =
 
 -- ---- a line that has no line feed in it
 
-abbrev pub is_line : List ℕ → Bool
-is_line text = list_all (λ b. not (is_line_feed b)) text
-
-pub one_piece : (text : List ℕ) → is_line text ≡ true → slice_split is_line_feed text ≡ text ∷ []
-one_piece [] is = refl
-one_piece (b ∷ text) is = elim (cases_Bool (is_line_feed b)) [
-  | inl feed ↦ cc
-  | inr other ↦ rw other (ap (onto_first b) (one_piece text cc))
-]
-
 -- the text of one line
 last_of_one : (line : List ℕ) → slice_split is_line_feed line ≡ line ∷ []
     → last_of (lines_of (line ++ 10 ∷ [])) ≡ line
@@ -131,10 +105,6 @@ last_of_open : (line : List ℕ) → slice_split is_line_feed line ≡ line ∷ 
 unfolding lines_of
 last_of_open [] whole = refl
 last_of_open (b ∷ bs) whole = ap (λ ps. last_of (without_empty_end ps)) whole
-
-pub both_lines : (xs ys : List ℕ) → is_line xs ≡ true → is_line ys ≡ true
-    → is_line (xs ++ ys) ≡ true
-both_lines xs ys a b = cc (list_all-append (λ (b : ℕ). not (is_line_feed b)) xs ys)
 
 digit_is : (n : ℕ) (rest : List ℕ) → is_line rest ≡ true
     → is_line (digit_glyph false (n % 10) ∷ rest) ≡ true

@@ -1,9 +1,5 @@
-pub mod Numbers
-pub mod Cuts
-pub mod Pieces
 pub mod Moves
 pub mod Headers
-pub mod FirstMoves
 pub mod Sofar
 pub mod Digits
 pub mod Transfers
@@ -16,5 +12,3 @@ pub mod Passed
 pub mod Printed
 pub mod Promised
 pub mod Skipped
-pub mod Expectations
-pub mod HeaderWords

@@ -5,12 +5,11 @@ use Rattle.std.proofs.Common.{eq-eqb}
 use Rattle.std.proofs.lemmas.Bool.{cond-false, cond-true, ne_eqb}
 use Rattle.lk_replay.specs.declared.schedule.Line.{Line}
 use Rattle.lk_locks.specs.declared.kinds.Move.{Move}
-use Rattle.lk_replay.specs.Faults.{Fault, TooManyMoves}
-use Rattle.lk_replay.specs.FirstMove.{IsNextMove}
-use Rattle.lk_replay.specs.Reads.{WantsMemory}
-use Rattle.lk_replay.specs.Schedule.{moves_from, moves_after, move_of, with_line}
+use Rattle.lk_lines.specs.Faults.{Fault, TooManyMoves}
+use Rattle.lk_lines.specs.Reads.{WantsMemory}
+use Rattle.lk_replay.specs.Schedule.{moves_from, moves_after, with_line}
 use Rattle.lk_replay.proofs.Skipped.{moves_skip}
-use Rattle.lk_replay.specs.Lines.{Numbered, SkipsTo, is_skipped}
+use Rattle.lk_lines.specs.Lines.{IsNextMove, Numbered, SkipsTo, is_skipped, move_of}
 
 -- what is read from the rest, after these lines
 abbrev pub with_lines : List Line → Result (List Line) Fault → Result (List Line) Fault

@@ -17,17 +17,17 @@ use Rattle.lk_locks.specs.Steps.{refusal_of, next_state}
 use Rattle.lk_locks.specs.declared.kinds.Entry.{Entry}
 use Rattle.lk_locks.specs.declared.kinds.Move.{Move}
 use Rattle.lk_locks.specs.declared.kinds.Refusal.{Refusal}
-use Rattle.lk_replay.specs.Faults.{Fault}
+use Rattle.lk_lines.specs.Faults.{Fault}
 use Rattle.lk_locks.specs.declared.kinds.LockKind.{LockKind}
 use Rattle.lk_locks.specs.State.{Shape}
-use Rattle.lk_replay.specs.Header.{header_of, header_of_shape, shape_of_words}
-use Rattle.lk_replay.specs.Header.{with_threads}
-use Rattle.lk_replay.specs.Lines.{is_skipped, lines_of, words_of}
+use Rattle.lk_lines.specs.Header.{header_of, header_of_shape, shape_of_words}
+use Rattle.lk_lines.specs.Header.{with_threads}
+use Rattle.lk_lines.specs.Lines.{is_skipped, lines_of, words_of}
 use Rattle.lk_replay.specs.Replay.{Made, Replay, Replayed, made_by, refused_or, replay_from}
 use Rattle.lk_replay.specs.Replay.{replay_of, replayed_of, start_of, with_move}
 use Rattle.lk_replay.specs.Report.{plan_text, report_text}
-use Rattle.lk_replay.specs.Digits.{is_plain_number, value_from}
-use Rattle.lk_replay.specs.Vocabulary.{number_of}
+use Rattle.lk_lines.specs.Digits.{is_plain_number, value_from}
+use Rattle.lk_lines.specs.Vocabulary.{number_of}
 use Rattle.lk_replay.specs.Whole.{AppendsReport, IsReportOfText}
 use Rattle.lk_replay.specs.Whole.{IsHistoryOf, IsReportOf}
 use Rattle.lk_replay.specs.Schedule.{Plan, plan_from, plan_of, with_header}

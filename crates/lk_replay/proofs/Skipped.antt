@@ -1,33 +1,12 @@
 -- Lines that are skipped change nothing of what is read.
-use Rattle.std.proofs.Common.{◌≡◌, ℕ, ◌+◌, List, [], ◌∷◌, ◌++◌, length, true, ◌==◌, refl}
-use Rattle.std.proofs.Common.{sym, ap, subst, ◌∙◌, arith, append_assoc, length-append, Result}
+use Rattle.std.proofs.Common.{◌≡◌, ℕ, ◌+◌, List, [], ◌∷◌, ◌++◌, length, true, sym, ap, ◌∙◌}
+use Rattle.std.proofs.Common.{arith, Result}
 use Rattle.std.specs.List.{list_all}
-use Rattle.std.proofs.lemmas.List.Folds.{list_all-append}
-use Rattle.std.proofs.lemmas.Bool.{and_parts, cond-true, eqb-true}
-use Rattle.lk_replay.specs.Faults.{Fault}
-use Rattle.lk_replay.specs.Lines.{Numbered, SkipsTo, is_skipped, lines_of}
+use Rattle.std.proofs.lemmas.Bool.{and_parts, cond-true}
+use Rattle.lk_lines.specs.Faults.{Fault}
+use Rattle.lk_lines.specs.Lines.{SkipsTo, is_skipped}
 use Rattle.lk_replay.specs.Schedule.{moves_from, plan_from}
 use Rattle.lk_replay.specs.declared.schedule.Line.{Line}
-
-pub no_line : (text : List ℕ) → (length text == 0) ≡ true → lines_of text ≡ []
-unfolding lines_of
-no_line [] none = refl
-no_line (b ∷ bs) none = absurd (omega (arith, eqb-true (length (b ∷ bs)) 0 none))
-
-pub skips_none : (number : ℕ) (lines : List (List ℕ)) → SkipsTo number lines number lines
-skips_none number lines =
-    record { skipped = []; parts = refl; all = refl; counted = omega arith }
-
-pub skips_more : (number next : ℕ) (lines others rest : List (List ℕ)) (line : List ℕ)
-    → SkipsTo number lines next others → others ≡ line ∷ rest → is_skipped line ≡ true
-    → SkipsTo number lines (next + 1) rest
-skips_more number next lines others rest line s first is = record {
-  skipped = s.skipped ++ line ∷ [];
-  parts = s.parts ∙ ap (λ os. s.skipped ++ os) first
-      ∙ sym (append_assoc s.skipped (line ∷ []) rest);
-  all = rw (list_all-append is_skipped s.skipped (line ∷ []), s.all, is) refl;
-  counted = omega (arith, s.counted, length-append s.skipped (line ∷ []));
-}
 
 skipped : {X : Type 0} (f : ℕ → List (List ℕ) → X)
     → ((n : ℕ) (line : List ℕ) (lines : List (List ℕ)) → is_skipped line ≡ true
@@ -55,10 +34,3 @@ plan_skip number next lines others s =
     ap (plan_from number) s.parts
     ∙ skipped plan_from (λ n line rest is. cond-true _ _ _ is) s.skipped others number s.all
     ∙ ap (λ n. plan_from n others) (sym s.counted)
-
-pub skips_same : (now view : Numbered) → view ≡ now → (next : ℕ) (others same : List (List ℕ))
-    → SkipsTo view.number view.lines next others → others ≡ same
-    → SkipsTo now.number now.lines next same
-skips_same now view is next others same s e =
-    subst (λ (p : Numbered). SkipsTo p.number p.lines next same) is
-    (subst (SkipsTo view.number view.lines next) e s)

@@ -3,7 +3,7 @@ use Rattle.std.specs.Prelude.{ℕ, List, [], ◌∷◌, if◌then◌else◌, cod
 use Rattle.std.specs.Prelude.{Result, Ok, Err}
 use Rattle.std.specs.List.{starts_with}
 use Rattle.lk_locks.specs.declared.kinds.Refusal.{Refusal}
-use Rattle.lk_replay.specs.Lines.{lines_of}
+use Rattle.lk_lines.specs.Lines.{lines_of}
 use Rattle.lk_replay.specs.declared.devices.RunFault.{RunFault}
 use Rattle.lk_replay.specs.declared.ending.Ending.{Ending}
 use Rattle.lk_replay.specs.declared.ending.Ending.TheVariants.{Accepted, Refused, Faulty}

@@ -1,11 +1,4 @@
-pub mod Lines
-pub mod Digits
-pub mod Vocabulary
-pub mod Faults
-pub mod Header
 pub mod Schedule
-pub mod FirstMove
-pub mod Reads
 pub mod Replay
 pub mod Report
 pub mod Ending
@@ -13,4 +6,3 @@ pub mod Occupancy
 pub mod ReportRest
 pub mod Whole
 pub mod Devices
-pub mod Unreadable

@@ -10,9 +10,9 @@ use Rattle.lk_locks.specs.declared.kinds.Move.TheVariants.{Step}
 use Rattle.lk_locks.specs.declared.kinds.Refusal.{Refusal}
 use Rattle.lk_locks.specs.declared.kinds.Refusal.TheVariants.{WrongStep}
 use Rattle.lk_locks.specs.Refusals.{name_of}
-use Rattle.lk_replay.specs.Faults.{Fault, TooLong, NoHeader, BadHeader, BadThreads, BadLine}
-use Rattle.lk_replay.specs.Faults.{TooManyMoves, WordsTooNarrow}
-use Rattle.lk_replay.specs.Vocabulary.{move_word, outcome_word}
+use Rattle.lk_lines.specs.Faults.{Fault, TooLong, NoHeader, BadHeader, BadThreads, BadLine}
+use Rattle.lk_lines.specs.Faults.{TooManyMoves, WordsTooNarrow}
+use Rattle.lk_lines.specs.Vocabulary.{move_word, outcome_word}
 use Rattle.lk_replay.specs.Schedule.{Plan, plan_of}
 use Rattle.lk_replay.specs.Replay.{Made, Replay, replay_of}
 use Rattle.lk_replay.specs.declared.played.Accepted.{Accepted}

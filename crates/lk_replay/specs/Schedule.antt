@@ -1,24 +1,13 @@
 -- Definitions: the schedule that a text has, or else its one fault.
 use Rattle.std.specs.Prelude.{ℕ, ◌+◌, List, [], ◌∷◌, Option, Some, None, Bool, if◌then◌else◌, ◌==◌}
 use Rattle.std.specs.Prelude.{length, nat_lt, Result, Ok, Err}
-use Rattle.std.specs.Option.{option_zip}
 use Rattle.lk_locks.specs.declared.kinds.LockKind.{LockKind}
 use Rattle.lk_locks.specs.declared.kinds.Move.{Move}
 use Rattle.lk_replay.specs.declared.schedule.Line.{Line}
-use Rattle.lk_replay.specs.Lines.{lines_of, is_skipped, words_of}
-use Rattle.lk_replay.specs.Vocabulary.{number_of, move_named}
+use Rattle.lk_lines.specs.Lines.{lines_of, is_skipped, move_of}
 use Rattle.lk_locks.specs.State.{Shape}
-use Rattle.lk_replay.specs.Header.{header_of}
-use Rattle.lk_replay.specs.Faults.{Fault, TooLong, NoHeader, BadLine, TooManyMoves}
-
--- a thread's number and what it does
-abbrev pub move_of_words : List (List ℕ) → Option (ℕ × Move)
-move_of_words (thread ∷ word ∷ []) = option_zip (number_of 0 255 thread) (move_named word)
-move_of_words _ = None
-
--- the move that a line is
-unfoldable pub move_of : List ℕ → Option (ℕ × Move)
-move_of line = move_of_words (words_of line)
+use Rattle.lk_lines.specs.Header.{header_of}
+use Rattle.lk_lines.specs.Faults.{Fault, TooLong, NoHeader, BadLine, TooManyMoves}
 
 -- what is read from the rest, after a line
 abbrev pub with_line : Line → Result (List Line) Fault → Result (List Line) Fault
@@ -67,3 +56,19 @@ plan_from number (line ∷ lines) =
 -- what a text of at most 1,048,576 bytes says
 unfoldable pub plan_of : List ℕ → Result Plan Fault
 plan_of text = if nat_lt 1048576 (length text) then Err TooLong else plan_from 1 (lines_of text)
+
+-- ---- reading without memory
+
+-- how many moves were read
+abbrev pub move_count : Result (List Line) Fault → Result ℕ Fault
+move_count (Ok moves) = Ok (length moves)
+move_count (Err fault) = Err fault
+
+-- the moves that were read, if there is no fault
+abbrev pub moves_in : Result (List Line) Fault → List Line
+moves_in (Ok moves) = moves
+moves_in (Err fault) = []
+
+abbrev pub first_of : List Line → Option Line
+first_of [] = None
+first_of (line ∷ lines) = Some line

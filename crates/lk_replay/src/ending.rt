@@ -2,7 +2,7 @@
 //! it off the last line.
 
 ghost use Rattle.std.specs.Prelude.{◌≡◌};
-ghost use Rattle.lk_replay.specs.Lines.{lines_of};
+ghost use Rattle.lk_lines.specs.Lines.{lines_of};
 ghost use Rattle.lk_replay.specs.Ending.{last_of, ending_of};
 
 /// What became of a schedule text.

@@ -2,23 +2,19 @@
 
 ghost use Rattle.std.specs.Prelude.{◌≡◌, ◌≢◌, ◌+◌, ◌<◌, ◌≤◌, ◌^◌, [], length, IfErr, IfNone, IfOk};
 ghost use Rattle.std.specs.Prelude.{IfSome, MatchOption, Ok, ℕ};
-ghost use Rattle.lk_replay.specs.FirstMove.{IsNextMove};
-ghost use Rattle.lk_replay.specs.Lines.{SkipsTo};
-ghost use Rattle.lk_replay.specs.Reads.{Fails, Gives};
-ghost use Rattle.lk_replay.specs.Reads.{IsOfText};
-ghost use Rattle.lk_replay.specs.Schedule.{move_of, moves_from, plan_of, plan_with, with_header};
+ghost use Rattle.lk_lines.specs.Lines.{IsNextMove, SkipsTo};
+ghost use Rattle.lk_lines.specs.Reads.{Fails, Gives};
+ghost use Rattle.lk_lines.specs.Reads.{IsOfText};
+ghost use Rattle.lk_replay.specs.Schedule.{moves_from, plan_of, plan_with, with_header};
 ghost use Rattle.lk_replay.specs.Schedule.{Plan, with_line};
 
 mod reader;
 
-use crate::header::header_of;
-use crate::lines::{Lines, cut_word};
-use crate::vocabulary::{move_named, number_of};
+use lk_lines::{Lines, ReadFault, header_of, move_of};
 use lk_locks::{LockKind, Move, Shape};
 pub use reader::ScheduleReader;
 use std::alloc::Global;
 use std::marker::Model;
-use thiserror::Error;
 
 /// The most bytes of a schedule text.
 pub const MOST_BYTES: usize = 1_048_576;
@@ -35,36 +31,6 @@ pub struct Line {
     pub number: u32,
     pub thread: u8,
     pub action: Move,
-}
-
-/// Why a text has no schedule, with the number of the line.
-#[derive(Clone, Copy, PartialEq, Eq, Debug, Error)]
-pub enum ReadFault {
-    /// More than 1,048,576 bytes.
-    #[error("the text is too long")]
-    TooLong,
-    /// No line but comments and empty ones. The line is the one after the last, where a header
-    /// could still have come.
-    #[error("line {0}: there is no header")]
-    NoHeader(u32),
-    /// The first line that is not skipped is no header.
-    #[error("line {0}: not a header")]
-    BadHeader(u32),
-    /// The header's number of threads is no number from 1 to 64.
-    #[error("line {0}: not a number of threads")]
-    BadThreads(u32),
-    /// A later line is no move.
-    #[error("line {0}: not a move")]
-    BadLine(u32),
-    /// Move number 65,537.
-    #[error("line {0}: too many moves")]
-    TooManyMoves(u32),
-    /// A request for memory was refused.
-    #[error("out of memory")]
-    OutOfMemory,
-    /// The header's words have no more values than it has threads.
-    #[error("line {0}: words too narrow for the threads")]
-    WordsTooNarrow(u32),
 }
 
 /// What a schedule text says.
@@ -127,17 +93,6 @@ impl Schedule {
     {
         self.moves.as_slice()
     }
-}
-
-// The move that a line is: a thread's number, one space, and a word.
-#[tactic(auto, unfolding(crate::specs::Schedule::move_of))]
-fn move_of(line: &[u8]) -> Option<(u8, Move)>
-    ensures { result ≡ move_of line.now }
-{
-    let (number, word) = cut_word(line)?;
-    let thread = number_of(number, 0, 255)?;
-    let action = move_named(word)?;
-    Some((thread, action))
 }
 
 // The header of a text, and the lines after it.

@@ -12,7 +12,7 @@ use crate::devices::{RunFault, read_text, send, write_whole};
 use crate::ending::Ending;
 use crate::report::{Replay, fault_text};
 use crate::schedule::read_schedule;
-use crate::status::Status;
+use lk_lines::Status;
 use std::alloc::Global;
 use std::io::{Read, Write};
 

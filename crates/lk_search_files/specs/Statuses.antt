@@ -1,8 +1,8 @@
 -- Definitions. The statuses of the program as numbers.
 use Rattle.std.specs.Prelude.{ℕ}
-use Rattle.lk_replay.specs.declared.status.Status.{Status}
-use Rattle.lk_replay.specs.declared.status.Status.TheVariants.{Accepted, Refused, Misused}
-use Rattle.lk_replay.specs.declared.status.Status.TheVariants.{Failed, Faulty}
+use Rattle.lk_lines.specs.declared.status.Status.{Status}
+use Rattle.lk_lines.specs.declared.status.Status.TheVariants.{Accepted, Refused, Misused}
+use Rattle.lk_lines.specs.declared.status.Status.TheVariants.{Failed, Faulty}
 
 abbrev pub number_of : Status → ℕ
 number_of Accepted = 0

@@ -5,8 +5,8 @@ ghost use Rattle.std.specs.Prelude.{◌≡◌, max};
 ghost use Rattle.lk_search_files.specs.Statuses.{number_of};
 
 use crate::reading::put_unread;
+use lk_lines::{Status, lock_text, move_text};
 use lk_locks::LockKind;
-use lk_replay::parts::{Status, lock_text, move_text};
 use lk_search::{Coverage, Kind, LOCKS, Observed, kinds_of};
 use lk_text::{Count, Summary, has_counter, take_lines};
 use lk_trace::{Difference, Event, Made, TextFault, TraceLine, TraceReader};

@@ -3,8 +3,8 @@
 
 ghost use Rattle.std.specs.Prelude.{◌≡◌, ◌≤◌, vec_len, IfOk};
 
+use lk_lines::{Status, is_skipped, number_of};
 use lk_locks::Shape;
-use lk_replay::parts::{Status, is_skipped, number_of};
 use lk_search::{Admitted, SketchFault, admit};
 use lk_text::{put_wrong, take_lines, wrong_in_header};
 use lk_trace::{MOST_OF_A_LINE, TextFault, read_header, unreadable_sketch_line};

@@ -4,8 +4,8 @@ ghost use Rattle.std.specs.Prelude.{◌≡◌, ◌++◌, string_bytes, OnOk};
 ghost use Rattle.std.specs.List.{flat_map};
 ghost use Rattle.lk_search_files.specs.Written.{header_line, move_line, schedule_of};
 
+use lk_lines::{lock_text, move_text};
 use lk_locks::Shape;
-use lk_replay::parts::{lock_text, move_text};
 use lk_search::Taken;
 use std::alloc::AllocError;
 use std::fmt::Write;

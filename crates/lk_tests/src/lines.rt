@@ -1,7 +1,7 @@
 //! What a line of a worked row says.
 
+use lk_lines::{cut_word, move_named, number_of, outcome_named, whole_number};
 use lk_locks::{Entry, Move, Op, Outcome, Refusal, StepKind};
-use lk_replay::parts::{cut_word, move_named, number_of, outcome_named, whole_number};
 use lk_words::Operation;
 
 /// A move, what comes of it if it is accepted, and the rest of its line.

@@ -8,11 +8,11 @@ use crate::lines::{Done, Said, are_recorded, done_by, first_word, is_named, said
 use crate::refusals::REFUSED;
 use crate::refusing::{MOST_REQUESTS, is_refusing, refuse, was_refused};
 use crate::rows::{ROWS, Row};
+use lk_lines::{Lines, cut_line, is_skipped};
 use lk_locks::{
     Entry, Holders, Keeper, LockKind, Machine, Move, Op, Outcome, PlayFault, Refusal, StepKind,
     words_needed,
 };
-use lk_replay::parts::{Lines, cut_line, is_skipped};
 use lk_replay::{Accepted, Played, Schedule, read_schedule, replay};
 use lk_words::{CountingWords, WordArray, Words};
 use std::alloc::{AllocError, Global};

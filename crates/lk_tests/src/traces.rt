@@ -4,8 +4,8 @@
 use crate::holding::holds;
 use Difference::{CountNotAbove, FoundOther, LeftOther, OtherOutcome, OtherWord, WroteOther};
 use Outcome::{Called, Entered, Left, Moved};
+use lk_lines::lock_text;
 use lk_locks::{LockKind, Outcome, Phase, Refusal, Shape, operation_of};
-use lk_replay::parts::lock_text;
 use lk_trace::{Checker, Difference, Event, TextFault, TraceReader, WordName, name_at, read_line};
 use lk_words::Operation;
 use std::process::Abort;

@@ -13,8 +13,8 @@ use Rattle.std.proofs.lemmas.List.{get_or_default, drop_more, drop-drop}
 use Rattle.std.proofs.lemmas.Slice.{between_is}
 use Rattle.std.proofs.lemmas.Bool.{false_from_ne_true, eqb-true}
 use Rattle.memchr.specs.Find.{Nowhere, NoneBefore, Passes, is_byte}
-use Rattle.lk_replay.proofs.Cuts.{line_first, line_last}
-use Rattle.lk_replay.specs.Lines.{lines_of, is_line_feed}
+use Rattle.lk_lines.proofs.Cuts.{line_first, line_last}
+use Rattle.lk_lines.specs.Lines.{lines_of, is_line_feed}
 use Rattle.lk_text.specs.Lines.{TakesLine, kept, with_end}
 use Rattle.lk_text.specs.declared.lines.Line.{Line}
 use Rattle.lk_text.specs.invariants.{TakesPart, Taken}

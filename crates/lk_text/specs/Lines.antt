@@ -2,7 +2,7 @@
 use Rattle.std.specs.Prelude.{◌≡◌, ℕ, List, [], ◌∷◌, ◌++◌, take, slice_range}
 use Rattle.std.specs.Prelude.{Option, IfSome, IsSomeAnd, Bool, true, false}
 use Rattle.std.specs.Io.KnownBytes.{prepend_known}
-use Rattle.lk_replay.specs.Lines.{lines_of}
+use Rattle.lk_lines.specs.Lines.{lines_of}
 use Rattle.lk_text.specs.declared.lines.Line.{Line}
 use Rattle.lk_text.specs.declared.lines.Lines.{Lines}
 

@@ -3,7 +3,7 @@ use Rattle.std.specs.Prelude.{◌≡◌, ℕ, ◌<◌, List, [], ◌++◌, lengt
 use Rattle.std.specs.Prelude.{◌||◌, Option}
 use Rattle.std.specs.List.{All}
 use Rattle.std.specs.Io.KnownBytes.{Consumes}
-use Rattle.lk_replay.specs.Lines.{is_line_feed}
+use Rattle.lk_lines.specs.Lines.{is_line_feed}
 use Rattle.lk_text.specs.Lines.{kept, with_end}
 use Rattle.lk_text.specs.declared.lines.Line.{Line}
 

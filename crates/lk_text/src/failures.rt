@@ -2,7 +2,7 @@
 
 ghost use Rattle.std.specs.Prelude.{◌≡◌};
 
-use lk_replay::parts::Status;
+use lk_lines::Status;
 use std::alloc::AllocError;
 use std::io;
 use thiserror::Error;

@@ -1,10 +1,10 @@
 //! Where a line goes wrong: the column, what could be there, and the nearest word.
 
 ghost use Rattle.std.specs.Prelude.{ℕ, IsNone, ◌↔◌};
-ghost use Rattle.lk_replay.specs.Header.{header_of};
-ghost use Rattle.lk_replay.specs.Unreadable.{IsHeader};
+ghost use Rattle.lk_lines.specs.Header.{header_of};
+ghost use Rattle.lk_lines.specs.Unreadable.{IsHeader};
 
-use lk_replay::parts::{cut_word, unreadable_header};
+use lk_lines::{cut_word, unreadable_header};
 use lk_trace::Due;
 use std::alloc::{AllocError, Global};
 use std::fmt::Write;

@@ -1,11 +1,11 @@
 -- A fault of a header is told without its line.
 use Rattle.std.proofs.Common.{◌≡◌, Result, Err, sym, ap}
 use Rattle.lk_locks.specs.State.{Shape}
-use Rattle.lk_replay.specs.Faults.{Fault}
-use Rattle.lk_replay.specs.Reads.{Fails}
-use Rattle.lk_replay.specs.Reads.{IsOfText}
-use Rattle.lk_replay.specs.declared.schedule.ReadFault.{ReadFault}
-use Rattle.lk_replay.specs.declared.schedule.ReadFault.TheVariants.{OutOfMemory}
+use Rattle.lk_lines.specs.Faults.{Fault}
+use Rattle.lk_lines.specs.Reads.{Fails}
+use Rattle.lk_lines.specs.Reads.{IsOfText}
+use Rattle.lk_lines.specs.declared.faults.ReadFault.{ReadFault}
+use Rattle.lk_lines.specs.declared.faults.ReadFault.TheVariants.{OutOfMemory}
 use Rattle.lk_trace.specs.Traces.{fault_named, header_read}
 
 pub header_fails : (fault : ReadFault) (read : Result Shape Fault) → IsOfText fault

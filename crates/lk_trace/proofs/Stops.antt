@@ -9,8 +9,8 @@ use Rattle.lk_locks.specs.declared.kinds.Move.{Move}
 use Rattle.lk_locks.specs.declared.kinds.Move.TheVariants.{Call, Step}
 use Rattle.lk_locks.specs.declared.kinds.StepKind.{StepKind}
 use Rattle.lk_locks.specs.declared.kinds.StepKind.TheVariants.{Section}
-use Rattle.lk_replay.specs.Lines.{words_of}
-use Rattle.lk_replay.specs.Vocabulary.{move_named}
+use Rattle.lk_lines.specs.Lines.{words_of}
+use Rattle.lk_lines.specs.Vocabulary.{move_named}
 use Rattle.lk_trace.specs.Lines.{◌>>=◌, Read, Remaining, Words, in_record, owner_of}
 use Rattle.lk_trace.specs.Lines.{seen_of, values_in, values_of, with_place}
 use Rattle.lk_trace.specs.Open.{doer_named, doer_of, filled_line, filled_line_on, move_after}

@@ -10,10 +10,10 @@ use Rattle.lk_locks.specs.declared.kinds.Move.{Move}
 use Rattle.lk_locks.specs.declared.kinds.Move.TheVariants.{Call, Step}
 use Rattle.lk_locks.specs.declared.kinds.StepKind.{StepKind}
 use Rattle.lk_locks.specs.declared.kinds.StepKind.TheVariants.{Cas, Section}
-use Rattle.lk_replay.specs.Lines.{words_of}
-use Rattle.lk_replay.specs.Digits.{whole_number}
-use Rattle.lk_replay.specs.Vocabulary.{move_named, number_of, outcome_named}
-use Rattle.lk_replay.specs.declared.unreadable.Expected.TheVariants.{Thread, Action, End}
+use Rattle.lk_lines.specs.Lines.{words_of}
+use Rattle.lk_lines.specs.Digits.{whole_number}
+use Rattle.lk_lines.specs.Vocabulary.{move_named, number_of, outcome_named}
+use Rattle.lk_lines.specs.declared.unreadable.Expected.TheVariants.{Thread, Action, End}
 use Rattle.lk_trace.specs.declared.due.Due.{Due}
 use Rattle.lk_trace.specs.declared.due.Due.TheVariants.{OfSchedule, Count, Place, Of, Owner, Found}
 use Rattle.lk_trace.specs.declared.due.Due.TheVariants.{FoundValue, Left, LeftValue}

@@ -4,8 +4,8 @@ use Rattle.std.specs.Prelude.{ℕ, List, [], ◌∷◌, Option, Some, None, Resu
 use Rattle.std.specs.Prelude.{if◌then◌else◌, codes, length, nat_lt, option_map}
 use Rattle.std.specs.Result.{result_ok}
 use Rattle.std.specs.Str.{bytes_eq}
-use Rattle.lk_replay.specs.Lines.{words_of}
-use Rattle.lk_replay.specs.Vocabulary.{number_of}
+use Rattle.lk_lines.specs.Lines.{words_of}
+use Rattle.lk_lines.specs.Vocabulary.{number_of}
 use Rattle.lk_trace.specs.Lines.{Remaining, Words, move_with}
 use Rattle.lk_trace.specs.declared.due.Due.TheVariants.{AnyThread, OpenMove}
 use Rattle.lk_trace.specs.declared.line.TraceLine.{TraceLine}

@@ -2,13 +2,13 @@
 -- lock.
 use Rattle.std.specs.Prelude.{ℕ, List, Option, Some, None, Result, Ok, Err, length, nat_lt}
 use Rattle.std.specs.Prelude.{if◌then◌else◌}
-use Rattle.lk_replay.specs.Lines.{is_skipped}
+use Rattle.lk_lines.specs.Lines.{is_skipped}
 use Rattle.lk_locks.specs.State.{Shape}
-use Rattle.lk_replay.specs.Header.{header_of}
-use Rattle.lk_replay.specs.Faults.{Fault}
-use Rattle.lk_replay.specs.Faults as of_text
-use Rattle.lk_replay.specs.declared.schedule.ReadFault.{ReadFault}
-use Rattle.lk_replay.specs.declared.schedule.ReadFault.TheVariants as reading
+use Rattle.lk_lines.specs.Header.{header_of}
+use Rattle.lk_lines.specs.Faults.{Fault}
+use Rattle.lk_lines.specs.Faults as of_text
+use Rattle.lk_lines.specs.declared.faults.ReadFault.{ReadFault}
+use Rattle.lk_lines.specs.declared.faults.ReadFault.TheVariants as reading
 use Rattle.lk_trace.specs.Lines.{short_line_of}
 use Rattle.lk_trace.specs.Checks.{Checked, new_lock, answer_to, after_line}
 use Rattle.lk_trace.specs.declared.checker.Made.{Made}

@@ -2,7 +2,7 @@
 use Rattle.std.specs.Prelude.{ℕ, ◌+◌, ◌-◌, List, [], ◌∷◌, Option, Some, None, Result, Err, Bool}
 use Rattle.std.specs.Prelude.{◌||◌, ◌&&◌, if◌then◌else◌, is_some, length, nat_lt, option_map}
 use Rattle.std.specs.Result.{result_err}
-use Rattle.lk_replay.specs.Lines.{words_of}
+use Rattle.lk_lines.specs.Lines.{words_of}
 use Rattle.lk_trace.specs.Lines.{Remaining, Words, line_of_words}
 use Rattle.lk_trace.specs.Open.{doer_named, doer_of, filled_line, filled_line_on, move_after}
 use Rattle.lk_trace.specs.declared.due.Due.{Due}

@@ -4,8 +4,8 @@ ghost use Rattle.std.specs.Prelude.{◌≡◌};
 ghost use Rattle.lk_trace.specs.Codes.{difference_name};
 
 use crate::WordName;
+use lk_lines::outcome_text;
 use lk_locks::{Outcome, Refusal};
-use lk_replay::parts::outcome_text;
 use std::fmt;
 use thiserror::Error;
 

@@ -1,8 +1,8 @@
 //! What may come next in a line of a trace or of a sketch, for a message: its text, and the words
 //! that could be there. Thread and move are a schedule's.
 
+use lk_lines::{Expected, LOCK_NAMES, MOVE_WORDS, OUTCOME_WORDS};
 use lk_locks::StepKind;
-use lk_replay::parts::{Expected, LOCK_NAMES, MOVE_WORDS, OUTCOME_WORDS};
 use std::fmt;
 
 /// What may come next. If a part can be left out, the part after it or the end may come here too.

@@ -2,9 +2,9 @@
 //! being one, and what could be there: docs/TRACE.md has the grammar.
 
 ghost use Rattle.std.specs.Prelude.{◌≡◌, [], ◌∷◌, IfOk, IfSome, MatchOption};
-ghost use Rattle.lk_replay.specs.Digits.{whole_number};
-ghost use Rattle.lk_replay.specs.Lines.{words_of};
-ghost use Rattle.lk_replay.specs.Vocabulary.{number_of};
+ghost use Rattle.lk_lines.specs.Digits.{whole_number};
+ghost use Rattle.lk_lines.specs.Lines.{words_of};
+ghost use Rattle.lk_lines.specs.Vocabulary.{number_of};
 ghost use Rattle.lk_trace.specs.Lines.{line_of_words, move_with, outcome_of, owner_of, part_of};
 ghost use Rattle.lk_trace.specs.Lines.{place_in, remaining, result_alone, result_of, section_of};
 ghost use Rattle.lk_trace.specs.Lines.{seen_of, short_line_of, short_log_line_of, tagged};
@@ -12,8 +12,8 @@ ghost use Rattle.lk_trace.specs.Lines.{values_of, values_on, whole_of, word_in, 
 
 use crate::WordName;
 use crate::due::{Due, END};
+use lk_lines::{Expected, cut_word, move_named, number_of, outcome_named, whole_number};
 use lk_locks::{Move, Outcome, StepKind};
-use lk_replay::parts::{Expected, cut_word, move_named, number_of, outcome_named, whole_number};
 
 /// The most bytes of a header and of a move.
 pub const MOST_OF_A_LINE: usize = 96;

@@ -6,7 +6,7 @@ ghost use Rattle.lk_trace.specs.Open.{doer_of, filled, filled_line, filled_line_
 
 use crate::line::{MOST_OF_A_LINE, first_word, move_with};
 use crate::{Due, TraceLine, WordName};
-use lk_replay::parts::number_of;
+use lk_lines::number_of;
 
 /// Whose move a line of a sketch is.
 #[derive(Clone, Copy, PartialEq, Eq, Debug)]

@@ -7,9 +7,8 @@ ghost use Rattle.lk_trace.specs.Checks.{Checked};
 
 use crate::line::MOST_OF_A_LINE;
 use crate::{Checker, Difference, Made, TraceLine, read_line};
+use lk_lines::{ReadFault, header_of, is_skipped};
 use lk_locks::Shape;
-use lk_replay::ReadFault;
-use lk_replay::parts::{header_of, is_skipped};
 use std::marker::Model;
 use thiserror::Error;
 

@@ -2,7 +2,7 @@
 //! to its writer needs.
 
 ghost use Rattle.std.specs.Prelude.{◌≡◌, ℕ, ◌≤◌, ◌↔◌, IsNone, IsSome, IsTrue, length, option_map};
-ghost use Rattle.lk_replay.specs.Lines.{words_of};
+ghost use Rattle.lk_lines.specs.Lines.{words_of};
 ghost use Rattle.lk_trace.specs.Lines.{remaining, trace_line_of, words_left};
 ghost use Rattle.lk_trace.specs.Unreadable.{is_open_line, later, opened, place_of, sketch_place_of};
 ghost use Rattle.lk_trace.specs.Unreadable.{sketch_stop, trace_place_of, width};

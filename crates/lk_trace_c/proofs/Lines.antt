@@ -2,7 +2,7 @@
 use Rattle.std.proofs.Common.{◌≡◌, ◌≢◌, ℕ, List, [], ◌∷◌, length, Option, ◌==◌, true}
 use Rattle.std.proofs.Common.{refl, arith}
 use Rattle.std.proofs.lemmas.Bool.{eqb-true, ne_eqb}
-use Rattle.lk_replay.specs.Lines.{lines_of}
+use Rattle.lk_lines.specs.Lines.{lines_of}
 use Rattle.lk_trace.specs.Checks.{Checked}
 use Rattle.lk_trace.specs.Traces.{event_of, after_text_line}
 use Rattle.lk_trace_c.specs.Records.{Told, told_line, told_lines, end_of, one_more, answer_by}

@@ -5,7 +5,7 @@ use Rattle.std.specs.Prelude.{ℕ, ◌+◌, ◌-◌, ◌^◌, ◌==◌, min, nat
 use Rattle.std.specs.Prelude.{None, slice_set, if◌then◌else◌}
 use Rattle.std.specs.Option.{option_map_or}
 use Rattle.lk_words.specs.declared.operation.Effect.{Effect}
-use Rattle.lk_replay.specs.Lines.{lines_of}
+use Rattle.lk_lines.specs.Lines.{lines_of}
 use Rattle.lk_trace.specs.Checks.{Checked}
 use Rattle.lk_trace.specs.Codes.{fault_number, move_number, outcome_number}
 use Rattle.lk_trace.specs.Traces.{event_of, after_text_line}

@@ -10,7 +10,7 @@ ghost use Rattle.lk_trace_c.specs.Records.{answer_by, end_of, nothing, record_of
 ghost use Rattle.lk_trace_c.specs.Records.{told_text};
 ghost use Rattle.lk_trace_c.specs.Texts.{text_of_number};
 
-use lk_replay::parts::cut_line;
+use lk_lines::cut_line;
 use lk_trace::{
     Event, Made, TextFault, TraceLine, TraceReader, fault_number, move_number, outcome_number,
 };

@@ -4,7 +4,7 @@ use Rattle.std.proofs.Common.{Bool, sym, ap, ap₂, ◌∙◌, inl, inr}
 use Rattle.std.specs.Prelude.{Option, Result, ◌≢◌}
 use Rattle.std.proofs.lemmas.Bool.{cond-true, cond-false, cases_Bool}
 use Rattle.lk_locks.specs.invariants.WellFormed.{WellFormed}
-use Rattle.lk_replay.specs.Lines.{is_skipped, lines_of}
+use Rattle.lk_lines.specs.Lines.{is_skipped, lines_of}
 use Rattle.lk_locks.specs.State.{Shape}
 use Rattle.lk_trace.proofs.Agreeing.{agreed, agrees, new_is_well, stays_well}
 use Rattle.lk_trace.specs.Checks.{Checked, answer_unless, checked, difference_of, made_of}

@@ -6,7 +6,7 @@ use Rattle.std.specs.Prelude.{Option, if◌then◌else◌, nat_lt}
 use Rattle.std.specs.Io.KnownBytes.{IsAtEnd}
 use Rattle.std.proofs.lemmas.List.{take_all}
 use Rattle.std.proofs.lemmas.Bool.{cond-true, lt-ltb, cases_lt, eqb-true, false_from_ne_true}
-use Rattle.lk_replay.specs.Lines.{lines_of, is_skipped}
+use Rattle.lk_lines.specs.Lines.{lines_of, is_skipped}
 use Rattle.lk_text.specs.Lines.{TakesLine, kept}
 use Rattle.lk_text.specs.declared.lines.Line.{Line}
 use Rattle.lk_trace.specs.Checks.{Checked}

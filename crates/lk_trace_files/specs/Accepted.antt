@@ -1,7 +1,7 @@
 -- Definitions. What an accepted trace is, line by line. It rests on what it is that a line agrees
 -- with the lock.
 use Rattle.std.specs.Prelude.{◌≡◌, ◌⊎◌, ℕ, List, [], ◌∷◌, true, false, Some, Ok}
-use Rattle.lk_replay.specs.Lines.{is_skipped}
+use Rattle.lk_lines.specs.Lines.{is_skipped}
 use Rattle.lk_locks.specs.State.{Shape}
 use Rattle.lk_trace.specs.Agreement.{Agrees}
 use Rattle.lk_trace.specs.Checks.{Checked, checked}

@@ -5,7 +5,7 @@ use Rattle.std.specs.Prelude.{replicate, slice_set, if◌then◌else◌, ◌&&�
 use Rattle.std.specs.List.{starts_with, ends_with, list_all, list_any}
 use Rattle.lk_locks.specs.declared.kinds.Outcome.{Outcome}
 use Rattle.lk_locks.specs.declared.kinds.Outcome.TheVariants.{Waits}
-use Rattle.lk_replay.specs.Vocabulary.{number_of}
+use Rattle.lk_lines.specs.Vocabulary.{number_of}
 use Rattle.lk_trace.specs.Checks.{Checked}
 use Rattle.lk_trace.specs.Traces.{event_of, after_text_line}
 use Rattle.lk_trace.specs.declared.trace.Event.{Event}

@@ -4,7 +4,7 @@ use Rattle.std.specs.Prelude.{◌≡◌, ◌≢◌, ◌↔◌, ◌⊎◌, ◌+�
 use Rattle.std.specs.Prelude.{fold, max, slice_index_or}
 use Rattle.std.specs.Prelude.{Option, None, Some, IfSome, Result, IfOk, Bool, true, false}
 use Rattle.std.specs.declared.alloc.AllocError.{AllocError}
-use Rattle.lk_replay.specs.Lines.{lines_of}
+use Rattle.lk_lines.specs.Lines.{lines_of}
 use Rattle.lk_trace.specs.Checks.{Checked}
 use Rattle.lk_trace.specs.Traces.{event_of, after_text_line}
 use Rattle.lk_trace.specs.declared.trace.Event.{Event}

@@ -3,7 +3,7 @@
 use Rattle.std.specs.Prelude.{◌≡◌, ℕ, ◌+◌, List, length, Bool, true, false}
 use Rattle.std.specs.Prelude.{Option, IfSome, IsSomeAnd}
 use Rattle.std.specs.List.{All}
-use Rattle.lk_replay.specs.Lines.{lines_of}
+use Rattle.lk_lines.specs.Lines.{lines_of}
 use Rattle.lk_trace.specs.Checks.{Checked}
 use Rattle.lk_trace.specs.declared.trace.Event.{Event}
 use Rattle.lk_trace.specs.declared.trace.Event.TheVariants.{Differs, Fault}

@@ -5,8 +5,8 @@
 use crate::course::{Course, Fate, Step};
 use crate::sentences::{Awaited, polled_for};
 use crate::texts::{Called, Lock, Notes, Shown};
+use lk_lines::move_text;
 use lk_locks::{Move, Op, Outcome, Refusal};
-use lk_replay::parts::move_text;
 use lk_trace::{Difference, TraceLine, WordName, name_at};
 use std::alloc::AllocError;
 use std::fmt;

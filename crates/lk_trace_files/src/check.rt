@@ -12,7 +12,7 @@ use crate::blame::{HANGS, put_blame, put_waits};
 use crate::course::Course;
 use crate::formats::{put_code, put_refused};
 use crate::texts::{Notes, Standing, Wrong};
-use lk_replay::parts::Status;
+use lk_lines::Status;
 use lk_text::{Line, Lines, Summary};
 use lk_trace::{Checker, Difference, Event, TextFault, TraceLine, TraceReader};
 use std::alloc::{AllocError, Global};

@@ -8,8 +8,8 @@ ghost use Rattle.lk_trace_files.specs.Fates.{new_fates, said_before, said_of};
 ghost use Rattle.lk_trace_files.specs.declared.course.Fate.{Fate as OfThread};
 ghost use Rattle.std.specs.List.{list_all, list_any};
 
+use lk_lines::number_of;
 use lk_locks::{Move, Outcome, StepKind};
-use lk_replay::parts::number_of;
 use lk_trace::{Event, Made, TraceLine};
 use std::marker::Model;
 

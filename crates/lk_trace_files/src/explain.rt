@@ -5,8 +5,8 @@ use crate::check::Ending;
 use crate::sentences::sentence;
 use crate::texts::{Called, Lock, Standing, Wrong};
 use crate::waiting::write_waiting;
+use lk_lines::{MOVE_WORDS, move_named, move_text, outcome_text};
 use lk_locks::{Machine, Move, SectionEffect};
-use lk_replay::parts::{MOVE_WORDS, move_named, move_text, outcome_text};
 use lk_text::{Failure, put_wrong, take_lines, wrong_in_header};
 use lk_trace::{
     Event, MOST_OF_A_LINE, Made, TextFault, TraceLine, TraceReader, name_at, unreadable_line,

@@ -2,7 +2,7 @@
 //! line as it is kept.
 
 use crate::waiting::write_waiting;
-use lk_replay::parts::{is_skipped, move_text};
+use lk_lines::{is_skipped, move_text};
 use lk_text::{Failure, take_lines};
 use lk_trace::{TextFault, read_header, read_line};
 use std::alloc::{AllocError, Global};

@@ -1,8 +1,8 @@
 //! What is said of a line that differs from the machine, of who holds and who waits, and beside a
 //! message: notes, each with the line that it is about.
 
+use lk_lines::{lock_text, move_text, outcome_text};
 use lk_locks::{Holders, LockKind, Move, Refusal, Tracker};
-use lk_replay::parts::{lock_text, move_text, outcome_text};
 use lk_trace::{Difference, Seen, TraceLine, WordName};
 use lk_words::WordArray;
 use std::alloc::{AllocError, Global};

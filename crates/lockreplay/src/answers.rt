@@ -12,7 +12,7 @@ use crate::command_line::{Job, ParseFault};
 use crate::faults::ProgramFault;
 use crate::jobs::perform;
 use itoa::Buffer;
-use lk_replay::parts::Status;
+use lk_lines::Status;
 use lk_replay::send;
 use std::alloc::Global;
 use std::io::{self, Read, Write};

@@ -4,8 +4,8 @@ ghost use Rattle.std.specs.Prelude.{◌≡◌};
 ghost use Rattle.lockreplay.specs.Faults.{fault_from, fault_status, fault_words};
 
 use itoa::Buffer;
+use lk_lines::Status;
 use lk_replay::RunFault;
-use lk_replay::parts::Status;
 use thiserror::Error;
 
 /// Why the program gives no report. Shown, it is the line for standard error, without its end: the

@@ -7,7 +7,7 @@ ghost use Rattle.lockreplay.specs.Jobs.{status_of_reports};
 use crate::command_line::Job;
 use crate::faults::ProgramFault;
 use crate::sending::send_reports;
-use lk_replay::parts::Status;
+use lk_lines::Status;
 use lk_replay::{Ending, RunFault, ending_of, read_text, run, status_of};
 use lk_workers::{OpenGate, replay_many};
 use std::alloc::Global;

@@ -10,8 +10,8 @@ mod searches;
 
 use command_line::{Job, ParseFault, parse_words};
 use folders::files_named;
+use lk_lines::Status;
 use lk_order_files::{OrderJob, order_logs};
-use lk_replay::parts::Status;
 use lk_search_files::{count_space, cover_traces, find_run, write_tour};
 use lk_text::Failure;
 use lk_trace_files::{Asked, CheckJob, Ending, check_files, explain_input, worst, write_schedule};

@@ -6,8 +6,8 @@ ghost use Rattle.lk_order.specs.Logs.{after_header, cut_last, dropped_of, IsFaul
 ghost use Rattle.lk_order.specs.Logs.{line_read, log_header_of, log_read, Reading};
 
 use super::Log;
+use lk_lines::{is_skipped, number_of, whole_number};
 use lk_locks::Shape;
-use lk_replay::parts::{is_skipped, number_of, whole_number};
 use lk_trace::{MOST_OF_A_LINE, TraceLine, read_header, read_log_line};
 use std::alloc::Global;
 use std::marker::Model;

@@ -2,12 +2,13 @@
 //! move, so that each fault is known by then. Its moves are read again as they are asked for.
 
 ghost use Rattle.std.specs.Prelude.{◌≡◌, ◌≤◌, length, IfOk, IfErr, ◌+◌, Ok, drop};
-ghost use Rattle.lk_replay.specs.Reads.{Gives};
-ghost use Rattle.lk_replay.specs.Reads.{IsOfText, move_count, moves_in, first_of};
+ghost use Rattle.lk_lines.specs.Reads.{Gives};
+ghost use Rattle.lk_lines.specs.Reads.{IsOfText};
+ghost use Rattle.lk_replay.specs.Schedule.{move_count, moves_in, first_of};
 ghost use Rattle.lk_replay.specs.Schedule.{moves_from, Plan, plan_of, plan_with};
 
-use super::{Line, ReadFault, next_move, read_header};
-use crate::lines::Lines;
+use super::{Line, next_move, read_header};
+use lk_lines::{Lines, ReadFault};
 use lk_locks::Shape;
 use std::marker::Model;
 

@@ -1,6 +1,6 @@
 -- Each line is read, and reported, as the text's definitions do.
 use Rattle.std.proofs.Common.{ap, sym, ◌∙◌}
-use Rattle.lk_replay.specs.Lines.{lines_of}
+use Rattle.lk_lines.specs.Lines.{lines_of}
 use Rattle.lk_trace_c.specs.Records.{Told, told_lines}
 use Rattle.lk_trace_c.proofs.Lines.{told_as, told_ends, told_no_more, told_on}
 use Rattle.lk_trace_c.proofs.take_text.Goals as goal

@@ -1,6 +1,6 @@
 -- What is left is reported as the text is.
 use Rattle.std.proofs.Common.{◌≡◌, length}
-use Rattle.lk_replay.specs.Lines.{lines_of}
+use Rattle.lk_lines.specs.Lines.{lines_of}
 use Rattle.lk_trace_c.specs.Records.{told_lines, told_text}
 use Rattle.lk_trace_c.proofs.take_text.Given as goal
 

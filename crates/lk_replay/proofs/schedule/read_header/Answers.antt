@@ -1,10 +1,10 @@
 -- The first line that is not skipped is the header.
 use Rattle.std.proofs.Common.{◌+◌, refl}
 use Rattle.std.proofs.lemmas.Result.{err_from_is_err_and}
-use Rattle.lk_replay.specs.Header.{header_of}
+use Rattle.lk_lines.specs.Header.{header_of}
 use Rattle.lk_replay.specs.Schedule.{moves_from, with_header}
 use Rattle.lk_replay.proofs.Headers.{fails_as, header_here, no_header}
-use Rattle.lk_replay.proofs.Skipped.{skips_same}
+use Rattle.lk_lines.proofs.Skipped.{skips_same}
 use Rattle.lk_replay.proofs.schedule.read_header.Goals as goal
 
 pub returns-in_default-clause-fault : goal.returns-in_default-clause-fault

@@ -1,7 +1,6 @@
 -- What was counted, and then what the rest gives, is what the lines give.
 use Rattle.std.proofs.Common.{◌≡◌, ◌≤◌, length}
-use Rattle.lk_replay.specs.Schedule.{moves_from}
-use Rattle.lk_replay.specs.Reads.{move_count}
+use Rattle.lk_replay.specs.Schedule.{move_count, moves_from}
 use Rattle.lk_replay.proofs.Moves.{more}
 use Rattle.lk_replay.proofs.schedule.reader.count_moves.Given as goal
 

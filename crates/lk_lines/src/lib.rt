@@ -1,0 +1,21 @@
+//! What texts that are read line by line share, as schedules, traces, logs and sketches: their
+//! lines and words, the header, the names of locks, moves and outcomes, and where a line stops
+//! being a header or a move. And the statuses of the programs that read such texts.
+#![tactic(auto)]
+
+mod faults;
+mod header;
+mod lines;
+mod status;
+mod unreadable;
+mod vocabulary;
+
+pub use faults::ReadFault;
+pub use header::header_of;
+pub use lines::{Lines, cut_line, cut_word, is_skipped, move_of};
+pub use status::Status;
+pub use unreadable::{Expected, unreadable_header, unreadable_move};
+pub use vocabulary::{
+    LOCK_NAMES, MOVE_WORDS, OUTCOME_WORDS, lock_named, lock_text, move_block, move_named,
+    move_text, number_of, outcome_block, outcome_named, outcome_text, whole_number,
+};

@@ -1,6 +1,0 @@
--- No such byte was passed.
-use Rattle.std.proofs.Common.{◌≡◌, ℕ, ◌<◌, get_or}
-use Rattle.lk_replay.proofs.lines.cut_at.Given as goal
-
-abbrev pub invariant-loop-at : goal.invariant-loop-at
-invariant-loop-at l = (k : ℕ) → k < l.at → get_or l.text k 0 ≡ l.byte → ⊥

@@ -1,7 +1,0 @@
--- A thread's number, and then a move's word.
-use Rattle.lk_replay.proofs.FirstMoves.{first_line}
-use Rattle.lk_replay.proofs.lines.first_move.first_move.Goals as goal
-
-pub returns : goal.returns
-returns c =
-    first_line c.args.text.now _ _ _ _ c.in_ok-thread.ensures c.in_ok-action.ensures
