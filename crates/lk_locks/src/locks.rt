@@ -2,16 +2,17 @@
 //! the locks share calls these, and knows no lock.
 
 ghost use Rattle.std.specs.Prelude.{◌≡◌, ◌≤◌, ℕ, IfSome};
-ghost use Rattle.std.specs.List.{list_any};
 ghost use Rattle.lk_locks.specs.Change.{entries_by, kind_of};
-ghost use Rattle.lk_locks.specs.Locks.{family_of, word_count, steps_of, after_call, step_due};
+ghost use Rattle.lk_locks.specs.Locks.{family_of, word_count, after_call, step_due};
 ghost use Rattle.lk_locks.specs.Locks.{operation_of, effect_of, step_of, step_entries};
 ghost use Rattle.lk_locks.specs.Effects.{IsEffectOf};
-ghost use Rattle.lk_locks.specs.Steps.{same_step};
+ghost use Rattle.lk_locks.specs.Steps.{belongs};
 ghost use Rattle.lk_locks.specs.invariants.WellFormed.{IsReady};
 
 use crate::entries::Added;
-use crate::{Family, LockKind, Op, Outcome, Phase, StepEffect, StepKind, mcs, read_write, ticket};
+use crate::{
+    Family, LockKind, Move, Op, Outcome, Phase, StepEffect, StepKind, mcs, read_write, ticket,
+};
 use lk_words::{Operation, WordArray, Words, perform};
 
 /// The family of a lock.
@@ -37,16 +38,28 @@ pub fn words_needed(kind: LockKind, threads: u8) -> usize
     }
 }
 
-/// Whether the lock has steps of this kind.
+/// Whether the operation or the kind of step is one of the lock's.
 #[inline(always)]
-pub(crate) fn has_step(kind: LockKind, step: StepKind) -> bool
-    ensures { result ≡ list_any (same_step step) (steps_of kind) }
+pub fn belongs(kind: LockKind, action: Move) -> bool
+    ensures { result ≡ belongs kind action }
 {
+    use Move::{Call, Step};
+    use Op::{Acquire, Downgrade, ReadLock, ReadUnlock, Release, WriteLock, WriteUnlock};
     use StepKind::{Add, Cas, Read, Section, Swap, Write};
     match kind {
-        LockKind::Ticket => matches!(step, Add | Read | Write),
-        LockKind::Mcs => matches!(step, Read | Write | Swap | Cas),
-        LockKind::RwSimple | LockKind::RwFifo => matches!(step, Section),
+        LockKind::Ticket => matches!(action, Call(Acquire | Release) | Step(Add | Read | Write)),
+        LockKind::Mcs => {
+            matches!(
+                action,
+                Call(Acquire | Release) | Step(Read | Write | Swap | Cas)
+            )
+        }
+        LockKind::RwSimple | LockKind::RwFifo => {
+            matches!(
+                action,
+                Call(ReadLock | ReadUnlock | WriteLock | WriteUnlock | Downgrade)
+            ) || action == Step(Section)
+        }
     }
 }
 

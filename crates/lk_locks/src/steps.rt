@@ -1,26 +1,14 @@
-//! Which moves are accepted, and what an accepted move does. This file knows no lock's phases or
+//! The refusals of a move, and the effect of an accepted one. This file knows no lock's phases or
 //! words.
 
 ghost use Rattle.std.specs.Prelude.{◌≡◌};
 ghost use Rattle.lk_locks.specs.Locks.{operation_of};
-ghost use Rattle.lk_locks.specs.Steps.{refusal_at, refusal_in, belongs, move_change};
+ghost use Rattle.lk_locks.specs.Steps.{refusal_at, refusal_in, move_change};
 ghost use Rattle.lk_locks.specs.invariants.WellFormed.{IsReady};
 
-use crate::locks::{after_call, family_of, has_step, step_due, take_step};
-use crate::{Family, LockKind, Move, Op, Outcome, Phase, Refusal, StepKind};
+use crate::locks::{after_call, step_due, take_step};
+use crate::{LockKind, Move, Outcome, Phase, Refusal, StepKind};
 use lk_words::{Operation, Words};
-
-/// Whether the operation or the kind of step is one of the lock's.
-#[inline(always)]
-pub fn belongs(kind: LockKind, action: Move) -> bool
-    ensures { result ≡ belongs kind action }
-{
-    match action {
-        Move::Call(Op::Acquire | Op::Release) => family_of(kind) == Family::Queue,
-        Move::Call(_) => family_of(kind) != Family::Queue,
-        Move::Step(step) => has_step(kind, step),
-    }
-}
 
 /// Why a move of a thread in this phase is refused, if it belongs to the lock.
 #[inline(always)]
@@ -55,8 +43,8 @@ pub(crate) fn refusal_at(
     }
 }
 
-/// What an accepted move of a thread does to the words, with the thread's new phase. `operation` is
-/// the one that its next step makes.
+/// Makes an accepted move of a thread on the words, and returns the thread's new phase and the
+/// outcome. `operation` is the one that its next step makes.
 #[inline(always)]
 pub fn make_move<W: Words>(
     words: &mut W,
