@@ -1,4 +1,4 @@
--- Lists of readers stay in ascending order if one joins or leaves, and where that is.
+-- Lists of readers stay in ascending order if one joins or leaves, and the place of that one.
 use Rattle.std.proofs.Common.{ap, arith, eqb, false, inl, inr, insert, leb, length, List, ltb}
 use Rattle.std.proofs.Common.{nat_lt}
 use Rattle.std.proofs.Common.{refl, remove, slice_index_or, true, zero, suc, [], ◌<◌, ◌≤◌, ◌∷◌, ◌≡◌}
@@ -10,7 +10,7 @@ use Rattle.std.proofs.lemmas.Bool.{ltb-true, cases_Bool, or_parts}
 use Rattle.std.proofs.lemmas.Bool.Decides.{nat_tests}
 use Rattle.lk_locks.specs.Sequential.{has, IsAscending, joined, left_by}
 
--- what holds of all in the list and of one who joins holds of all after that
+-- a property of all in the list and of one that joins holds of all after that
 pub all_joined : (Holds : ℕ → Type 0) (ts : List ℕ) (t : ℕ) → Holds t → AllByRecursion Holds ts
     → AllByRecursion Holds (joined ts t)
 all_joined Holds [] t holds all = (holds, tt)
@@ -19,7 +19,7 @@ all_joined Holds (first ∷ ts) t holds (here, rest) = elim (cases_Bool (nat_lt 
   | inr not_smaller ↦ rw not_smaller (here, all_joined Holds ts t holds rest)
 ]
 
--- what holds of all in the list holds of all after one has left
+-- a property of all in the list holds of all after one has left
 pub all_left : (Holds : ℕ → Type 0) (ts : List ℕ) (t : ℕ) → AllByRecursion Holds ts
     → AllByRecursion Holds (left_by ts t)
 all_left Holds [] t all = tt

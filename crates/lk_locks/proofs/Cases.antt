@@ -1,4 +1,4 @@
--- What has to be proved of each step of a lock.
+-- The obligations of each step of a lock.
 use Rattle.std.proofs.Common.{List, [], length, set, slice_index, true}
 use Rattle.std.proofs.Common.{unwrap_or, ℕ, ◌++◌, ◌∷◌, ◌≡◌, ◌<◌, ◌≤◌, ◌^◌, None, sym}
 use Rattle.std.proofs.lemmas.List.{set-get_or}
@@ -25,7 +25,7 @@ Begins kind t p op =
     (owed_of kind t p ≡ [])
     × (whole_call kind t op ≡ Called t op ∷ owed_of kind t (unwrap_or (after_call kind p op) p))
 
--- no move changes how many words there are
+-- no move changes the number of words
 abbrev pub KeepsLength : List ℕ → Change → Type 0
 KeepsLength ws change = length change.words ≡ length ws
 
@@ -37,7 +37,7 @@ Fits kind n change = IsPhaseOf kind n change.phase
 abbrev pub AreOf : ℕ → List Entry → Type 0
 AreOf t es = AllByRecursion (λ e. thread_of e ≡ t) es
 
--- what is given when thread t makes the move m in phase p
+-- the facts that are given when thread t makes the move m in phase p
 pub record IsTaken (kind : LockKind) (bits : ℕ) (ws : List ℕ) (ps : List Phase) (q : Sequential)
     (t : ℕ) (p : Phase) (m : Move) : Type 0 where
   pub kind_is : q.kind ≡ kind
@@ -50,8 +50,8 @@ pub record IsTaken (kind : LockKind) (bits : ℕ) (ws : List ℕ) (ps : List Pha
   pub not_refused : refusal_in kind p m ≡ None
   pub agrees : AgreeAs kind (record { kind = kind; bits = bits; words = ws; phases = ps }) q
 
--- What a move leaves, with the entries that it adds: they may come, and the lock agrees with what
--- they leave of the sequential object.
+-- The agreement after a move, with the entries that it adds: they may come, and the lock agrees
+-- with the sequential object after them.
 abbrev pub IsAgreed : (Sequential → Type 0) → Sequential → List Entry → Type 0
 IsAgreed agree q es = AreEnabled q es × agree (after_entries q es)
 
@@ -72,7 +72,7 @@ pub waits : {kind : LockKind} {bits : ℕ} {ws : List ℕ} {ps : List Phase} {q 
     (AgreeAs kind (record { kind = kind; bits = bits; words = ws; phases = set ps t p })) q []
 waits given = (tt, rw (sym given.phase_is) (rw set-get_or given.agrees))
 
--- What has to be proved of a lock. `EachLock` has it of each.
+-- The obligations of a lock. `EachLock` has their proofs for each.
 pub record LockProof (kind : LockKind) : Type 0 where
   -- each step adds the next entries of the pending call
   pub goes_on : (bits t : ℕ) (ws : List ℕ) (p : Phase) → GoesOn kind t p (step_of kind bits ws t p)
@@ -80,14 +80,14 @@ pub record LockProof (kind : LockKind) : Type 0 where
   pub begins : (n t : ℕ) (p : Phase) (op : Op) → IsPhaseOf kind n p
       → has_op (family_of kind) op ≡ true → refusal_in kind p (Call op) ≡ None
       → Begins kind t p op
-  -- what is left of a call is of its thread
+  -- the entries that a call still owes are of its thread
   pub owed_is_own : (t : ℕ) (p : Phase) → AreOf t (owed_of kind t p)
   -- an idle thread owes nothing
   pub idle_rest : (t : ℕ) → owed_of kind t Idle ≡ []
   -- no step adds more than three entries
   pub few_entries : (t : ℕ) (p : Phase) (outcome : Outcome)
       → length (step_entries kind t p outcome) ≤ 3
-  -- no step changes how many words there are
+  -- no step changes the number of words
   pub keeps_length : (bits t : ℕ) (ws : List ℕ) (p : Phase)
       → KeepsLength ws (step_of kind bits ws t p)
   -- each phase is one of the lock's, and each link names a thread

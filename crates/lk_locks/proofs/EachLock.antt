@@ -1,4 +1,4 @@
--- What is proved of each lock. The proofs that the locks share rest on that, and know no lock.
+-- The proof for each lock. The proofs that the locks share rest on it, and know no lock.
 use Rattle.lk_locks.proofs.Cases.{LockProof}
 use Rattle.lk_locks.proofs.invariants.mcs
 use Rattle.lk_locks.proofs.invariants.rw_fifo

@@ -1,4 +1,4 @@
--- What every move keeps, whatever the lock.
+-- The facts that every move of every lock keeps.
 use Rattle.std.proofs.Common.{Bool, List, None, Option, Some, false, if◌then◌else◌, length}
 use Rattle.std.proofs.Common.{nat_lt, refl, true, ℕ, ◌<◌, ◌≡◌}
 use Rattle.std.proofs.lemmas.Bool.{ltb-true}
@@ -32,7 +32,7 @@ new_links_fit : (kind : LockKind) (n bits : ℕ) (ws : List ℕ) (t : ℕ) (p : 
 new_links_fit kind n bits ws t p (Call op) h l = l
 new_links_fit kind n bits ws t p (Step k) h l = (proof_of kind).links_fit n bits t ws p h l
 
--- what follows from an accepted move
+-- the facts that follow from an accepted move
 pub record Accepted (s : State) (t : ℕ) (m : Move) : Type 0 where
   pub thread : t < length s.phases
   pub own : belongs s.kind m ≡ true

@@ -84,7 +84,7 @@ within Ticket n bits t TakeTicket o e h f = omega (arith, ap word_or e)
 within Mcs n bits t ClearNext o e h f = omega (arith, ap word_or e)
 within kind n bits t p o e h f = omega (arith, ap word_or e)
 
--- what an operation does to its word is what its step does to the words
+-- the effect of an operation on its word is the effect of its step on the words
 pub told : (kind : LockKind) (n bits : ℕ) (ws : List ℕ) (t : ℕ) (p : Phase) (o : Operation)
     (outcome : Outcome) → operation_of kind bits t p ≡ Some o → t < n → IsPhaseOf kind n p
     → word_count kind n ≤ length ws → outcome ≡ (step_of kind bits ws t p).outcome

@@ -1,4 +1,4 @@
--- The head of a queue of threads, and the one who holds.
+-- The head of a queue of threads, and the holder.
 use Rattle.std.proofs.Common.{◌≡◌, ◌≢◌, ℕ, List, [], ◌∷◌, ◌++◌, drop, true, false, arith}
 use Rattle.std.proofs.Common.{Option, None, Some, refl}
 use Rattle.std.proofs.lemmas.Bool.{eq-eqb}
@@ -33,7 +33,7 @@ pub head_more : (q : List ℕ) (t head : ℕ) → is_head q head ≡ true
 head_more [] t head at_head = cc
 head_more (first ∷ rest) t head at_head = at_head
 
--- whoever holds is the head of the queue
+-- the holder is the head of the queue
 abbrev pub HeadHolds : Option ℕ → List ℕ → Type 0
 HeadHolds holder queue = (t : ℕ) → is_this holder t ≡ true → is_head queue t ≡ true
 

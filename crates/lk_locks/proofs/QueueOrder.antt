@@ -58,7 +58,7 @@ abbrev AreServed : Option ℕ → List ℕ → List Entry → Type 0
 AreServed holder queue es =
     (rest : List ℕ) × (one_or_none holder ++ (entered es ++ rest) ≡ queue ++ requested es)
 
--- whoever holds is the first of those who wait or hold
+-- the holder is the first of the threads that wait or hold
 served_now : (holder : Option ℕ) (queue : List ℕ) → HeadHolds holder queue
     → AreServed holder queue []
 served_now None queue head_holds = (queue, sym (append-nil queue))

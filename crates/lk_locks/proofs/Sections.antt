@@ -1,4 +1,4 @@
--- What a section writes tells all that it changes.
+-- The writes of a section tell all that it changes.
 use Rattle.std.proofs.Common.{List, None, Option, Some, arith, inl, inr, length, refl, set}
 use Rattle.std.proofs.Common.{slice_index, suc, sym, zero, ℕ, ◌<◌, ◌≤◌, ◌^◌, ◌==◌, ◌∙◌, ◌≡◌, ◌≢◌}
 use Rattle.std.proofs.Common.{IfSome}
@@ -24,7 +24,7 @@ IsFirst first = first.0 ≡ 0
 abbrev pub IsOther : List ℕ → ℕ × ℕ → Type 0
 IsOther ws other = (0 < other.0) × (other.0 < 3) × (other.0 < length ws)
 
--- what it writes, in a list that is not empty
+-- the writes of a section, in a list that is not empty
 pub record Writes (ws : List ℕ) (first other : Option (ℕ × ℕ)) : Type 0 where
   pub some : 0 < length ws
   pub first_is : IfSome first IsFirst
@@ -50,7 +50,7 @@ other_of bits family ws third (Some w) room is h =
     rw (← count_of_third family ws) (rw is at h.1) in
     (h.0, omega (arith, below, (few_words family).1), omega (arith, below, room))
 
--- a section of this family writes so
+-- a section of this family makes such writes
 pub writes_of : (bits : ℕ) (family : Family) (ws : List ℕ) (third : Option ℕ)
     (first other : Option (ℕ × ℕ)) → word_count family ≤ length ws → third ≡ third_word family ws
     → IfSome first (λ w. (w.0 ≡ 0) × (w.1 < 2 ^ bits))
@@ -195,7 +195,7 @@ off_or_same ws after (Some (i, v)) j n is other = elim (cases_Bool (j == i)) [
   | inr differs ↦ other (eqb-false j i differs)
 ]
 
--- what is told of a section that writes so is all that it does
+-- the effect of a section that makes such writes tells all that the section does
 pub told : (ws : List ℕ) (first other : Option (ℕ × ℕ)) (outcome : Outcome)
     → Writes ws first other
     → Tells (record { first = change_to ws first; second = change_to ws other; outcome = outcome })

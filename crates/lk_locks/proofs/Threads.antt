@@ -20,7 +20,7 @@ pub true_or_false : (b : Bool) → (b ≡ true) ⊎ (b ≡ false)
 true_or_false true = inl refl
 true_or_false false = inr refl
 
--- whom the test finds to have a place has it
+-- a thread that the test finds in a place is there
 pub this_is : (place : Option ℕ) (t : ℕ) → is_this place t ≡ true → place ≡ Some t
 this_is place t found = grind arith
 
@@ -28,7 +28,7 @@ this_is place t found = grind arith
 pub first_has : (t : ℕ) (rest : List ℕ) → has (t ∷ rest) t ≡ true
 first_has t rest = grind arith
 
--- who is not in a list is not after its first
+-- a thread that is not in a list is not after its first
 pub rest_false : (q : List ℕ) (t : ℕ) → has q t ≡ false → has (drop 1 q) t ≡ false
 rest_false q t absent = grind arith
 
@@ -58,7 +58,7 @@ once_more (u ∷ q) t (u_once, once) absent =
       once_more q t once not_in,
     )
 
--- who is not in a list differs from each thread in it
+-- a thread that is not in a list differs from each thread in it
 apart_of_has : (q : List ℕ) (t : ℕ) → has q t ≡ false → AllByRecursion (λ y. eqb t y ≡ false) q
 apart_of_has [] t absent = tt
 apart_of_has (u ∷ q) t absent =
@@ -80,7 +80,7 @@ pub at_other : (ps : List Phase) (t u : ℕ) (p : Phase) → u ≢ t
     → phase_at (set ps t p) u ≡ phase_at ps u
 at_other ps t u p h = get_or-set_other ps t u p Idle h
 
--- what holds of the new phase and held of the others holds of all
+-- a property that holds of the new phase and held of the other phases holds of all phases
 pub each_phase : (P : ℕ → Phase → Type 0) (ps : List Phase) (t : ℕ) (p : Phase) → t < length ps
     → P t p → ((u : ℕ) → u ≢ t → u < length ps → P u (phase_at ps u)) → (u : ℕ) → u < length ps
     → P u (phase_at (set ps t p) u)

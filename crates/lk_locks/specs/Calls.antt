@@ -7,14 +7,14 @@ use Rattle.lk_locks.specs.Legal.{subhistory}
 use Rattle.lk_locks.specs.Types.{LockKind, Op, Entry, Acted, Returned}
 use Rattle.lk_locks.specs.declared.kinds.Entry.TheVariants.{Called}
 
--- in these entries t called op, and since then did this
+-- in these entries t called op, and its entries since then are `deeds`
 abbrev pub HasDone : ℕ → Op → List Entry → List Entry → Type 0
 HasDone t op deeds es =
     (start middle : List Entry) × (es ≡ start ++ Called t op ∷ middle)
     × (subhistory t middle ≡ deeds)
 
--- when a call returns it was called, and since then its thread did nothing but act once, after the
--- announcement of a FIFO writer
+-- a call that returns was made before, and since then its thread did nothing but act once, after
+-- the announcement of a FIFO writer
 abbrev pub ActsOnce : LockKind → List Entry → Type 0
 ActsOnce kind es =
     (t : ℕ) (op : Op) (before after : List Entry) → es ≡ before ++ Returned t op ∷ after

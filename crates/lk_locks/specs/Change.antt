@@ -1,4 +1,4 @@
--- Definitions. What a step leaves and which entries it adds, and the arithmetic of words.
+-- Definitions. The change that a step makes, the entries that it adds, and the arithmetic of words.
 use Rattle.std.specs.Prelude.{ℕ, ◌+◌, ◌-◌, ◌%◌, ◌^◌, List, set, slice_index, Option, None, Some, []}
 use Rattle.std.specs.Prelude.{◌∷◌}
 use Rattle.lk_words.specs.Operations.{Performed, performed}
@@ -38,14 +38,14 @@ step_by after bits ws p (Some operation) =
     let made : Performed = performed bits ws operation in
     to made.words (after p made.answer).0 (after p made.answer).1
 
--- sums of words of so many bits wrap
+-- sums of words of `bits` bits wrap
 abbrev pub plus_one : ℕ → ℕ → ℕ
 plus_one bits x = (x + 1) % 2 ^ bits
 
 abbrev pub less_one : ℕ → ℕ → ℕ
 less_one bits x = (x + (2 ^ bits - 1)) % 2 ^ bits
 
--- one more in word i
+-- the words, with one added to word i
 abbrev pub raised : ℕ → List ℕ → ℕ → List ℕ
 raised bits words i = set words i (plus_one bits (slice_index words i))
 
@@ -56,7 +56,7 @@ announcement family t op = []
 abbrev pub acts : ℕ → Op → List Entry
 acts t op = Acted t op ∷ Returned t op ∷ []
 
--- the entries of a move of thread t that adds this
+-- the entries that this value stands for, in a move of thread t
 abbrev pub entries_by : ℕ → Added → List Entry
 entries_by t added.Nothing = []
 entries_by t (added.Call op) = Called t op ∷ []

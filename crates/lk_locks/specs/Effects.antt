@@ -1,5 +1,5 @@
--- Definitions. What a step does to the words of its lock, before it is made; and that a step of a
--- queue lock is one operation on one word.
+-- Definitions. The effect of a step on the words of its lock, told before the step is made; and
+-- that a step of a queue lock is one operation on one word.
 use Rattle.std.specs.Prelude.{◌≡◌, ◌<◌, ℕ, List, length, slice_index, slice_set, Option, None, Some}
 use Rattle.lk_locks.specs.Change.{Change, kind_of}
 use Rattle.lk_locks.specs.read_write.{Tells}
@@ -14,8 +14,8 @@ abbrev pub outcome_in : StepEffect → Outcome
 outcome_in (OneWord effect outcome) = outcome
 outcome_in (Monitor section) = section.outcome
 
--- It tells what a step with this change does to the words, and what comes of it. An operation
--- leaves all words but its own.
+-- The effect tells the words and the outcome of a step with this change. An operation changes no
+-- word but its own.
 abbrev pub IsEffectOf : Change → List ℕ → StepEffect → Type 0
 IsEffectOf change before (OneWord effect outcome) =
     ((effect.word < length before) × (effect.found ≡ slice_index before effect.word)
@@ -23,7 +23,7 @@ IsEffectOf change before (OneWord effect outcome) =
 IsEffectOf change before (Monitor section) =
     Tells section before change.words × (section.outcome ≡ change.outcome)
 
--- of a queue lock: this operation is of the kind, and leaves these words
+-- for a queue lock: this operation is of the kind, and leaves the words `after`
 abbrev pub IsMade : Family → ℕ → List ℕ → StepKind → Option Operation → List ℕ → Type 0
 IsMade Queue bits ws kind None after = ⊥
 IsMade Queue bits ws kind (Some operation) after =

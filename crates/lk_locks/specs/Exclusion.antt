@@ -16,8 +16,7 @@ Between a b P es =
 abbrev pub IsQueueLock : LockKind → Type 0
 IsQueueLock kind = family_of kind ≡ Queue
 
--- Queue locks. What is said of acquires holds of the histories of all locks: a read-write lock has
--- none.
+-- Queue locks. A law of acquires holds of the histories of all locks: a read-write lock has none.
 
 -- between the return of an acquire and the return of a later one is the act of the first one's
 -- release
@@ -25,7 +24,8 @@ abbrev pub HasOneHolder : List Entry → Type 0
 HasOneHolder es =
     (t u : ℕ) → Between (Returned t Acquire) (Returned u Acquire) (λ e. e ≡ Acted t Release) es
 
--- who holds, from here on: an acquire returns only if nobody holds, and only who holds releases
+-- the entry may come with this holder: an acquire returns only if nobody holds the lock, and only
+-- the holder releases it
 abbrev pub MayHold : Option ℕ → Entry → Type 0
 MayHold h (Returned t Acquire) = h ≡ None
 MayHold h (Acted t Release) = h ≡ Some t
@@ -35,7 +35,7 @@ abbrev pub IsHeldInTurn : Option ℕ → List Entry → Type 0
 IsHeldInTurn h [] = Unit {0}
 IsHeldInTurn h (e ∷ es) = MayHold h e × IsHeldInTurn (holder_after h (e ∷ [])) es
 
--- who holds is the head of the queue
+-- the holder is the head of the queue
 abbrev pub IsHeldByHead : LockKind → List Entry → Type 0
 IsHeldByHead kind es =
     (t : ℕ) → holder_after None es ≡ Some t
@@ -43,7 +43,7 @@ IsHeldByHead kind es =
 
 -- Read-write locks
 
--- t stops writing, by an unlock or as a reader
+-- t stops writing, by an unlock or by a downgrade
 abbrev pub StopsWriting : ℕ → Entry → Type 0
 StopsWriting t e = (e ≡ Acted t WriteUnlock) ⊎ (e ≡ Acted t Downgrade)
 
@@ -53,8 +53,8 @@ HasOneWriter es =
     (t u : ℕ) → Between (Acted t WriteLock) (Acted u WriteLock) (StopsWriting t) es
 
 -- A reader enters only after the writer before it stopped writing, and a writer only after each
--- reader before it left, and each writer that became a reader. After whatever beginning of the
--- history: if there is a writer, there is no reader.
+-- reader before it left, and each writer that became a reader. After each prefix of the history: if
+-- there is a writer, there is no reader.
 pub record IsNeverBesideReader (kind : LockKind) (es : List Entry) : Type 0 where
   pub then_reader : (t u : ℕ)
       → Between (Acted t WriteLock) (Acted u ReadLock) (StopsWriting t) es
@@ -66,8 +66,8 @@ pub record IsNeverBesideReader (kind : LockKind) (es : List Entry) : Type 0 wher
       → let now : Sequential = after_entries (nobody kind) before in
       (w : ℕ) → now.writer ≡ Some w → now.readers ≡ []
 
--- between the announcement of a FIFO writer and a later reader's entering, or another's
--- announcement, that writer's entering comes
+-- an announced FIFO writer enters before a later reader enters, and before another writer announces
+-- itself
 pub record IsAnnouncedFirst (es : List Entry) : Type 0 where
   pub then_reader : (t u : ℕ)
       → Between (Announced t) (Acted u ReadLock) (λ e. e ≡ Acted t WriteLock) es

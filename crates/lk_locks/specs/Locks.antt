@@ -1,5 +1,5 @@
--- Definitions. What the module of each lock defines, by the lock, and the family that it belongs
--- to. Definitions that the locks share use these, and know no lock.
+-- Definitions. The definitions of each lock's module, by the kind of the lock, and the family of
+-- each kind. Definitions that the locks share use these, and know no lock.
 use Rattle.std.specs.Prelude.{ℕ, ◌+◌, ◌*◌, List, [], ◌∷◌, Option, None, option_map}
 use Rattle.lk_words.specs.Operations.{effect_on}
 use Rattle.lk_words.specs.declared.operation.Operation.{Operation}
@@ -19,7 +19,7 @@ family_of Mcs = Queue
 family_of RwSimple = ReadWrite
 family_of RwFifo = FifoReadWrite
 
--- how many words a lock of this kind has
+-- the number of words of a lock of this kind
 abbrev pub word_count : LockKind → ℕ → ℕ
 word_count Ticket threads = 2
 word_count Mcs threads = 1 + 2 * threads
@@ -37,15 +37,15 @@ after_call Ticket p op = ticket.after_call p op
 after_call Mcs p op = mcs.after_call p op
 after_call kind p op = read_write.after_call p op
 
--- What thread t in this phase does next, if that is one operation on one word. A section of a
--- read-write lock is on all words of its monitor.
+-- The next operation of thread t in this phase, if its next step is one operation on one word. A
+-- section of a read-write lock is on all words of its monitor.
 abbrev pub operation_of : LockKind → ℕ → ℕ → Phase → Option Operation
 operation_of Ticket bits t p = ticket.operation bits p
 operation_of Mcs bits t p = mcs.operation t p
 operation_of kind bits t p = None
 
--- The step that a thread in this phase takes next. There is none if it has no pending call. Which
--- kind it is depends on neither thread nor bits.
+-- The step that a thread in this phase takes next. There is none if it has no pending call. Its
+-- kind depends on neither thread nor bits.
 abbrev pub step_due : LockKind → Phase → Option StepKind
 step_due Ticket p = option_map kind_of (ticket.operation 64 p)
 step_due Mcs p = option_map kind_of (mcs.operation 0 p)
@@ -58,7 +58,7 @@ step_of Mcs bits ws t p = step_by mcs.after bits ws p (mcs.operation t p)
 step_of RwSimple bits ws t p = rw_simple.step bits ws p
 step_of RwFifo bits ws t p = rw_fifo.step bits ws p
 
--- what the next step of thread t in this phase would do, if it has one
+-- the effect that the next step of thread t in this phase would have, if it has one
 abbrev pub effect_of : LockKind → ℕ → List ℕ → ℕ → Phase → Option StepEffect
 effect_of Ticket bits ws t p =
     option_map (λ o. OneWord (effect_on bits ws o) (step_of Ticket bits ws t p).outcome)

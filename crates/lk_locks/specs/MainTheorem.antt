@@ -19,8 +19,8 @@ pub record IsAsPromised (kind : LockKind) (n : ℕ) (es : List Entry) : Type 0 w
   pub one_writer : HasOneWriter es
   pub no_reader_beside : IsNeverBesideReader kind es
 
--- the history that each list of moves leaves on a new lock, with enough words, all 0, is so; a
--- refused move changes nothing
+-- each list of moves on a new lock, with enough words, all 0, leaves such a history; a refused move
+-- changes nothing
 abbrev pub EveryRunIsAsPromised : Type 0
 EveryRunIsAsPromised =
     (kind : LockKind) (bits : ℕ) (ws : List ℕ) (n : ℕ) (ms : List (ℕ × Move))

@@ -14,6 +14,6 @@ entered [] = []
 entered (Returned t Acquire ∷ es) = t ∷ entered es
 entered (e ∷ es) = entered es
 
--- those that entered are, in order, a beginning of those that asked
+-- the threads that entered are, in order, a prefix of the threads that requested
 abbrev pub IsInOrder : List Entry → Type 0
 IsInOrder es = (rest : List ℕ) × (entered es ++ rest ≡ requested es)

@@ -1,4 +1,4 @@
--- Definitions. The name of each refusal, and what it says.
+-- Definitions. The name, the message and the text of each refusal.
 use Rattle.std.specs.Prelude.{ℕ, List, ◌++◌, codes}
 use Rattle.lk_locks.specs.Types.{Refusal, NoSuchThread, WrongLock, Busy, NotHolder, AlreadyHolds}
 use Rattle.lk_locks.specs.Types.{NoCall, WrongStep}

@@ -1,4 +1,4 @@
--- Definitions. The state of a lock: its kind, its words, and what each thread does.
+-- Definitions. The state of a lock: its kind, its words, and the phase of each thread.
 use Rattle.std.specs.Prelude.{ℕ, List, get_or, replicate}
 use Rattle.lk_locks.specs.Locks.{word_count}
 use Rattle.lk_locks.specs.Types.{LockKind, Phase, Idle}
@@ -10,7 +10,7 @@ pub record State : Type 0 where
   pub words : List ℕ
   pub phases : List Phase
 
--- what thread t does
+-- the phase of thread t
 abbrev pub phase_at : List Phase → ℕ → Phase
 phase_at phases t = get_or phases t Idle
 
@@ -18,13 +18,13 @@ phase_at phases t = get_or phases t Idle
 abbrev pub start : LockKind → ℕ → List ℕ → ℕ → State
 start kind bits ws n = record { kind = kind; bits = bits; words = ws; phases = replicate n Idle }
 
--- what a new lock is made of
+-- the parameters of a new lock
 pub record Shape : Type 0 where
   pub kind : LockKind
   pub threads : ℕ
   pub bits : ℕ
 
--- at the start, on as many words as the lock needs
+-- the state at the start, on as many words as the lock needs
 abbrev pub start_of : Shape → State
 start_of s = start s.kind s.bits (replicate (word_count s.kind s.threads) 0) s.threads
 

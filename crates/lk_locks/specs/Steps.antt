@@ -1,5 +1,5 @@
--- Definitions. Which moves are accepted, what an accepted move does and which entries it adds, one
--- by one and in lists. This file knows no lock: `Locks` has what differs.
+-- Definitions. The moves that are accepted, the change that an accepted move makes and the entries
+-- that it adds, one by one and in lists. This file knows no lock: `Locks` has the differences.
 use Rattle.std.specs.Prelude.{ℕ, List, length, set, Option, None, Some, is_some, is_none, unwrap_or}
 use Rattle.std.specs.Prelude.{Bool, true, false, nat_lt, if◌then◌else◌, Result, Ok, Err, [], ◌∷◌}
 use Rattle.std.specs.Prelude.{◌++◌}
@@ -32,8 +32,9 @@ abbrev pub belongs : LockKind → Move → Bool
 belongs kind (Call op) = has_op (family_of kind) op
 belongs kind (Step step) = list_any (same_step step) (steps_of kind)
 
--- Why a move of a thread in this phase is refused, by the step that it is due to take. What an idle
--- thread may call acquires; a thread that is not idle and has no pending call holds the lock.
+-- The refusal of a move of a thread in this phase, by the step that it is due to take. A call that
+-- an idle thread may make acquires; a thread that is not idle and has no pending call holds the
+-- lock.
 abbrev pub refusal_at : LockKind → Phase → Option StepKind → Move → Option Refusal
 refusal_at kind p None (Call op) =
     if is_some (after_call kind p op)
@@ -53,7 +54,7 @@ refusal_of s t m =
     then (if belongs s.kind m then refusal_in s.kind (phase_at s.phases t) m else Some WrongLock)
     else Some NoSuchThread
 
--- what an accepted move does
+-- the change that an accepted move makes
 
 abbrev pub move_change : LockKind → ℕ → List ℕ → ℕ → Phase → Move → Change
 move_change kind bits ws t p (Call op) = to ws (unwrap_or (after_call kind p op) p) Called

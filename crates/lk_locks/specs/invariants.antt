@@ -1,5 +1,5 @@
--- Invariants. What the proofs carry from call to call. No public `ensures` rests on believing these
--- files.
+-- Invariants. The properties that the proofs carry from call to call. No public `ensures` rests on
+-- believing these files.
 pub mod Threads
 pub mod read_write
 pub mod ticket

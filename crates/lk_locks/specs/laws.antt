@@ -1,6 +1,6 @@
--- Definitions. The steps of the ticket lock, row by row: the operation of each, and where the word
--- that it finds leads. The machine (`ticket`) has words of B bits, and the running lock of
--- lk_workers words of 64.
+-- Definitions. The steps of the ticket lock, row by row: the operation of each, and the phase and
+-- outcome to which the word found leads. The machine (`ticket`) has words of B bits, and the
+-- running lock of lk_workers words of 64.
 --
 -- Mellor-Crummey and Scott, "Algorithms for Scalable Synchronization on Shared-Memory
 -- Multiprocessors", ACM TOCS 9(1), 1991, section 2.2. Different here: words have B bits, so tickets
@@ -27,7 +27,7 @@ take = FetchAndAdd next_ticket 1
 abbrev pub after_take : ℕ → Phase × Outcome
 after_take found = (AwaitTurn found, Moved)
 
--- it looks whether this ticket is served
+-- an acquire polls whether this ticket is served
 abbrev pub look : Operation
 look = Read now_serving
 
@@ -42,7 +42,7 @@ read_serving = Read now_serving
 abbrev pub after_read_serving : ℕ → Phase × Outcome
 after_read_serving found = (PassOn found, Moved)
 
--- it writes the value read plus one
+-- a release writes the value read plus one
 abbrev pub pass : ℕ → ℕ → Operation
 pass bits read = Write now_serving (plus_one bits read)
 

@@ -29,13 +29,13 @@ next i = 1 + 2 * i
 abbrev pub locked : ℕ → ℕ
 locked i = 2 + 2 * i
 
--- the calls that a thread in this phase may make, and where they lead
+-- the calls that a thread in this phase may make, and the phases to which they lead
 abbrev pub after_call : Phase → Op → Option Phase
 after_call Idle Acquire = Some ClearNext
 after_call McsInside Release = Some ReadNext
 after_call p op = None
 
--- what a thread i in this phase does next
+-- the next operation of thread i in this phase
 abbrev pub operation : ℕ → Phase → Option Operation
 operation i ClearNext = Some (Write (next i) 0)
 operation i SwapTail = Some (Swap tail (i + 1))
@@ -52,7 +52,7 @@ operation i p = None
 abbrev pub grant_or : ℕ → Phase × Outcome → Phase × Outcome
 grant_or found otherwise = if found == 0 then otherwise else (Grant (found - 1), Moved)
 
--- the next phase and the outcome, by what the operation answered
+-- the next phase and the outcome, by the answer of the operation
 abbrev pub after : Phase → Answer → Phase × Outcome
 after ClearNext answer = (SwapTail, Moved)
 after SwapTail (Found p) =

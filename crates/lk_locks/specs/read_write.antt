@@ -1,5 +1,5 @@
--- Definitions. What the two read-write locks share: their calls, their one kind of step, and the
--- entries of their sections.
+-- Definitions. The common part of the two read-write locks: their calls, their one kind of step,
+-- and the entries of their sections.
 --
 -- After Herlihy and Shavit, The Art of Multiprocessor Programming, chapter 8. `Downgrade`, by which
 -- a writer becomes a reader in one section, is an addition.
@@ -18,7 +18,7 @@ use Rattle.lk_locks.specs.Types.{ReadLock, ReadUnlock, WriteLock, WriteUnlock, D
 use Rattle.lk_locks.specs.Types.{Section, SectionEffect, Outcome, Moved, Entered, Left, Entry}
 use Rattle.lk_locks.specs.Types.{Announced}
 
--- the calls that a thread in this phase may make, and where they lead
+-- the calls that a thread in this phase may make, and the phases to which they lead
 abbrev pub after_call : Phase → Op → Option Phase
 after_call Idle ReadLock = Some TryRead
 after_call Reading ReadUnlock = Some LeaveRead
@@ -34,7 +34,7 @@ step_due Reading = None
 step_due Writing = None
 step_due p = Some Section
 
--- how many words the monitor has
+-- the number of words of the monitor
 abbrev pub word_count : Family → ℕ
 word_count FifoReadWrite = 3
 word_count family = 2
@@ -44,7 +44,7 @@ abbrev pub step : Family → ℕ → List ℕ → Phase → Change
 step FifoReadWrite bits ws p = rw_fifo.step bits ws p
 step family bits ws p = rw_simple.step bits ws p
 
--- what happens to word i, if it differs between these lists
+-- the change of word i, if it differs between these lists
 abbrev pub change_at : List ℕ → List ℕ → ℕ → Option Effect
 change_at before after i =
     if slice_index before i == slice_index after i then None
@@ -55,14 +55,14 @@ change_at before after i =
       answer = Nothing;
     })
 
--- what happens to a word in which this value is written, if it differs
+-- the change of a word to which this value is written, if it differs
 abbrev pub change_to : List ℕ → Option (ℕ × ℕ) → Option Effect
 change_to ws None = None
 change_to ws (Some (i, value)) =
     if slice_index ws i == value then None
     else Some (record { word = i; found = slice_index ws i; left = value; answer = Nothing })
 
--- what a section of a thread in this phase changes: the first word, and one of the two others
+-- the effect of a section of a thread in this phase: on the first word, and on one of the others
 abbrev pub effect : Family → ℕ → List ℕ → Phase → SectionEffect
 effect family bits ws p = record {
   first = change_at ws (step family bits ws p).words 0;
@@ -83,7 +83,7 @@ IsChangeOf before after (Some e) =
     (e.word < length before) × (e.found ≡ slice_index before e.word)
     × (e.left ≡ slice_index after e.word) × (e.found ≢ e.left)
 
--- A section tells all that it does to the words: it changes two different ones at most.
+-- The effect of a section names each word that changes: at most two, which are different words.
 pub record Tells (section : SectionEffect) (before after : List ℕ) : Type 0 where
   pub first_is : IsChangeOf before after section.first
   pub second_is : IsChangeOf before after section.second

@@ -12,13 +12,13 @@ use Rattle.lk_locks.specs.Types.{PassOn, Op, Acquire, Release, Outcome, Moved, W
 use Rattle.lk_locks.specs.Types.{Entry, Acted, Returned}
 pub use Rattle.lk_locks.specs.laws.{next_ticket, now_serving}
 
--- the calls that a thread in this phase may make, and where they lead
+-- the calls that a thread in this phase may make, and the phases to which they lead
 abbrev pub after_call : Phase → Op → Option Phase
 after_call Idle Acquire = Some TakeTicket
 after_call (TicketInside t) Release = Some (ReadServing t)
 after_call p op = None
 
--- what a thread in this phase does next
+-- the next operation of a thread in this phase
 abbrev pub operation : ℕ → Phase → Option Operation
 operation bits TakeTicket = Some take
 operation bits (AwaitTurn t) = Some look
@@ -26,7 +26,7 @@ operation bits (ReadServing t) = Some read_serving
 operation bits (PassOn v) = Some (pass bits v)
 operation bits p = None
 
--- the next phase and the outcome, by what the operation answered
+-- the next phase and the outcome, by the answer of the operation
 abbrev pub after : Phase → Answer → Phase × Outcome
 after TakeTicket (Found t) = after_take t
 after (AwaitTurn t) (Found v) = after_look t v

@@ -1,5 +1,5 @@
-//! A lock with its sequential object and its history: the machine steps, and what it does is
-//! recorded and is legal.
+//! A lock with its sequential object and its history: each move of the machine is recorded, and the
+//! recorded history is legal.
 
 ghost use Rattle.lk_locks.specs.Play.{RecordedLock, new_lock, after_play, IsPlayAnswer};
 ghost use Rattle.lk_locks.specs.invariants.Kept.{IsRecorded};
@@ -18,8 +18,8 @@ use lk_words::{WordArray, Words};
 use std::alloc::Global;
 use std::marker::Model;
 
-/// A lock that knows who holds and who is in the queue, and its history. A contract sees the state
-/// and the entries.
+/// A lock that knows its holders, its queue and its history. A contract sees the state and the
+/// entries.
 #[derive(Drop)]
 pub struct Keeper<W: Words> {
     lock: Tracker<W>,
@@ -92,7 +92,7 @@ impl<W: Words> Keeper<W> {
         }
     }
 
-    /// What happened, oldest first. Whatever was played, it is a legal history of the lock's
+    /// The history, oldest entry first. After any moves it is a legal history of the lock's
     /// sequential object, a queue lock has one holder at a time and is entered in the order of its
     /// requests, and a writer is alone.
     pub fn entries(&self) -> &[Entry]
@@ -111,8 +111,8 @@ impl<W: Words> Keeper<W> {
         self.lock.machine().next_step(t)
     }
 
-    /// Who holds now, by the history. A pending release of a queue lock still holds. This does not
-    /// depend on how long the history is.
+    /// The present holders, by the history. A thread with a pending release of a queue lock still
+    /// holds it. The cost does not depend on the length of the history.
     pub fn holders(&self) -> Holders
         ensures holding { holding result ≡ holding_of self.now.state.kind self.now.entries }
         ensures listed { IsListed (holding result) }
@@ -120,8 +120,8 @@ impl<W: Words> Keeper<W> {
         self.lock.holders()
     }
 
-    /// Who is in the queue, by the history: the requests of a queue lock, oldest first, the
-    /// holder's too; the announced writer of a FIFO lock; nobody of a simple lock.
+    /// The threads in the queue, by the history: the requests of a queue lock, oldest first, the
+    /// holder's too; the announced writer of a FIFO lock; none of a simple lock.
     pub fn queue(&self) -> ArrayVec<u8, 64>
         ensures { result.items ≡ waiting_of self.now.state.kind self.now.entries }
     {

@@ -64,7 +64,7 @@ pub fn after_call(phase: Phase, op: Op) -> Option<Phase>
     }
 }
 
-/// What a thread in this phase does next: one operation on one word.
+/// The next operation of a thread in this phase, on one word.
 #[inline(always)]
 pub fn operation(thread: u8, phase: Phase) -> Option<Operation>
     ensures { result ≡ operation thread phase }
@@ -105,7 +105,7 @@ pub fn operation(thread: u8, phase: Phase) -> Option<Operation>
     }
 }
 
-/// The next phase and the outcome, by what the phase's operation answered.
+/// The next phase and the outcome, by the answer of the phase's operation.
 #[inline(always)]
 pub fn after(phase: Phase, answer: Answer) -> (Phase, Outcome)
     requires { IsInRange phase answer }

@@ -1,5 +1,6 @@
-//! What the two read-write locks share: their calls, their one kind of step, and the entries of
-//! their sections. A lock's own table says what a section leaves in the words that it finds.
+//! The common part of the two read-write locks: their calls, their one kind of step, and the
+//! entries of their sections. A lock's own table has the values that a section leaves in the words
+//! that it finds.
 //!
 //! After Herlihy and Shavit, The Art of Multiprocessor Programming, chapter 8. `Downgrade` is an
 //! addition.
@@ -14,11 +15,11 @@ use crate::entries::Added;
 use crate::{Family, Op, Outcome, Phase, SectionEffect, StepKind, rw_fifo, rw_simple};
 use lk_words::{Effect, Operation, WordArray, Words};
 
-/// What a section does: the words that it writes, each with its index and its new value; its
+/// The effect of a section: the words that it writes, each with its index and its new value; its
 /// thread's new phase; and the outcome.
 #[derive(Clone, Copy)]
 pub struct Section {
-    /// In the first word.
+    /// The write to the first word.
     pub first: Option<(usize, u64)>,
     pub other: Option<(usize, u64)>,
     pub phase: Phase,
@@ -103,7 +104,7 @@ fn read_third<W: Words>(words: &mut W, family: Family) -> Option<u64>
     }
 }
 
-// The third word of the FIFO lock, to look at.
+// The third word of the FIFO lock, without an operation of a thread.
 fn third_of(words: &WordArray, family: Family) -> Option<u64>
     requires { word_count family ≤ length words.now.0 }
     ensures { result ≡ third_word family words.now.0 }
@@ -140,7 +141,7 @@ pub fn step<W: Words>(words: &mut W, family: Family, phase: Phase) -> (Phase, Ou
     (section.phase, section.outcome)
 }
 
-// What a section changes that leaves this value in a word, if it writes it and the word differs.
+// The change that a section's write makes. There is none if it writes nothing, or the word's value.
 fn change_to(words: &WordArray, written: Option<(usize, u64)>) -> Option<Effect>
     requires { IfSome written (λ w. w.0 < length words.now.0) }
     ensures { result ≡ change_to words.now.0 written }
@@ -150,7 +151,7 @@ fn change_to(words: &WordArray, written: Option<(usize, u64)>) -> Option<Effect>
     (effect.found != value).then_some(effect)
 }
 
-/// What a section of a thread in this phase would do. Nothing changes.
+/// The effect that a section of a thread in this phase would have. Nothing changes.
 #[tactic(auto, using(crate::proofs::Sections::count_of_third))]
 pub fn effect(words: &WordArray, family: Family, phase: Phase) -> SectionEffect
     requires { word_count family ≤ length words.now.0 }

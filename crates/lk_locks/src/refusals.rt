@@ -1,5 +1,5 @@
-//! The name of each refusal, and what it says. Each text is written once: reports, messages and the
-//! library for C have theirs from here.
+//! The name and the message of each refusal. Each text is written once: reports, messages and the
+//! library for C take theirs from here.
 
 ghost use Rattle.std.specs.Prelude.{◌≡◌, ◌≤◌, length};
 ghost use Rattle.lk_locks.specs.Refusals.{message_of, name_of, text_of};
@@ -38,14 +38,14 @@ impl Refusal {
         self.words().0
     }
 
-    /// What it says, as `Display` has it.
+    /// Its message, as `Display` writes it.
     pub fn message(self) -> &'static str
         ensures { result.now ≡ message_of self }
     {
         self.words().1
     }
 
-    /// Its name, and what it says.
+    /// Its name and its message.
     pub fn text(self) -> &'static str
         ensures { result.now ≡ text_of self }
     {

@@ -1,4 +1,4 @@
-//! The shape of a lock: its kind, how many threads it has, and how many bits a word has.
+//! The shape of a lock: its kind, its number of threads, and the number of bits of a word.
 
 ghost use Rattle.std.specs.Prelude.{◌<◌, ◌≤◌, ◌≡◌, ◌^◌};
 ghost use Rattle.lk_locks.specs.State as state;
@@ -6,7 +6,7 @@ ghost use Rattle.lk_locks.specs.State as state;
 use crate::LockKind;
 use std::marker::Model;
 
-/// What a new lock is made of. A word has more values, 2^B, than there are threads, so that the
+/// The parameters of a new lock. A word has more values, 2^B, than there are threads, so that the
 /// tickets of all threads differ.
 #[derive(Clone, Copy)]
 pub struct Shape {
@@ -27,7 +27,8 @@ impl Model for Shape {
 }
 
 impl Shape {
-    /// 1 to 64 threads on words of 2 to 64 bits, with fewer threads than a word has values.
+    /// A shape of 1 to 64 threads on words of 2 to 64 bits, with fewer threads than a word has
+    /// values.
     pub fn new(kind: LockKind, threads: u8, bits: u8) -> Shape
         requires some { 0 < threads }
         requires few { threads ≤ 64 }
@@ -43,14 +44,14 @@ impl Shape {
         }
     }
 
-    /// Which lock it is.
+    /// The kind of the lock.
     pub fn kind(&self) -> LockKind
         ensures { result ≡ self.now.kind }
     {
         self.kind
     }
 
-    /// How many threads it has, from 1 to 64.
+    /// The number of threads, from 1 to 64.
     pub fn threads(&self) -> u8
         ensures threads { result ≡ self.now.threads }
         ensures some { 0 < result }
@@ -60,7 +61,7 @@ impl Shape {
         self.threads
     }
 
-    /// How many bits a word has, from 2 to 64.
+    /// The number of bits of a word, from 2 to 64.
     pub fn bits(&self) -> u8
         ensures bits { result ≡ self.now.bits }
         ensures least { 2 ≤ result }

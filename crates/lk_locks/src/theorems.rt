@@ -12,14 +12,14 @@ ghost use Rattle.lk_locks.specs.Exclusion.{IsNeverBesideReader, AnnouncedWriterG
 ghost use Rattle.lk_locks.specs.Order.{IsInOrder};
 ghost use Rattle.lk_locks.specs.Calls.{ActsOnce, ActsInCalls};
 
-/// Whatever moves are played, the history of a new lock is legal, and so there are never two
-/// holders or writers, nor a writer beside a reader, and a queue lock is entered in the order of
-/// its tickets or swaps.
+/// After any moves the history of a new lock is legal, and so there are never two holders or
+/// writers, nor a writer beside a reader, and a queue lock is entered in the order of its tickets
+/// or swaps.
 pub fn every_run_is_as_promised()
     ensures { EveryRunIsAsPromised }
 {}
 
-/// An acquire returns only if nobody holds the queue lock, and only who holds it releases it.
+/// An acquire returns only if nobody holds the queue lock, and only its holder releases it.
 pub fn holders_take_turns()
     ensures { OfEveryLegal (λ kind. IsHeldInTurn None) }
 {}
@@ -29,7 +29,7 @@ pub fn holders_are_apart()
     ensures { OfEveryLegal (λ kind. HasOneHolder) }
 {}
 
-/// Who holds a queue lock is the head of its queue.
+/// The holder of a queue lock is the head of its queue.
 pub fn holder_is_head()
     ensures { OfEveryLegal IsHeldByHead }
 {}
@@ -45,7 +45,7 @@ pub fn never_two_writers()
 {}
 
 /// Between the acts of a writer and a reader the first stops writing or reading, and at no moment
-/// there are both.
+/// are there both.
 pub fn never_a_writer_beside_a_reader()
     ensures { OfEveryLegal IsNeverBesideReader }
 {}

@@ -32,7 +32,7 @@ pub fn after_call(phase: Phase, op: Op) -> Option<Phase>
     }
 }
 
-/// What a thread in this phase does next: one operation on one word of `bits` bits.
+/// The next operation of a thread in this phase, on one word of `bits` bits.
 #[inline(always)]
 pub fn operation(bits: u8, phase: Phase) -> Option<Operation>
     requires least { 2 ≤ bits }
@@ -56,7 +56,7 @@ pub fn operation(bits: u8, phase: Phase) -> Option<Operation>
     }
 }
 
-/// The next phase and the outcome, by what the phase's operation answered.
+/// The next phase and the outcome, by the answer of the phase's operation.
 #[inline(always)]
 pub fn after(phase: Phase, answer: Answer) -> (Phase, Outcome)
     ensures { result ≡ after phase answer }

@@ -1,5 +1,5 @@
-//! A lock with its sequential object: after each move it is known who holds and who is queued. It
-//! keeps no history and takes no memory; `Keeper` adds the history.
+//! A lock with its sequential object: after each move it knows its holders and its queue. It keeps
+//! no history and takes no memory; `Keeper` adds the history.
 
 ghost use Rattle.std.specs.Prelude.{◌≡◌, [], IfOk};
 ghost use Rattle.lk_locks.specs.Change.{entries_by};
@@ -21,7 +21,7 @@ use arrayvec::ArrayVec;
 use lk_words::{WordArray, Words};
 use std::marker::Model;
 
-/// Machine and sequential lock together and, of a queue lock, the thread whose acquire returned
+/// The machine, the sequential object and, for a queue lock, the thread whose acquire returned
 /// last, up to its release.
 #[derive(Drop)]
 pub struct Tracker<W: Words> {
@@ -53,7 +53,7 @@ impl Tracker<WordArray> {
 }
 
 impl<W: Words> Tracker<W> {
-    // Of a lock on which nothing was played.
+    // The tracker of a lock on which nothing was played.
     pub(crate) fn of_new(machine: Machine<W>) -> Tracker<W>
         requires { IsTracked machine (nobody machine.kind) }
         ensures { result ≡ tracked machine [] }
@@ -90,7 +90,7 @@ impl<W: Words> Tracker<W> {
         Ok((outcome, added))
     }
 
-    /// The lock alone, to look at: its words, its phases, and what would be refused.
+    /// The machine alone: its words, its phases, and the refusals that it would give.
     pub fn machine(&self) -> &Machine<W>
         ensures { result.now ≡ self.now.state }
     {
@@ -104,7 +104,7 @@ impl<W: Words> Tracker<W> {
         self.machine.kind()
     }
 
-    /// Who holds now. A pending release of a queue lock still holds.
+    /// The present holders. A thread with a pending release of a queue lock still holds it.
     pub fn holders(&self) -> Holders
         ensures holding { holding result ≡ holding_in self.now }
         ensures listed { IsListed (holding result) }
@@ -122,8 +122,8 @@ impl<W: Words> Tracker<W> {
         }
     }
 
-    /// Who is in the queue: the requests of a queue lock, oldest first, the holder's too; the
-    /// announced writer of a FIFO lock; nobody of a simple lock.
+    /// The threads in the queue: the requests of a queue lock, oldest first, the holder's too; the
+    /// announced writer of a FIFO lock; none of a simple lock.
     pub fn queue(&self) -> ArrayVec<u8, 64>
         ensures { result.items ≡ waiting_in self.now }
     {
@@ -138,7 +138,7 @@ impl<W: Words> Tracker<W> {
     }
 }
 
-// Who holds a queue lock after these entries.
+// The holder of a queue lock after these entries.
 fn holder_after(holder: Option<u8>, entries: &[Entry]) -> Option<u8>
     ensures { result ≡ holder_after holder entries.now }
 {

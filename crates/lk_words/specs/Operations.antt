@@ -1,4 +1,4 @@
--- Definitions. What one operation does to the words, and what it answers.
+-- Definitions. The effect of one operation on the words, and its answer.
 --
 -- The five operations are those of Mellor-Crummey and Scott, ACM TOCS 9(1), 1991. Different here:
 -- they come one after another, and words have B bits.
@@ -19,7 +19,7 @@ word_of (Swap i v) = i
 word_of (CompareAndSwap i old new) = i
 word_of (FetchAndAdd i d) = i
 
--- what it leaves in a word that holds this
+-- the value that an operation leaves in a word that holds `found`
 abbrev pub left_by : ℕ → ℕ → Operation → ℕ
 left_by bits found (Read i) = found
 left_by bits found (Write i v) = v
@@ -27,7 +27,7 @@ left_by bits found (Swap i v) = v
 left_by bits found (CompareAndSwap i old new) = if found == old then new else found
 left_by bits found (FetchAndAdd i d) = (found + d) % 2 ^ bits
 
--- what it answers
+-- the answer of an operation on a word that holds `found`
 abbrev pub answer_of : ℕ → Operation → Answer
 answer_of found (Read i) = Found found
 answer_of found (Write i v) = Nothing
@@ -35,7 +35,7 @@ answer_of found (Swap i v) = Found found
 answer_of found (CompareAndSwap i old new) = Swapped (found == old)
 answer_of found (FetchAndAdd i d) = Found found
 
--- what it does to its word, among these words
+-- the effect of an operation on its word among the words `ws`
 abbrev pub effect_on : ℕ → List ℕ → Operation → Effect
 effect_on bits ws op = record {
   word = word_of op;
@@ -49,7 +49,7 @@ pub record Performed : Type 0 where
   pub words : List ℕ
   pub answer : Answer
 
--- these words, in which the operation leaves this value; a read leaves all of them
+-- the words after the operation left this value in its word; a read leaves all words as they are
 abbrev pub left_in : List ℕ → Operation → ℕ → List ℕ
 left_in ws (Read i) value = ws
 left_in ws op value = slice_set ws (word_of op) value
@@ -60,7 +60,7 @@ performed bits ws op = record {
   answer = (effect_on bits ws op).answer;
 }
 
--- its word is one of so many, and its operands fit words of so many bits
+-- the operation's word is one of `size` words, and its operands fit words of `bits` bits
 abbrev pub Fits : ℕ → ℕ → Operation → Type 0
 Fits bits size (Read i) = i < size
 Fits bits size (Write i v) = (i < size) × (v < 2 ^ bits)

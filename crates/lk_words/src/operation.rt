@@ -1,8 +1,8 @@
 //! An operation on a word as a value: which one it is, on which word, and with which operands.
 //!
 //! The five are those in which Mellor-Crummey and Scott state their locks (ACM TOCS 9(1), 1991).
-//! Different here: an operation is data, so a lock can say what a thread does next before it is
-//! done, and whoever watches a step reads what it does to its word in place of deriving it.
+//! Different here: an operation is data, so a lock can name a thread's next operation before it is
+//! made, and a caller that watches a step reads its effect on the word and does not derive it.
 
 ghost use Rattle.std.specs.Prelude.{◌≡◌, ◌≤◌, ◌<◌, ◌+◌, ◌%◌, ◌^◌, length};
 ghost use Rattle.lk_words.specs.Operations.{answer_of, left_by, performed};
@@ -26,25 +26,25 @@ pub enum Operation {
 pub enum Answer {
     /// A write returns nothing.
     Nothing,
-    /// What a read, a swap or a fetch-and-add found in the word.
+    /// The value that a read, a swap or a fetch-and-add found in the word.
     Found(u64),
     /// Whether a compare-and-swap replaced the word.
     Swapped(bool),
 }
 
-/// What an operation does to its word.
+/// The effect of an operation on its word.
 #[derive(Clone, Copy, PartialEq, Eq, Debug)]
 pub struct Effect {
     /// The place of the word.
     pub word: usize,
-    /// What the word holds before.
+    /// The value of the word before the operation.
     pub found: u64,
-    /// What it holds afterwards.
+    /// The value of the word after it.
     pub left: u64,
     pub answer: Answer,
 }
 
-/// The sum of two words of so many bits, which wraps.
+/// The sum of two words of `bits` bits, which wraps.
 #[tactic(auto, using(crate::proofs::Prefix::left_of_sum))]
 pub fn sum(bits: u8, word: u64, addend: u64) -> u64
     requires least { 2 ≤ bits }
@@ -69,7 +69,7 @@ impl Operation {
         }
     }
 
-    /// What it does to a word of so many bits that holds `found`.
+    /// The effect of the operation on a word of `bits` bits that holds `found`.
     pub fn effect(self, found: u64, bits: u8) -> Effect
         requires least { 2 ≤ bits }
         requires most { bits ≤ 64 }

@@ -1,4 +1,4 @@
--- The rule of the draw counter, in the words of its lists.
+-- The rule of the draw counter, in the terms of its lists.
 use Rattle.std.proofs.Common.{◌≡◌, ℕ, ◌+◌, List, length, get_or, refl, ap, ap₂, subst₂, ◌∙◌, arith}
 use mathlib.Core.Option.{some}
 use lib.ListN.{get_elem?}

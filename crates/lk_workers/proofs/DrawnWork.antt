@@ -1,4 +1,4 @@
--- What is drawn, and what comes back.
+-- The numbers drawn, and the seats and reports that come back.
 use Rattle.std.proofs.Common.{◌≡◌, ℕ, ◌+◌, ◌-◌, ◌*◌, ◌<◌, ◌≤◌, Vec, Global, List, [], ◌∷◌, ◌++◌}
 use Rattle.std.proofs.Common.{cond, length, map, filter, ltb, Bool, true, false, ltb-false, ap₂}
 use Rattle.std.proofs.Common.{sym, refl, ap, ◌∙◌, arith, length-append, le-ltb, append-nil}
@@ -82,7 +82,7 @@ each_once texts ps drawn word reports through_all each = (
       ∙ each.0 k (omega (arith, drawn_below drawn word last each some, far, below)),
 )
 
--- what two groups of workers bring back is what all of them bring back
+-- the results of two groups of workers, joined, are the results of all of them
 pub done_both : (c : Counter) (texts : List (Vec ℕ Global)) (workers half rest : ℕ)
     (front back s : Drawer) (ps qs all : List (ℕ × Vec ℕ Global))
     → half + rest ≡ workers

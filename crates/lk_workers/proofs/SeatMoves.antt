@@ -83,7 +83,7 @@ change : (f : SeatState → ℕ) (vs : List (List SeatState)) (id : ℕ) (r q : 
     → sum_over_seats f (set vs id (q ∷ [])) + f r ≡ sum_over_seats f vs + f q
 change f vs id r q at = omega (arith, sum_over-set (sum_over f) vs id (r ∷ []) (q ∷ []) at)
 
--- what a take finds
+-- the facts that a take finds
 abbrev TakeFinds : SeatState → ℕ → Type 0
 TakeFinds r found = (r.seen ≤ found) × (found < 2 ^ 40) × (r.taken < 2 ^ 40)
 

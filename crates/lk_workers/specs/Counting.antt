@@ -1,7 +1,7 @@
--- Definitions. How often a number is in a list, and sums along a list.
+-- Definitions. The occurrences of a number in a list, and sums along a list.
 use Rattle.std.specs.Prelude.{◌≡◌, ℕ, zero, suc, ◌+◌, ◌<◌, ◌≤◌, ◌==◌, List, [], ◌∷◌, if◌then◌else◌}
 
--- f of each element, added up
+-- the sum of f over the elements
 abbrev pub sum_over : {A : Type 0} → (A → ℕ) → List A → ℕ
 sum_over f [] = 0
 sum_over f (v ∷ vs) = f v + sum_over f vs
@@ -10,7 +10,7 @@ sum_over f (v ∷ vs) = f v + sum_over f vs
 abbrev pub indicator : ℕ → ℕ → ℕ
 indicator x y = if y == x then 1 else 0
 
--- how often x is in the list
+-- the number of times that x is in the list
 abbrev pub occurrences : ℕ → List ℕ → ℕ
 occurrences x xs = sum_over (indicator x) xs
 

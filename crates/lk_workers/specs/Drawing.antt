@@ -1,5 +1,5 @@
--- Definitions. What a contract sees of a draw counter and of its seats, and what holds of them
--- between any two steps.
+-- Definitions. A draw counter and its seats as a contract sees them, and their state between any
+-- two steps.
 use Rattle.std.specs.Prelude.{◌≡◌, ◌≢◌, ℕ, ◌+◌, ◌<◌, ◌≤◌, List, length, slice_index, All}
 use Rattle.std.specs.List.{flat_map}
 use mathlib.Core.Option.{some}
@@ -10,7 +10,7 @@ use Rattle.lk_workers.specs.Counting.{sum_over, occurrences, IsEachBelow}
 use Rattle.lk_workers.specs.declared.draws.DrawView.{DrawView}
 use Rattle.lk_workers.specs.invariants.DrawRule.{Drawn}
 
--- a counter: which one it is, and the draws that its first seat had
+-- a counter: its identity, and the draws that its first seat had
 pub record Counter : Type 0 where
   pub table : TableId
   pub draws : ℕ
@@ -40,7 +40,7 @@ word_of s = slice_index s.words 0
 pub record DrawState (draws : ℕ) (s : State (Unit {0}) DrawView) : Type 0 where
   -- the numbers in the lists of all seats are those below the word, each once
   pub numbers : IsEachBelow (word_of s) (flat_map (λ v. v.drawn) s.views)
-  -- what was drawn and what is left is all
+  -- the draws made and the draws left are all draws
   pub all : word_of s + sum_over (λ v. v.left) s.views ≡ draws
   -- no two seats have one number
   pub apart : (i j : ℕ) (v w : DrawView) (x : ℕ) → i ≢ j → get_elem? s.views i ≡ some v
@@ -52,8 +52,8 @@ pub record DrawState (draws : ℕ) (s : State (Unit {0}) DrawView) : Type 0 wher
   pub whole : (i : ℕ) (v : DrawView) → get_elem? s.views i ≡ some v
       → length v.drawn + v.left ≡ draws → IsEachBelow (word_of s) v.drawn
 
--- this word is that of a state of the counter, in which a seat has drawn these numbers and has this
--- left
+-- a state of the counter has this word, and in it a seat has drawn these numbers and has this many
+-- draws left
 abbrev pub IsEnd : ℕ → ℕ → List ℕ → ℕ → Type 0
 IsEnd draws word drawn left =
     (s : State (Unit {0}) DrawView) × DrawState draws s × (word_of s ≡ word)

@@ -1,5 +1,5 @@
--- Definitions. What holds of the running ticket lock between any two atomic steps, and which call
--- and step of the ticket machine each step is.
+-- Definitions. The state of the running ticket lock between any two atomic steps, and the call and
+-- step of the ticket machine that each step is.
 --
 -- The machine is that of Mellor-Crummey and Scott, ACM TOCS 9(1), 1991, section 2.2, whose rows are
 -- in `laws` of lk_locks; the seats and the correspondence are this project's own.
@@ -34,7 +34,7 @@ pub record LockState (s : Table) : Type 0 where
   pub order : serving_of s ≤ next_of s
   pub waiting : (id k : ℕ) (r : SeatState) → IsAt s.views id k r → r.phase ≡ Waiting
       → (serving_of s ≤ r.ticket) × (r.ticket < next_of s)
-  -- who is inside or leaves has the ticket that is served
+  -- a seat that is inside or leaves has the ticket that is served
   pub holding : (id k : ℕ) (r : SeatState) → IsAt s.views id k r → IsHolding r.phase
       → (r.ticket ≡ serving_of s) × (serving_of s < next_of s)
   -- the tickets of two seats differ
@@ -49,7 +49,7 @@ pub record LockState (s : Table) : Type 0 where
   pub seen : (id k : ℕ) (r : SeatState) → IsAt s.views id k r → r.seen ≤ serving_of s
   pub two_at_most : (id : ℕ) (v : List SeatState) → get_elem? s.views id ≡ some v → length v ≤ 2
 
--- these two words are those of a state of the lock, in which the view of a seat is this
+-- a state of the lock has these two words, and in it the view of a seat is `r` alone
 abbrev pub IsEnd : ℕ → ℕ → SeatState → Type 0
 IsEnd next serving r =
     (s : Table) × LockState s × (next_of s ≡ next) × (serving_of s ≡ serving)
@@ -58,8 +58,8 @@ IsEnd next serving r =
 abbrev pub RuleIsTheLock : Type 0
 RuleIsTheLock = (takes : ℕ) (s : Table) → Running takes s → LockState s
 
--- Whatever a step of one seat, a split of it or a join of another into it does, the view of each
--- other seat stays. So a seat that was dropped, and takes no part in any, keeps its view
+-- A step of one seat, a split of it or a join of another into it leaves the view of each other seat
+-- as it is. So a seat that was dropped, and takes no part in any, keeps its view
 abbrev pub OthersStay : Type 0
 OthersStay = (s : Table) (id j : ℕ) → j ≢ id
     → ((i n : ℕ) (c : List (ℕ × Unit {0})) (w : List SeatState) (a : Act (Unit {0}))

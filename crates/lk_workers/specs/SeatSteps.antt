@@ -8,8 +8,8 @@ use Rattle.lk_workers.specs.declared.live.LivePhase.TheVariants.{Idle, Waiting, 
 use Rattle.lk_workers.specs.declared.live.rule.SeatState.{SeatState}
 use Rattle.lk_workers.specs.Seats.{Table, new_seat, operation, with_operation, with_seen}
 
--- its word, what it adds or stores there, what it leaves there if it finds this, and the seat
--- afterwards but for the note
+-- the step's word, the number that it adds or stores there, the value that it leaves there by the
+-- value found, and the seat afterwards but for the note of the operation
 pub record LiveStep : Type 0 where
   pub word : ℕ
   pub operand : SeatState → ℕ
@@ -58,7 +58,7 @@ table_after st id s r =
     let found : ℕ = slice_index s.words st.word in
     stepped s st.word (st.leaves r found) id [] (seat_after st r found ∷ []) keeps
 
--- one idle seat of two
+-- the one idle seat that two become
 abbrev pub join_of : SeatState → SeatState → SeatState
 join_of r q = record {
   phase = Idle;
@@ -77,7 +77,7 @@ rest_of a r = record r { left = r.left - a }
 abbrev pub share_of : ℕ → SeatState → SeatState
 share_of a r = new_seat a r.seen
 
--- the view of one idle seat of two
+-- the view of the one idle seat that two become
 abbrev pub merge_of : List SeatState → List SeatState → List SeatState
 merge_of (r ∷ rs) (q ∷ qs) = join_of r q ∷ []
 merge_of v w = []

@@ -1,5 +1,5 @@
--- Definitions. What is known of a seat of the running ticket lock, and the thread of the ticket
--- machine that it represents.
+-- Definitions. The ghost state of a seat of the running ticket lock, and the thread of the ticket
+-- machine that the seat represents.
 --
 -- The correspondence is this project's own: a seat is a thread, and each of its calls is one event
 -- of the lock of Mellor-Crummey and Scott, "Algorithms for Scalable Synchronization on
@@ -15,7 +15,7 @@ use Rattle.lk_workers.specs.declared.live.rule.Operation.{Operation}
 use Rattle.lk_workers.specs.declared.live.rule.SeatState.{SeatState}
 use Rattle.lk_workers.specs.Counting.{indicator, sum_over}
 
--- an atomic operation of a seat: its word, and what it adds or stores there, which is 0 of a load
+-- an atomic operation of a seat: its word, and what it adds or stores there, 0 of a load
 abbrev pub operation : ℕ → ℕ → Operation
 operation word operand = record { word = word; operand = operand }
 
@@ -43,7 +43,7 @@ abbrev pub first_of : List SeatState → SeatState
 first_of [] = new_seat 0 0
 first_of (r ∷ rs) = r
 
--- what is known of a seat: what it keeps itself, and the loads and operations of its view
+-- the state of a seat: the numbers that it keeps itself, and the loads and operations of its view
 abbrev pub known : LivePhase → ℕ → ℕ → ℕ → ℕ → List SeatState → SeatState
 known phase ticket left taken seen v = record (first_of v) {
   phase = phase;
@@ -53,7 +53,7 @@ known phase ticket left taken seen v = record (first_of v) {
   seen = seen;
 }
 
--- what a contract sees of a seat: its lock, and what is known of it
+-- a seat as a contract sees it: its lock and its state
 pub record Live : Type 0 where
   pub table : TableId
   pub state : SeatState
@@ -63,7 +63,7 @@ pub record Live : Type 0 where
 abbrev pub Table : Type 0
 Table = State (Unit {0}) (List SeatState)
 
--- the seats of all views, added up
+-- the sum of f over the seats of all views
 abbrev pub sum_over_seats : (SeatState → ℕ) → List (List SeatState) → ℕ
 sum_over_seats f views = sum_over (sum_over f) views
 
@@ -103,7 +103,7 @@ ticket_indicator_in x phase t = indicator x t
 abbrev pub ticket_indicator : ℕ → SeatState → ℕ
 ticket_indicator x r = ticket_indicator_in x r.phase r.ticket
 
--- not both seats are inside or leaving, and no ticket is that of both
+-- at most one of the two seats is inside or leaving, and no ticket is that of both
 abbrev pub AreApart : SeatState → SeatState → Type 0
 AreApart r q =
     ¬ (IsHolding r.phase × IsHolding q.phase)

@@ -15,7 +15,7 @@ impl Amount for Brand {
     ghost amount = { 0 };
 }
 
-/// A split of a view: so much of what its seat has left goes to a new seat.
+/// A split of a view: this amount of what its seat has left goes to a new seat.
 pub struct SplitOff<A> {
     amount: PhantomData<A>,
 }

@@ -1,8 +1,8 @@
 //! A counter whose numbers threads draw, each once.
 //!
 //! A draw is a fetch-and-add on one shared word. A contract sees a seat as the list of the numbers
-//! that it drew; no run keeps that list. The invariant counts: each number is as often in the lists
-//! of all seats as it is below the word.
+//! that it drew; no run keeps that list. The invariant counts: each number below the word is in the
+//! lists of all seats once, and no other number is.
 
 ghost use Rattle.std.specs.Prelude.{◌≡◌, ◌+◌, ◌-◌, ◌^◌, ◌<◌, ◌≤◌, [], ◌∷◌, ◌++◌, length, All};
 ghost use Rattle.std.specs.Prelude.{IfOk};
@@ -39,7 +39,7 @@ impl Play<(), DrawView> for Draw {
     ghost then = { DrawFinds };
 }
 
-// A load that changes no view, for what only the invariant says: a joined seat's draws are few.
+// A load that changes no view. It gives a fact of the invariant: a joined seat's draws are few.
 struct Inspect;
 
 impl Play<(), DrawView> for Inspect {
@@ -98,7 +98,7 @@ impl Model for DrawSeat {
 }
 
 impl DrawSeat {
-    /// How many draws the seat has left.
+    /// The number of draws that the seat has left.
     pub fn left(&self) -> u64
         ensures { result ≡ self.now.left }
     {
@@ -144,7 +144,7 @@ impl Draws {
         ensures seat { seat.new
             ≡ drawer self.now (seat.old.drawn ++ result ∷ []) (seat.old.left - 1) }
         ensures greater { All (λ x. x < result) seat.old.drawn }
-        // as many numbers are below it at least
+        // at least as many numbers are below it
         ensures many { length seat.old.drawn ≤ result }
     {
         let number = self.table.shared.fetch_add::<Draw>(&mut seat.seat, 0, 1);

@@ -32,7 +32,7 @@ use rule::{
 use std::alloc::{AllocError, Global};
 use std::marker::{Brand, Model};
 
-/// Where a seat is in its acquire and release.
+/// The place of a seat in its acquire and release.
 #[derive(Clone, Copy, PartialEq, Eq, Debug)]
 pub enum LivePhase {
     /// It has no ticket.
@@ -85,7 +85,7 @@ impl Model for LiveSeat {
 }
 
 impl LiveSeat {
-    // A seat that took nothing yet.
+    // A seat that has taken no ticket yet.
     fn idle(seat: Seat<(), View>, left: u64, seen: u64) -> LiveSeat
         requires { seat.me ≡ (new_seat left seen ∷ [], []) }
         ensures { (result.table ≡ seat.table_id)
@@ -101,7 +101,7 @@ impl LiveSeat {
         }
     }
 
-    /// Where the seat is.
+    /// The place of the seat in its acquire and release.
     pub fn phase(&self) -> LivePhase
         ensures { result ≡ self.now.state.phase }
     {
@@ -118,14 +118,14 @@ impl LiveSeat {
         }
     }
 
-    /// How many tickets it may still take.
+    /// The number of tickets that it may still take.
     pub fn left(&self) -> u64
         ensures { result ≡ self.now.state.left }
     {
         self.left
     }
 
-    /// How many tickets it took, and the seats that were joined into it.
+    /// The number of tickets that it and the seats joined into it took.
     pub fn taken(&self) -> u64
         ensures { result ≡ self.now.state.taken }
     {
@@ -184,7 +184,8 @@ impl LiveTicket {
         ticket
     }
 
-    /// Whether the seat's ticket is served, and then it is inside: a load of `now_serving`.
+    /// Returns whether the seat's ticket is served; if so, the seat is inside: a load of
+    /// `now_serving`.
     pub fn look(&self, seat: &mut LiveSeat) -> bool
         requires own { seat.old.table ≡ self.now }
         requires waiting { seat.old.state.phase ≡ Waiting }

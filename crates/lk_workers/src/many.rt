@@ -63,7 +63,7 @@ fn deal(draws: &Draws, texts: &[Vec<u8>], seat: &mut DrawSeat, workers: u8, half
     draws.split(seat, u64::from(workers - half) * share)
 }
 
-// What two groups of workers bring back, as one.
+// The seat and the reports of two groups of workers, as one.
 fn gather(draws: &Draws, front: Done, back: Done) -> Result<Done, AllocError>
     requires { IsSeatOf draws.now front.0 × IsSeatOf draws.now back.0 }
     ensures { IfOk result
@@ -77,8 +77,8 @@ fn gather(draws: &Draws, front: Done, back: Done) -> Result<Done, AllocError>
     Ok((seat, reports))
 }
 
-// This many workers, in halves side by side. What they share is passed part by part: of a closure
-// that holds it as one struct, inside a recursion, the kit's `join` can prove nothing.
+// Runs this many workers, in halves side by side. The values that they share are passed one by one:
+// inside a recursion the kit's `join` proves nothing of a closure that holds them as one struct.
 fn work_all<G: Gate, R: Threads + Sync>(
     rt: &R,
     alloc: Global,
@@ -130,7 +130,7 @@ fn draw_all<G: Gate, R: Threads + Sync>(
     Ok(reports)
 }
 
-// The reports in the places of their texts.
+// Puts the reports into the places of their texts.
 fn place_all(
     alloc: Global,
     texts: &[Vec<u8>],

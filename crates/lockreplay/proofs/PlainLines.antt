@@ -1,5 +1,5 @@
--- What the parser makes of a plain batch line: the words after `batch` go to it, the digit to
--- `--workers`, and each word after it to the files.
+-- The parser reads a plain batch line: the arguments after `batch` go to it, the digit to
+-- `--workers`, and each argument after it to the files.
 use Rattle.std.proofs.Common.{◌≡◌, ◌∙◌, ℕ, ◌+◌, ◌<◌, true, false, List, [], ◌∷◌, ◌++◌, length}
 use Rattle.std.proofs.Common.{Option, Some, None, codes, refl, sym, ap, arith, not, append_assoc}
 use Rattle.std.proofs.Common.{append-nil, inl, inr}

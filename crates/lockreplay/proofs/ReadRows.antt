@@ -1,4 +1,4 @@
--- What the getters read of the rows that a plain batch line gives.
+-- The values that the getters read from the rows of a plain batch line.
 use Rattle.std.proofs.Common.{◌≡◌, ◌∙◌, ℕ, ◌+◌, ◌<◌, ◌≤◌, List, Option, Some, None, Result}
 use Rattle.std.proofs.Common.{option_map, codes, refl, ap, arith, suc}
 use Rattle.std.specs.Prelude.{unwrap_or, IsSomeAnd, ◌==◌}
@@ -37,7 +37,7 @@ reads_digit gives parses workers None most read =
     let number = is_number workers most in
     absurd (parses _ _ read.1 (is_numeral workers most, omega (arith, number.0, most)))
 
--- what is in the rows
+-- the rows have the digit of `--workers`
 finds_digit : (workers : ℕ) (files : List Text)
     → one_of (codes "workers") (batch_rows workers files) ≡ Some (digit workers)
 finds_digit workers files = rw (not-true ((48 + workers) == 45) (plain_digit workers)) refl
@@ -54,7 +54,7 @@ workers_read gives parses found workers got files read most rows value is =
     (value (digit workers) (one_text-rows found (codes "workers")
     ∙ ap (one_of (codes "workers")) rows ∙ finds_digit workers files)))
 
--- what an option's default means, if the option has a value
+-- a default leaves the value of an option that has one
 taken_texts : {X : Type 0} (f : X → List Text) (o : Option X) (d : X) (files : List Text)
     → option_map f o ≡ Some files → f (unwrap_or o d) ≡ files
 taken_texts f None d files e = absurd (none-some files e)

@@ -1,4 +1,4 @@
--- What is sent is the text of the reports of the files' texts.
+-- The text that is sent is that of the reports of the files' texts.
 use Rattle.std.proofs.Common.{◌≡◌, ◌≢◌, ◌∙◌, ℕ, List, Vec, Global, Option, Err, length, map, ap}
 use Rattle.std.proofs.Common.{refl, subst, sym}
 use Rattle.std.proofs.lemmas.Simd.{map-map}
@@ -23,7 +23,7 @@ same_reports texts given reports lent as_texts as_reports replayed =
     ap bytes_of as_reports ∙ replayed ∙ ap (map (λ t. report_text t.items)) as_texts
     ∙ sym (map-map report_text (λ t. t.items) texts)
 
--- what a batch leaves whose sending ends with this fault
+-- the end of a batch whose sending ends with this fault
 pub cut_batch : (fault : RunFault) (texts : List (List ℕ)) (reports : List (List ℕ)) (count : ℕ)
     (old new : Option (List ℕ))
     → length texts ≡ count → reports ≡ map report_text texts

@@ -1,5 +1,5 @@
--- Definitions: what the program leaves on standard output, and its status or its message for
--- standard error.
+-- Definitions: the bytes that the program leaves on standard output, and its status or its message
+-- for standard error.
 use Rattle.std.specs.Prelude.{◌≡◌, ℕ, List, string_bytes, Option, Result, Ok, Err}
 use Rattle.std.specs.Io.KnownBytes.{Appends, Keeps}
 use Rattle.lk_replay.specs.Devices.{AppendsPrefix}
@@ -28,14 +28,14 @@ abbrev pub EndsHelp : List ℕ → Option (List ℕ) → Option (List ℕ) → R
 EndsHelp text old new (Ok status) = (status ≡ 0) × Appends old new text
 EndsHelp text old new (Err fault) = (fault ≡ Output) × AppendsPrefix old new text
 
--- P of a status, or of the fault that the message tells
+-- P holds of the status, or of the fault that the message tells
 abbrev pub EndsWith : (Result ℕ ProgramFault → Type 0) → Result ℕ Message → Type 0
 EndsWith P (Ok status) = P (Ok status)
 EndsWith P (Err (message.Fault fault)) = P (Err fault)
 EndsWith P (Err (message.Usage text)) = ⊥
 
--- what the program leaves on standard output, with its status or its message. Words that ask for
--- nothing are answered by the parser's text.
+-- The end of the program: the bytes on standard output, with its status or its message. Arguments
+-- that name no job are answered by the parser's text.
 abbrev pub EndsProgram : Result Job ParseFault → Option (List ℕ) → Option (List ℕ) → Option (List ℕ)
     → Result ℕ Message → Type 0
 EndsProgram (Ok job) input old new r = EndsWith (EndsJob job input old new) r

@@ -1,5 +1,5 @@
--- Definitions: the plain command lines, and what each asks for. The parser decides what every other
--- line comes to, such as one with its options in another order.
+-- Definitions: the plain command lines, and the job of each. The parser decides on every other
+-- line, such as one with its options in another order.
 use Rattle.std.specs.Prelude.{◌≡◌, ◌⊎◌, ◌+◌, ◌<◌, ◌≤◌, ◌==◌, not, ℕ, Bool, true, List, [], ◌∷◌}
 use Rattle.std.specs.Prelude.{length, map, codes, string_bytes, Result, Ok, Err}
 use Rattle.lockreplay.specs.declared.command_line.Job.{Job}
@@ -7,7 +7,7 @@ use Rattle.lockreplay.specs.declared.command_line.Job.TheVariants.{Replay, Batch
 use Rattle.lockreplay.specs.declared.command_line.ParseFault.{ParseFault}
 use Rattle.lockreplay.specs.declared.command_line.ParseFault.TheVariants.{TooManyFiles, OutOfMemory}
 
--- a word, as its bytes
+-- an argument, as its bytes
 abbrev pub Word : Type 0
 Word = List ℕ
 
@@ -19,12 +19,12 @@ replay_line = codes "replay" ∷ []
 abbrev pub batch_line : ℕ → List Word → List Word
 batch_line workers files = codes "batch" ∷ codes "--workers" ∷ ((48 + workers) ∷ []) ∷ files
 
--- the word does not begin with a hyphen, so it is no option
+-- the argument does not begin with a hyphen, so it is no option
 abbrev pub is_plain : Word → Bool
 is_plain [] = true
 is_plain (b ∷ rest) = not (b == 45)
 
--- a batch of these files by so many workers
+-- the job is a batch of these files by this many workers
 abbrev pub IsBatchOfFiles : ℕ → List Word → Job → Type 0
 IsBatchOfFiles workers files Replay = ⊥
 IsBatchOfFiles workers files (Batch w fs) = (w ≡ workers) × (map string_bytes fs.items ≡ files)
@@ -41,7 +41,7 @@ IsTooMany (Err TooManyFiles) = Unit {0}
 IsTooMany (Err OutOfMemory) = Unit {0}
 IsTooMany _ = ⊥
 
--- what a batch of files comes to, by how many there are
+-- the answer to a batch of files, by the number of the files
 abbrev pub AnswersBatch : ℕ → List Word → Result Job ParseFault → Type 0
 AnswersBatch workers files r =
     (length files ≤ 65536 → AsksFor (IsBatchOfFiles workers files) r)

@@ -1,5 +1,5 @@
--- Invariants: the command that the parser is given, in the parser's own words. What it is built of
--- is carried to the parse; no public contract rests on it.
+-- Invariants: the command that the parser is given, in the parser's own terms. The parts of the
+-- command are carried to the parse; no public contract rests on them.
 use Rattle.std.specs.Prelude.{◌+◌, Some, None, [], ◌∷◌, List, ℕ, codes, true, pos}
 use Rattle.clap.specs.Words.{App, Row, Rule, Text, new_app, new_rule, with_rule, with_subcommand}
 use Rattle.clap.specs.Lexer.{usize_max}
@@ -60,6 +60,6 @@ files_row files = record {
   reading = reading_of vp.String;
 }
 
--- what the parser finds of a plain batch line
+-- the rows that the parser finds in a plain batch line
 abbrev pub batch_rows : ℕ → List Text → List Row
 batch_rows workers files = workers_row workers ∷ files_row files ∷ []

@@ -6,7 +6,7 @@ use Rattle.lockreplay.specs.declared.faults.ProgramFault.{ProgramFault}
 use Rattle.lockreplay.specs.declared.faults.ProgramFault.TheVariants.{Input, Output, Memory}
 use Rattle.lockreplay.specs.declared.faults.ProgramFault.TheVariants.{TooManyFiles, File}
 
--- 2 if the words ask for too much, 3 if a device or the memory failed
+-- 2 if the arguments name too many files, 3 if a device or the memory failed
 abbrev pub fault_status : ProgramFault → ℕ
 fault_status TooManyFiles = 2
 fault_status _ = 3

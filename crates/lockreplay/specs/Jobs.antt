@@ -1,4 +1,4 @@
--- Definitions: which jobs there are, and what each leaves on the output, with its status.
+-- Definitions: the jobs, the output that each leaves, and its status.
 use Rattle.std.specs.Prelude.{◌≡◌, ◌≤◌, ℕ, Bool, true, false, List, length, map, Option, Result}
 use Rattle.std.specs.Prelude.{Ok, Err, IfOk, IfSome, if◌then◌else◌}
 use Rattle.std.specs.List.{list_all}
@@ -24,7 +24,7 @@ IsFitJob (Batch workers files) =
 abbrev pub FitsJob : Result Job ParseFault → Type 0
 FitsJob r = IfOk r IsFitJob
 
--- What the replay of an input leaves. The report of the input's bytes went out, and the status is
+-- The end of the replay of an input. The report of the input's bytes went out, and the status is
 -- that of its ending; or the output failed, after a prefix of it; or another fault came before it.
 abbrev pub EndsReplay : Option (List ℕ) → Option (List ℕ) → Option (List ℕ) → Result ℕ ProgramFault
     → Type 0
@@ -44,13 +44,13 @@ is_accepted _ = false
 abbrev pub status_of_reports : List (List ℕ) → ℕ
 status_of_reports reports = if list_all (λ r. is_accepted (ending_of r)) reports then 0 else 1
 
--- the fault of reading files: one of these many, or memory
+-- a fault in reading this many files: the number of a file, or out of memory
 abbrev pub IsFileFault : ℕ → ProgramFault → Type 0
 IsFileFault count (File k) = (1 ≤ k) × (k ≤ count)
 IsFileFault count Memory = Unit {0}
 IsFileFault count _ = ⊥
 
--- What a batch of this many files leaves. The reports of this many texts went out as one text, and
+-- The end of a batch of this many files. The reports of this many texts went out as one text, and
 -- the status is theirs; or the output failed, after a prefix of it; or another fault came before.
 abbrev pub EndsBatch : ℕ → Option (List ℕ) → Option (List ℕ) → Result ℕ ProgramFault → Type 0
 EndsBatch count old new (Ok status) = (texts : List (List ℕ)) × (length texts ≡ count)
@@ -60,7 +60,7 @@ EndsBatch count old new (Err Output) = (texts : List (List ℕ)) × (length text
     × AppendsPrefix old new (batch_text_of (map report_text texts))
 EndsBatch count old new (Err fault) = IsFileFault count fault × Keeps old new
 
--- what a job leaves, of an input and an output
+-- the end of a job, on an input and an output
 abbrev pub EndsJob : Job → Option (List ℕ) → Option (List ℕ) → Option (List ℕ)
     → Result ℕ ProgramFault → Type 0
 EndsJob Replay input old new r = EndsReplay input old new r

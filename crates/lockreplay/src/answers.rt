@@ -1,6 +1,6 @@
-//! What the program leaves once it knows what it is asked for: bytes on standard output, and a
-//! status or a message for standard error. The message is a value, so that a contract says exactly
-//! which one it is: no contract can say whether a device takes bytes.
+//! The answer of the program to its arguments: bytes on standard output, and a status or a message
+//! for standard error. The message is a value, so that a contract says exactly which one it is: no
+//! contract can say whether a device takes bytes.
 
 ghost use Rattle.std.specs.Prelude.{◌≡◌, OnOk};
 ghost use Rattle.std.specs.Io.KnownBytes.{Appends};
@@ -19,12 +19,12 @@ use std::io::{self, Read, Write};
 use std::rt::Files;
 use std::thread::Threads;
 
-/// What the program says on standard error. It then ends with `status`.
+/// The message on standard error. The program then ends with `status`.
 #[derive(Debug, Drop)]
 pub enum Message {
     /// The line of a fault.
     Fault(ProgramFault),
-    /// The text of the command line's parser, for words that ask for nothing.
+    /// The text of the command line's parser, for arguments that name no job.
     Usage(String),
 }
 
@@ -51,7 +51,7 @@ impl Message {
     ///
     /// # Errors
     ///
-    /// That of a write that failed. Some of the bytes may be written.
+    /// The error of a write that failed. Some of the bytes may be written.
     pub fn write<E: Write>(&self, errors: &mut E) -> io::Result<()>
         ensures { OnOk result
             (Appends (E.contents errors.old) (E.contents errors.new) (message_bytes self.now)) }

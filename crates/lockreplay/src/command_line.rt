@@ -1,7 +1,7 @@
-//! The words after the program's name, and the job that they ask for.
+//! The program's arguments, and the job that they name.
 //!
-//! `clap` reads the words; what it refuses, and in which words, is its own. The limit on the number
-//! of files is tried after it. What the plain lines ask for, `replay` and `batch --workers N
+//! `clap` reads the arguments, and decides which to refuse and with which text. The limit on the
+//! number of files is tried after it. The job of each plain line, `replay` and `batch --workers N
 //! FILE...` with no option among the files, is proved; every other line is read as `clap` reads it.
 
 ghost use Rattle.std.specs.Prelude.{◌≡◌, ℕ, ◌<◌, ◌≤◌, List, length, map, false, true, string_bytes};
@@ -29,7 +29,7 @@ pub const MOST_WORKERS: u8 = 8;
 /// `clap` refuses such a batch already, but no contract of it says so of a subcommand.
 const UNFIT_BATCH: &str = "error: a batch takes from 1 to 8 workers, and one file at least\n";
 
-/// What the program is asked to do.
+/// A job of the program.
 #[derive(Debug, Drop)]
 pub enum Job {
     /// Replay the schedule on standard input.
@@ -38,16 +38,16 @@ pub enum Job {
     Batch { workers: u8, files: Vec<String> },
 }
 
-/// Why there is no job.
+/// The reason for which there is no job.
 #[derive(Debug, Drop, Error)]
 pub enum ParseFault {
     /// Help was asked for. This is its text.
     #[error("{0}")]
     Help(String),
-    /// The words ask for nothing that the program does. The text says why.
+    /// The arguments name no job of the program. The text says why.
     #[error("{0}")]
     Usage(String),
-    /// The words name more than 65,536 files.
+    /// The arguments name more than 65,536 files.
     #[error("too many files")]
     TooManyFiles,
     /// A request for memory was refused.
@@ -164,12 +164,11 @@ fn fault_of(alloc: Global, error: &clap::Error) -> ParseFault
     }
 }
 
-/// The job that the words after the program's name ask for: `replay`, or `batch --workers N
-/// FILE...` with N from 1 to 8 and from one to 65,536 files. The grammar is `clap`'s, with its
-/// texts.
+/// The job that the program's arguments name: `replay`, or `batch --workers N FILE...` with N from
+/// 1 to 8 and from one to 65,536 files. The grammar is `clap`'s, with its texts.
 ///
-/// Of several faults the parser's come first, and `TooManyFiles` last; `OutOfMemory` may come in
-/// place of any answer.
+/// If there are several faults, the parser's come first, and `TooManyFiles` last; `OutOfMemory` may
+/// come in place of any answer.
 pub fn parse_words(alloc: Global, words: &[String]) -> Result<Job, ParseFault>
     ensures fits { FitsJob result }
     ensures replay { map string_bytes words.now ≡ replay_line
@@ -200,7 +199,7 @@ mod tests {
     use super::{Job, MOST_FILES, ParseFault, copied, parse_words};
     use std::test::Fail;
 
-    // What words ask for, by itself.
+    // The answer that is due to a command line.
     enum Due {
         Replay,
         Batch(u8, &'static [&'static str]),

@@ -1,4 +1,4 @@
-//! What ends the program early, with its line and its status.
+//! The faults that end the program early, each with its line and its status.
 
 ghost use Rattle.std.specs.Prelude.{◌≡◌};
 ghost use Rattle.lockreplay.specs.Faults.{fault_from, fault_status, fault_words};
@@ -8,8 +8,8 @@ use lk_lines::Status;
 use lk_replay::RunFault;
 use thiserror::Error;
 
-/// Why the program gives no report. Shown, it is the line for standard error, without its end: the
-/// text that `text` gives, and a file's number.
+/// A fault for which the program gives no report. `Display` writes the line for standard error,
+/// without its end: the text that `text` gives, and a file's number.
 #[derive(Clone, Copy, PartialEq, Eq, Debug, Drop, Error)]
 #[error("{}", self.text())]
 pub enum ProgramFault {
@@ -27,8 +27,8 @@ pub enum ProgramFault {
 }
 
 impl ProgramFault {
-    /// The text of its line, before a file's number. It has a contract, which what `thiserror`
-    /// derives has not.
+    /// The text of its line, before a file's number. It has a contract; the code that `thiserror`
+    /// derives has none.
     pub fn text(&self) -> &'static str
         ensures { result.now ≡ fault_words self.now }
     {
@@ -41,7 +41,7 @@ impl ProgramFault {
         }
     }
 
-    /// The status that the program ends with: 2 if the words ask for too much, else 3.
+    /// The status that the program ends with: 2 if the arguments name too many files, else 3.
     pub fn status(&self) -> u8
         ensures { result ≡ fault_status self.now }
     {

@@ -48,7 +48,7 @@ fn file_text<R: Files>(
     }
 }
 
-/// The text of each file, in order. The first that cannot be opened or read is the fault.
+/// The text of each file, in order. The first file that cannot be opened or read is the fault.
 fn file_texts<R: Files>(
     rt: &R,
     alloc: Global,

@@ -20,10 +20,10 @@ use std::env;
 use std::io::ErrorKind;
 use std::process::ExitCode;
 
-/// The parser reads UTF-8 alone.
+/// The message for arguments that are not UTF-8: the parser reads UTF-8 alone.
 const FOREIGN_WORDS: &str = "lockreplay: the words are not UTF-8 text\n";
 
-/// The job that the words after the program's name ask for.
+/// The job that the program's arguments name.
 fn job_given(rt: &HostRuntime) -> Result<Job, ParseFault>
     ensures { FitsJob result }
 {

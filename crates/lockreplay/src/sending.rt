@@ -1,8 +1,8 @@
 //! The reports of a batch on their way out, each after the line with its number.
 //!
 //! The bytes are those of `batch_text`, which gives them as one text and copies all reports for it.
-//! Of 24 long reports by two workers that copy was half of the time, on one thread, and half of the
-//! memory. Here a long report goes out as it is. Short texts wait in an `OutputBuffer` until a
+//! For 24 long reports by two workers that copy took half of the time, on one thread, and half of
+//! the memory. Here a long report goes out as it is. Short texts wait in an `OutputBuffer` until a
 //! write is worth while.
 
 ghost use Rattle.std.specs.Prelude.{◌≡◌, ◌≢◌, ◌++◌, map, IfErr, IfOk, OnErr, OnOk};

@@ -1,4 +1,4 @@
--- What each move of a thread does to the queue of an MCS lock.
+-- The effect of each move of a thread on the queue of an MCS lock.
 use Rattle.std.proofs.Common.{List, [], ap, arith, drop, eqb, false, inl, inr, length, refl, set}
 use Rattle.std.proofs.Common.{slice_index, sym, true, ℕ, ◌++◌, ◌+◌, ◌-◌, ◌<◌, ◌∙◌, ◌∷◌, ◌≡◌}
 use Rattle.std.proofs.Common.{◌≢◌}
@@ -197,7 +197,7 @@ mcs_only ws ps t in_lock has_tail agreed = record {
   ];
 }
 
--- whom its predecessor's link names waits to be granted
+-- a thread that its predecessor's link names waits to be granted
 pub granted : (ws : List ℕ) (before t : ℕ) (p : Phase) → next_of ws before ≡ t + 1
     → IsSuccessor ws before t p → p ≡ AwaitGrant
 granted ws before t p linked after = grind arith

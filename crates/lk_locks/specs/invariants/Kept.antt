@@ -1,4 +1,4 @@
--- Invariants. What holds of a lock, its sequential object and its history after every list of
+-- Invariants. The invariant of a lock, its sequential object and its history after every list of
 -- moves.
 use Rattle.std.specs.Prelude.{◌≡◌, ℕ, ◌<◌, ◌≤◌, List, ◌++◌, length, None}
 use Rattle.std.specs.List.{flat_map, AllByRecursion}
@@ -26,7 +26,7 @@ pub record Kept (s : State) (q : Sequential) (es : List Entry) : Type 0 where
   pub no_others : AllByRecursion (λ e. thread_of e < length s.phases) es
   pub agree : AgreeAs s.kind s q
 
--- a lock that goes along with its history
+-- a lock agrees with its history
 pub record IsRecorded (k : Tracked) (es : List Entry) : Type 0 where
   pub kept : Kept k.state k.sequential es
   pub holder : k.holder ≡ holder_after None es

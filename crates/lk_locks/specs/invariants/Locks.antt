@@ -1,5 +1,5 @@
--- Invariants. What the module of each lock says of its phases, its words, and the entries that a
--- pending call has still to add.
+-- Invariants. The definitions of each lock's module for its phases, its words, and the entries that
+-- a pending call has still to add.
 use Rattle.std.specs.Prelude.{ℕ, List, IsTrue}
 use Rattle.lk_locks.specs.Locks.{family_of}
 use Rattle.lk_locks.specs.State.{State}
@@ -23,7 +23,7 @@ abbrev pub AreLinks : LockKind → ℕ → List ℕ → Type 0
 AreLinks Mcs n ws = mcs.AreLinks n ws
 AreLinks kind n ws = Unit {0}
 
--- what the pending call of thread t has still to add to the history
+-- the entries that the pending call of thread t has still to add to the history
 abbrev pub owed_of : LockKind → ℕ → Phase → List Entry
 owed_of Ticket t p = ticket.owed t p
 owed_of Mcs t p = mcs.owed t p

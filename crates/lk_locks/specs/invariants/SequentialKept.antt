@@ -1,4 +1,4 @@
--- Invariants. What holds of each sequential lock.
+-- Invariants. The invariant of each sequential object.
 use Rattle.lk_locks.specs.Sequential.{Sequential, IsAscending}
 use Rattle.lk_locks.specs.invariants.Threads.{AreThreads}
 use Rattle.lk_locks.specs.invariants.read_write.{IsAlone}

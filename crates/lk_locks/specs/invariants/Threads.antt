@@ -3,7 +3,7 @@ use Rattle.std.specs.Prelude.{◌≡◌, ℕ, ◌<◌, List, [], ◌∷◌, Opti
 use Rattle.std.specs.Option.{option_eq}
 use Rattle.lk_locks.specs.Sequential.{has}
 
--- the one, if there is one, is t
+-- there is one, and it is t
 abbrev pub is_this : Option ℕ → ℕ → Bool
 is_this o t = option_eq eqb (Some t) o
 

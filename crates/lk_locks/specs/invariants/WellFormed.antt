@@ -1,4 +1,4 @@
--- Invariants. What holds of each state of a machine, whatever was played before.
+-- Invariants. The invariant of each state of a machine, after any moves.
 use Rattle.std.specs.Prelude.{◌≡◌, ℕ, ◌^◌, ◌<◌, ◌≤◌, List, length}
 use Rattle.lk_locks.specs.State.{State, phase_at}
 use Rattle.lk_locks.specs.Locks.{word_count}
@@ -17,7 +17,7 @@ pub record IsMachine (threads : ℕ) (s : State) : Type 0 where
   pub count : length s.phases ≡ threads
   pub well : WellFormed s
 
--- what a step of thread t in phase p may rest on, with some number of threads
+-- the facts that a step of thread t in phase p may rest on, with some number of threads
 pub record IsReady (kind : LockKind) (bits : ℕ) (ws : List ℕ) (t : ℕ) (p : Phase) : Type 0 where
   pub threads : ℕ
   pub thread : t < threads

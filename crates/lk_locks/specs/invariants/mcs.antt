@@ -1,4 +1,4 @@
--- Invariants. The MCS lock: which phases and links are in range, which entries a pending call has
+-- Invariants. The MCS lock: the phases and links in range, the entries that a pending call has
 -- still to add, and how words and phases agree with the queue, in which links may be missing.
 use Rattle.std.specs.Prelude.{◌≡◌, ◌≢◌, ℕ, ◌+◌, ◌<◌, ◌≤◌, List, [], ◌∷◌, length, slice_index}
 use Rattle.std.specs.Prelude.{true, false, is_some, IsTrue}
@@ -26,7 +26,7 @@ IsPhase n p = IsTrue (is_some (operation 0 p))
 abbrev pub AreLinks : ℕ → List ℕ → Type 0
 AreLinks n ws = (slice_index ws tail ≤ n) × ((i : ℕ) → i < n → slice_index ws (next i) ≤ n)
 
--- what the pending call of thread i has still to add to the history
+-- the entries that the pending call of thread i has still to add to the history
 abbrev pub owed : ℕ → Phase → List Entry
 owed i ClearNext = acts i Acquire
 owed i SwapTail = acts i Acquire

@@ -1,5 +1,5 @@
--- Invariants. What the two read-write locks share: what a pending call still owes the history, who
--- reads, who writes and who has announced itself.
+-- Invariants. The common part of the two read-write locks: the entries that a pending call still
+-- owes the history, the readers, the writer and the announced writer.
 use Rattle.std.specs.Prelude.{◌≡◌, ◌<◌, ◌^◌, ℕ, List, [], ◌++◌, length, Option, None, Some}
 use Rattle.std.specs.Prelude.{Bool, true, false, set, slice_index}
 use Rattle.lk_locks.specs.Change.{acts, announcement}
@@ -13,7 +13,7 @@ use Rattle.lk_locks.specs.Types.{WriteUnlock}
 use Rattle.lk_locks.specs.Types.{Downgrade, Phase, TryRead, Reading, LeaveRead, TryWrite}
 use Rattle.lk_locks.specs.Types.{AwaitReaders, Writing, LeaveWrite, TryDowngrade}
 
--- what the pending call of thread i has still to add to the history
+-- the entries that the pending call of thread i has still to add to the history
 abbrev pub owed : Family → ℕ → Phase → List Entry
 owed family i TryRead = acts i ReadLock
 owed family i LeaveRead = acts i ReadUnlock
@@ -43,7 +43,7 @@ abbrev pub IsAlone : Option ℕ → List ℕ → Option ℕ → Type 0
 IsAlone None readers announced = Unit {0}
 IsAlone (Some w) readers announced = (readers ≡ []) × (announced ≡ None)
 
--- the readers, the writer and the announced one are the threads in the phases for it
+-- the readers, the writer and the announced writer are the threads in the phases for that
 pub record AreHolders (ps : List Phase) (q : Sequential) : Type 0 where
   pub reading : (t : ℕ) → has q.readers t ≡ is_reading (phase_at ps t)
   pub writing : (t : ℕ) → is_this q.writer t ≡ is_writing (phase_at ps t)
@@ -51,14 +51,14 @@ pub record AreHolders (ps : List Phase) (q : Sequential) : Type 0 where
   pub once : EachOnce q.readers
   pub alone : IsAlone q.writer q.readers q.announced
 
--- these words after a section that wrote so
+-- the words after a section that made these writes
 abbrev pub written : List ℕ → Option (ℕ × ℕ) → Option (ℕ × ℕ) → List ℕ
 written ws None None = ws
 written ws (Some first) None = set ws first.0 first.1
 written ws None (Some other) = set ws other.0 other.1
 written ws (Some first) (Some other) = set (set ws first.0 first.1) other.0 other.1
 
--- a section that finds these words does this
+-- a section that finds these words makes this change
 pub record IsSection (section : Section) (ws : List ℕ) (change : Change) : Type 0 where
   pub words : written ws section.first section.other ≡ change.words
   pub phase : section.phase ≡ change.phase
@@ -73,7 +73,7 @@ abbrev pub count_with : Option ℕ → ℕ
 count_with None = 2
 count_with (Some third) = 3
 
--- the flag is set for the writer, or for the announced one
+-- the flag is set for the writer, or for the announced writer
 abbrev pub flag_of : Option ℕ → Option ℕ → ℕ
 flag_of None None = 0
 flag_of writer announced = 1

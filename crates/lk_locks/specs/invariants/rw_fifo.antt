@@ -1,5 +1,5 @@
--- Invariants. The FIFO read-write lock's: its phases, and how its words agree with the
--- holders of its sequential object.
+-- Invariants. The FIFO read-write lock: its phases, and how its words agree with the holders of its
+-- sequential object.
 use Rattle.std.specs.Prelude.{◌≡◌, ℕ, ◌+◌, ◌%◌, ◌^◌, ◌<◌, List, slice_index, Bool, true, ◌||◌}
 use Rattle.lk_locks.specs.Sequential.{Sequential}
 use Rattle.lk_locks.specs.rw_fifo.{read_acquires, read_releases, flag}

@@ -1,5 +1,5 @@
--- Invariants. The simple read-write lock's: its phases, and how its words agree with the
--- holders of its sequential object.
+-- Invariants. The simple read-write lock: its phases, and how its words agree with the holders of
+-- its sequential object.
 use Rattle.std.specs.Prelude.{◌≡◌, ℕ, List, slice_index, Bool, false}
 use Rattle.lk_locks.specs.Sequential.{Sequential}
 use Rattle.lk_locks.specs.rw_simple.{readers, flag}

@@ -1,5 +1,5 @@
--- Invariants. The ticket lock: its phases, which entries a pending call has still to add, and how
--- words and phases agree with the queue.
+-- Invariants. The ticket lock: its phases, the entries that a pending call has still to add, and
+-- how words and phases agree with the queue.
 use Rattle.std.specs.Prelude.{◌≡◌, ℕ, ◌+◌, ◌%◌, ◌^◌, ◌<◌, List, [], ◌∷◌, length, slice_index}
 use Rattle.std.specs.Prelude.{Option, None, Some, is_some, Bool, true, false}
 use Rattle.lk_locks.specs.State.{phase_at}
@@ -17,7 +17,7 @@ is_phase Idle = true
 is_phase (TicketInside t) = true
 is_phase p = is_some (operation 64 p)
 
--- what the pending call of thread i has still to add to the history
+-- the entries that the pending call of thread i has still to add to the history
 abbrev pub owed : ℕ → Phase → List Entry
 owed i TakeTicket = acts i Acquire
 owed i (AwaitTurn t) = Returned i Acquire ∷ []

@@ -6,7 +6,7 @@ ghost use Rattle.std.specs.List.{All};
 use super::WordArray;
 
 impl WordArray {
-    /// All words, to look at.
+    /// Lends all words.
     pub fn as_slice(&self) -> &[u64]
         ensures words { result.now ≡ self.now.0 }
         ensures few { length result.now ≤ 129 }

@@ -1,4 +1,4 @@
--- Invariants. What workers that draw the numbers of texts bring back.
+-- Invariants. The results of workers that draw the numbers of texts.
 use Rattle.std.specs.Prelude.{Vec, slice_set, ◌∷◌, ◌≡◌, ℕ, ◌+◌, ◌*◌, ◌<◌, ◌≤◌, List}
 use Rattle.std.specs.Prelude.{[], map, length, filter, ltb, slice_index_or}
 use Rattle.std.specs.declared.alloc.Global.{Global}

@@ -10,11 +10,12 @@ use Rattle.lk_workers.specs.declared.draws.DrawView.{DrawView}
 abbrev pub draw_view : List ℕ → ℕ → ℕ → DrawView
 draw_view drawn left draws = record { drawn = drawn; left = left; draws = draws }
 
--- what a step sees and leaves of a seat
+-- a seat as a step sees and leaves it
 abbrev pub DrawSees : Type 0
 DrawSees = Me (Unit {0}) DrawView
 
--- each number is drawn as often as it is below the word, and what is drawn and what is left is all
+-- each number below the word is drawn once, and no other number is; the draws made and the draws
+-- left are all draws
 pub record Drawn (draws : ℕ) (s : State (Unit {0}) DrawView) : Type 0 where
   pub one_word : length s.words ≡ 1
   pub once : (x : ℕ)

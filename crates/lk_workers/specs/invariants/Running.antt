@@ -32,7 +32,8 @@ Each P (r ∷ rs) = P r × Each P rs
 abbrev pub ViewFits : ℕ → List SeatState → Type 0
 ViewFits serving v = Each (Fits serving) v × (length v ≤ 2)
 
--- Each number is the ticket of as many seats as it is from `serving` up to but not including `next`
+-- Each number from `serving` up to but not including `next` is the ticket of one seat, and each
+-- other number of none
 pub record Running (takes : ℕ) (s : Table) : Type 0 where
   pub two_words : length s.words ≡ 2
   pub served : serving_of s ≤ next_of s

@@ -1,6 +1,6 @@
 //! The rule of the running ticket lock, and its steps as a table sees them.
 //!
-//! A view is a list of what is known of seats, one as a rule. Nothing of it is kept when the lock
+//! A view is a list of ghost states of seats, one as a rule. Nothing of it is kept when the lock
 //! runs.
 
 ghost use Rattle.std.specs.Prelude.{[], ◌∷◌, ◌≡◌, ◌<◌, ◌≤◌, ◌^◌, ⊤, map, take, drop};
@@ -20,7 +20,7 @@ pub struct Operation {
     pub operand: u64,
 }
 
-/// What is known of one seat. No value of it is made.
+/// The ghost state of one seat. No value of it is made.
 pub struct SeatState {
     pub phase: LivePhase,
     pub ticket: u64,
@@ -31,7 +31,7 @@ pub struct SeatState {
     pub made: LinkedList<Operation>,
 }
 
-/// What a table knows of the seats that are held together.
+/// The ghost states of the seats that are held together.
 pub type View = LinkedList<SeatState>;
 
 /// The two words, with their rule.
@@ -75,9 +75,8 @@ impl Play<(), View> for Pass {
     ghost then = { OfOne pass_step (λ r found. ⊤) };
 }
 
-// A load that changes nothing. It shows what the rule alone knows: that the numbers of a seat are
-// at most 2^40, and of two seats of one view that they do not both hold the lock, and that their
-// tickets differ.
+// A load that changes nothing. It gives facts of the rule: the numbers of a seat are at most 2^40;
+// two seats of one view do not both hold the lock, and their tickets differ.
 pub struct Inspect;
 
 impl Play<(), View> for Inspect {
@@ -90,7 +89,7 @@ impl<A: Amount> Split<View> for SplitOff<A> {
     ghost right = { map (share_of A.amount) };
 }
 
-/// A join: one seat has then what two had.
+/// A join: afterwards one seat has what two had.
 pub struct Merge;
 
 impl Join<View> for Merge {

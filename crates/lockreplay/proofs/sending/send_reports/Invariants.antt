@@ -1,4 +1,4 @@
--- Of the whole text some went, or waits, and the rest is left.
+-- A part of the whole text went out or waits, and the rest is left.
 use Rattle.std.proofs.Common.{◌+◌, drop}
 use Rattle.lk_replay.proofs.Passed.{IsUnderWay}
 use Rattle.lk_workers.specs.Batch.{numbered_from, batch_text_of}
