@@ -22,7 +22,7 @@ RIGHT = {
     "saved file": "<!-- file: a.txt -->\n```text\nb\n```\n```console\n$ cat a.txt\nb\n```",
     "marked": "<!-- not run: it is a test -->\n```sh\nfalse\n```",
     "program that is not built": "<!-- with: no-such-program -->\n```sh\nfalse\n```",
-    "names": "`make demo`, `crates/NAME/must-fail`, `Keeper::play`, `every_run_is_as_promised`",
+    "names": "`make demo`, `crates/NAME/mutants.txt`, `Keeper::play`, `every_run_is_as_promised`",
     "web link": "[a](https://example.org/b)",
 }
 FAULTY = {

@@ -112,8 +112,6 @@ EDITS = {
                    "new: mod pears;\n", "mod pears;"),
     "a contract": ("function: c::pairs::Pair::left\nmutant: m\nold: ensures { result ≡ "
                    "self.now.left }\nnew: ensures { result ≡ 0 }\n", "ensures { result ≡ 0 }"),
-    "a twin of an edit in must-fail": (f"{LEAST}twin: 0 + 0\n".replace("mutant", "twin of"),
-                                       "    0 + 0\n"),
     "a constant that nobody has to notice": ("file: src/lib.rt\nmutant: m\nold: mod pairs;\n"
                                              "new: mod p;\n", None),
     "a constant for a function that is not there":
@@ -128,7 +126,7 @@ EDITS = {
                                     "new: 1\n", None),
     "no new text": (LEAST, None), "no old text": (LEAST.replace("old", "new"), None),
     "two new texts": (f"{LEAST}new: 1\nnew: 2\n", None),
-    "a new text for a twin alone": (f"{LEAST}new: 1\ntwin: 0\n".replace("mutant", "twin of"), None),
+    "a text for a twin alone": (f"{LEAST}twin: 0 + 0\n", None),
     "a name that is there twice": (f"{LEAST}new: 1\n{LEAST}new: 2\n", None),
     "a key that nobody knows": (f"{LEAST}next: 1\n", None),
 }

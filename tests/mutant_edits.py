@@ -16,8 +16,7 @@ mutant. No `twin:` at all, no twin.
 
 For what is in no function, as a constant, a block begins with `file: src/FILE.rt`, and `old` is in
 that file once. Lines `noticed by: NAME::module::function` then name the functions, of those that
-use it, one of which must refuse the mistake. `twin of: MISTAKE`, in the place of `mutant:`, begins
-the twin of an edit in the crate's folder `must-fail`. A line that begins with `#` is a comment.
+use it, one of which must refuse the mistake. A line that begins with `#` is a comment.
 """
 import re
 from dataclasses import dataclass
@@ -86,9 +85,9 @@ class Reader:
             self.functions = frozenset([text] if key == "function" else [])
         elif key == "noticed by" and self.place and self.pairs is None:
             self.functions |= {text}
-        elif key in ("mutant", "twin of") and self.functions:
+        elif key == "mutant" and self.functions:
             self.pairs = []
-            self.found.append((text, key == "mutant", self.place, self.functions, self.pairs))
+            self.found.append((text, self.place, self.functions, self.pairs))
         elif key == "old" and self.pairs is not None:
             self.pairs.append({key: text})
         elif key in ("new", "twin") and last and key not in last:
@@ -109,16 +108,14 @@ def edits_in(crate, text):
     return [edit for found in reader.found for edit in edits_of(crate, *found)]
 
 
-def edits_of(crate, name, is_mutant, place, functions, pairs):
-    """A mutant with its twin, or the twin of an edit in `must-fail`."""
-    keys = {"old", "new"} if is_mutant else {"old", "twin"}
-    if not pairs or any(pair.keys() - ({"twin"} - keys) != keys for pair in pairs):
+def edits_of(crate, name, place, functions, pairs):
+    """A mutant, and its twin if it has one."""
+    if not pairs or any(pair.keys() - {"twin"} != {"old", "new"} for pair in pairs):
         raise BadEdit(f"{name} has no pairs, or one that is not whole")
     has_twin = any("twin" in pair for pair in pairs)
-    twin = tuple((pair["old"], pair.get("twin", pair.get("new"))) for pair in pairs) * has_twin
-    if is_mutant:
-        mutant = tuple((pair["old"], pair["new"]) for pair in pairs)
-        yield Edit(crate, name, False, place, functions, mutant, twin)
+    twin = tuple((pair["old"], pair.get("twin", pair["new"])) for pair in pairs) * has_twin
+    mutant = tuple((pair["old"], pair["new"]) for pair in pairs)
+    yield Edit(crate, name, False, place, functions, mutant, twin)
     if twin:
         yield Edit(crate, name, True, place, functions, twin)
 

@@ -191,8 +191,6 @@ def edits_of(words):
             found[crate] = edits_in(crate, path.read_text())
         except BadEdit as why:
             faults.append(f"{path.relative_to(TOP)}: {why}")
-    faults += [f"{edit}: no mutant has its name" for edits in found.values() for edit in edits
-               if edit.is_twin and not has_mutant(edit, edits)]
     for word in words:
         crate, _, name = word.partition("/")
         if not any(name in ("", edit.name) for edit in found.get(crate, [])):
@@ -200,12 +198,6 @@ def edits_of(words):
     return {crate: [edit for edit in edits
                     if not words or crate in words or f"{crate}/{edit.name}" in words]
             for crate, edits in found.items()}, faults
-
-
-def has_mutant(twin, edits):
-    """Whether a mutant has the twin's name, in the crate's file or in its folder `must-fail`."""
-    return any(edit.name == twin.name and not edit.is_twin for edit in edits) \
-        or (TOP / "crates" / twin.crate / "must-fail" / f"{twin.name}.edit").exists()
 
 
 def table(crates):
