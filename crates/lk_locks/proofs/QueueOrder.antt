@@ -3,13 +3,13 @@ use Rattle.std.proofs.Common.{◌≡◌, ℕ, List, [], ◌∷◌, ◌++◌, dro
 use Rattle.std.proofs.Common.{◌∙◌, append_assoc, inl, inr, ◌⊎◌, refl, arith}
 use Rattle.std.proofs.lemmas.Bool.{eq-eqb}
 use Rattle.std.proofs.lemmas.List.{append-nil}
-use Rattle.lk_locks.specs.Sequential.{Sequential, nobody, is_head, after_entry}
-use Rattle.lk_locks.specs.Legal.{AreEnabled, OfEveryLegal}
+use Rattle.lk_locks.specs.Sequential.{Sequential, nobody, is_head, after_act, after_entry}
+use Rattle.lk_locks.specs.Legal.{IsEnabled, AreEnabled, OfEveryLegal}
 use Rattle.lk_locks.specs.Holding.{holder_after, one_or_none}
 use Rattle.lk_locks.specs.Exclusion.{IsHeldInTurn, HasOneHolder}
 use Rattle.lk_locks.specs.Order.{IsInOrder, requested, entered}
 use Rattle.lk_locks.proofs.Places.{HasOne, any_of}
-use Rattle.lk_locks.proofs.Histories.{holder_append}
+use Rattle.lk_locks.proofs.Histories.{holder_append, after_enabled}
 use Rattle.lk_locks.specs.Types.{Acquire, Release, Entry, Acted, Returned}
 use Rattle.lk_locks.proofs.QueueLaws.{HoldsAlong, holders_take_turns, in_order}
 use Rattle.lk_locks.proofs.QueueHeads.{HeadHolds}
@@ -67,23 +67,33 @@ served_now (Some t) queue head_holds = (
   head_split queue t (head_holds t (eq-eqb t t refl)) ∙ sym (append-nil queue),
 )
 
+-- the queue that an enabled entry leaves, with later requests
+queue_after : (q : Sequential) (e : Entry) (es : List Entry) → IsEnabled q e
+    → (after_entry q e).queue ++ requested es ≡ (after_act q e).queue ++ requested es
+queue_after q e es enabled =
+    ap (λ now. now.queue ++ requested es) (after_enabled q e enabled)
+
 -- the threads enter in the order in which they joined the queue
 served : (es : List Entry) (q : Sequential) (holder : Option ℕ) → AreEnabled q es
     → HoldsAlong holder q es → AreServed holder q.queue es
 served [] q holder enabled head_holds = served_now holder q.queue head_holds
 served (Acted t Acquire ∷ es) q holder (may_act, enabled) (head_holds, may_hold, along) =
     let (rest, is) = served es (after_entry q (Acted t Acquire)) holder enabled along in
-    (rest, is ∙ append_assoc q.queue (t ∷ []) (requested es))
+    let queued = is ∙ queue_after q (Acted t Acquire) es may_act in
+    (rest, queued ∙ append_assoc q.queue (t ∷ []) (requested es))
 served (Acted t Release ∷ es) q holder (may_act, enabled) (head_holds, held, along) =
     let (rest, is) = served es (after_entry q (Acted t Release)) None enabled along in
     let split = head_split q.queue t (head_holds t (rw held (eq-eqb t t refl))) in (
       rest,
-      rw held (ap (λ threads. t ∷ threads) is ∙ ap (λ threads. threads ++ requested es) split),
+      rw held
+          (ap (λ threads. t ∷ threads) (is ∙ queue_after q (Acted t Release) es may_act)
+          ∙ ap (λ threads. threads ++ requested es) split),
     )
 served (Returned t Acquire ∷ es) q holder (may_act, enabled) (head_holds, free, along) =
     let (rest, is) = served es q (Some t) enabled along in (rest, rw free is)
 served (e ∷ es) q holder (may_act, enabled) (head_holds, may_hold, along) =
-    served es (after_entry q e) holder enabled along
+    let (rest, is) = served es (after_entry q e) holder enabled along in
+    (rest, is ∙ queue_after q e es may_act)
 
 -- the law: a queue lock is entered in the order of its acquires
 pub enters_in_order : OfEveryLegal (λ kind. IsInOrder)

@@ -54,7 +54,7 @@ HasOneWriter es =
 
 -- A reader enters only after the writer before it stopped writing, and a writer only after each
 -- reader before it left, and each writer that became a reader. After each prefix of the history: if
--- there is a writer, there is no reader.
+-- there is a writer, there is no reader. No list of entries leaves the sequential object otherwise.
 pub record IsNeverBesideReader (kind : LockKind) (es : List Entry) : Type 0 where
   pub then_reader : (t u : ℕ)
       → Between (Acted t WriteLock) (Acted u ReadLock) (StopsWriting t) es

@@ -1,2 +1,1 @@
 pub mod WorkedHistories
-pub mod WritingAlone

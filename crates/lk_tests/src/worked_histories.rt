@@ -20,16 +20,14 @@ ghost use Rattle.lk_locks.specs.Holding.{holder_after, holding_of, waiting_of, I
 ghost use Rattle.lk_locks.specs.Holding.{HeldBy, ReadBy, WrittenBy};
 ghost use Rattle.lk_locks.specs.Exclusion.{IsQueueLock, HasOneHolder, IsHeldInTurn, IsHeldByHead};
 ghost use Rattle.lk_locks.specs.Exclusion.{StopsWriting, HasOneWriter, IsNeverBesideReader};
-ghost use Rattle.lk_locks.specs.Exclusion.{IsAnnouncedFirst, Between};
+ghost use Rattle.lk_locks.specs.Exclusion.{IsAnnouncedFirst};
 ghost use Rattle.lk_locks.specs.Order.{requested, entered, IsInOrder};
 ghost use Rattle.lk_locks.specs.Calls.{ActsOnce, ActsInCalls, ReturnsNext};
 ghost use Rattle.lk_locks.specs.Steps.{entries_after};
 ghost use Rattle.lk_locks.specs.State.{start};
 ghost use Rattle.lk_locks.specs.MainTheorem.{IsAsPromised};
 ghost use Rattle.lk_locks.specs.declared.kinds.LockKind.TheVariants.{Ticket, Mcs, RwSimple, RwFifo};
-ghost use Rattle.lk_locks.specs.declared.kinds.Op.TheVariants.{Acquire, Release, ReadLock};
-ghost use Rattle.lk_locks.specs.declared.kinds.Op.TheVariants.{ReadUnlock, WriteLock, WriteUnlock};
-ghost use Rattle.lk_locks.specs.declared.kinds.Op.TheVariants.{Downgrade};
+ghost use Rattle.lk_locks.specs.declared.kinds.Op.TheVariants.{Acquire, WriteUnlock, Downgrade};
 ghost use Rattle.lk_locks.specs.declared.kinds.LockKind.{LockKind};
 ghost use Rattle.lk_locks.specs.declared.kinds.Entry.{Entry};
 ghost use Rattle.lk_locks.specs.declared.kinds.Entry.TheVariants.{Called, Acted, Returned};
@@ -53,7 +51,7 @@ pub fn legal_histories()
         ≡ Called 1 Acquire ∷ Acted 1 Acquire ∷ Returned 1 Acquire ∷ [] }
 {}
 
-/// Who holds, and who is in the queue.
+/// Who holds, and who is in the queue. An act that is not allowed changes neither.
 pub fn holders_of_histories()
     ensures nobody { holding_of Ticket [] ≡ Free }
     ensures first { holding_of Ticket one_inside ≡ HeldBy 0 }
@@ -68,6 +66,12 @@ pub fn holders_of_histories()
     ensures announced { waiting_of RwFifo announced ≡ 1 ∷ [] }
     ensures entered { holding_of RwFifo announced_entered ≡ WrittenBy 1 }
     ensures none_waits { waiting_of RwFifo announced_entered ≡ [] }
+    ensures not_released { waiting_of Ticket released_by_another ≡ 0 ∷ [] }
+    ensures not_twice { waiting_of Mcs asked_twice ≡ 0 ∷ [] }
+    ensures not_unlocked { holding_of RwSimple unlocked_by_another ≡ WrittenBy 0 }
+    ensures not_left { holding_of RwSimple left_once ≡ WrittenBy 1 }
+    ensures not_passed { holding_of RwFifo reader_passes ≡ ReadBy (0 ∷ []) }
+    ensures not_announced { waiting_of RwFifo writer_passes ≡ 1 ∷ [] }
     ensures listed { IsListed (ReadBy (0 ∷ 1 ∷ [])) }
     ensures turned { IsListed (ReadBy (1 ∷ 0 ∷ [])) → ⊥ }
     ensures no_reader { IsListed (ReadBy []) → ⊥ }
@@ -99,7 +103,6 @@ pub fn writers_of_read_write_locks()
     ensures alone { IsNeverBesideReader RwSimple writers_in_turn }
     ensures reader { (t u : ℕ) → IsNeverBesideReader RwSimple (reader_beside_writer t u) → ⊥ }
     ensures another_unlocks { IsNeverBesideReader RwSimple unlocked_by_another → ⊥ }
-    ensures left_once { IsNeverBesideReader RwSimple left_once → ⊥ }
     ensures writer { (t u : ℕ) → IsNeverBesideReader RwSimple (writer_beside_reader t u) → ⊥ }
     ensures downgraded_reader { (t u : ℕ)
         → IsNeverBesideReader RwSimple (writer_beside_downgraded t u) → ⊥ }
@@ -136,20 +139,17 @@ pub fn acts_of_calls()
 /// Histories fail of one part alone: `two_inside` has two holders, `overtaken` no order,
 /// `two_writers` two writers, and `uncalled` no call. None of them is legal, and every legal
 /// history has the other four parts (`lk_locks::theorems`). So no history tells the theorem from
-/// one with a part less, and each is taken out of it here. Of the parts of `IsNeverBesideReader`
-/// the last one implies the second and the third.
+/// one with a part less, and each is taken out of it here. The last part of `IsNeverBesideReader`
+/// holds of every list of entries, since the sequential object makes allowed acts alone;
+/// `writers_of_read_write_locks` has a history for each of the other three.
 pub fn parts_of_the_theorem()
     ensures legal { OfEachPromised Legal }
     ensures one_holder { OfEachPromised (λ kind n. HasOneHolder) }
     ensures in_order { OfEachPromised (λ kind n. IsInOrder) }
     ensures one_writer { OfEachPromised (λ kind n. HasOneWriter) }
     ensures no_reader_beside { OfEachPromised (λ kind n. IsNeverBesideReader kind) }
-    ensures after_reader { (kind : LockKind) (es : List Entry) → WritesAlone kind es
-        → (t u : ℕ) → Between (Acted t ReadLock) (Acted u WriteLock)
-        (λ e. e ≡ Acted t ReadUnlock) es }
-    ensures after_downgraded { (kind : LockKind) (es : List Entry) → WritesAlone kind es
-        → (t u : ℕ) → Between (Acted t Downgrade) (Acted u WriteLock)
-        (λ e. e ≡ Acted t ReadUnlock) es }
+    ensures no_reader { OfEachPromised (λ kind n. WritesAlone kind) }
+    ensures alone { (kind : LockKind) (es : List Entry) → WritesAlone kind es }
 {}
 
 /// Moves lead to the entries that they are due, and refused ones to none. What they lead to is as

@@ -5,7 +5,7 @@ use Rattle.std.proofs.Common.{nat_lt, unwrap_or, ◌+◌, ◌<◌, ◌∙◌, �
 use Rattle.std.proofs.lemmas.Bool.{lt-ltb}
 use Rattle.std.proofs.lemmas.List.{length-set}
 use Rattle.lk_locks.specs.Change.{acts}
-use Rattle.lk_locks.specs.Sequential.{Sequential, after_entry, has, is_allowed, left_by}
+use Rattle.lk_locks.specs.Sequential.{Sequential, after_act, has, is_allowed, left_by}
 use Rattle.lk_locks.specs.invariants.Threads.{is_this}
 use Rattle.lk_locks.specs.invariants.read_write.{AgreeAsCounted, is_announced, is_reading, flag_of}
 use Rattle.lk_locks.specs.invariants.read_write.{is_writing, AreHolders}
@@ -72,13 +72,15 @@ module _ {Count : ℕ → Type 0} {flag bits : ℕ} {ps : List Phase} {q : Seque
   joins {More} was flag_clear may_act one_more flag_stays =
       let (unwritten, unannounced) =
       flag_none q.writer q.announced (sym agreed.flag_is ∙ flag_clear) in
-      let unread = agreed.holders.reading t ∙ ap is_reading was in (
-        (may_act unwritten unannounced unread, (tt, tt)),
-        counted More Reading (after_entry q (Acted t ReadLock))
+      let unread = agreed.holders.reading t ∙ ap is_reading was in
+      let allowed = may_act unwritten unannounced unread in (
+        (allowed, (tt, tt)),
+        rw allowed
+            (counted More Reading (after_act q (Acted t ReadLock))
             (rw (length_joined q.readers t)
             (one_more (length q.readers) (readers_fit agreed.holders t in_lock unread)
             agreed.count))
-            (flag_stays ∙ agreed.flag_is) (holders_join agreed.holders t in_lock was unwritten),
+            (flag_stays ∙ agreed.flag_is) (holders_join agreed.holders t in_lock was unwritten)),
       )
 
   -- a reader leaves, and the words count one fewer
@@ -91,12 +93,13 @@ module _ {Count : ℕ → Type 0} {flag bits : ℕ} {ps : List Phase} {q : Seque
       let fewer : length (left_by q.readers t) + 1 ≡ length q.readers =
       length_left q.readers t reads in (
         (may_act reads, (tt, tt)),
-        counted Fewer Idle (after_entry q (Acted t ReadUnlock))
+        rw (may_act reads)
+            (counted Fewer Idle (after_act q (Acted t ReadUnlock))
             (one_fewer (length (left_by q.readers t)) (omega (arith, readers_few agreed.holders))
             (rw fewer agreed.count))
             (flag_stays ∙ agreed.flag_is)
             (holders_leave agreed.holders t in_lock was
-            (no_writer q.writer q.readers q.announced t agreed.holders.alone reads)),
+            (no_writer q.writer q.readers q.announced t agreed.holders.alone reads))),
       )
 
   -- A thread becomes the writer, since nobody reads or writes and no other is announced. The words
@@ -104,17 +107,17 @@ module _ {Count : ℕ → Type 0} {flag bits : ℕ} {ps : List Phase} {q : Seque
   pub writes : {Same : ℕ → Type 0} {next : ℕ} → q.readers ≡ [] → q.writer ≡ None
       → ((u : ℕ) → u ≢ t → is_this q.announced u ≡ false) → ((n : ℕ) → Count n → Same n)
       → next ≡ 1
-      → AgreeAsCounted Same next bits (set ps t Writing) (after_entry q (Acted t WriteLock))
+      → AgreeAsCounted Same next bits (set ps t Writing) (after_act q (Acted t WriteLock))
   writes {Same} unread unwritten no_other same flag_set =
-      counted Same Writing (after_entry q (Acted t WriteLock)) (same _ agreed.count) flag_set
+      counted Same Writing (after_act q (Acted t WriteLock)) (same _ agreed.count) flag_set
       (holders_write agreed.holders t in_lock unread unwritten no_other)
 
   -- A thread announces itself. The words count as before, and the flag is set.
   pub announces : {Same : ℕ → Type 0} {next : ℕ} → phase_at ps t ≡ TryWrite → q.writer ≡ None
       → q.announced ≡ None → ((n : ℕ) → Count n → Same n) → next ≡ 1
-      → AgreeAsCounted Same next bits (set ps t AwaitReaders) (after_entry q (Announced t))
+      → AgreeAsCounted Same next bits (set ps t AwaitReaders) (after_act q (Announced t))
   announces {Same} was unwritten unannounced same flag_set =
-      counted Same AwaitReaders (after_entry q (Announced t)) (same _ agreed.count)
+      counted Same AwaitReaders (after_act q (Announced t)) (same _ agreed.count)
       (flag_set ∙ sym (flag_some q.writer t))
       (holders_announce agreed.holders t in_lock was unwritten unannounced)
 
@@ -126,10 +129,11 @@ module _ {Count : ℕ → Type 0} {flag bits : ℕ} {ps : List Phase} {q : Seque
   unwrites {Same} was may_act same cleared =
       let written = agreed.holders.writing t ∙ ap is_writing was in (
         (may_act written, (tt, tt)),
-        counted Same Idle (after_entry q (Acted t WriteUnlock)) (same _ agreed.count)
+        rw (may_act written)
+            (counted Same Idle (after_act q (Acted t WriteUnlock)) (same _ agreed.count)
             (rw (none_announced q.writer q.readers q.announced t agreed.holders.alone written)
             cleared)
-            (holders_unwrite agreed.holders t in_lock was written),
+            (holders_unwrite agreed.holders t in_lock was written)),
       )
 
   -- the writer becomes a reader: the words count one more, and the flag is cleared
@@ -141,11 +145,12 @@ module _ {Count : ℕ → Type 0} {flag bits : ℕ} {ps : List Phase} {q : Seque
       let written = agreed.holders.writing t ∙ ap is_writing was in
       let unread = agreed.holders.reading t ∙ ap is_reading was in (
         (may_act written, (tt, tt)),
-        counted More Reading (after_entry q (Acted t Downgrade))
+        rw (may_act written)
+            (counted More Reading (after_act q (Acted t Downgrade))
             (rw (length_joined q.readers t)
             (one_more (length q.readers) (readers_fit agreed.holders t in_lock unread)
             agreed.count))
             (rw (none_announced q.writer q.readers q.announced t agreed.holders.alone written)
             cleared)
-            (holders_downgrade agreed.holders t in_lock was written),
+            (holders_downgrade agreed.holders t in_lock was written)),
       )

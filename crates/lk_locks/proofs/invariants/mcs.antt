@@ -55,15 +55,16 @@ keeps bits ws ps q t SwapTail (Step kind) given =
       | inl (test, is_nil) ↦
           let empty = empty_of ws ps q.queue is_nil given.agrees in
           rw test (
-            (may_act, (rw empty (eq-eqb t t refl), tt)),
-            rw empty
+            (may_act, (rw (may_act, empty) (eq-eqb t t refl), tt)),
+            rw (may_act, empty)
                 (mcs_first ws ps t given.thread (omega (arith, given.enough)) no_next
                 (rw empty at given.agrees)),
           )
       | inr (test, not_nil) ↦ rw test (
         (may_act, tt),
-        swapped ws ps q.queue t given.thread (omega (arith, given.enough)) not_queued no_next
-            not_nil given.agrees,
+        rw may_act
+            (swapped ws ps q.queue t given.thread (omega (arith, given.enough)) not_queued no_next
+            not_nil given.agrees),
       )
     ]
 keeps bits ws ps q t (SetLocked predecessor) (Step kind) given =
@@ -141,12 +142,11 @@ keeps bits ws ps q t CasTail (Step kind) given =
     elim (eqb_tells (slice_index ws 0) (t + 1)) [
       | inl (test, own_tail) ↦
           let one = alone ws ps q.queue t at_head.rest at_head.is given.agrees own_tail in
+          let may_act =
+          allows_release q t (ap family_of given.kind_is) (omega arith) at_head.head in
           rw test (
-            (
-              allows_release q t (ap family_of given.kind_is) (omega arith) at_head.head,
-              (tt, tt),
-            ),
-            rw one
+            (may_act, (tt, tt)),
+            rw (may_act, one)
                 (mcs_only ws ps t given.thread (omega (arith, given.enough))
                 (rw one at given.agrees)),
           )
@@ -170,12 +170,10 @@ keeps bits ws ps q t AwaitLink (Step kind) given =
     ]
 keeps bits ws ps q t (Grant successor) (Step kind) given =
     let at_head =
-    head_by_phase given.agrees t given.phase_is (λ outside. outside) (λ before after. after) in (
-      (
-        allows_release q t (ap family_of given.kind_is) (omega arith) at_head.head,
-        (tt, tt),
-      ),
-      rw at_head.is
+    head_by_phase given.agrees t given.phase_is (λ outside. outside) (λ before after. after) in
+    let may_act = allows_release q t (ap family_of given.kind_is) (omega arith) at_head.head in (
+      (may_act, (tt, tt)),
+      rw (may_act, at_head.is)
           (mcs_grant ws ps at_head.rest t successor given.thread
           (omega (arith, given.fits, given.enough)) at_head.first (rw at_head.is at given.agrees)),
     )

@@ -9,7 +9,7 @@ use Rattle.std.proofs.lemmas.List.{get_or-set_other, get_or-set_same, length-set
 use Rattle.std.proofs.lemmas.Nat.{pow_pos}
 use Rattle.std.proofs.lemmas.Bool.{eq-eqb, ne_eqb}
 use Rattle.lk_locks.specs.Change.{plus_one, raised}
-use Rattle.lk_locks.specs.Sequential.{nobody, Sequential, is_allowed}
+use Rattle.lk_locks.specs.Sequential.{nobody, Sequential, after_act, is_allowed}
 use Rattle.lk_locks.specs.State.{start}
 use Rattle.lk_locks.specs.invariants.Locks.{AgreeAs}
 use Rattle.lk_locks.specs.invariants.read_write.{is_announced, is_reading}
@@ -25,8 +25,8 @@ use Rattle.lk_locks.proofs.invariants.HolderLists.{no_holders, no_writer_beside}
 use Rattle.lk_locks.proofs.invariants.HolderLists.{readers_few}
 use Rattle.lk_locks.proofs.invariants.ReadWriteMoves.{below_64, calls, downgrades, joins, leaves}
 use Rattle.lk_locks.proofs.invariants.ReadWriteMoves.{unwrites, writes, announces}
-use Rattle.lk_locks.specs.Types.{Announced, RwFifo, Call, Step, Phase, AwaitReaders, Idle}
-use Rattle.lk_locks.specs.Types.{LeaveRead, LeaveWrite, TryDowngrade, TryRead, TryWrite}
+use Rattle.lk_locks.specs.Types.{Announced, Acted, RwFifo, Call, Step, Phase, AwaitReaders, Idle}
+use Rattle.lk_locks.specs.Types.{LeaveRead, LeaveWrite, TryDowngrade, TryRead, TryWrite, WriteLock}
 
 -- if as many readers left as came, nobody reads
 none_read : (bits : ℕ) (ws : List ℕ) (ps : List Phase) (q : Sequential)
@@ -103,19 +103,23 @@ keeps bits ws ps q t TryWrite (Step s) given = elim (eqb_tells (slice_index ws 2
       flag_none q.writer q.announced (sym given.agrees.flag_is ∙ flag_clear) in
       let unread = given.agrees.holders.reading t ∙ ap is_reading given.phase_is in
       let may_announce : is_allowed q (Announced t) ≡ true =
-      rw (below_64 given, given.kind_is, unwritten, unannounced, unread) refl in
+      rw (below_64 given, given.kind_is, unwritten, unannounced, unread) in
       let flag_set : slice_index (set ws 2 1) 2 ≡ 1 =
       get_or-set_same ws 2 1 0 (omega (arith, given.enough)) in
       elim (eqb_tells (slice_index ws 0) (slice_index ws 1)) [
         | inr (counts_test, _) ↦ rw (flag_test, counts_test) (
           (may_announce, tt),
-          announces given.agrees t given.thread given.phase_is unwritten unannounced
-              (λ n counted. same_count bits ws 1 n counted) flag_set,
+          rw may_announce
+              (announces given.agrees t given.thread given.phase_is unwritten unannounced
+              (λ n counted. same_count bits ws 1 n counted) flag_set),
         )
         | inl (counts_test, counts_equal) ↦
             let none = none_read bits ws ps q given.agrees counts_equal in
-            rw (flag_test, counts_test) (
-              (may_announce, (rw (below_64 given, given.kind_is, none, eq-eqb t t refl), (tt, tt))),
+            let may_write :
+            is_allowed (after_act q (Announced t)) (Acted t WriteLock) ≡ true =
+            rw (below_64 given, given.kind_is, none, eq-eqb t t refl) in
+            rw (flag_test, counts_test, may_announce, may_write) (
+              (refl, (refl, (tt, tt))),
               writes given.agrees t given.thread none unwritten (λ u other. rw unannounced refl)
                   (λ n counted. same_count bits ws 1 n counted) flag_set,
             )
@@ -128,13 +132,16 @@ keeps bits ws ps q t AwaitReaders (Step s) given =
           let announced = given.agrees.holders.awaiting t ∙ ap is_announced given.phase_is in
           let is_it : q.announced ≡ Some t = this_is q.announced t announced in
           let none = none_read bits ws ps q given.agrees counts_equal in
+          let may_write : is_allowed q (Acted t WriteLock) ≡ true =
+          rw (below_64 given, given.kind_is, announced, none) in
           rw counts_test (
-            (rw (below_64 given, given.kind_is, announced, none), (tt, tt)),
-            writes given.agrees t given.thread none
+            (may_write, (tt, tt)),
+            rw may_write
+                (writes given.agrees t given.thread none
                 (no_writer_beside q.writer q.readers q.announced t given.agrees.holders.alone
                 announced)
                 (λ u other. rw is_it (ne_eqb u t other)) (λ n counted. counted)
-                (given.agrees.flag_is ∙ rw is_it (flag_some q.writer t)),
+                (given.agrees.flag_is ∙ rw is_it (flag_some q.writer t))),
           )
     ]
 keeps bits ws ps q t LeaveWrite (Step s) given =

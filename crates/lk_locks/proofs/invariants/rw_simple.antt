@@ -1,13 +1,13 @@
 -- The simple read-write lock: each section adds the next entries of its call, and each move
 -- preserves that the count and the flag agree with the holders.
 use Rattle.std.proofs.Common.{List, ap, arith, inl, inr, length, refl, rules, set}
-use Rattle.std.proofs.Common.{slice_index, sym, ℕ, ◌%◌, ◌+◌, ◌-◌, ◌<◌}
+use Rattle.std.proofs.Common.{slice_index, sym, true, ℕ, ◌%◌, ◌+◌, ◌-◌, ◌<◌}
 use Rattle.std.proofs.Common.{◌^◌, ◌∙◌, ◌≡◌, ◌≤◌}
 use Rattle.std.proofs.Math.Nat.{add-mod_right, mod-eq_of_lt}
 use Rattle.std.proofs.lemmas.Bool.Decides.{eqb_tells}
 use Rattle.std.proofs.lemmas.List.{get_or-set_other, get_or-set_same, length-set, length-replicate}
 use Rattle.lk_locks.specs.Change.{less_one, plus_one, raised}
-use Rattle.lk_locks.specs.Sequential.{nobody}
+use Rattle.lk_locks.specs.Sequential.{nobody, is_allowed}
 use Rattle.lk_locks.specs.State.{start}
 use Rattle.lk_locks.specs.invariants.Locks.{AgreeAs}
 use Rattle.lk_locks.specs.invariants.rw_simple.{Count}
@@ -18,7 +18,7 @@ use Rattle.lk_locks.proofs.invariants.HolderLists.{flag_none, no_holders}
 use Rattle.lk_locks.proofs.invariants.ReadWriteMoves.{below_64, calls, downgrades, joins, leaves}
 use Rattle.lk_locks.proofs.invariants.ReadWriteMoves.{unwrites, writes}
 use Rattle.lk_locks.specs.Types.{RwSimple, Call, Step, Idle, LeaveRead, LeaveWrite, TryDowngrade}
-use Rattle.lk_locks.specs.Types.{TryRead, TryWrite}
+use Rattle.lk_locks.specs.Types.{TryRead, TryWrite, Acted, WriteLock}
 
 -- one more, and then one less, is the same count if the word does not wrap
 less : (bits count : ℕ) → count + 1 < 2 ^ bits → less_one bits (count + 1) ≡ count
@@ -66,11 +66,14 @@ keeps bits ws ps q t TryWrite (Step s) given = elim (eqb_tells (slice_index ws 0
         let (unwritten, unannounced) =
         flag_none q.writer q.announced (sym given.agrees.flag_is ∙ flag_clear) in
         let unread = nil_from_length q.readers (sym given.agrees.count ∙ count_zero) in
+        let may_write : is_allowed q (Acted t WriteLock) ≡ true =
+        rw (below_64 given, given.kind_is, unwritten, unread) in
         rw (count_test, flag_test) (
-          (rw (below_64 given, given.kind_is, unwritten, unread), (tt, tt)),
-          writes given.agrees t given.thread unread unwritten (λ u other. rw unannounced refl)
+          (may_write, (tt, tt)),
+          rw may_write
+              (writes given.agrees t given.thread unread unwritten (λ u other. rw unannounced refl)
               (λ n counted. get_or-set_other ws 1 0 1 0 (omega arith) ∙ counted)
-              (get_or-set_same ws 1 1 0 (omega (arith, given.enough))),
+              (get_or-set_same ws 1 1 0 (omega (arith, given.enough)))),
         )
   ]
 ]

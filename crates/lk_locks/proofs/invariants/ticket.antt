@@ -36,14 +36,11 @@ keeps bits ws ps q t (TicketInside ticket) (Call Release) given =
       queue_frame given.agrees t (ReadServing ticket) given.thread (sym has_ticket) at_head.alone,
     )
 keeps bits ws ps q t TakeTicket (Step kind) given =
-    let no_ticket = ap ticket_of given.phase_is in (
-      (
-        allows_acquire q t (ap family_of given.kind_is) (omega arith)
-            (no_member given.agrees t no_ticket),
-        tt,
-      ),
-      queue_take given.agrees t given.thread given.enough no_ticket,
-    )
+    let no_ticket = ap ticket_of given.phase_is in
+    let may_act =
+    allows_acquire q t (ap family_of given.kind_is) (omega arith)
+    (no_member given.agrees t no_ticket) in
+    ((may_act, tt), rw may_act (queue_take given.agrees t given.thread given.enough no_ticket))
 keeps bits ws ps q t (AwaitTurn ticket) (Step kind) given =
     elim (eqb_tells (slice_index ws 1) ticket) [
       | inr (test, _) ↦ rw test (waits given)
@@ -64,12 +61,10 @@ keeps bits ws ps q t (ReadServing ticket) (Step kind) given =
     )
 keeps bits ws ps q t (PassOn ticket) (Step kind) given =
     let at_head =
-    inside_is_head given.agrees t ticket (ap ticket_of given.phase_is) (λ awaited same. cc) in (
-      (
-        allows_release q t (ap family_of given.kind_is) (omega arith) at_head.head,
-        (tt, tt),
-      ),
-      rw at_head.ticket
+    inside_is_head given.agrees t ticket (ap ticket_of given.phase_is) (λ awaited same. cc) in
+    let may_act = allows_release q t (ap family_of given.kind_is) (omega arith) at_head.head in (
+      (may_act, (tt, tt)),
+      rw (may_act, at_head.ticket)
           (queue_pass bits ws ps q.queue t given.thread given.enough at_head.head at_head.alone
           given.agrees),
     )

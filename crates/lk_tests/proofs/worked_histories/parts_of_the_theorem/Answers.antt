@@ -1,4 +1,4 @@
-use Rattle.lk_tests.proofs.WritingAlone.{after_reader, after_downgraded}
+use Rattle.lk_locks.proofs.SharedLaws.{no_reader_beside}
 use Rattle.lk_tests.proofs.worked_histories.parts_of_the_theorem.Goals as goal
 
 pub returns-clause-legal : goal.returns-clause-legal
@@ -16,8 +16,8 @@ returns-clause-one_writer c = λ kind n es promised. promised.one_writer
 pub returns-clause-no_reader_beside : goal.returns-clause-no_reader_beside
 returns-clause-no_reader_beside c = λ kind n es promised. promised.no_reader_beside
 
-pub returns-clause-after_reader : goal.returns-clause-after_reader
-returns-clause-after_reader c = after_reader
+pub returns-clause-no_reader : goal.returns-clause-no_reader
+returns-clause-no_reader c = λ kind n es promised. promised.no_reader_beside.no_reader
 
-pub returns-clause-after_downgraded : goal.returns-clause-after_downgraded
-returns-clause-after_downgraded c = after_downgraded
+pub returns-clause-alone : goal.returns-clause-alone
+returns-clause-alone c = λ kind es before after split. no_reader_beside kind before

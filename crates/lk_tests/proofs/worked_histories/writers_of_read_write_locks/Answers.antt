@@ -1,9 +1,7 @@
 use Rattle.std.proofs.Common.{◌≡◌, [], ◌∷◌, ◌++◌, refl, inl, inr, rules}
-use Rattle.lk_tests.specs.WorkedHistories.{writes, reads, unwrites, left_once}
+use Rattle.lk_tests.specs.WorkedHistories.{writes, reads, unwrites}
 use Rattle.lk_tests.specs.WorkedHistories.{writers_in_turn, announced_entered}
 use Rattle.lk_locks.specs.Exclusion.{StopsWriting}
-use Rattle.lk_locks.specs.Legal.{after_entries}
-use Rattle.lk_locks.specs.Sequential.{nobody}
 use Rattle.lk_locks.proofs.SharedLaws.{never_two_writers, never_a_writer_beside_a_reader}
 use Rattle.lk_locks.proofs.SharedLaws.{announced_writer_goes_first}
 use Rattle.lk_tests.proofs.WorkedHistories.{simple_legal, fifo_legal, not_in, not_of_one}
@@ -40,12 +38,6 @@ returns-clause-another_unlocks c = λ h.
     (search rules)
     (h.then_reader 0 2 (Called 0 WriteLock ∷ [])
     (Returned 0 WriteLock ∷ unwrites 1 ++ Called 2 ReadLock ∷ []) (Returned 2 ReadLock ∷ []) refl)
-
-pub returns-clause-left_once : goal.returns-clause-left_once
-returns-clause-left_once c = λ h.
-    let none : (after_entries (nobody RwSimple) left_once).readers ≡ [] =
-    h.no_reader left_once [] refl 1 refl in
-    cc
 
 pub returns-clause-writer : goal.returns-clause-writer
 returns-clause-writer c = λ t u h.
