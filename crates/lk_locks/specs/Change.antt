@@ -5,8 +5,8 @@ use Rattle.lk_words.specs.Operations.{Performed, performed}
 use Rattle.lk_words.specs.declared.operation.Operation.{Operation}
 use Rattle.lk_words.specs.declared.operation.Answer.{Answer}
 use Rattle.lk_locks.specs.Types.{StepKind, Read, Write, Swap, Cas, Add, Phase, Outcome, Waits}
-use Rattle.lk_locks.specs.Types.{Family, FifoReadWrite, Op, Acquire, Release, ReadLock, ReadUnlock}
-use Rattle.lk_locks.specs.Types.{WriteLock, WriteUnlock, Downgrade, Entry, Announced, Acted}
+use Rattle.lk_locks.specs.Types.{Family, FifoReadWrite, Op}
+use Rattle.lk_locks.specs.Types.{WriteLock, Entry, Announced, Acted}
 use Rattle.lk_locks.specs.Types.{Returned}
 use Rattle.lk_locks.specs.declared.entries.Added.{Added}
 use Rattle.lk_locks.specs.declared.entries.Added.TheVariants as added

@@ -1,6 +1,6 @@
 use Rattle.std.proofs.Common.{refl, sym}
 use Rattle.lk_locks.specs.invariants.read_write.{IsSection}
-use Rattle.lk_locks.specs.read_write.{effect, step}
+use Rattle.lk_locks.specs.read_write.{step}
 use Rattle.lk_locks.proofs.Sections.{first_is, second_is, told, writes_of}
 use Rattle.lk_locks.proofs.read_write.effect.Goals as goal
 
