@@ -1,4 +1,4 @@
--- Where a text is cut at a byte.
+-- A text, cut at the first of some byte.
 use Rattle.std.proofs.Common.{eq-eqb, ◌≡◌, ℕ, ◌+◌, ◌-◌, ◌<◌, List, [], ◌∷◌, ◌++◌, length, get_or}
 use Rattle.std.proofs.Common.{take, drop, Bool, true, false, not, ◌==◌, refl, sym, ap, ◌∙◌, arith}
 use Rattle.std.proofs.Common.{take-append-drop, length-take-le, get_or-take, inl, inr}

@@ -1,4 +1,4 @@
--- What is expected in a line, word by word. It is a move exactly if nothing else is expected.
+-- The parts expected in a line, word by word. It is a move exactly if nothing else is expected.
 use Rattle.std.proofs.Common.{◌≡◌, ◌↔◌, ℕ, ◌+◌, List, [], ◌∷◌, Option, Some, None, cond, length}
 use Rattle.std.proofs.Common.{is_some, IsNone, IsSome, Bool, true, false, ap, arith, refl, ◌∙◌}
 use Rattle.lk_locks.specs.declared.kinds.Move.{Move}

@@ -1,4 +1,4 @@
--- What is expected in a line, word by word. It is a header exactly if nothing else is expected.
+-- The parts expected in a line, word by word. It is a header exactly if nothing else is expected.
 use Rattle.std.proofs.Common.{◌↔◌, ℕ, List, [], ◌∷◌, Option, Some, None, cond, ◌&&◌, is_some}
 use Rattle.std.proofs.Common.{IsNone, Bool, true, false, Ok, Err, nat_lt, ◌^◌, codes, arith, refl}
 use Rattle.std.specs.Str.{bytes_eq}

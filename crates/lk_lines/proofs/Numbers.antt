@@ -1,4 +1,4 @@
--- What the digits of a number write.
+-- The number that digits write.
 use Rattle.std.proofs.Common.{◌≡◌, ℕ, ◌+◌, ◌-◌, ◌*◌, ◌<◌, ◌≤◌, List, [], ◌∷◌, length, get_or, drop}
 use Rattle.std.proofs.Common.{None, arith, le_refl}
 use Rattle.std.proofs.lemmas.Bool.{lt-leb, and_right, cond-false}

@@ -10,7 +10,7 @@ is_plain_number text =
     all_ascii_digits text
     && (length text == 1 || (nat_lt 1 (length text) && not (slice_index text 0 == 48)))
 
--- what the digits write, after a number
+-- the number that the digits write, after a number
 abbrev pub value_from : ℕ → List ℕ → ℕ
 value_from n [] = n
 value_from n (c ∷ cs) = value_from (n * 10 + (c - 48)) cs

@@ -1,8 +1,8 @@
 -- Definitions: why a text is no schedule.
 use Rattle.std.specs.Prelude.{ℕ}
 
--- What is wrong with a text, with the number of the line. The program's `ReadFault` has these and
--- lack of memory.
+-- A fault of a text, with the number of the line. The program's `ReadFault` has these and lack of
+-- memory.
 pub data Fault : Type 0 where
   TooLong : Fault
   NoHeader : ℕ → Fault

@@ -46,8 +46,8 @@ pub record Numbered : Type 0 where
   pub number : ℕ
   pub lines : List (List ℕ)
 
--- Of these lines, the first of which has that number, some are skipped at the front: then come the
--- others, from number `next` on.
+-- The first of these lines has that number. Some are skipped at the front: then come the others,
+-- from number `next` on.
 pub record SkipsTo (number : ℕ) (lines : List (List ℕ)) (next : ℕ) (others : List (List ℕ))
     : Type 0 where
   pub skipped : List (List ℕ)

@@ -27,7 +27,7 @@ Fails (TooManyMoves n) read = read ≡ Err (text.TooManyMoves n)
 Fails (WordsTooNarrow n) read = read ≡ Err (text.WordsTooNarrow n)
 Fails OutOfMemory read = WantsMemory read
 
--- What is answered, seen by `view`, is what reading gives, unless memory ran out.
+-- The answer, seen by `view`, is what reading gives, unless memory ran out.
 abbrev pub Gives : {X Y : Type 0} → (X → Y) → Result X ReadFault → Result Y Fault → Type 0
 Gives view (Ok x) read = read ≡ Ok (view x)
 Gives view (Err fault) read = Fails fault read

@@ -54,7 +54,7 @@ fn named_lock(line: &[u8]) -> Option<(LockKind, &[u8])>
 ///
 /// # Errors
 ///
-/// What is wrong with the line: `BadHeader`, `BadThreads` or `WordsTooNarrow`, with its number.
+/// The line's fault is `BadHeader`, `BadThreads` or `WordsTooNarrow`, with its number.
 #[tactic(auto, unfolding(crate::specs::Header::header_of))]
 pub fn header_of(line: &[u8], number: u32) -> Result<Shape, ReadFault>
     ensures read { Gives (λ header. header) result (header_of number line.now) }

@@ -1,6 +1,7 @@
-//! What texts that are read line by line share, as schedules, traces, logs and sketches: their
-//! lines and words, the header, the names of locks, moves and outcomes, and where a line stops
-//! being a header or a move. And the statuses of the programs that read such texts.
+//! The parts that schedules, traces, logs and sketches share, each of which is read line by line:
+//! the lines and words of a text, its header, the names of locks, moves and outcomes, and the place
+//! at which a line stops being a header or a move. The programs that read such texts also share
+//! their statuses.
 #![tactic(auto)]
 
 mod faults;

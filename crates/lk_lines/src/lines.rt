@@ -1,5 +1,5 @@
-//! Where a text is cut: at each line feed into lines, at each space into words. Nothing is copied.
-//! And which move a line is.
+//! Cuts a text into lines at each line feed, and a line into words at each space, and reads a line
+//! as a move. Nothing is copied.
 
 ghost use Rattle.std.specs.Prelude.{◌≡◌, [], ◌==◌, ◌∷◌, ◌+◌, ◌<◌, MatchOption, IfSome, length};
 ghost use Rattle.std.specs.Prelude.{◌^◌, IfNone, false};

@@ -1,6 +1,6 @@
-//! Where a line of a schedule text stops being one, and what could be there, for a message to its
-//! writer. `header_of` and `move_of` say whether a line is a header or a move; this goes along with
-//! them word by word.
+//! The place at which a line of a schedule text stops being one, and what could be there, for a
+//! message to its writer. `header_of` and `move_of` say whether a line is a header or a move; this
+//! goes along with them word by word.
 
 ghost use Rattle.std.specs.Prelude.{◌≡◌, IsSome, IsNone, ◌↔◌, ℕ};
 ghost use Rattle.lk_lines.specs.Header.{header_of};
@@ -12,7 +12,7 @@ use crate::lines::cut_at;
 use crate::vocabulary::{lock_named, move_named, number_of};
 use thiserror::Error;
 
-/// What may come next in a line.
+/// A part that may come next in a line.
 #[derive(Clone, Copy, PartialEq, Eq, Debug, Error)]
 pub enum Expected {
     #[error("'lock'")]
@@ -36,7 +36,7 @@ pub enum Expected {
 }
 
 impl Expected {
-    /// What may come after this word, or none if it may not be here.
+    /// The part that may come after this word, or none if it may not be here.
     #[tactic(auto, unfolding(crate::specs::Unreadable::after_word))]
     pub fn after(self, word: &[u8]) -> Option<Expected>
         ensures { result ≡ after_word self word.now }
@@ -88,8 +88,8 @@ fn unreadable_from(line: &[u8], first: Expected) -> Option<(usize, Expected)>
     Some((column + rest.len() + 1, next))
 }
 
-/// Where a line stops being a header. Of a header whose words are too narrow for its threads there
-/// is no such place.
+/// The place at which a line stops being a header. A header whose words are too narrow for its
+/// threads has no such place.
 pub fn unreadable_header(line: &[u8]) -> Option<(usize, Expected)>
     ensures place { result ≡ unreadable_from 1 Lock (words_of line.now) }
     ensures none { (number : ℕ) → IsNone result ↔ IsHeader (header_of number line.now) }
@@ -97,7 +97,7 @@ pub fn unreadable_header(line: &[u8]) -> Option<(usize, Expected)>
     unreadable_from(line, Expected::Lock)
 }
 
-/// Where a line stops being a move.
+/// The place at which a line stops being a move.
 pub fn unreadable_move(line: &[u8]) -> Option<(usize, Expected)>
     ensures place { result ≡ unreadable_from 1 Thread (words_of line.now) }
     ensures none { IsNone result ↔ IsSome (move_of line.now) }

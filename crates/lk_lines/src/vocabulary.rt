@@ -1,4 +1,4 @@
-//! What a word of a text means: a number, a lock, a call, a step or an outcome. Each word is
+//! The meaning of a word of a text: a number, a lock, a call, a step or an outcome. Each word is
 //! written once, in a table that is read both ways and listed.
 
 ghost use Rattle.std.specs.Prelude.{◌≡◌, ◌≤◌, ◌++◌, ◌∷◌, IfSome, codes, length, take};
@@ -54,7 +54,7 @@ macro_rules! outcome_words {
     };
 }
 
-// What a word means, by such a table.
+// The meaning of a word, by such a table.
 macro_rules! named {
     ($word:expr; $([$($value:tt)+] $text:literal,)+) => {
         $(if $word == $text.as_bytes() { Some($($value)+) } else)+ { None }
@@ -77,7 +77,7 @@ macro_rules! block {
     };
 }
 
-// What such a word and a line feed at the front of a text mean, and the text after them.
+// The meaning of such a word before a line feed, at the front of a text, and the text after them.
 macro_rules! first {
     ($whole:expr; $([$($value:tt)+] $text:literal,)+) => {
         $(if let Some(rest) = rest_after($whole, concat!($text, "\n").as_bytes()) {

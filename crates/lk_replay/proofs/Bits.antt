@@ -226,7 +226,7 @@ are_readers xs text bits is bits_are ascending fit =
       same,
     )
 
--- what a thread that joins leaves
+-- the readers after a thread joined
 pub record Joins (now text : List ℕ) (bits t at : ℕ) : Type 0 where
   pub within : at ≤ length text
   pub room : length text + 4 ≤ 320
@@ -256,7 +256,7 @@ reader_joins now text bits t at readers is absent small few place =
           (omega (arith, more_is, bits_are, one.bit)) up all;
     }
 
--- what a thread that leaves leaves
+-- the readers after a thread left
 pub record Leaves (now text : List ℕ) (bits t at gone : ℕ) : Type 0 where
   pub within : at + gone ≤ length text
   pub fits : 1 * 2 ^ t % 2 ^ 64 ≤ bits

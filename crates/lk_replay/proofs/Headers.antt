@@ -1,4 +1,4 @@
--- What the first line says.
+-- The first line that is not skipped, and the plan or the fault that follows from it.
 use Rattle.std.proofs.Common.{◌≡◌, ℕ, ◌+◌, ◌≤◌, List, [], ◌∷◌, length, Result, Err}
 use Rattle.std.proofs.Common.{false, ap, ◌∙◌}
 use Rattle.std.proofs.lemmas.Bool.{cond-false, le-ltb}

@@ -1,4 +1,4 @@
--- How a report ends, by its last line.
+-- The ending of a report, by its last line.
 use Rattle.std.proofs.Common.{◌≡◌, ℕ, zero, suc, ◌+◌, ◌/◌, ◌%◌, ◌<◌, List, [], ◌∷◌, ◌++◌, length}
 use Rattle.std.proofs.Common.{true, false, refl, sym, ap, ◌∙◌, arith, inl, inr, codes, decimal}
 use Rattle.std.proofs.Common.{◌==◌, append_assoc, length-append, Option, None, Some, Result, Ok}

@@ -1,4 +1,4 @@
--- What one line does to what is read.
+-- The moves that are read, after one line more.
 use Rattle.std.proofs.Common.{◌≡◌, ℕ, ◌+◌, List, [], ◌∷◌, ◌++◌, Option, Some, None, Result}
 use Rattle.std.proofs.Common.{Ok, Err, Bool, true, false, ◌==◌, cond, ◌∙◌}
 use Rattle.std.proofs.Common.{eq-eqb}
@@ -11,12 +11,12 @@ use Rattle.lk_replay.specs.Schedule.{moves_from, moves_after, with_line}
 use Rattle.lk_replay.proofs.Skipped.{moves_skip}
 use Rattle.lk_lines.specs.Lines.{IsNextMove, Numbered, SkipsTo, is_skipped, move_of}
 
--- what is read from the rest, after these lines
+-- these lines, and then the lines of the rest, unless that has a fault
 abbrev pub with_lines : List Line → Result (List Line) Fault → Result (List Line) Fault
 with_lines prefix (Ok lines) = Ok (prefix ++ lines)
 with_lines prefix (Err fault) = Err fault
 
--- what is counted, and so many before it
+-- the count of the rest and of the moves before it, unless the rest has a fault
 abbrev pub more : ℕ → Result ℕ Fault → Result ℕ Fault
 more n (Ok m) = Ok (n + m)
 more n (Err fault) = Err fault

@@ -18,7 +18,7 @@ passes_kept waited bytes c = ([], Appends-nil c, refl)
 pub passes_none : (waited : List ℕ) (c : Option (List ℕ)) → Passes waited c [] waited c
 passes_none waited c = ([], Appends-nil c, sym (append-nil waited))
 
--- what waited went out
+-- the waiting bytes went out
 pub passes_sent : (waited bytes : List ℕ) (old new : Option (List ℕ)) → bytes ≡ waited
     → Appends old new bytes → Passes waited old [] [] new
 passes_sent waited bytes old new are appended = (bytes, appended, ap (λ (l : List ℕ). l ++ []) are)

@@ -36,7 +36,7 @@ text_is kind count es (m ∷ ms) refused =
     ∙ ap (λ (ys : List ℕ). (line_start (count + 1) m.accepted ++ state_text kind now) ++ ys)
     (text_is kind (count + 1) now ms refused)
 
--- what a new replay prints is the report of the schedule
+-- a new replay prints the report of the schedule
 pub replay_printed : (p : Plan) (o : Occupancy) (count : ℕ) (s : State) (moves : List Line)
     → o ≡ occupancy_of p.kind [] → count ≡ 0 → s ≡ start_of p → moves ≡ p.moves
     → let rest : Replay = replay_from s moves in

@@ -1,4 +1,4 @@
--- What is played of a schedule is a run of its lock, and so it is as promised.
+-- A replay is a run of the schedule's lock, and so its history is as promised.
 use Rattle.std.proofs.Common.{◌≡◌, ℕ, ◌+◌, ◌<◌, ◌≤◌, ◌^◌, List, [], ◌∷◌, length, map, nat_le}
 use Rattle.std.proofs.Common.{nat_lt, ◌&&◌, replicate, Option, None, Some, IfSome, Result, Ok}
 use Rattle.std.proofs.Common.{refl, sym, ap, subst, arith, inl, inr}

@@ -1,4 +1,4 @@
--- What was played, and what the rest gives.
+-- The replay so far, and that of the rest.
 use Rattle.std.proofs.Common.{◌≡◌, ℕ, ◌+◌, ◌<◌, ◌≤◌, List, [], ◌∷◌, ◌++◌, map, length, Option, None}
 use Rattle.std.proofs.Common.{Some, Ok, Err, refl, ap, sym, ◌∙◌, append_assoc, append-nil, drop}
 use Rattle.std.proofs.Common.{get_or}
@@ -18,7 +18,7 @@ use Rattle.lk_replay.specs.declared.played.Accepted.{Accepted}
 abbrev pub accepted_of : Line → Outcome → Accepted
 accepted_of l p = record { line = l.number; thread = l.thread; action = l.action; outcome = p }
 
--- what is shown if these moves and the lock that they left come before the replay
+-- the view of these moves, of the lock that they left, and of the replay after them
 abbrev pub after : RecordedLock → List Accepted → Replay → Replayed
 after k accepted r = record {
   kind = k.state.kind;
@@ -28,7 +28,7 @@ after k accepted r = record {
   refused = r.refused;
 }
 
--- what is shown if nothing more is played
+-- the view if nothing more is played
 abbrev pub so_far : RecordedLock → List Accepted → Option (ℕ × Refusal) → Replayed
 so_far k accepted refused = record {
   kind = k.state.kind;

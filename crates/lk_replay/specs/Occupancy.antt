@@ -16,7 +16,7 @@ pub record Occupancy : Type 0 where
   pub sequential : Sequential
   pub holder : Option ℕ
 
--- after these entries more
+-- the occupancy after these further entries
 abbrev pub occupancy_after : Occupancy → List Entry → Occupancy
 occupancy_after o es = record {
   kind = o.kind;
@@ -24,7 +24,7 @@ occupancy_after o es = record {
   holder = holder_after o.holder es;
 }
 
--- of a lock of this kind after these entries
+-- the occupancy of a lock of this kind after these entries
 abbrev pub occupancy_of : LockKind → List Entry → Occupancy
 occupancy_of kind es =
     occupancy_after (record { kind = kind; sequential = nobody kind; holder = None }) es

@@ -55,7 +55,7 @@ start_of p = start p.kind p.bits (replicate (word_count p.kind p.threads) 0) p.t
 abbrev pub replay_of : Plan → Replay
 replay_of p = replay_from (start_of p) p.moves
 
--- what a replay shows: the lock and the number of its threads, the accepted moves, their entries,
+-- the view of a replay: the lock and the number of its threads, the accepted moves, their entries,
 -- and the refused move
 pub record Replayed : Type 0 where
   pub kind : LockKind
@@ -64,7 +64,7 @@ pub record Replayed : Type 0 where
   pub entries : List Entry
   pub refused : Option (ℕ × Refusal)
 
--- what the replay of a plan shows
+-- the view of the replay of a plan
 abbrev pub replayed_of : Plan → Replayed
 replayed_of p = record {
   kind = p.kind;

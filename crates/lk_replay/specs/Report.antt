@@ -43,7 +43,7 @@ abbrev pub shown_text : Holding → List ℕ → List ℕ
 shown_text holding waiting =
     holding_text holding ++ codes " queue " ++ queue_text waiting ++ codes "\n"
 
--- of who holds and who waits after these entries
+-- the text of the holders and the queue after these entries
 unfoldable pub state_text : LockKind → List Entry → List ℕ
 state_text kind es = shown_text (holding_of kind es) (waiting_of kind es)
 

@@ -20,7 +20,7 @@ pub record ReportRest : Type 0 where
   pub left : ℕ
   pub ending : Ending
 
--- what is left of a report, if it did not end yet, after `count` moves that left this occupancy
+-- the rest of a report that did not end yet, after `count` moves that left this occupancy
 abbrev pub rest_of : Option Ending → Occupancy → ℕ → Replay → ReportRest
 rest_of None o count rest = record {
   text = text_from o count rest.made rest.refused;

@@ -9,7 +9,7 @@ use Rattle.lk_locks.specs.State.{Shape}
 use Rattle.lk_lines.specs.Header.{header_of}
 use Rattle.lk_lines.specs.Faults.{Fault, TooLong, NoHeader, BadLine, TooManyMoves}
 
--- what is read from the rest, after a line
+-- a line, and then the lines of the rest, unless that has a fault
 abbrev pub with_line : Line → Result (List Line) Fault → Result (List Line) Fault
 with_line line (Ok lines) = Ok (line ∷ lines)
 with_line line (Err fault) = Err fault
@@ -30,7 +30,7 @@ moves_from number taken (line ∷ lines) =
     else moves_after (move_of line) number (taken == 65536)
     (moves_from (number + 1) (taken + 1) lines)
 
--- What a schedule text says.
+-- the lock and the moves of a schedule text
 pub record Plan : Type 0 where
   pub kind : LockKind
   pub threads : ℕ
@@ -53,7 +53,7 @@ plan_from number (line ∷ lines) =
     if is_skipped line then plan_from (number + 1) lines
     else with_header (header_of number line) (moves_from (number + 1) 0 lines)
 
--- what a text of at most 1,048,576 bytes says
+-- the plan or the fault of a text, which may have 1,048,576 bytes
 unfoldable pub plan_of : List ℕ → Result Plan Fault
 plan_of text = if nat_lt 1048576 (length text) then Err TooLong else plan_from 1 (lines_of text)
 

@@ -9,7 +9,7 @@ use std::alloc::Global;
 use std::io::{Read, Write};
 use thiserror::Error;
 
-/// What ends a run early.
+/// A fault that ends a run early.
 #[derive(Clone, Copy, PartialEq, Eq, Debug, Error)]
 pub enum RunFault {
     /// The input failed.
@@ -27,7 +27,7 @@ pub enum RunFault {
 /// as such.
 const READ_LIMIT: usize = MOST_BYTES + 1;
 
-// Bytes asked of a reader at once. A small file costs the clearing of so many.
+// The bytes asked of a reader at once. A small file, too, costs the clearing of all of them.
 const CHUNK: usize = 4_096;
 
 /// Reads to the end of the input, or up to 1,048,577 bytes and leaves the rest unread. The text has
@@ -68,7 +68,7 @@ pub fn read_text<R: Read>(alloc: Global, input: &mut R) -> Result<Vec<u8>, RunFa
 ///
 /// # Errors
 ///
-/// A write that fails or takes nothing is `Write`. What was written then is a prefix of the bytes.
+/// A write that fails or takes nothing is `Write`. A prefix of the bytes was written then.
 pub(crate) fn write_whole<W: Write>(output: &mut W, bytes: &[u8]) -> Result<(), RunFault>
     ensures written { OnOk result
         (Appends (W.contents output.old) (W.contents output.new) bytes.now) }
@@ -91,8 +91,8 @@ pub(crate) fn write_whole<W: Write>(output: &mut W, bytes: &[u8]) -> Result<(), 
 ///
 /// # Errors
 ///
-/// A write that fails or takes nothing, or a flush that fails, is `Write`. What was written then is
-/// a prefix of the bytes.
+/// A write that fails or takes nothing, or a flush that fails, is `Write`. A prefix of the bytes
+/// was written then.
 pub fn send<W: Write>(output: &mut W, bytes: &[u8]) -> Result<(), RunFault>
     ensures written { OnOk result
         (Appends (W.contents output.old) (W.contents output.new) bytes.now) }

@@ -1,11 +1,11 @@
-//! How a report ends. Who prints a report has its ending as a value. Who has only its bytes reads
-//! it off the last line.
+//! The ending of a report. The code that prints a report has its ending as a value. A reader of the
+//! bytes alone takes it from the last line.
 
 ghost use Rattle.std.specs.Prelude.{◌≡◌};
 ghost use Rattle.lk_lines.specs.Lines.{lines_of};
 ghost use Rattle.lk_replay.specs.Ending.{last_of, ending_of};
 
-/// What became of a schedule text.
+/// The way in which a report ends.
 #[derive(Clone, Copy, PartialEq, Eq, Debug)]
 pub enum Ending {
     /// Every move was accepted.
@@ -28,7 +28,7 @@ fn last_line(text: &[u8]) -> &[u8]
     }
 }
 
-/// How a report ends, by its last line. A report with no line is `Faulty`.
+/// The ending of a report, by its last line. A report with no line is `Faulty`.
 #[tactic(auto, unfolding(crate::specs::Ending::ending_of))]
 pub fn ending_of(report: &[u8]) -> Ending
     ensures { result ≡ ending_of report.now }

@@ -21,7 +21,7 @@ const MOST_WAITING: usize = 65_536;
 #[derive(Drop)]
 pub struct OutputBuffer {
     bytes: Vec<u8>,
-    // How many of them wait.
+    // The number of those that wait.
     len: usize,
 }
 
@@ -52,8 +52,8 @@ impl OutputBuffer {
     ///
     /// # Errors
     ///
-    /// A write that fails or takes nothing is `Write`. What was written then is a prefix of what
-    /// waited and the bytes.
+    /// A write that fails or takes nothing is `Write`. A prefix of what waited and the bytes was
+    /// written then.
     pub fn push<W: Write>(&mut self, output: &mut W, bytes: &[u8]) -> Result<(), RunFault>
         ensures passed { OnOk result
             (Passes self.old (W.contents output.old) bytes.now self.new (W.contents output.new)) }
@@ -79,8 +79,8 @@ impl OutputBuffer {
     ///
     /// # Errors
     ///
-    /// A write that fails or takes nothing, or a flush that fails, is `Write`. What was written
-    /// then is a prefix of what waited.
+    /// A write that fails or takes nothing, or a flush that fails, is `Write`. A prefix of what
+    /// waited was written then.
     pub fn send_whole<W: Write>(&mut self, output: &mut W) -> Result<(), RunFault>
         ensures written { OnOk result
             (Appends (W.contents output.old) (W.contents output.new) self.old) }

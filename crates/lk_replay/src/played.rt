@@ -20,7 +20,7 @@ pub struct Accepted {
     pub outcome: Outcome,
 }
 
-/// What playing a schedule up to its first refused move gave.
+/// The result of a schedule that was played up to its first refused move.
 #[derive(Drop)]
 pub struct Played {
     accepted: Vec<Accepted>,

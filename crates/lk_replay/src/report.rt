@@ -30,7 +30,7 @@ const LONGEST_LAST: usize = 64;
 // The bytes that are printed at once.
 const PLACE: usize = 4_096;
 
-// How many lines a report has room for at once. More are seldom, and a schedule of many moves may
+// The lines for which a report has room at first. More are seldom, and a schedule of many moves may
 // be refused at its first.
 const FIRST_LINES: usize = 1_024;
 

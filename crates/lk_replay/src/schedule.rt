@@ -33,7 +33,7 @@ pub struct Line {
     pub action: Move,
 }
 
-/// What a schedule text says.
+/// The lock and the moves of a schedule text.
 #[derive(Drop)]
 pub struct Schedule {
     shape: Shape,
@@ -67,7 +67,7 @@ impl Schedule {
         self.shape.kind()
     }
 
-    /// How many threads it has.
+    /// The number of its threads.
     pub fn threads(&self) -> u8
         ensures threads { result ≡ self.now.threads }
         ensures some { 0 < result }
@@ -77,7 +77,7 @@ impl Schedule {
         self.shape.threads()
     }
 
-    /// How many bits its words have.
+    /// The number of bits of its words.
     pub fn bits(&self) -> u8
         ensures bits { result ≡ self.now.bits }
         ensures least { 2 ≤ result }
@@ -186,7 +186,7 @@ fn read_moves(alloc: Global, lines: Lines<'_>, most: usize) -> Result<Vec<Line>,
 ///
 /// # Errors
 ///
-/// Those of the length and of the header are answered without taking memory. If a request for
+/// Faults of the length and of the header are answered without taking memory. If a request for
 /// memory was refused, `OutOfMemory` may be returned in place of a later one.
 pub fn read_schedule(alloc: Global, bytes: &[u8]) -> Result<Schedule, ReadFault>
     ensures { Gives (λ schedule. schedule) result (plan_of bytes.now) }

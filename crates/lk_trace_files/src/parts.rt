@@ -1,6 +1,6 @@
 //! The parts of a report, for reports on other things than one trace: how far the threads of a run
-//! came, what is said of a line, of a lock and of a run that hangs, and the forms of what is said.
-//! And what jobs on long files share: their progress on a terminal, and texts written in pieces.
+//! came, the sentences on a line, on a lock and on a run that hangs, and their forms. Jobs on long
+//! files also share their progress on a terminal, and texts written in pieces.
 
 pub use crate::blame::{HANGS, Waiting, put_waits};
 pub use crate::course::{Course, Fate, said_of};

@@ -12,7 +12,7 @@ use crate::report::numerals::{thread_block, width};
 use crate::report::text::{Text, put};
 use std::marker::Model;
 
-/// Who requested a queue lock, oldest first.
+/// The requests of a queue lock, oldest first.
 #[derive(Drop)]
 pub struct Requests {
     text: Text,
@@ -93,8 +93,8 @@ impl Readers {
         }
     }
 
-    // Where a thread's number is in the text, or would be. With its comma one below 10 takes 2
-    // bytes, and each other 3.
+    // The place of a thread's number in the text, or the one that it would have. A number below 10
+    // takes 2 bytes with its comma, and each other 3.
     fn place_of(&self, thread: u8) -> usize
         requires { thread < 64 }
         ensures { result ≡ length (later_numbers (below self.now thread)) }

@@ -95,7 +95,7 @@ pub fn thread_block(lead: u8, thread: u8) -> ([u8; 4], usize)
     (block, end)
 }
 
-/// How many digits a thread's number has.
+/// The number of digits of a thread's number.
 pub fn width(thread: u8) -> usize
     ensures digits { result ≡ length (decimal thread) }
     ensures few { result ≤ 3 }

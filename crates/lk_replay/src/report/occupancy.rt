@@ -1,4 +1,5 @@
-//! Who holds a lock and who waits for it, as text that changes with each entry of the history.
+//! The holders of a lock and the threads that wait for it, as text that changes with each entry of
+//! the history.
 
 ghost use Rattle.std.specs.Prelude.{◌≡◌, ◌+◌, ◌++◌, ◌∷◌, ◌≤◌, [], length, take};
 ghost use Rattle.lk_locks.specs.Change.{entries_by};
@@ -16,8 +17,8 @@ use crate::report::text::put;
 use lk_locks::{Added, Family, LockKind, Op, family_of};
 use std::marker::Model;
 
-/// Who holds and who waits after the entries so far. Of a queue lock the holder is the thread whose
-/// acquire returned last, up to its release.
+/// The holders and the waiting threads after the entries so far. The holder of a queue lock is the
+/// thread whose acquire returned last, up to its release.
 #[derive(Drop)]
 pub struct OccupancyText {
     kind: LockKind,
@@ -52,7 +53,7 @@ impl Model for OccupancyText {
     }) };
 }
 
-// Writes a thread's number, or that there is none.
+// Writes a thread's number, or `-` for none.
 fn put_one(line: &mut [u8], at: usize, thread: Option<u8>) -> usize
     requires { at + 4 ≤ length line.old }
     ensures held { take result line.new ≡ take at line.old ++ holding_text (held_by_one thread) }
@@ -82,7 +83,7 @@ fn put_sharers(line: &mut [u8], at: usize, readers: &Readers, writer: Option<u8>
 }
 
 impl OccupancyText {
-    /// Of a lock with no history yet.
+    /// The occupancy of a lock with no history yet.
     pub fn new(kind: LockKind) -> OccupancyText
         ensures { result ≡ occupancy_of kind [] }
     {

@@ -135,7 +135,7 @@ impl<'a> Replay<'a> {
         }
     }
 
-    /// How the report ends, once no line is left.
+    /// The ending of the report, once no line is left.
     pub fn ending(&self) -> Option<Ending>
         ensures { MatchOption result (0 < self.now.left)
             (λ ending. (ending ≡ self.now.ending) × (self.now.text ≡ [])) }

@@ -12,7 +12,7 @@ use lk_lines::{Lines, ReadFault};
 use lk_locks::Shape;
 use std::marker::Model;
 
-/// What a schedule text says, with the moves that were not read yet.
+/// The header of a schedule text, and the moves that were not read yet.
 #[derive(Drop)]
 pub struct ScheduleReader<'a> {
     header: Shape,
@@ -64,7 +64,7 @@ impl<'a> ScheduleReader<'a> {
         self.header
     }
 
-    /// How many moves were not read yet.
+    /// The number of moves that were not read yet.
     pub fn moves_left(&self) -> usize
         ensures moves { result ≡ length self.now.moves }
         ensures few { result ≤ 65536 }
@@ -84,7 +84,7 @@ impl<'a> ScheduleReader<'a> {
     }
 }
 
-// How many moves these lines have.
+// The number of moves in these lines.
 fn count_moves(lines: Lines<'_>) -> Result<usize, ReadFault>
     ensures few { IfOk result (λ count. count ≤ 65536) }
     ensures read { Gives (λ count. count) result

@@ -1,4 +1,4 @@
--- What the rest gives is what the line gives.
+-- The rest gives the answer of the whole line.
 use Rattle.std.proofs.Common.{◌≡◌, ◌+◌, length}
 use Rattle.lk_lines.specs.Lines.{words_of}
 use Rattle.lk_lines.specs.Unreadable.{unreadable_from}

@@ -1,4 +1,4 @@
--- What is stripped comes first.
+-- The stripped bytes come first.
 use Rattle.std.proofs.Common.{◌-◌, Some, drop, length, refl, take}
 use Rattle.std.proofs.lemmas.Bool.Decides.{Decides-eqb}
 use Rattle.std.proofs.lemmas.Slice.Eq.{strip_prefix_is}

@@ -1,4 +1,4 @@
--- What was read was taken.
+-- The text so far was taken from the reader.
 use Rattle.std.proofs.Common.{length, ◌-◌, ◌≤◌}
 use Rattle.std.specs.Io.KnownBytes.{Consumes}
 use Rattle.lk_replay.proofs.devices.read_text.Given as goal

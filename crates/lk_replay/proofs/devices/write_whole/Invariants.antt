@@ -1,4 +1,4 @@
--- What is gone from the bytes was appended.
+-- The bytes that are gone were appended.
 use Rattle.std.proofs.Common.{length, take, ◌-◌, ◌≤◌}
 use Rattle.std.specs.Io.KnownBytes.{Appends}
 use Rattle.lk_replay.proofs.devices.write_whole.Given as goal

@@ -1,4 +1,4 @@
--- What was played, and then what the rest gives, is what the schedule gives.
+-- The replay so far and that of the rest are the replay of the schedule.
 use Rattle.std.proofs.Common.{◌≡◌, ◌≤◌, drop, length}
 use Rattle.lk_replay.specs.Replay.{replay_from, replayed_of}
 use Rattle.lk_replay.proofs.Sofar.{after}

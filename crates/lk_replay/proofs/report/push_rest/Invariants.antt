@@ -1,4 +1,4 @@
--- What was appended and what is left are the whole text.
+-- The appended text and the rest are the whole text.
 use Rattle.std.proofs.Common.{◌≡◌, ◌≤◌, ◌++◌, length}
 use Rattle.lk_replay.proofs.report.push_rest.Given as goal
 

@@ -1,4 +1,4 @@
--- What was read, and then what the rest gives, is what the lines give.
+-- The moves so far and those of the rest are the moves of all lines.
 use Rattle.std.proofs.Common.{◌≡◌, ◌≤◌, length}
 use Rattle.lk_replay.specs.Schedule.{moves_from}
 use Rattle.lk_replay.proofs.Moves.{with_lines}

@@ -1,4 +1,4 @@
--- What is printed is the report of what was read.
+-- The printed text is the report of the text that was read.
 use Rattle.std.proofs.Common.{◌≡◌, ℕ, List}
 use Rattle.std.proofs.lemmas.Result.{IfOk-weaker, on_ok_weaker}
 use Rattle.std.specs.Io.KnownBytes.{Appends}

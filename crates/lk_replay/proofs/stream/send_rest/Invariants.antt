@@ -1,4 +1,4 @@
--- What went and what is left are the whole text.
+-- The sent bytes and the rest are the whole text.
 use Rattle.std.proofs.Common.{[], ◌≡◌, ◌<◌, ◌≤◌, length}
 use Rattle.lk_replay.proofs.Passed.{IsUnderWay}
 use Rattle.lk_replay.proofs.stream.send_rest.Given as goal

@@ -1,4 +1,4 @@
--- What is sent is the report, and it ends as the replay does.
+-- The sent bytes are the report, and it ends as the replay does.
 use Rattle.std.proofs.Common.{◌∙◌, rules, subst}
 use Rattle.std.proofs.lemmas.Result.{IfOk-weaker}
 use Rattle.lk_replay.specs.Devices.{AppendsPrefix}

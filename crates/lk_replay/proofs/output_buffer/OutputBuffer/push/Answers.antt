@@ -1,4 +1,4 @@
--- What waited went out, if it had to, and then a long text, or a short one waits.
+-- The waiting bytes went out, if they had to. A long text follows them, and a short one waits.
 use Rattle.std.proofs.Common.{◌≡◌, ◌≤◌, ◌+◌, ◌++◌, ◌∙◌, [], List, ℕ, ap, append-nil, append_assoc}
 use Rattle.std.proofs.Common.{arith, length, subst, sym, take, take_all}
 use Rattle.std.proofs.lemmas.Result.{on_err_weaker, on_ok_weaker}

@@ -1,4 +1,4 @@
--- What was counted, and then what the rest gives, is what the lines give.
+-- The count so far and that of the rest are the count of all lines.
 use Rattle.std.proofs.Common.{◌≡◌, ◌≤◌, length}
 use Rattle.lk_replay.specs.Schedule.{move_count, moves_from}
 use Rattle.lk_replay.proofs.Moves.{more}

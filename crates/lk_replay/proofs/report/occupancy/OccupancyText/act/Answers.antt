@@ -1,4 +1,4 @@
--- Each act keeps what holds of a sequential lock, and there is room for who joins.
+-- Each act preserves the invariant of the sequential object, and its lists have room.
 use Rattle.std.proofs.Common.{rules}
 use Rattle.lk_locks.proofs.Requests.{reader_fits, request_fits, sequential_kept}
 use Rattle.lk_locks.specs.Sequential.{Sequential}

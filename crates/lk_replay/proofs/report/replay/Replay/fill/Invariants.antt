@@ -1,4 +1,4 @@
--- What was printed, and then what is left, is all of it, and a line has room.
+-- The printed lines and the rest are the whole report, and a line has room.
 use Rattle.std.proofs.Common.{◌≡◌, ◌+◌, ◌<◌, ◌≤◌, ◌++◌, length, take}
 use Rattle.lk_replay.proofs.report.replay.Replay.fill.Given as goal
 

@@ -1,4 +1,4 @@
--- What is copied begins with the rest.
+-- The copied bytes begin with the rest.
 use Rattle.std.proofs.Common.{◌-◌, arith}
 use Rattle.lk_replay.proofs.Texts.{rest_put}
 use Rattle.lk_replay.proofs.report.text.Text.put_rest.Goals as goal

@@ -1,4 +1,4 @@
--- What comes after them moves to their place.
+-- The bytes after them move to their place.
 use Rattle.std.proofs.Common.{◌++◌, ◌∙◌, ◌+◌, length, length-take-le, List, ℕ, ap, arith, take}
 use Rattle.std.proofs.Common.{drop}
 use Rattle.lk_replay.proofs.Texts.{removed}
