@@ -9,6 +9,8 @@ unexport $(foreach it,$(filter-out $(KEPT),$(.VARIABLES)),$(if \
 export LC_ALL := C.UTF-8
 export TZ := UTC
 export PYTHONNOUSERSITE := 1
+# A script imports what is in the folder of another.
+export PYTHONPATH := $(shell find '$(CURDIR)/tests' -maxdepth 1 -type d | paste -s -d :)
 export GIT_CONFIG_GLOBAL := /dev/null
 export GIT_CONFIG_NOSYSTEM := 1
 # Root may read a tree of another user.
@@ -56,7 +58,7 @@ demo: needs-rt
 
 # The Debian packages that the tests of `make test` need
 test-needs:
-	@tests/wanted.sh rt tools page browsers recording rust
+	@tests/tools/wanted.sh rt tools page browsers recording rust
 
 # What `make test` does after the proofs, in this order.
 PARTS := tried test-page test-refused test-library test-traces
@@ -64,7 +66,7 @@ PARTS := tried test-page test-refused test-library test-traces
 ## test | the one test command: proves all from nothing, then tries what is built
 # The fuzzer takes one processor for a minute, and `gate-built` leaves it one.
 test: test-needs
-	+tests/parts.sh gate gate-built+tried-fuzz $(patsubst tried,tried-others,$(PARTS))
+	+tests/tools/parts.sh gate gate-built+tried-fuzz $(patsubst tried,tried-others,$(PARTS))
 
 test-parts:
 	@echo $(PARTS)
@@ -82,7 +84,7 @@ gate: needs-rt
 # The static libraries, which `rt ci` proves and does not build, over the libraries that it leaves
 gate-built: needs-tools
 	BUILT=1 page/build-module.sh
-	tests/static_library.py lk_trace_c x86_64-unknown-linux-gnu out/liblk_trace_c.a
+	tests/prover/static_library.py lk_trace_c x86_64-unknown-linux-gnu out/liblk_trace_c.a
 
 $(PROVED): $(SOURCES)
 	$(MAKE) --no-print-directory gate
@@ -94,11 +96,11 @@ by-root:
 
 ## clean-room [PROVE=1] | demo, programs and tests in a minimal Debian; PROVE=1: without kept proofs
 clean-room: by-root needs-rt needs-tools needs-root
-	tests/clean_room.sh $(if $(PROVE),--prove)
+	tests/tools/clean_room.sh $(if $(PROVE),--prove)
 
 ## packages | prints the command that installs what any target needs of Debian
 packages:
-	@tests/wanted.sh --list
+	@tests/tools/wanted.sh --list
 
 ## test-refused | the tests of the libraries, with each request for memory refused in turn
 test-refused: $(TESTS_BUILT) needs-tools
@@ -113,9 +115,9 @@ check: needs-rt needs-tools
 else
 check:
 	$(MAKE) --no-print-directory tried FUZZ_SECONDS=$(SHORT_FUZZ_SECONDS)
-	tests/locktrace.py $(TRACER)
-	tests/trace_values.py $(TRACER) --runs 1000
-	tests/order_search.py $(TRACER) --runs 500
+	tests/locktrace/locktrace.py $(TRACER)
+	tests/locktrace/trace_values.py $(TRACER) --runs 1000
+	tests/locktrace/order_search.py $(TRACER) --runs 500
 endif
 
 # The built program, and the rows by themselves, side by side. Nothing is proved here.
@@ -130,27 +132,31 @@ tried tried-others: $(PROGRAM) $(TRACER) needs-rt needs-tools
 	    FUZZ_SECONDS=$(FUZZ_SECONDS)
 
 tried-oracle:
-	tests/rows.py
+	tests/oracle/rows.py
 tried-layout:
-	tests/locks_code.py
-	tests/page_codes.py
-	tests/vocabulary.py
-	tests/definitions.py
-	tests/style.py
-	tests/formatted.py
-	tests/packages_list.py
-	tests/wanted_cases.py
-	tests/mutant_cases.py
-	tests/versions.py
-	tests/quotes.py
-	tests/figures.py
+	tests/texts/locks_code.py
+	tests/texts/page_codes.py
+	tests/texts/vocabulary.py
+	tests/prover/definitions.py
+	tests/texts/style.py
+	tests/prover/formatted.py
+	tests/package/packages_list.py
+	tests/package/wanted_cases.py
+	tests/prover/mutant_cases.py
+	tests/texts/versions.py
+	tests/texts/quotes.py
+	tests/texts/figures.py
 tried-spaces:
-	tests/search_counts.py
-	tests/search_sketches.py
+	tests/oracle/search_counts.py
+	tests/oracle/search_sketches.py
 tried-fuzz:
-	fuzz/fuzz.py $(PROGRAM) --seconds $(FUZZ_SECONDS)
-$(addprefix tried-,$(filter-out oracle layout spaces fuzz,$(TRIED))): tried-%:
-	tests/$*.py $(PROGRAM)
+	tests/oracle/fuzz.py $(PROGRAM) --seconds $(FUZZ_SECONDS)
+tried-rows:
+	tests/oracle/rows.py $(PROGRAM)
+$(addprefix tried-,process refusals writes short_memory memory): tried-%:
+	tests/lockreplay/$*.py $(PROGRAM)
+tried-documents tried-documents_fail: tried-%:
+	tests/texts/$*.py $(PROGRAM)
 
 ## page | builds the page's module and page/lockreplay.html
 page: $(MODULE) needs-page
@@ -169,7 +175,7 @@ test-page: $(MODULE) $(PROGRAM) needs-tools needs-page needs-browsers
 
 ## test-library | tries the static library for traces, from C and from Python
 test-library: $(LIBRARY) needs-tools
-	tests/trace_library.py $(LIBRARY)
+	tests/locktrace/trace_library.py $(LIBRARY)
 
 # Side by side, those that take longest first. Each has a folder of its own.
 TRACED := recording recording_rust conform order_search recording_modes locktrace searches \
@@ -181,32 +187,36 @@ test-traces: $(TRACER) $(PROGRAM) $(LIBRARY) needs-tools
 	$(MAKE) --no-print-directory --jobs=$(shell nproc) --output-sync=target \
 	    $(addprefix traced-,$(TRACED))
 
-traced-recording traced-searches: traced-%:
-	tests/$*.py $(TRACER) $(PROGRAM)
+traced-recording:
+	tests/record/recording.py $(TRACER) $(PROGRAM)
+traced-searches:
+	tests/locktrace/searches.py $(TRACER) $(PROGRAM)
 traced-recording_rust:
-	tests/recording_rust.py $(TRACER) $(LIBRARY)
+	tests/record/recording_rust.py $(TRACER) $(LIBRARY)
 traced-recording_modes:
-	tests/recording_modes.py $(LIBRARY)
+	tests/record/recording_modes.py $(LIBRARY)
 traced-conform:
-	tests/conform.py $(LIBRARY) $(TRACER)
-$(addprefix traced-,locktrace search_counts search_sketches trace_values order_search): traced-%:
-	tests/$*.py $(TRACER)
+	tests/record/conform.py $(LIBRARY) $(TRACER)
+$(addprefix traced-,locktrace trace_values order_search): traced-%:
+	tests/locktrace/$*.py $(TRACER)
+$(addprefix traced-,search_counts search_sketches): traced-%:
+	tests/oracle/$*.py $(TRACER)
 
 ## test-planted | planted mistakes of recorded locks are noticed as the tables say
 test-planted: $(TRACER) $(LIBRARY) needs-tools
-	tests/planted.py $(TRACER) $(LIBRARY)
+	tests/record/planted.py $(TRACER) $(LIBRARY)
 
 LOCK    :=
 THREADS := 3
 ROUNDS  := 1
 ## conform [LOCK=NAME] [THREADS=3] [ROUNDS=1] | recorded locks follow schedules that take every transition
 conform: $(LIBRARY) $(TRACER) needs-tools
-	tests/conform.py $(LIBRARY) $(TRACER) $(LOCK) --threads $(THREADS) --rounds $(ROUNDS)
+	tests/record/conform.py $(LIBRARY) $(TRACER) $(LOCK) --threads $(THREADS) --rounds $(ROUNDS)
 
 ## mutants [CRATE=NAME [MISTAKE=NAME]] | mutants are refused, their right twins proved
 mutants: needs-rt needs-tools $(if $(CRATE),,$(PROVED))
 	$(if $(CRATE),cd crates/$(CRATE) && rt check)
-	tests/mutants.py $(CRATE)$(addprefix /,$(MISTAKE))
+	tests/prover/mutants.py $(CRATE)$(addprefix /,$(MISTAKE))
 
 ## programs | builds lockreplay and locktrace
 programs: $(PROGRAM) $(TRACER)
@@ -229,7 +239,7 @@ bench-instructions: $(PROGRAM) needs-tools needs-bench-instructions
 
 ## soak [SOAK_SECONDS=3600] | each long run once, then the fuzzer for the rest of the time
 soak: $(PROGRAM) needs-tools needs-browsers
-	tests/soak.sh $(PROGRAM) $(SOAK_SECONDS)
+	tests/tools/soak.sh $(PROGRAM) $(SOAK_SECONDS)
 
 include packaging/targets.mk
 
@@ -239,7 +249,8 @@ $(PROGRAM): $(SOURCES) | needs-rt
 $(TRACER): $(SOURCES) | needs-rt
 	cd crates/locktrace && rt run -- check < stdin > /dev/null
 
-$(MODULE): $(MODULE_SOURCES) page/build-module.sh tests/static_library.py tests/rattle_words.py | needs-rt
+$(MODULE): $(MODULE_SOURCES) page/build-module.sh $(addprefix tests/prover/,static_library.py rattle_words.py) \
+	| needs-rt
 	page/build-module.sh
 
 $(LIBRARY): $(SOURCES) | needs-rt
@@ -250,4 +261,4 @@ $(TESTS_BUILT): $(TESTS_SOURCES) | needs-rt
 
 # installs what is missing of a group of packages.txt
 needs-%:
-	@tests/wanted.sh $*
+	@tests/tools/wanted.sh $*

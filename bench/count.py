@@ -16,7 +16,8 @@ import time
 
 import pan
 
-sys.path.append(str(pathlib.Path(__file__).resolve().parent.parent / "tests"))
+TESTS = pathlib.Path(__file__).resolve().parents[1] / "tests"
+sys.path += [str(TESTS), str(TESTS / "oracle")]
 import search_rows
 from tally import Tally
 

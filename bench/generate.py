@@ -14,13 +14,13 @@
     fifo-crowd       the same on a FIFO read-write lock
     none             a header and no move: what it costs to start
 
-The same kind always gives the same text. Which step is due the machine of fuzz/machine.py says.
+The same kind always gives the same text. tests/oracle/machine.py says which step is due.
 """
 import pathlib
 import random
 import sys
 
-sys.path.append(str(pathlib.Path(__file__).parent.parent / "fuzz"))
+sys.path.append(str(pathlib.Path(__file__).resolve().parents[1] / "tests" / "oracle"))
 from machine import Machine
 
 MOVES = 65_536

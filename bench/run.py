@@ -35,7 +35,7 @@ import tempfile
 import generate
 from measuring import Measure, by_hand, median_elapsed, median_processor, median_ratio, ratio_spread
 
-sys.path.append(str(pathlib.Path(__file__).parent.parent / "fuzz"))
+sys.path.append(str(pathlib.Path(__file__).resolve().parents[1] / "tests" / "oracle"))
 import oracle
 
 LONG_LINES = {"contention", "mcs-contention"}

@@ -33,7 +33,7 @@ import pan
 from measuring import Measure, median_processor
 
 TOP = pathlib.Path(__file__).resolve().parent.parent
-sys.path += [str(TOP / "tests"), str(TOP / "fuzz")]
+sys.path.append(str(TOP / "tests" / "oracle"))
 from locks import LOCKS
 from search_rows import Space
 

@@ -46,15 +46,15 @@ release-checks: by-root $(BUILT) needs-tools
 
 .PHONY: release-packages release-installed release-first-runs release-hosts
 release-packages:
-	tests/packages.py
+	tests/package/packages.py
 release-installed:
-	tests/installed.py
+	tests/package/installed.py
 release-first-runs:
-	tests/first_runs.py
+	tests/package/first_runs.py
 release-hosts:
-	tests/parallel_ssh.py $(PROGRAM)
+	tests/package/parallel_ssh.py $(PROGRAM)
 
 # Makes the artifacts, and the programs over what is proved, again in other roots: the same bytes.
 ## test-reproducible | makes the artifacts again under two Debians, and compares the bytes
 test-reproducible: by-root $(BUILT) needs-tools
-	tests/reproducible.py
+	tests/package/reproducible.py

@@ -15,7 +15,7 @@ kit=$(dirname "$(rt doc)")
 for crate in lk_replay lk_search; do
     [ -n "${BUILT-}" ] || (cd "crates/$crate" && rt lib --jobs "$JOBS")
 done
-tests/static_library.py lk_page "$TARGET" out/liblk_page_wasm.a
+tests/prover/static_library.py lk_page "$TARGET" out/liblk_page_wasm.a
 cd crates/lk_page/out
 "$kit/bin/rattle-link" --target "$TARGET" --toolchain "$kit/toolchain" \
     -o lockreplay.wasm liblk_page_wasm.a

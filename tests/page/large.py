@@ -11,7 +11,7 @@ import sys
 
 from browser import TOP, open_page, run
 
-sys.path.insert(0, str(TOP / "fuzz"))
+sys.path.insert(0, str(TOP / "tests" / "oracle"))
 import schedules  # noqa: E402
 
 LOAD_MS = 1000

@@ -10,7 +10,7 @@ import sys
 from browser import TOP, open_page, run
 from reports import reports_of
 
-sys.path.insert(0, str(TOP / "fuzz"))
+sys.path.insert(0, str(TOP / "tests" / "oracle"))
 import schedules  # noqa: E402
 
 SEED = int(os.environ.get("PAGE_SEED", "20260719"))

@@ -1,0 +1,77 @@
+"""The tables of searches: spaces.txt, kinds.txt and sketches.txt of tests/rows. Their heads say how
+they are written.
+"""
+from pathlib import Path
+from typing import NamedTuple
+
+ROWS = Path(__file__).resolve().parents[1] / "rows"
+
+
+class Space(NamedTuple):
+    lock: str
+    threads: int
+    rounds: int
+    bits: int
+
+    def __str__(self):
+        return f"{self.lock} threads {self.threads} rounds {self.rounds} bits {self.bits}"
+
+
+class Counts(NamedTuple):
+    states: int
+    transitions: int
+    depth: int  # the longest of the shortest runs to the states
+
+
+class Sketch(NamedTuple):
+    space: Space
+    lines: list
+    length: int  # None if no run has the lines
+    states: int  # None if a run has them
+    run: list  # (thread, word) of each move, of a shortest run
+
+    def __str__(self):
+        return f"{self.space}: {'; '.join(self.lines)}"
+
+
+def rows(name):
+    """The text of each row. A line that begins with a space goes on with the one above it."""
+    text = (ROWS / f"{name}.txt").read_text().replace("\n  ", " | ")
+    for line in text.splitlines():
+        if line and not line.startswith("//"):
+            yield line.split(" | ")
+
+
+def space(written):
+    lock, *numbers = written.split()
+    return Space(lock, *map(int, numbers))
+
+
+def run(written):
+    """The moves of a run: those of one thread are written one after the other."""
+    for part in written.split("; "):
+        thread, *words = part.split()
+        yield from ((int(thread), word) for word in words)
+
+
+def spaces():
+    """Each space with its counts, and how many kinds of transition it has."""
+    for written, counts in rows("spaces"):
+        *numbers, kinds = map(int, counts.split())
+        yield space(written), Counts(*numbers), kinds
+
+
+def kinds(lock):
+    """The kinds of a lock's transitions, each with its length."""
+    return {tuple(kind.split()): int(length) for name, kind, length in rows("kinds")
+            if name == lock}
+
+
+def sketches():
+    for written, lines, end, *runs in rows("sketches"):
+        nowhere, number = end.startswith("nowhere "), int(end.split()[-1])
+        if len(runs) != (not nowhere):
+            raise ValueError(f"{written} | {lines}: a run, or `nowhere`")
+        length, states = (None, number) if nowhere else (number, None)
+        yield Sketch(space(written), lines.split("; "), length, states,
+                     [move for written in runs for move in run(written)])

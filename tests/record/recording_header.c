@@ -1,0 +1,233 @@
+/* What the recording header writes, note by note, by one thread: every line is known. C11, C++17.
+
+       recording_header DIRECTORY
+
+   Prints each check that fails, and ends with 1 if one did. */
+#define LR_VALUES
+#include "../../record/lockreplay_record.h"
+
+static const char *directory;
+static int failed;
+
+static void check(const char *name, int holds)
+{
+    if (holds) return;
+    failed = 1;
+    printf("failed: %s\n", name);
+}
+
+/* Saves thread 0's log and compares it. */
+static void check_log(const char *name, lr_run *run, const char *due)
+{
+    char path[4096], text[4096];
+    check(name, lr_save(run, directory) == 0);
+    snprintf(path, sizeof path, "%s/thread-0.log", directory);
+    FILE *file = fopen(path, "r");
+    if (!file) {
+        check(name, 0);
+        return;
+    }
+    text[fread(text, 1, sizeof text - 1, file)] = '\0';
+    fclose(file);
+    const char *end = strchr(text, '\n');
+    check("the first line has the run's number", strncmp(text, "# run ", 6) == 0 && end);
+    check(name, end && strcmp(end + 1, due) == 0);
+    lr_close(run);
+}
+
+/* A run of one thread, in which that thread has begun. */
+static lr_run *one_thread(const char *lock, unsigned bits, size_t moves)
+{
+    lr_run *run = lr_open(lock, 1, bits, moves, 0);
+    if (!run) exit(3);
+    lr_begin(lr_log_of(run, 0));
+    return run;
+}
+
+static void every_note(void)
+{
+    lr_run *run = one_thread("mcs", 64, 100);
+    lr_log *log = lr_log_of(run, 0);
+    int records[3] = {0, 0, 0}, *none = NULL;
+    LR_CALL(log, acquire);
+    LR_WRITE(log, next, 0);
+    LR_SWAP(log, tail, LR_RECORD(records, none));
+    LR_CALL(log, release);
+    LR_READ(log, next, LR_RECORD(records, &records[2]));
+    LR_CAS(log, tail, 1);
+    LR_CAS(log, tail, 0);
+    LR_JOIN(log);
+    LR_ADD(log, next_ticket, 65535);
+    LR_READ(log, now_serving, UINT64_MAX);
+    LR_READ_OF(log, locked, 2, 1);
+    LR_WRITE_OF(log, next, 63, 1);
+    LR_WRITE_OF(log, next, -1, 1);
+    LR_SWITCH(log);
+    lr_end(log);
+    check_log("every note", run,
+              "lock mcs threads 1 bits 64 thread 0\n"
+              "acquire\nwrite next left 0\nswap tail found 0\nrelease\nread next found 3\n"
+              "cas tail done\ncas tail failed\nadd next_ticket found 65535\n"
+              "read now_serving found 18446744073709551615\nread locked of 2 found 1\n"
+              "write next of 63 left 1\nwrite next of 255 left 1\ndropped 0\n");
+}
+
+static void every_section(void)
+{
+    lr_run *run = one_thread("rw-fifo", 8, 100);
+    lr_log *log = lr_log_of(run, 0);
+    uint64_t sections = 0;
+    int waited = 0;
+    LR_CALL(log, wlock);
+    LR_SECTION(log, ++sections, moved);
+    LR_SECTION(log, ++sections, waits);
+    LR_LOCK(log, waited = 4);
+    check("the mutex is taken", waited == 4);
+    LR_WAIT(log, &waited, waited = 2, waited = 1, waited = 3);
+    check("what waits is done", waited == 1);
+    LR_SIGNAL(log, &waited, waited = 5);
+    check("what signals is done", waited == 5);
+    LR_BROADCAST(log, &waited, waited = 6);
+    check("what broadcasts is done", waited == 6);
+    LR_UNLOCK(log, waited = 7);
+    check("the mutex is given back", waited == 7);
+    LR_SECTION(log, ++sections, waits);
+    LR_SECTION(log, ++sections, entered);
+    LR_CALL(log, wunlock);
+    LR_SECTION(log, ++sections, left);
+    LR_CALL(log, rlock);
+    LR_CALL(log, runlock);
+    LR_CALL(log, downgrade);
+    lr_end(log);
+    check_log("every section", run,
+              "lock rw-fifo threads 1 bits 8 thread 0\n"
+              "wlock\nsection 1 moved\nsection 2 waits\nsection 3 waits\nsection 4 entered\n"
+              "wunlock\n"
+              "section 5 left\nrlock\nrunlock\ndowngrade\ndropped 0\n");
+}
+
+static void the_third_equal_look_is_left_out(void)
+{
+    lr_run *run = one_thread("ticket", 4, 100);
+    lr_log *log = lr_log_of(run, 0);
+    LR_READ(log, now_serving, 1);
+    LR_READ(log, now_serving, 1);
+    LR_READ(log, now_serving, 1);
+    LR_READ(log, now_serving, 1);
+    LR_READ(log, now_serving, 2);
+    LR_READ(log, now_serving, 1);
+    LR_WRITE(log, now_serving, 2);
+    LR_WRITE(log, now_serving, 2);
+    LR_WRITE(log, now_serving, 2);
+    lr_end(log);
+    check_log("failed polls", run,
+              "lock ticket threads 1 bits 4 thread 0\n"
+              "read now_serving found 1\nread now_serving found 1\n"
+              "read now_serving found 2\nread now_serving found 1\n"
+              "write now_serving left 2\nwrite now_serving left 2\nwrite now_serving left 2\n"
+              "dropped 0\n");
+}
+
+static void a_third_wait_is_left_out(void)
+{
+    lr_run *run = one_thread("rw-simple", 64, 100);
+    lr_log *log = lr_log_of(run, 0);
+    LR_CALL(log, rlock);
+    LR_SECTION(log, 1, waits);
+    LR_SECTION(log, 2, waits);
+    LR_SECTION(log, 3, waits);
+    LR_SECTION(log, 4, entered);
+    lr_end(log);
+    check_log("sections that wait", run,
+              "lock rw-simple threads 1 bits 64 thread 0\n"
+              "rlock\nsection 1 waits\nsection 2 waits\nsection 4 entered\ndropped 0\n");
+}
+
+static void a_full_log_counts_what_it_drops(void)
+{
+    lr_run *run = one_thread("ticket", 64, 2);
+    lr_log *log = lr_log_of(run, 0);
+    LR_CALL(log, acquire);
+    LR_ADD(log, next_ticket, 0);
+    LR_READ(log, now_serving, 7);
+    LR_READ(log, now_serving, 7);
+    LR_READ(log, now_serving, 7);
+    LR_READ(log, now_serving, 0);
+    lr_end(log);
+    check_log("a full log", run,
+              "lock ticket threads 1 bits 64 thread 0\n"
+              "acquire\nadd next_ticket found 0\ndropped 3\n");
+}
+
+/* Puts a text into a file of the directory, or sees whether the file is there. */
+static int file_of(const char *name, const char *text)
+{
+    char path[4096];
+    snprintf(path, sizeof path, "%s/%s", directory, name);
+    FILE *file = fopen(path, text ? "w" : "r");
+    if (!file) return 0;
+    if (text) fputs(text, file);
+    return fclose(file) == 0;
+}
+
+static void what_an_earlier_run_left_is_taken_away(void)
+{
+    lr_run *run = one_thread("mcs", 64, 1);
+    lr_end(lr_log_of(run, 0));
+    check("files of a run", file_of("thread-1.log", "x") && file_of("thread-63.log", "x"));
+    check("files beside them", file_of("run.trace", "x") && file_of("other.log", "x"));
+    check_log("an earlier run", run, "lock mcs threads 1 bits 64 thread 0\ndropped 0\n");
+    check("thread 1 is gone", !file_of("thread-1.log", NULL));
+    check("thread 63 is gone", !file_of("thread-63.log", NULL));
+    check("the trace is gone", !file_of("run.trace", NULL));
+    check("another file is there", file_of("other.log", NULL));
+}
+
+static void two_runs_have_two_numbers(void)
+{
+    lr_run *one = lr_open("mcs", 1, 64, 1, 0), *other = lr_open("mcs", 1, 64, 1, 0);
+    check("numbers of runs", one && other && one->number != other->number);
+    lr_close(one);
+    lr_close(other);
+}
+
+static void a_log_that_has_not_ended_says_so(void)
+{
+    lr_run *run = one_thread("ticket", 64, 2);
+    LR_CALL(lr_log_of(run, 0), acquire);
+    check("one thread is missing", lr_await(run, 0) == 1);
+    check_log("a log without its end", run,
+              "lock ticket threads 1 bits 64 thread 0\nacquire\n# thread 0 has not ended\n");
+}
+
+static void what_cannot_be_opened_or_saved(void)
+{
+    check("no thread", !lr_open("mcs", 0, 64, 1, 0));
+    check("65 threads", !lr_open("mcs", 65, 64, 1, 0));
+    check("1 bit", !lr_open("mcs", 1, 1, 1, 0));
+    check("65 bits", !lr_open("mcs", 1, 65, 1, 0));
+    check("as many threads as values", !lr_open("mcs", 4, 2, 1, 0));
+    check("no such lock", !lr_open("clh", 1, 64, 1, 0));
+    check("more moves than bytes", !lr_open("mcs", 1, 64, SIZE_MAX, 0));
+    lr_run *run = one_thread("mcs", 64, 0);
+    lr_end(lr_log_of(run, 0));
+    check("nobody is missing", lr_await(run, 0) == 0);
+    check("no such directory", lr_save(run, "/no/such/directory") == ENOENT);
+    check_log("no room", run, "lock mcs threads 1 bits 64 thread 0\ndropped 0\n");
+}
+
+int main(int count, char **words)
+{
+    if (count != 2) return 2;
+    directory = words[1];
+    every_note();
+    every_section();
+    the_third_equal_look_is_left_out();
+    a_third_wait_is_left_out();
+    a_full_log_counts_what_it_drops();
+    what_an_earlier_run_left_is_taken_away();
+    two_runs_have_two_numbers();
+    a_log_that_has_not_ended_says_so();
+    what_cannot_be_opened_or_saved();
+    return failed;
+}

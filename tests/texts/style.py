@@ -1,0 +1,160 @@
+#!/usr/bin/env python3
+"""Counts what breaks the rules of layout, and ends with 1 if something does.
+
+    style.py [FILE...]
+
+- A line has at most 100 columns. Rows of tables and lines of links in documents may be longer, and
+  in a proof the path of a module.
+- A file of code has at most 400 lines, and the body of a function at most 40.
+- A file opens with what it is: a comment or a docstring. Lists of modules, and the answers and
+  invariants of one function's proof, are named by their place.
+- JavaScript calls none of the later methods that Node 18, which Debian 12 has, lacks.
+
+Nothing is left out. Prints each breach with its place, then `N files, M breaches`.
+"""
+import ast
+import fnmatch
+import pathlib
+import re
+import subprocess
+import sys
+
+TOP = pathlib.Path(__file__).resolve().parents[2]
+KINDS = {".rt", ".rs", ".antt", ".py", ".js", ".mjs", ".c", ".h", ".pml", ".sh", ".md"}
+COLUMNS, LINES, BODY = 100, 400, 40
+
+# What a file of each kind opens with, after a line `#!`.
+HEADS = {
+    ".rt": ("//!", "//"), ".antt": ("--",), ".py": ('"""',), ".sh": ("#",), ".md": ("# ",),
+    ".js": ("//", "/*"), ".mjs": ("//", "/*"), ".c": ("/*", "//"), ".h": ("/*", "//"),
+    ".pml": ("/*",), ".rs": ("//!",),
+}
+NAMED_BY_PLACE = ["*/Lib.antt", "*/Answers.antt", "*/Invariants.antt", "*/Proof.antt"]
+# How a function begins: its indent is the first group.
+FUNCTION = {
+    ".rt": re.compile(r"( *)(?:pub(?:\(\w+\))? )?(?:const |unsafe )*fn (\w+)"),
+    ".js": re.compile(r"( *)(?:export |async |static |function )*\*? ?(\w+)\([^;]*\) \{$"),
+    ".c": re.compile(r"()(?:[\w*]+ )+\**(\w+)\([^;]*$"),
+    ".sh": re.compile(r"()(\w+)\(\) \{$"),
+}
+FUNCTION[".mjs"], FUNCTION[".h"] = FUNCTION[".js"], FUNCTION[".c"]
+FUNCTION[".rs"] = FUNCTION[".rt"]
+TOO_NEW = re.compile(r"\.(to(?:Reversed|Sorted|Spliced|WellFormed)|isWellFormed|groupBy|fromAsync"
+                     r"|withResolvers)\(")
+NO_FUNCTION = {"if", "for", "while", "switch", "catch"}
+
+
+# Lines that cannot be broken: rows of tables and links in documents, and in a proof the path of a
+# module, which the language takes on one line.
+UNBROKEN = {
+    ".md": re.compile(r"\s*\||\[[^\]]*\]: |!\["),
+    ".antt": re.compile(r"use \S+( as \w+)?$|use \S+\.\{\S+\}$"),
+}
+
+
+def long_lines(path, lines):
+    """Lines of too many columns."""
+    unbroken = UNBROKEN.get(path.suffix)
+    for number, line in enumerate(lines, 1):
+        if len(line) > COLUMNS and not (unbroken and unbroken.match(line)):
+            yield number, f"{len(line)} columns"
+
+
+def long_file(path, lines):
+    """A file of code with too many lines."""
+    if len(lines) > LINES and path.suffix != ".md":
+        yield 1, f"{path.name} has {len(lines)} lines"
+
+
+def bodies_in_python(lines):
+    """Each function's line, name and count of lines."""
+    for node in ast.walk(ast.parse("\n".join(lines))):
+        if isinstance(node, (ast.FunctionDef, ast.AsyncFunctionDef)):
+            yield node.lineno, node.name, node.end_lineno - node.body[0].lineno + 1
+
+
+def opening(lines, first, indent):
+    """The line whose brace opens the body of the function that begins at a line, if it has one."""
+    for at in range(first, len(lines)):
+        line = lines[at].rstrip()
+        is_head = at == first or line.startswith(f"{indent})")
+        if line == f"{indent}{{" or is_head and line.endswith("{"):
+            return at
+        if line.endswith(";"):
+            return None
+    return None
+
+
+def bodies_in_braces(lines, pattern):
+    """The same of bodies in braces, the last of which has the function's indent."""
+    for first, line in enumerate(lines):
+        found = pattern.match(line)
+        opens = opening(lines, first, found.group(1)) if found else None
+        if opens is None or found.group(2) in NO_FUNCTION:
+            continue
+        closing = f"{found.group(1)}}}"
+        ends = (at for at in range(opens, len(lines)) if lines[at].rstrip(",;)") == closing)
+        yield first + 1, found.group(2), next(ends, opens) - opens - 1
+
+
+def long_bodies(path, lines):
+    """Functions whose body has too many lines."""
+    if path.suffix == ".py":
+        found = bodies_in_python(lines)
+    elif path.suffix in FUNCTION:
+        found = bodies_in_braces(lines, FUNCTION[path.suffix])
+    else:
+        return
+    for number, name, count in found:
+        if count > BODY:
+            yield number, f"the body of {name} has {count} lines"
+
+
+def missing_head(path, lines):
+    """A file that does not open with what it is."""
+    text = [line for line in lines[:4] if line.strip() and not line.startswith("#!")]
+    place = str(path.relative_to(TOP))
+    if any(fnmatch.fnmatch(place, pattern) for pattern in NAMED_BY_PLACE):
+        return
+    if not text or not text[0].startswith(HEADS[path.suffix]):
+        yield 1, "it does not open with what it is"
+
+
+def too_new(path, lines):
+    """Calls of methods that Node 18 lacks."""
+    if path.suffix in (".js", ".mjs"):
+        for number, line in enumerate(lines, 1):
+            for name in TOO_NEW.findall(line):
+                yield number, f"Node 18 has no {name}"
+
+
+RULES = (long_lines, long_file, long_bodies, missing_head, too_new)
+
+
+def breaches_of(path):
+    """What a file breaks."""
+    place = str(path.relative_to(TOP))
+    lines = path.read_text().splitlines()
+    return [f"{place}:{number}: {said}" for rule in RULES for number, said in rule(path, lines)]
+
+
+def files():
+    """The files of the repository that have a rule."""
+    listed = subprocess.run(["git", "ls-files", "-co", "--exclude-standard"], cwd=TOP, text=True,
+                            stdout=subprocess.PIPE, check=True).stdout.splitlines()
+    return [TOP / name for name in listed if pathlib.Path(name).suffix in KINDS]
+
+
+def main(words):
+    chosen = [pathlib.Path(word).resolve() for word in words] or files()
+    breaches = [breach for path in chosen if path.exists() for breach in breaches_of(path)]
+    for breach in breaches:
+        print(breach)
+    print(f"{len(chosen)} files, {len(breaches)} breaches")
+    return 1 if breaches else 0
+
+
+if __name__ == "__main__":
+    if sys.argv[1:2] in (["-h"], ["--help"]):
+        sys.exit(__doc__)
+    sys.exit(main(sys.argv[1:]))
