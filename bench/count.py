@@ -16,10 +16,8 @@ import time
 
 import pan
 
-TESTS = pathlib.Path(__file__).resolve().parents[1] / "tests"
-sys.path += [str(TESTS), str(TESTS / "oracle")]
+sys.path.append(str(pathlib.Path(__file__).resolve().parents[1] / "tests" / "oracle"))
 import search_rows
-from tally import Tally
 
 
 def counted(space):
@@ -34,7 +32,7 @@ def counted(space):
 
 
 def main(words):
-    tally = Tally()
+    passed = failed = 0
     due = {space: counts for space, counts, _ in search_rows.spaces()}
     chosen = [search_rows.space(" ".join([*words, "64"][:4]))] if words else due
     print(f"{'space':40}{'states':>10}{'transitions':>13}{'depth':>7}{'seconds':>9}")
@@ -42,9 +40,12 @@ def main(words):
         counts, took = counted(space)
         cells = f"{counts.states:10}{counts.transitions:13}{counts.depth:7}{took:9.2f}"
         print(f"{str(space):40}{cells}", flush=True)
-        if space in due:
-            tally.check(str(space), counts, due[space])
-    return tally.end()
+        if space in due and counts != due[space]:
+            print(f"FAILED {space}: due are {due[space]}")
+            failed += 1
+        passed += counts == due.get(space)
+    print(f"{passed} passed, {failed} failed")
+    return 1 if failed else 0
 
 
 if __name__ == "__main__":

@@ -1,14 +1,13 @@
 #!/usr/bin/env python3
-"""What recording costs: a note, a hand-over of the turn, and 1,000 runs of a search.
+"""What recording costs: a note, and 1,000 runs of a search.
 
     recording.py LIBRARY [--before COMMIT] [--check]
 
 Builds `recording.c` without a mode and with LR_VALUES, over the header of this tree and over that
 of a commit, and lets them take turns: figures are nanoseconds for one acquire and release of one
 thread, medians of ROUNDS, and the ratio of the two headers is the median of the ratios of each
-round. Then `turns.c`: five ways of handing a turn over. Then 1,000 runs that `LR_EXPLORE` makes of
-two threads of examples/recording/mcs.c with at most 5 preemptions. Both are done on all cores and
-on one.
+round. Then 1,000 runs that `LR_EXPLORE` makes of two threads of examples/recording/mcs.c with at
+most 5 preemptions, on all cores and on one.
 
 With --check the status is 1 if recording costs more than LIMIT times what it did at the commit,
 or the 1,000 runs take more than SECONDS. The tolerance of LIMIT is what two builds of one source
@@ -73,12 +72,6 @@ def notes(folder, before):
     return ratios
 
 
-def turns(folder):
-    ran("gcc", "-O2", "-pthread", "-o", folder / "turns", TOP / "bench" / "turns.c")
-    for on in ON:
-        print(*on, ran(*on, folder / "turns", 20000).replace("\n", ", "))
-
-
 def search(folder, library):
     """Seconds for 1,000 runs."""
     ran("gcc", *FLAGS, "-DLR_EXPLORE", "-DLR_ATOMICS", "-o", folder / "search",
@@ -102,7 +95,6 @@ def main():
     with tempfile.TemporaryDirectory() as name:
         folder = Path(name)
         ratios = notes(folder, given.before)
-        turns(folder)
         taken = search(folder, given.library.resolve())
     is_well = max(ratios, default=0) <= LIMIT and taken <= SECONDS
     return 0 if is_well or not given.check else 1

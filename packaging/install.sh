@@ -1,80 +1,99 @@
 #!/bin/sh
-# Puts what packaging/contents.txt lists below a folder, or takes it away again.
+# Puts what is installed below a folder, or takes it away again.
 #
 #   packaging/install.sh install FOLDER
 #   packaging/install.sh uninstall FOLDER
 #
-# FOLDER is DESTDIR and PREFIX together. Nothing is installed when a file of the list is missing.
-# What is taken away is each file that the list names, the whole folder of documents, and that of
-# the recording header's parts. Other folders stay, since others may use them.
+# FOLDER is DESTDIR and PREFIX together. LIB and ZSH are where below it libraries and zsh's
+# completions go. Nothing is installed if a part is missing. The folder of documents and that of the
+# recording header's parts are taken away whole; other folders stay, since others may use them.
 set -eu
 cd "$(dirname "$0")/.."
 umask 022
-LIST=packaging/contents.txt
-DOCUMENTS=share/doc/lockreplay
-PARTS=include/lockreplay_record
+LIB=${LIB:-lib} ZSH=${ZSH:-share/zsh/site-functions} DOC=share/doc/lockreplay
+COMPLETIONS=packaging/completions
+PROGRAMS='crates/lockreplay/out/lockreplay crates/locktrace/out/locktrace'
+HEADERS='record/lockreplay_record.h record/locktrace.h'
+LIBRARY=crates/lk_trace_c/out/liblk_trace_c.a
+PAGES='packaging/man/lockreplay.1 packaging/man/locktrace.1 packaging/man/lockreplay-schedule.5
+    packaging/man/locktrace-trace.5'
+SCRIPTS='examples/limits.sh examples/recording/conform.sh examples/bindings/locktrace.py'
+# What is copied into DOC with the folders that it is in, but for lists of modules that are empty
+DOCUMENTS="README.md CHANGELOG.md CONTRIBUTING.md SECURITY.md CODE_OF_CONDUCT.md CITATION.cff
+    VERSION LICENSE-APACHE LICENSE-MIT THIRD-PARTY page/lockreplay.html
+    $(find crates/*/specs docs/*.md docs/pictures examples/*.md examples/*.schedule \
+    examples/*.report examples/recording/*.md examples/recording/*.[ch] record/*.h \
+    record/lockreplay_record record/rust/Cargo.* record/rust/src record/rust/examples \
+    -type f -size +0 | sort)"
 
-# Each of these is called by `each` with the KIND, SOURCE and TARGET of a line.
+# put MODE PLACE FILE...: copies files
+put() {
+    mode=$1 place=$folder/$2
+    shift 2
+    mkdir -p "$place"
+    install -m "$mode" -t "$place" "$@"
+}
 
-# A build that was cut off leaves an empty file, which is none. A list of modules may be empty.
+# fill FILE PLACE: copies a file with the version, and with the way up from PLACE
+fill() {
+    mkdir -p "$(dirname "$folder/$2")"
+    up=$(dirname "$2" | sed 's|[^/]*|..|g')
+    sed "s|@VERSION@|$(cat VERSION)|g; s|@UP@|$up|g" "$1" > "$folder/$2"
+    chmod 644 "$folder/$2"
+}
+
+place_of_page() {
+    echo "share/man/man${1##*.}/$(basename "$1")"
+}
+
+# each_completion DO: does it for the completions of each program, with the file and its place
+each_completion() {
+    for program in lockreplay locktrace; do
+        "$1" $COMPLETIONS/$program.bash share/bash-completion/completions/$program
+        "$1" $COMPLETIONS/$program.zsh "$ZSH/_$program"
+        "$1" $COMPLETIONS/$program.fish share/fish/vendor_completions.d/$program.fish
+    done
+}
+
+# A build that was cut off leaves an empty file, which is none.
 look_at() {
-    for source in $2; do
-        case $source in
-        */Lib.antt) ;;
-        *) [ -s "$source" ] || { echo "$LIST: there is no $source" >&2 && exit 1; } ;;
-        esac
+    for part; do
+        [ -s "$part" ] || { echo "install.sh: there is no $part" >&2 && exit 1; }
     done
 }
 
+# shellcheck disable=SC2086 # each of these lists is of words
 place_all() {
-    for source in $2; do
-        [ ! -s "$source" ] || place "$1" "$source" "$(place_of "$1" "$source" "$3")"
-    done
+    look_at $PROGRAMS $HEADERS $LIBRARY $PAGES $SCRIPTS $DOCUMENTS
+    put 755 bin $PROGRAMS
+    put 644 include $HEADERS
+    put 644 include/lockreplay_record record/lockreplay_record/*.h
+    put 644 "$LIB" $LIBRARY
+    fill packaging/pkgconfig/locktrace.pc "$LIB/pkgconfig/locktrace.pc"
+    fill packaging/pkgconfig/lockreplay-record.pc share/pkgconfig/lockreplay-record.pc
+    for page in $PAGES; do fill "$page" "$(place_of_page "$page")"; done
+    each_completion fill
+    for file in $SCRIPTS; do put 755 "$DOC/$(dirname "$file")" "$file"; done
+    for file in $DOCUMENTS; do put 644 "$DOC/$(dirname "$file")" "$file"; done
 }
 
-# in the folder of documents everything is this project's, so patterns are not asked what they found
 take_away() {
-    case $3 in "$DOCUMENTS"/*) return ;; esac
-    for source in $2; do
-        rm -f "$(place_of "$1" "$source" "$3")"
-    done
+    rm -f "$folder/$2"
 }
 
-# place KIND SOURCE PLACE: one file
-place() {
-    mkdir -p "$(dirname "$3")"
-    rm -f "$3"
-    case $1 in
-    program) install -m 755 "$2" "$3" ;;
-    file | kept) install -m 644 "$2" "$3" ;;
-    filled) sed "s/@VERSION@/$(cat VERSION)/g" "$2" > "$3" && chmod 644 "$3" ;;
-    *) echo "$LIST: no kind '$1'" >&2 && exit 1 ;;
-    esac
-}
-
-# place_of KIND SOURCE TARGET: the file's place after the installation
-place_of() {
-    case $1:$3 in
-    kept:*) echo "$folder/$3$2" ;;
-    *:*/) echo "$folder/$3$(basename "$2")" ;;
-    *) echo "$folder/$3" ;;
-    esac
-}
-
-each() {
-    grep -v -e '^#' -e '^$' "$LIST" | while read -r kind source target; do
-        "$1" "$kind" "$source" "$target"
-    done
+# shellcheck disable=SC2086
+take_all_away() {
+    for file in $PROGRAMS; do rm -f "$folder/bin/$(basename "$file")"; done
+    for file in $HEADERS; do rm -f "$folder/include/$(basename "$file")"; done
+    for page in $PAGES; do rm -f "$folder/$(place_of_page "$page")"; done
+    each_completion take_away
+    rm -f "$folder/$LIB/$(basename $LIBRARY)" "$folder/$LIB/pkgconfig/locktrace.pc" \
+        "$folder/share/pkgconfig/lockreplay-record.pc"
+    rm -rf "${folder:?}/$DOC" "${folder:?}/include/lockreplay_record"
 }
 
 case "$#${1-}" in
-2install | 2uninstall) folder=$2 ;;
+2install) folder=$2 && place_all ;;
+2uninstall) folder=$2 && take_all_away ;;
 *) sed -n '4,5s/^# *//p' "$0" >&2 && exit 2 ;;
 esac
-if [ "$1" = install ]; then
-    each look_at
-    each place_all
-else
-    each take_away
-    rm -rf "${folder:?}/$DOCUMENTS" "${folder:?}/$PARTS"
-fi

@@ -1,6 +1,6 @@
 #!/bin/sh
-# Makes a release in dist/: the source, the tarball and the Debian package, the list of their
-# contents in the form of SPDX 2.3, and SHA256SUMS of these four. It changes nothing else.
+# Makes a release in dist/: the source, the tarball and the Debian package, and SHA256SUMS of these
+# three. It changes nothing else.
 #
 #   packaging/release.sh
 #
@@ -27,10 +27,6 @@ tests/texts/versions.py > "$STAGE/versions" || refuse "$(cat "$STAGE/versions")"
 SOURCE=$(packaging/source.sh)
 TARBALL=$(packaging/dist.sh)
 PACKAGE=$(packaging/deb.sh)
-CONTENTS=lockreplay-$VERSION.spdx.json
-packaging/contents.py "$SOURCE" "$TARBALL" "$PACKAGE" > "$STAGE/$CONTENTS"
-publish "$CONTENTS" > "$STAGE/published"
-(cd dist && sha256sum "${SOURCE#dist/}" "${TARBALL#dist/}" "${PACKAGE#dist/}" "$CONTENTS") \
-    > "$STAGE/SHA256SUMS"
+(cd dist && sha256sum "${SOURCE#dist/}" "${TARBALL#dist/}" "${PACKAGE#dist/}") > "$STAGE/SHA256SUMS"
 publish SHA256SUMS > "$STAGE/published"
 cat dist/SHA256SUMS

@@ -1,9 +1,6 @@
 /* An MCS lock, its records reached by pointers.
 
-   After Mellor-Crummey and Scott (ACM TOCS 9(1), 1991). Two mistakes can be planted:
-     -DLINKS_BEFORE_LOCKED   links itself to its predecessor and only then sets its own `locked`: a
-                             grant that comes between the two is lost
-     -DGRANTS_WRONG_RECORD   grants to the last in line, not to the next: right while one waits
+   After Mellor-Crummey and Scott (ACM TOCS 9(1), 1991).
 
    SPDX-License-Identifier: Apache-2.0 OR MIT */
 #define LOCK "mcs"
@@ -50,14 +47,9 @@ static void mcs_acquire(mcs_lock *lock, record *own LR_ONLY(, lr_log *log))
     record *before = atomic_exchange(&lock->tail, own);
     LR_SWAP(log, tail, LR_RECORD(lock->records, before));
     if (!before) return;
-#ifdef LINKS_BEFORE_LOCKED
-    link_behind(lock, before, own LR_ONLY(, log));
-#endif
     atomic_store(&own->locked, 1);
     LR_WRITE(log, locked, 1);
-#ifndef LINKS_BEFORE_LOCKED
     link_behind(lock, before, own LR_ONLY(, log));
-#endif
     await_grant(own LR_ONLY(, log));
 }
 
@@ -84,9 +76,6 @@ static void mcs_release(mcs_lock *lock, record *own LR_ONLY(, lr_log *log))
         if (alone) return;
         next = await_link(lock, own LR_ONLY(, log));
     }
-#ifdef GRANTS_WRONG_RECORD
-    next = atomic_load(&lock->tail);
-#endif
     atomic_store(&next->locked, 0);
     LR_WRITE_OF(log, locked, next - lock->records, 0);
 }

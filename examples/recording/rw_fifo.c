@@ -1,9 +1,7 @@
 /* The FIFO read-write lock, as a monitor, with counts of 8 bits. C11, and C++17 as well.
 
    After Herlihy and Shavit, "The Art of Multiprocessor Programming", chapter 8, with a downgrade. A
-   writer sets the flag first, and then waits for the readers that are inside. One mistake can be
-   planted:
-     -DPASSES_ANNOUNCED_WRITER  a reader does not wait for a writer that itself waits for readers
+   writer sets the flag first, and then waits for the readers that are inside.
 
    SPDX-License-Identifier: Apache-2.0 OR MIT */
 #define LOCK "rw-fifo"
@@ -20,14 +18,7 @@ typedef struct {
 
 static int has_readers(const rw_lock *lock) { return lock->read_acquires != lock->read_releases; }
 
-static int reader_must_wait(const rw_lock *lock)
-{
-#ifdef PASSES_ANNOUNCED_WRITER
-    return lock->writer && !has_readers(lock);
-#else
-    return lock->writer;
-#endif
-}
+static int reader_must_wait(const rw_lock *lock) { return lock->writer; }
 
 static void read_lock(rw_lock *lock LR_ONLY(, lr_log *log))
 {

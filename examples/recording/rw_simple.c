@@ -1,8 +1,6 @@
 /* The simple read-write lock, as a monitor. C11, and C++17 as well.
 
    After Herlihy and Shavit, "The Art of Multiprocessor Programming", chapter 8, with a downgrade.
-   One mistake can be planted:
-     -DWRITER_IGNORES_READERS  a writer looks at other writers alone, and enters beside readers
 
    SPDX-License-Identifier: Apache-2.0 OR MIT */
 #define LOCK "rw-simple"
@@ -39,14 +37,7 @@ static void read_unlock(rw_lock *lock LR_ONLY(, lr_log *log))
     monitor_leave(&lock->monitor LR_ONLY(, log));
 }
 
-static int writer_must_wait(const rw_lock *lock)
-{
-#ifdef WRITER_IGNORES_READERS
-    return lock->writer;
-#else
-    return lock->readers > 0 || lock->writer;
-#endif
-}
+static int writer_must_wait(const rw_lock *lock) { return lock->readers > 0 || lock->writer; }
 
 static void write_lock(rw_lock *lock LR_ONLY(, lr_log *log))
 {

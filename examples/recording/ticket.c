@@ -1,10 +1,6 @@
 /* A ticket lock with counters of 4 bits, so that they wrap around every 16 tickets.
 
-   After Mellor-Crummey and Scott (ACM TOCS 9(1), 1991). Two mistakes can be planted:
-     -DLESS_THAN              waits while the served ticket is less than its own: right until the
-                              counters wrap around
-     -DRELEASES_WRONG_TICKET  serves the ticket that is handed out next, not the one after its own:
-                              right while nobody waits
+   After Mellor-Crummey and Scott (ACM TOCS 9(1), 1991).
 
    SPDX-License-Identifier: Apache-2.0 OR MIT */
 #define LOCK "ticket"
@@ -20,11 +16,7 @@ typedef struct {
 
 static int must_wait(unsigned served, unsigned ticket)
 {
-#ifdef LESS_THAN
-    return served < ticket;
-#else
     return served != ticket;
-#endif
 }
 
 static void ticket_acquire(ticket_lock *lock LR_ONLY(, lr_log *log))
@@ -46,9 +38,6 @@ static void ticket_release(ticket_lock *lock LR_ONLY(, lr_log *log))
     unsigned served = atomic_load(&lock->now_serving);
     LR_READ(log, now_serving, served);
     unsigned next = (served + 1) & MASK;
-#ifdef RELEASES_WRONG_TICKET
-    next = atomic_load(&lock->next_ticket) & MASK;
-#endif
     atomic_store(&lock->now_serving, next);
     LR_WRITE(log, now_serving, next);
 }

@@ -12,7 +12,6 @@ The two faults of size are reached by the texts that examples/limits.sh prints.
 import pathlib
 import subprocess
 
-import oracle
 from locks import LOCKS
 
 HERE = pathlib.Path(__file__).resolve().parent
@@ -28,12 +27,14 @@ DUE = [*(f"fault-{fault}" for fault in FAULTS),
 TOO_LARGE = {"fault-TooLong": "fault-too-long", "fault-TooManyMoves": "fault-too-many-moves"}
 
 
-def stored_texts():
-    """Each stored text by its name."""
-    texts = {file.stem: file.read_bytes() for file in sorted(HERE.glob("corpus/*.schedule"))}
-    for name, told in TOO_LARGE.items():
-        texts[name] = subprocess.run([LIMITS, told], capture_output=True, check=True).stdout
-    return texts
+def names():
+    return sorted([*(file.stem for file in HERE.glob("corpus/*.schedule")), *TOO_LARGE])
+
+
+def text_of(name):
+    if name in TOO_LARGE:
+        return subprocess.check_output([LIMITS, TOO_LARGE[name]])
+    return (HERE / "corpus" / f"{name}.schedule").read_bytes()
 
 
 def is_named_rightly(name, report):
@@ -41,13 +42,3 @@ def is_named_rightly(name, report):
     kind, what = (name + "-").split("-")[:2]
     words = report.decode().splitlines()[-1].split(" ")
     return words[0] == kind and (kind == "end" or what in words)
-
-
-def mistakes(texts):
-    """What is wrong with the stored texts: a wrong name, or an answer that none of them reaches."""
-    for name, text in texts.items():
-        if not is_named_rightly(name, oracle.report_of(text)):
-            yield f"{name}: the oracle's report is another"
-    for due in DUE:
-        if not any(f"{name}-".startswith(f"{due}-") for name in texts):
-            yield f"no stored text {due}"

@@ -1,12 +1,10 @@
 """Random runs of the locks for tests of traces and logs, as the second replayer's machine makes
-them, and the command line of the tests that draw them by a seed.
+them.
 
 A run's moves are pairs of a thread and the line of its log. Polls that find again what they found
 before are in a log once.
 """
-import argparse
 from itertools import islice
-from pathlib import Path
 from typing import NamedTuple
 
 from locks import LOCKS
@@ -95,13 +93,3 @@ def changed_value(dice, line, sums, values):
     at = dice.choice([i for i, word in enumerate(words) if word.isdigit()])
     words[at] = str((int(words[at]) + dice.choice(sums)) % values)
     return " ".join(words)
-
-
-def seeded_words():
-    """The command line: the program's path, and the seeds of the runs."""
-    words = argparse.ArgumentParser()
-    words.add_argument("program")
-    words.add_argument("--runs", type=int, default=10_000)
-    words.add_argument("--seed", type=int, default=1)
-    given = words.parse_args()
-    return Path(given.program).resolve(), range(given.seed, given.seed + given.runs)

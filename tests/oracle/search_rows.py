@@ -33,6 +33,11 @@ class Sketch(NamedTuple):
     def __str__(self):
         return f"{self.space}: {'; '.join(self.lines)}"
 
+    @property
+    def measure(self):
+        """What `measured` has to find of a shortest run."""
+        return self.length, self.length, len(self.lines), self.length
+
 
 def rows(name):
     """The text of each row. A line that begins with a space goes on with the one above it."""
@@ -75,3 +80,17 @@ def sketches():
         length, states = (None, number) if nowhere else (number, None)
         yield Sketch(space(written), lines.split("; "), length, states,
                      [move for written in runs for move in run(written)])
+
+
+def names():
+    """By the lock, the name of each kind."""
+    named = {}
+    for lock, kind, name in rows("names"):
+        named.setdefault(lock, {})[tuple(kind.split())] = name
+    return named
+
+
+def moves_of(schedule):
+    """The moves of a schedule's text: (thread, word)."""
+    lines = [line for line in schedule.splitlines() if line and not line.startswith("#")]
+    return [(int(thread), word) for thread, word in map(str.split, lines[1:])]

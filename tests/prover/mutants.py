@@ -35,8 +35,9 @@ from mutant_checks import Lab, NotChecked, unproved_below, verdict_on
 from mutant_edits import BadEdit, edits_in
 from mutants_kept import Kept
 from rattle_words import TOP, libraries_below
-from wanted import LARGE
 
+# Where folders of gigabytes are made: in Debian 13 /tmp is memory.
+LARGE = os.environ.get("TMPDIR") or "/var/tmp"
 SIZE = 24  # mutants in one check: more of them take more memory, and gain little
 TRIES = 2  # in company that nothing speaks against, before an unclear one is tried alone
 

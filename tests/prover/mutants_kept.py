@@ -14,7 +14,7 @@ from rattle_words import TOP, libraries_below, uses_of
 
 FOLDER = Path(os.environ.get("XDG_CACHE_HOME") or Path.home() / ".cache", "lockreplay", "mutants")
 PARTS = ("src", "specs", "proofs")
-SCRIPTS = ("mutants*.py", "mutant_checks.py", "mutant_edits.py", "rattle_*.py")
+SCRIPTS = ("mutant*.py", "rattle_*.py")
 
 
 class Kept:

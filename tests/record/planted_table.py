@@ -1,33 +1,49 @@
-"""The tables of docs/PLANTED.md, between its own texts."""
+"""The tables of docs/PLANTED.md: in how many runs each planted mistake is noticed, by mode."""
 import re
 
-from planted_locks import BEGIN, END, LOCKS, MODES
+from tree import TOP
 
-RUNS = "60"
+TABLES = TOP / "docs" / "PLANTED.md"
+BEGIN, END = "<!-- tables -->", "<!-- end of the tables -->"
+RUNS = 60
 
 
-def in_all(row):
+def read():
+    """The rows by lock and mistake: {column: what it says}."""
+    rows, columns, lock = {}, [], ""
+    for line in TABLES.read_text().split(END)[0].splitlines():
+        lock = re.sub(r"^## .*`(\w+)\.c`.*", r"\1", line) if line.startswith("## ") else lock
+        cells = [cell.strip().strip("`") for cell in line.strip("|").split("|")]
+        if line.startswith("| Mistake "):
+            columns = cells
+        elif line.startswith("| `"):
+            rows[lock, cells[0]] = dict(zip(columns, cells))
+    return rows
+
+
+def is_in_all(row, modes):
     """Whether a mistake is noticed in all runs of a mode. A search is one run."""
-    said = [row.get(mode, "") for mode in MODES]
-    return any(cell == RUNS or re.match(r"\d+, \d+$|[1-9]\d*/\d+$", cell) for cell in said)
+    return any(row.get(mode) == str(RUNS) or re.match(r"\d+, \d+$|[1-9]\d*/\d+$", row.get(mode, ""))
+               for mode in modes)
 
 
-def table(lock, mistakes, found, before):
-    yield f"## Planted in `{lock}.c`"
-    yield ""
-    yield f"| Mistake | What the lock does | {' | '.join(MODES)} |"
-    yield "|---|---|" + "---|" * len(MODES)
-    for mistake in mistakes:
-        if mistake.lock == lock:
-            row = {**before.get((lock, mistake.name), {}), **found.get((lock, mistake.name), {})}
-            cells = " | ".join(row.get(mode, "-") for mode in MODES)
-            yield f"| `{mistake.name}` | {mistake.what} | {cells} |"
+def table(lock, mistakes, rows, modes):
+    yield from (f"## Planted in `{lock}.c`", "",
+                f"| Mistake | What the lock does | {' | '.join(modes)} |",
+                "|---|---|" + "---|" * len(modes))
+    for name, what in mistakes:
+        cells = " | ".join(rows.get((lock, name), {}).get(mode, "-") for mode in modes)
+        yield f"| `{name}` | {what} | {cells} |"
     yield ""
 
 
-def document(text, mistakes, found, before):
-    """The document with new tables; what was not tried now is as it was before."""
-    above, rest = text.split(BEGIN)
-    below = rest.split(END)[1]
-    lines = [line for lock in LOCKS for line in table(lock, mistakes, found, before)]
-    return above + BEGIN + "\n" + "\n".join(lines) + END + below
+def write(mistakes, found, modes):
+    """Writes the tables with what was found: {(lock, mistake, mode): what it says}. What was not
+    tried stays. `mistakes` has by lock each name with what the lock does then."""
+    rows = read()
+    for (lock, name, mode), said in found.items():
+        rows.setdefault((lock, name), {})[mode] = said
+    text = TABLES.read_text()
+    lines = [line for lock, named in mistakes.items() for line in table(lock, named, rows, modes)]
+    TABLES.write_text(f"{text.split(BEGIN)[0]}{BEGIN}\n" + "\n".join(lines)
+                      + END + text.split(END)[1])

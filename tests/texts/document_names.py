@@ -12,7 +12,7 @@ from document_blocks import without_blocks
 
 SKIPPED = {".git", "out", "target", "node_modules", "__pycache__"}
 TEXTS = (".rt", ".rs", ".antt", ".py", ".js", ".mjs", ".c", ".h", ".sh", ".html", ".css",
-         ".schedule", ".report", ".txt", ".edit", "Makefile")
+         ".schedule", ".report", ".txt", "Makefile", "control")
 FILE = re.compile(r"[\w./*-]+\.(md|py|rt|antt|sh|c|h|js|mjs|html|schedule|report|txt|edit|patch|"
                   r"png|log|trace)")
 # What defines a name, in Rattle, in its definitions, and in the other languages.

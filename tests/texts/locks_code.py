@@ -20,7 +20,7 @@ TOP = pathlib.Path(__file__).resolve().parents[2]
 SPECS = TOP / "crates" / "lk_locks" / "specs"
 MODELS = TOP / "bench" / "spin"
 sys.path.append(str(TOP / "tests" / "oracle"))
-from locks import LOCKS
+from locks import LOCKS  # noqa: E402
 
 SHARED, NAMED = "read_write.antt", "laws.antt"
 CALLS = {"Acquire": "acquire", "Release": "release", "ReadLock": "rlock", "ReadUnlock": "runlock",

@@ -21,6 +21,7 @@ PLACES = {
     "crates/locktrace/src/command_line.rt": r'^const VERSION: &str = "(.*)";$',
     "record/rust/Cargo.toml": r'^version = "(.*)"$',
     "record/rust/Cargo.lock": r'^name = "lockreplay-record"\nversion = "(.*)"$',
+    "debian/changelog": r"^lockreplay \((.*)\) ",
     "CITATION.cff": r'^version: (.*)$',
 }
 NEWEST = r"^## \[(\d.*)\] - (.*)$"

@@ -1,8 +1,8 @@
 #!/usr/bin/env bash
 # Runs the README's two commands on a clean machine: tests/tools/clean_room.sh [--prove]
 #
-# The machine is a minimal Debian 12 with make, git and ca-certificates, which sees the kit and has
-# the committed tree. Shown is, with all set-up:
+# The machine is a minimal Debian 12 with make, git, Python 3 and ca-certificates, which sees the
+# kit and has the committed tree. Shown is, with all set-up:
 #
 #   - `make demo`, with nothing built;
 #   - `make programs` over what this tree keeps of its proofs: the programs are linked anew;
@@ -73,7 +73,7 @@ step() {
 }
 
 make_room() {
-    tests/tools/root.sh bookworm "$root" make git ca-certificates
+    tests/tools/root.sh bookworm "$root" make git python3 ca-certificates
     ln -s "$kit/bin/rt" "$root/usr/local/bin/rt"
     git clone --quiet . "$root$TREE"
 }

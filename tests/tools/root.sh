@@ -30,7 +30,6 @@ fi
 # Under another name until it is whole, since several may be made at once.
 make_archive() {
     local made=$ARCHIVE.$$.tar said=$ARCHIVE.$$.said
-    "$(dirname "$(readlink -f "$0")")/wanted.sh" root
     if ! mmdebstrap --variant=minbase ${1:+"--include=$1"} "$SUITE" "$made" 2> "$said"; then
         cat "$said" >&2
         rm -f "$made" "$said"

@@ -1,0 +1,85 @@
+"""What every test can ask for: the programs that are built, and one line that counts the tests."""
+import random
+
+import pytest
+from hypothesis import HealthCheck, settings
+
+from tree import Program, built
+
+# Libraries whose assertions are told with their values
+pytest.register_assert_rewrite("dice", "installs", "recorders")
+# Examples take as long as a process. The seed is printed, and --hypothesis-seed repeats it.
+settings.register_profile("lockreplay", deadline=None, database=None, print_blob=True,
+                          suppress_health_check=list(HealthCheck))
+settings.load_profile("lockreplay")
+
+
+@pytest.fixture(scope="session")
+def lockreplay():
+    return built("lockreplay")
+
+
+@pytest.fixture(scope="session")
+def locktrace():
+    return built("locktrace")
+
+
+@pytest.fixture(scope="session")
+def library():
+    """The check of a trace, for C."""
+    return built("library")
+
+
+@pytest.fixture(scope="session")
+def module():
+    """The machine of the page."""
+    return built("module")
+
+
+@pytest.fixture
+def replayer(lockreplay, tmp_path):
+    """`lockreplay` in a folder of its own, on bytes."""
+    return Program(lockreplay, tmp_path, b"")
+
+
+@pytest.fixture
+def tracer(locktrace, tmp_path):
+    """`locktrace` in a folder of its own, on text."""
+    return Program(locktrace, tmp_path)
+
+
+def pytest_addoption(parser):
+    parser.addoption("--fuzz-seconds", type=float, default=60,
+                     help="how long lockreplay and the oracle replay random texts")
+    parser.addoption("--quick", action="store_true", help="a tenth of the random values")
+    parser.addoption("--write-planted", action="store_true", help="writes docs/PLANTED.md anew")
+    parser.addoption("--threads", type=int, default=3, help="of the tours that locks follow")
+    parser.addoption("--rounds", type=int, default=1, help="of each thread in these tours")
+
+
+@pytest.hookimpl(tryfirst=True)
+def pytest_configure(config):
+    """One seed for all random tests, and for all workers of xdist, which are told the options."""
+    if config.getoption("hypothesis_seed", None) is None:
+        config.option.hypothesis_seed = str(random.SystemRandom().randrange(10**9))
+
+
+def pytest_report_header(config):
+    return f"random texts, orders and values: --hypothesis-seed={config.option.hypothesis_seed}"
+
+
+def pytest_terminal_summary(terminalreporter):
+    """How many random texts, orders and values were tried."""
+    for report in terminalreporter.stats.get("passed", []):
+        for name, said in report.user_properties:
+            if name == "tried":
+                terminalreporter.write_line(f"{report.nodeid}: {said}")
+
+
+def pytest_unconfigure(config):
+    """The last line, in the form that all test commands of this repository have."""
+    reporter = config.pluginmanager.get_plugin("terminalreporter")
+    if reporter is None or hasattr(config, "workerinput") or config.option.collectonly:
+        return
+    count = {kind: len(reporter.stats.get(kind, [])) for kind in ("passed", "failed", "error")}
+    print(f"{count['passed']} passed, {count['failed'] + count['error']} failed", flush=True)

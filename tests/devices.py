@@ -1,0 +1,55 @@
+"""Devices and memory that fail a process: the functions for `preexec_fn`, pipes and terminals."""
+import contextlib
+import os
+import pty
+import resource
+import signal
+
+
+def closing(*descriptors):
+    """The process begins with these closed."""
+    return lambda: [os.close(descriptor) for descriptor in descriptors]
+
+
+def little_memory(size):
+    """The process has so many bytes of address space."""
+    return lambda: resource.setrlimit(resource.RLIMIT_AS, (size, size))
+
+
+def short_files(size):
+    """No file that the process writes has room for more bytes."""
+    def limit():
+        signal.signal(signal.SIGXFSZ, signal.SIG_IGN)
+        resource.setrlimit(resource.RLIMIT_FSIZE, (size, size))
+    return limit
+
+
+@contextlib.contextmanager
+def left_pipe():
+    """The end for writing of a pipe that nobody reads."""
+    reader, writer = os.pipe()
+    os.close(reader)
+    try:
+        yield writer
+    finally:
+        os.close(writer)
+
+
+class Terminal:
+    """A pseudo-terminal: `writer` is its end for a process."""
+
+    def __enter__(self):
+        self.reader, self.writer = pty.openpty()
+        return self
+
+    def __exit__(self, *_):
+        os.close(self.reader)
+
+    def written(self):
+        """All that was written to it, once nobody can write to it any more."""
+        os.close(self.writer)
+        parts = []
+        with contextlib.suppress(OSError):  # the end, as Linux says it
+            while part := os.read(self.reader, 4_096):
+                parts.append(part)
+        return b"".join(parts)

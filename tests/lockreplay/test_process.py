@@ -1,0 +1,259 @@
+"""`lockreplay` as a process: output, error and status, where devices, words or files fail it.
+
+What is due is written by hand from what the program promises; of the parser's own texts only the
+first words are known.
+"""
+import os
+import shutil
+import signal
+import socket
+import subprocess
+import threading
+import time
+
+import pytest
+
+from devices import closing, left_pipe, short_files
+from tree import PATIENCE, PIPE, Program, cases
+from worked_rows import crowd, hand_over, most_moves
+
+INPUT = b"lockreplay: cannot read standard input\n"
+OUTPUT = b"lockreplay: cannot write\n"
+TOO_MANY = b"lockreplay: too many files\n"
+FOREIGN = b"lockreplay: the words are not UTF-8 text\n"
+
+HANDED_ON, HANDED_ON_REPORT = map(b"".join, hand_over())
+EMPTY, EMPTY_REPORT = b"lock ticket threads 1\n", b"end 0\n"
+REFUSED = b"lock ticket threads 2\n0 release\n"
+REFUSED_REPORT = b"refused line 2 NotHolder\n"
+NO_HEADER = b"fault line 1 NoHeader\n"
+SPINS = most_moves()  # a thread that spins to the limit of moves, after one that never enters
+CROWD = crowd()  # the longest report but for the numerals
+
+FILES = {"empty": EMPTY, "handed_on": HANDED_ON, "refused": REFUSED, "none": b"",
+         "spinning": SPINS.text, "--workers": EMPTY}
+BATCH = ["batch", "--workers", "2"]
+MANY = [*BATCH, *["empty"] * 65_536]
+NOTHING = (b"", b"", 2)
+
+
+def cannot_read(number):
+    return b"", b"lockreplay: cannot read file %d\n" % number, 3
+
+
+def batch_of(*reports):
+    return b"".join(b"file %d\n" % k + report for k, report in enumerate(reports, 1))
+
+
+@pytest.fixture(scope="module")
+def program(lockreplay, tmp_path_factory):
+    """The program in a folder with texts, and with names that are no files."""
+    program = Program(lockreplay, tmp_path_factory.mktemp("files"), b"")
+    program.write(**FILES)
+    (program.folder / "folder").mkdir()
+    (program.folder / "dangling").symlink_to("nowhere")
+    (program.folder / "circle").symlink_to("circle")
+    with socket.socket(socket.AF_UNIX) as listener:
+        listener.bind(str(program.folder / "socket"))
+    return program
+
+
+@cases("text, due", {
+    "a schedule": (HANDED_ON, (HANDED_ON_REPORT, b"", 0)),
+    "a refused move": (REFUSED, (REFUSED_REPORT, b"", 1)),
+    "nothing": (b"", (NO_HEADER, b"", 1)),
+    "half a move": (HANDED_ON[:27], (b"fault line 2 BadLine\n", b"", 1)),
+    "a move without its line feed": (HANDED_ON[:31], (HANDED_ON_REPORT[:34] + b"end 1\n", b"", 0)),
+    "a report of 14 MB": (CROWD.text, (CROWD.report, b"", 0)),
+})
+def test_standard_input(program, text, due):
+    assert program.run("replay", stdin=text) == due
+
+
+@cases("path, flags, due", {
+    "empty": ("/dev/null", os.O_RDONLY, (NO_HEADER, b"", 1)),
+    "for writing alone": ("/dev/null", os.O_WRONLY, (b"", INPUT, 3)),
+    "a directory": (".", os.O_RDONLY, (b"", INPUT, 3)),
+    "without end": ("/dev/zero", os.O_RDONLY, (b"fault TooLong\n", b"", 1)),
+})
+def test_input_from_a_device(program, path, flags, due):
+    descriptor = os.open(path, flags)
+    try:
+        assert program.run("replay", stdin=descriptor) == due
+    finally:
+        os.close(descriptor)
+
+
+def test_closed_input(program):
+    closed = {"stdin": subprocess.DEVNULL, "preexec_fn": closing(0)}
+    assert program.run("replay", **closed) == (b"", INPUT, 3)
+    due = batch_of(EMPTY_REPORT, HANDED_ON_REPORT)
+    assert program.run(*BATCH, "empty", "handed_on", **closed) == (due, b"", 0)
+
+
+# Words, input and report, of which writing fails.
+WRITES = {
+    "replay": (["replay"], SPINS.text, SPINS.report),
+    "batch": ([*BATCH, "spinning", "empty"], b"", batch_of(SPINS.report, EMPTY_REPORT)),
+    "help": (["--help"], b"", b""),
+}
+
+
+@cases("words, text, report", WRITES)
+class TestOutput:
+    def test_closed(self, program, words, text, report):
+        assert program.run(*words, stdin=text, preexec_fn=closing(1)) == (b"", OUTPUT, 3)
+        assert program.run(*words, stdin=text, preexec_fn=closing(1, 2)) == (b"", b"", 3)
+
+    @cases("path, mode", {"full": ("/dev/full", "wb"), "for reading": ("/dev/null", "rb")})
+    def test_device(self, program, words, text, report, path, mode):
+        with open(path, mode) as device:
+            assert program.run(*words, stdin=text, stdout=device) == (b"", OUTPUT, 3)
+
+    @pytest.mark.parametrize("handling", [signal.SIG_DFL, signal.SIG_IGN])
+    def test_reader_that_left(self, program, words, text, report, handling):
+        """SIGPIPE ends a process that does nothing about it."""
+        with left_pipe() as pipe:
+            assert program.run(*words, stdin=text, stdout=pipe, preexec_fn=lambda: signal.signal(
+                signal.SIGPIPE, handling)) == (b"", OUTPUT, 3)
+
+    def test_output_and_error_that_nobody_reads(self, program, words, text, report):
+        with left_pipe() as pipe:
+            assert program.run(*words, stdin=text, stdout=pipe, stderr=pipe)[2] == 3
+
+
+@pytest.mark.parametrize("size", [1, 1_000, 65_536, 65_537, -1])
+@pytest.mark.parametrize("name", ["replay", "batch"])
+def test_file_that_is_full(program, tmp_path, name, size):
+    """The file keeps the beginning of the report that it has room for."""
+    words, text, report = WRITES[name]
+    room = size % len(report)
+    with open(tmp_path / "short", "wb") as short:
+        done = program.run(*words, stdin=text, stdout=short, preexec_fn=short_files(room))
+    assert done == (b"", OUTPUT, 3)
+    assert (tmp_path / "short").read_bytes() == report[:room]
+
+
+@cases("words, text, report, size", {
+    **{name: (*WRITES[name], 1_000) for name in ("replay", "batch")},
+    "a report of 14 MB": (["replay"], CROWD.text, CROWD.report, 65_536),
+})
+def test_reader_that_leaves(program, words, text, report, size):
+    """The reader takes so many bytes of the report, and leaves."""
+    reader, writer = os.pipe()
+    taken = bytearray()
+
+    def leave():
+        while len(taken) < size and (piece := os.read(reader, size - len(taken))):
+            taken.extend(piece)
+        os.close(reader)
+
+    leaver = threading.Thread(target=leave)
+    leaver.start()
+    done = program.run(*words, stdin=text, stdout=writer)
+    os.close(writer)
+    leaver.join()
+    assert (bytes(taken), *done) == (report[:size], b"", OUTPUT, 3)
+
+
+@cases("words, error", {
+    "a word that is no text": ([b"\xff"], FOREIGN),
+    "a file's name that is no text": ([*BATCH, b"a\xffb"], FOREIGN),
+    "65,537 files": ([*MANY, "empty"], TOO_MANY),
+    "65,537 files that are not there": ([*BATCH, *["x"] * 65_537], TOO_MANY),
+})
+def test_words_that_the_program_refuses(program, words, error):
+    assert program.run(*words) == (b"", error, 2)
+
+
+@pytest.mark.parametrize("words", [
+    "", "replay x", "batch empty", "batch --workers 2", "play", "batch --workers 0 empty",
+    "batch --workers 9 empty", "batch --workers x empty", "batch", "--version"])
+def test_words_that_the_parser_refuses(program, words):
+    output, error, status = program.run(*words.split())
+    assert (output, status) == (b"", 2)
+    assert error.startswith(b"error: ") and error.endswith(b"\n")
+    if words in ("", "replay x", "batch empty", "batch --workers 2"):
+        assert b"Usage: lockreplay" in error
+
+
+@cases("words, reports", {
+    "workers with =": ("--workers=8 empty", [EMPTY_REPORT]),
+    "workers behind": ("empty --workers 3", [EMPTY_REPORT]),
+    "a file --workers": ("--workers 2 -- --workers", [EMPTY_REPORT]),
+    "files on either side": ("empty --workers 3 handed_on -- empty",
+                             [EMPTY_REPORT, HANDED_ON_REPORT, EMPTY_REPORT]),
+})
+def test_words_of_a_batch(program, words, reports):
+    assert program.run("batch", *words.split()) == (batch_of(*reports), b"", 0)
+
+
+@pytest.mark.parametrize("words, part", [
+    (["--help"], b"Usage: lockreplay <COMMAND>"), (["-h"], b"Usage: lockreplay <COMMAND>"),
+    (["batch", "--help"], b"lockreplay batch")])
+def test_help(program, words, part):
+    output, error, status = program.run(*words)
+    assert (error, status) == (b"", 0)
+    assert part in output and output.endswith(b"\n")
+
+
+def test_error_that_nobody_reads(program):
+    assert program.run("play", preexec_fn=closing(2)) == NOTHING
+    assert program.run(*BATCH, *["x"] * 65_537, preexec_fn=closing(2)) == NOTHING
+    assert program.run("replay", stdin=subprocess.DEVNULL, preexec_fn=closing(0, 2)) == (
+        b"", b"", 3)
+    with left_pipe() as pipe:
+        assert program.run("play", stderr=pipe) == NOTHING
+
+
+@pytest.mark.parametrize("workers", range(1, 9))
+def test_batch_by_workers(program, workers):
+    files = ["empty", "handed_on", "refused", "none", "empty"]
+    due = batch_of(EMPTY_REPORT, HANDED_ON_REPORT, REFUSED_REPORT, NO_HEADER, EMPTY_REPORT)
+    assert program.run("batch", "--workers", workers, *files) == (due, b"", 1)
+
+
+@cases("files, reports, status", {
+    "accepted": (["handed_on"], [HANDED_ON_REPORT], 0),
+    "refused": (["refused"], [REFUSED_REPORT], 1),
+    "a fault": (["none", "handed_on"], [NO_HEADER, HANDED_ON_REPORT], 1),
+    "both accepted": (["empty", "handed_on"], [EMPTY_REPORT, HANDED_ON_REPORT], 0),
+    "65,536 files": (["empty"] * 65_536, [EMPTY_REPORT] * 65_536, 0),
+})
+def test_status_of_a_batch(program, files, reports, status):
+    assert program.run(*BATCH, *files) == (batch_of(*reports), b"", status)
+
+
+@pytest.mark.parametrize("name", ["missing", "folder", "dangling", "circle", "socket", "empty/x",
+                                  pytest.param("n" * 300, id="300 bytes"),
+                                  pytest.param("n" * 5000, id="5000 bytes"), ""])
+def test_file_that_cannot_be_read(program, name):
+    assert program.run(*BATCH, "empty", name, "missing") == cannot_read(2)
+
+
+def test_first_and_last_file_that_cannot_be_read(program):
+    assert program.run(*BATCH, "missing", "folder", "empty") == cannot_read(1)
+    assert program.run(*MANY[:-1], "missing") == cannot_read(65_536)
+
+
+def opened_once_read(fifo, process):
+    """The FIFO's end for writing, once the program has opened the other; None if it never does."""
+    while process.poll() is None:
+        try:
+            return os.open(fifo, os.O_WRONLY | os.O_NONBLOCK)
+        except OSError:
+            time.sleep(0.01)
+    return None
+
+
+def test_file_that_disappears(program, tmp_path):
+    os.mkfifo(tmp_path / "fifo")
+    shutil.copy(program.folder / "empty", tmp_path / "fleeting")
+    process = subprocess.Popen([program.path, *BATCH, "fifo", "fleeting"], cwd=tmp_path,
+                               stdout=PIPE, stderr=PIPE)
+    fifo = opened_once_read(tmp_path / "fifo", process)
+    (tmp_path / "fleeting").unlink()
+    assert fifo is not None
+    os.write(fifo, EMPTY)
+    os.close(fifo)
+    assert (*process.communicate(timeout=PATIENCE), process.returncode) == cannot_read(2)

@@ -1,0 +1,232 @@
+"""`locktrace check`, and what all commands share: words, texts, formats, files that fail, inputs
+without end, devices that take nothing, little memory, several threads, and a terminal.
+
+What is due is written by hand from packaging/man/locktrace.1 and docs/TRACE.md.
+"""
+import json
+import os
+import re
+import shlex
+import threading
+
+import pytest
+
+from devices import Terminal, closing, left_pipe, little_memory
+from traces import (FAULTY, FAULTY_LINE, GOOD, OTHER, OTHER_LINE, ROUND, SCHEDULE, WRONG,
+                    WRONG_LINE, has)
+from tree import VERSION, cases
+
+CANNOT = "locktrace: cannot write: "
+SHOWN = "2: not a move (BadLine)\n"
+
+
+def test_version_and_help(tracer):
+    assert tracer.run("--version") == (f"locktrace {VERSION}\n", "", 0)
+    output, error, status = tracer.run("--help")
+    assert (error, status) == ("", 0) and "check" in output and "order" in output
+
+
+@pytest.mark.parametrize("words", [
+    "", "walk", "check --format xml", "check -j 0", "check -j 65", "check --color red",
+    "order --format xml good -o made", "explain --moves 0..3", "explain --moves 4..3",
+    "explain --moves ..3", "explain --moves x", "explain --moves ''", "order thread-0.log",
+    "explain a b"])
+def test_usage(tracer, words):
+    output, error, status = tracer.run(*shlex.split(words))
+    assert (output, status) == ("", 2)
+    assert error.startswith("error:") if words else error
+
+
+@cases("words, stdin, due", {
+    "all is well": ("check good", "", ("", "", 0)),
+    "a schedule": ("check -", SCHEDULE, ("", "", 0)),
+    "another step": ("check wrong", "", (WRONG_LINE.format("wrong"), "", 1)),
+    "no trace": ("check faulty", "", (FAULTY_LINE.format("faulty"), "", 4)),
+    "no header": ("check", "", ("-:1: no header (NoHeader)\n", "", 4)),
+    "a long comment": ("check", "#" * 3_000_000 + "\n" + GOOD, ("", "", 0)),
+    "a line of 97 bytes": ("check", f"lock mcs threads 2\n{'0 acquire':97}\n",
+                           ("-:2: not a move (BadLine)\n", "", 4)),
+    "a schedule of a trace": ("schedule good", "", (SCHEDULE, "", 0)),
+    "no schedule": ("schedule faulty", "", ("lock ticket threads 2\n",
+                                            FAULTY_LINE.format("faulty"), 4)),
+    "-j with standard input": ("check -j 4 good - good", FAULTY, (FAULTY_LINE.format("-"), "", 4)),
+})
+def test_text(tracer, words, stdin, due):
+    assert tracer.run(*words.split(), stdin=stdin) == due
+
+
+@cases("words, status, parts", {
+    "no such file": ("check absent", 3, ("absent: ", "o such file")),
+    "a directory": ("check .", 3, (".: ", "irectory")),
+    "the greatest status wins": ("check wrong absent faulty good", 4, (
+        WRONG_LINE.format("wrong") + "absent: ", FAULTY_LINE.format("faulty"))),
+})
+def test_file_that_fails(tracer, words, status, parts):
+    output, *more = tracer.run(*words.split())
+    assert more == ["", status]
+    assert has(output, *parts)
+
+
+def test_summary(tracer):
+    rounds = "lock ticket threads 1 bits 2\n" + "".join(
+        f"0 acquire\n0 add next_ticket found {k % 4}\n0 read\n0 release\n0 read\n0 write\n"
+        for k in range(9))
+    output, *more = tracer.run("check", "--summary", stdin=rounds)
+    assert more == ["", 0]
+    assert has(output, "-: 1 thread, 54 moves", " 2 rounds of the counter")
+    polls = "lock ticket threads 2\n0 acquire\n0 add\n0 read\n1 acquire\n1 add\n1 read\n1 read\n"
+    output, *more = tracer.run("check", "--summary", stdin=polls)
+    assert more == ["", 0]
+    assert " 2 waits" in output and "warning" not in output
+    output, *more = tracer.run("check", "--summary", "absent")
+    assert more == ["", 3]
+    assert output.startswith("absent: ") and output.count("\n") == 1
+
+
+NAMES = ["good", "other", "faulty", "absent"]
+
+
+def test_json(tracer):
+    lines = tracer.run("check", "--format", "json", "--summary", *NAMES)[0].splitlines()
+    answers = [json.loads(line) for line in lines]
+    assert [answer["file"] for answer in answers] == NAMES
+    assert [answer["ending"] for answer in answers] == ["accepted", "refused", "faulty", "unread"]
+    assert [answer.get("line") for answer in answers] == [None, 9, 2, 0]
+    assert [answers[0][key] for key in ("threads", "moves", "longest_queue")] == [2, 7, 2]
+
+
+ODD = [chr(code) for code in [*range(1, 32), *b'"\\', 127, 0xE9]]
+
+
+@pytest.mark.parametrize("name", [*(f"a{sign}b" for sign in ODD), "".join(ODD),
+                                  'a "name"\\\x01\n.trace'], ids=ascii)
+def test_name_in_json(tracer, name):
+    """Each byte that a string of JSON may not have as it is, alone and all together."""
+    (tracer.folder / name).write_text(FAULTY)
+    text = tracer.run("check", "--format", "json", name)[0]
+    assert (text[-1:], [sign for sign in text[:-1] if sign < " "]) == ("\n", [])
+    assert json.loads(text)["file"] == name
+
+
+def test_tap(tracer):
+    tap = tracer.run("check", "--format", "tap", *NAMES)[0].splitlines()
+    assert tap[:2] == ["TAP version 14", "1..4"]
+    matches = map(re.compile(r"(not )?ok (\d+) - (\S+)$").match, tap)
+    assert [match.groups() for match in matches if match] == [
+        (None, "1", "good"), ("not ", "2", "other"), ("not ", "3", "faulty"),
+        ("not ", "4", "absent")]
+    rest = [line for line in tap[2:] if "ok " not in line[:7]]
+    assert rest and all(line.startswith("# ") for line in rest)
+
+
+@cases("more, due", {
+    "text": ([], f"bad:{SHOWN}" * 3_000),
+    "JSON": (["--format", "json"], 3_000 * (
+        '{"file":"bad","ending":"faulty","line":2,"message":"not a move (BadLine)",'
+        '"code":"BadLine"}\n')),
+    "TAP": (["--format", "tap"], "TAP version 14\n1..3000\n" + "".join(
+        f"not ok {k} - bad\n# line {SHOWN}" for k in range(1, 3_001))),
+})
+def test_long_report(tracer, more, due):
+    """Reports are longer than what the program lets wait before it writes, 65,536 bytes."""
+    tracer.write(bad="lock mcs threads 1\n0 aquire\n")
+    assert tracer.run("check", *more, *["bad"] * 3_000) == (due, "", 4)
+
+
+def test_long_schedule(tracer):
+    moves = "".join(f"0 {word}\n" for word in ROUND) * 20_000
+    trace = "# a comment\nlock ticket threads 1\n" + moves.replace("add\n", "add next_ticket\n")
+    assert tracer.run("schedule", stdin=trace) == ("\nlock ticket threads 1\n" + moves, "", 0)
+
+
+@pytest.mark.parametrize("jobs", [2, 3, 8, 64])
+def test_several_threads(tracer, jobs):
+    names = (["good", "wrong", "absent", "other", "faulty", "."] * 9)[:50]
+    alone = tracer.run("check", "--summary", *names)
+    assert tracer.run("check", "--summary", "-j", jobs, *names) == alone
+
+
+@pytest.mark.parametrize("words", ["check wrong", "explain good", "schedule good", "--help",
+                                   "check -j 2 wrong wrong"])
+def test_full_device(tracer, words):
+    with open("/dev/full", "w") as full:
+        output, error, status = tracer.run(*words.split(), stdout=full)
+    assert status == 3 and error.startswith(CANNOT)
+
+
+def test_closed_output(tracer):
+    output, error, status = tracer.run("check", "wrong", preexec_fn=closing(1))
+    assert (output, status) == ("", 3) and error.startswith(CANNOT)
+
+
+def test_input_without_end(tracer):
+    """A refused move ends the reading."""
+    os.mkfifo(tracer.folder / "endless")
+
+    def feed():
+        try:
+            with open(tracer.folder / "endless", "w") as pipe:
+                pipe.write(WRONG)
+                while True:
+                    pipe.write("1 acquire\n" * 1_000)
+        except BrokenPipeError:
+            pass
+
+    threading.Thread(target=feed, daemon=True).start()
+    assert tracer.run("check", "endless") == (WRONG_LINE.format("endless"), "", 1)
+
+
+@pytest.mark.parametrize("words", [["explain", "many"], ["schedule", "many"],
+                                   ["check", *["wrong"] * 2_000]], ids=lambda words: words[0])
+def test_reader_that_left(tracer, words):
+    """Who reads a part of the output has read enough."""
+    moves = "0 acquire\n0 add\n0 read\n0 release\n0 read\n0 write\n" * 40_000
+    tracer.write(many="lock ticket threads 1\n" + moves)
+    with left_pipe() as pipe:
+        assert tracer.run(*words, stdout=pipe) == ("", "", 0)
+
+
+@pytest.mark.parametrize("name", ["runs", "runs/"])
+def test_folder(tracer, name):
+    """The traces and schedules of a folder, by their names, and nothing else of it."""
+    (tracer.folder / "runs").mkdir()
+    tracer.write(**{"runs/b.trace": OTHER, "runs/a.schedule": SCHEDULE,
+                    "runs/notes.txt": "no trace\n", "runs/c.trace": FAULTY})
+    assert tracer.run("check", name) == (
+        OTHER_LINE.format("runs/b.trace") + FAULTY_LINE.format("runs/c.trace"), "", 4)
+    output, *more = tracer.run("check", "--format", "tap", "good", name, "good")
+    assert more == ["", 4]
+    assert has(output, "TAP version 14\n1..5\nok 1 - good\nok 2 - runs/a.schedule\n"
+               "not ok 3 - runs/b.trace\n", "not ok 4 - runs/c.trace\n", "ok 5 - good\n")
+
+
+@pytest.mark.parametrize("when, on_terminal, has_colors", [
+    ("auto", True, True), ("auto", False, False), ("never", True, False), ("always", False, True)])
+def test_colors(tracer, when, on_terminal, has_colors):
+    """On a terminal alone, unless they are asked for."""
+    with Terminal() as terminal:
+        out = {"stdout": terminal.writer} if on_terminal else {}
+        text, _, status = tracer.run("check", "--color", when, "wrong", **out)
+        shown = terminal.written().decode().replace("\r\n", "\n")
+    text = shown if on_terminal else text
+    assert (status, "\x1b[" in text) == (1, has_colors)
+    assert re.sub("\x1b\\[[0-9;]*m", "", text) == WRONG_LINE.format("wrong")
+
+
+def test_little_memory(tracer):
+    """Under each limit the answer is the right one, or that memory was refused, and both occur.
+    With too little memory to begin, the program ends by a signal and answers nothing."""
+    answered, refused = (WRONG_LINE.format("wrong"), "", 1), ("", "locktrace: out of memory\n", 3)
+    found = {tracer.run("check", "wrong", preexec_fn=little_memory(size << 10))
+             for size in range(2_000, 8_000, 20)}
+    ended = {done for done in found if done[0] or done[2] in (0, 1, 2, 4) or done == refused}
+    assert ended == {answered, refused}
+
+
+def test_progress_on_a_terminal(tracer):
+    text = "lock ticket threads 2\n" + "# a comment\n" * 2_100_000
+    with Terminal() as terminal:
+        assert tracer.run("check", "-", stdin=text, stderr=terminal.writer)[2] == 0
+        shown = terminal.written()
+    assert b"-: 1000000 lines" in shown and b"-: 2000000 lines" in shown
+    assert tracer.run("check", "-", stdin="lock ticket threads 2\n") == ("", "", 0)

@@ -1,0 +1,154 @@
+"""`locktrace find`: how a sketch is read, what is said of it, and the schedules that are found.
+
+What is said is written by hand from packaging/man/locktrace.1 and docs/TRACE.md. Lengths and counts
+of states are those of tests/rows/sketches.txt, and a schedule is a run of the second replayer.
+"""
+import re
+import shlex
+
+import pytest
+
+import search_rows
+from spaces import measured, searched
+from tree import cases, ran
+
+# The words after `find`, and what is said: no run has the lines.
+NOWHERE = [
+    (["mcs", "2", "0 cas done", "0 swap"],
+     "no run of 2 threads with 1 round each has '0 swap' after '0 cas done': "
+     "all 76 states were searched\n"),
+    (["mcs", "3", "0 write locked of 1", "1 write locked of 0"],
+     "no run of 3 threads with 1 round each has '1 write locked of 0' after '0 write locked of 1': "
+     "all 1,018 states were searched\n"),
+    (["mcs", "2", "--rounds", "2", "0 swap tail found 1"],
+     "no run of 2 threads with 2 rounds each has '0 swap tail found 1': "
+     "all 325 states were searched\n"),
+    (["ticket", "3", "--bits", "2", "* write now_serving left 0"],
+     "no run of 3 threads with 1 round each, on words of 2 bits, has '* write now_serving left 0': "
+     "all 231 states were searched\n"),
+    (["rw-fifo", "1", "* section waits"],
+     "no run of 1 thread with 1 round has '* section waits': all 10 states were searched\n"),
+    (["rw-simple", "2", "0 rlock", "0 section entered", "1 wlock", "1 section entered",
+      "0 runlock"],
+     "no run of 2 threads with 1 round each has '0 rlock', then '0 section entered', "
+     "then '1 wlock', then '1 section entered', then '0 runlock': all 60 states were searched\n"),
+]
+
+LINE = "not a line of a sketch (BadLine)"
+OPEN = "'next_ticket', 'now_serving', 'tail', 'next', 'locked', 'found'"
+STEPS = "a call (acquire, rlock ..) or a step (read, write, swap, cas, add, section)"
+
+# A line of a sketch that is none, and what is said of it: column, what is there, what could be.
+FAULTS = [
+    ("* caz failed", f"  column 3: 'caz', expected {STEPS}\n  did you mean 'cas'?\n"),
+    ("x cas", "  column 1: 'x', expected '*', or a thread's number, from 0 to 255\n"),
+    ("*", f"  column 3: the end of the line, expected {STEPS}\n"),
+    ("* cas tail fund 3", "  column 12: 'fund', expected the end, 'found', 'left', 'done' or "
+                          "'failed'\n  did you mean 'found'?\n"),
+    ("* read done", f"  column 8: 'done', expected the end, {OPEN} or 'left'\n"),
+    ("* cas fond 3", f"  column 7: 'fond', expected the end, {OPEN}, 'left', 'done' or 'failed'\n"
+                     "  did you mean 'found'?\n"),
+    ("* cas found x", "  column 13: 'x', expected a number of at most 64 bits\n"),
+    ("0 cas found", "  column 13: the end of the line, expected a number of at most 64 bits\n"),
+    ("0 write next of", "  column 17: the end of the line, expected a thread's number, "
+                        "from 0 to 255\n"),
+    ("* section done", "  column 11: 'done', expected the end, the section's count, or moved, "
+                       "waits, entered or left\n"),
+    ("* acquire now", "  column 11: 'now', expected the end\n"),
+]
+
+# The words after `space`, and what is said of them: they name no lock.
+NO_LOCKS = [
+    (["ms", "2"], "'lock ms threads 2': not a header (BadHeader)\n  column 6: 'ms', expected "
+                  "ticket, mcs, rw-simple or rw-fifo\n  did you mean 'mcs'?\n"),
+    (["mcs", "65"], "'lock mcs threads 65': not a number of threads (BadThreads)\n  column 18: "
+                    "'65', expected a number of threads, from 1 to 64\n"),
+    (["mcs", "4", "--bits", "2"],
+     "'lock mcs threads 4 bits 2': words too narrow for the threads (WordsTooNarrow)\n"
+     "  expected fewer threads than words of that many bits have values\n"),
+]
+
+
+@pytest.mark.parametrize("words", [
+    "find", "find mcs 2", "find mcs 2 --rounds 0 '0 cas'", "find mcs 2 --rounds 256 '0 cas'",
+    "space mcs", "space mcs 2 --format xml", "space mcs 2 --limit 0", "cover --require release",
+    "cover --format tap"])
+def test_usage(tracer, words):
+    output, error, status = tracer.run(*shlex.split(words))
+    assert (output, status) == ("", 2) and error.startswith("error:")
+
+
+@pytest.mark.parametrize("words, said", NO_LOCKS, ids=str)
+def test_no_lock(tracer, words, said):
+    assert tracer.run("space", *words) == ("", f"locktrace: {said}", 2)
+
+
+@pytest.mark.parametrize("line, said", FAULTS)
+def test_line_that_is_none(tracer, line, said):
+    """In the words of the command, and in a text."""
+    assert tracer.run("find", "mcs", "2", "* cas", line) == (
+        "", f"locktrace: '{line}': {LINE}\n{said}", 2)
+    assert tracer.run("find", "-", stdin=f"lock mcs threads 2\n\n{line}\n") == (
+        "", f"-:3: {LINE}\n{said}", 4)
+
+
+@cases("text, said", {
+    "256 lines": ("lock mcs threads 2\n" + 256 * "* acquire\n",
+                  "-:257: a sketch has at most 255 lines (TooManyLines)\n"),
+    "no header": ("# none\n", "-:2: no header (NoHeader)\n"),
+    "no rounds": ("#! rounds 0\n", "-:1: not a number of rounds, from 1 to 255 (BadRounds)\n"),
+    "a long line": (f"lock mcs threads 2\n0 cas{92 * ' '}\n",
+                    f"-:2: {LINE}\n  no line has more than 96 bytes\n"),
+})
+def test_text_that_is_no_sketch(tracer, text, said):
+    assert tracer.run("find", "-", stdin=text) == ("", said, 4)
+
+
+def test_no_such_file(tracer):
+    output, error, status = tracer.run("find", "absent")
+    assert (output, status) == ("", 3) and error.startswith("absent: ") and "o such file" in error
+
+
+@pytest.mark.parametrize("words, said", NOWHERE, ids=str)
+def test_sketch_that_no_run_has(tracer, words, said):
+    assert tracer.run("find", *words) == ("", said, 1)
+
+
+def test_rounds_of_a_text(tracer):
+    output, *more = tracer.run("find", "-", stdin="#! rounds 2\nlock mcs threads 2\n0 cas done\n\n"
+                               "0 swap tail found 0\n")
+    assert more == ["", 0]
+    assert output.startswith(
+        "# A shortest run of 2 threads with 2 rounds each that has these lines, in this order:\n"
+        "# line 10: 0 cas done\n# line 13: 0 swap tail found 0\nlock mcs threads 2\n0 acquire\n")
+    assert len(search_rows.moves_of(output)) == 9
+    assert tracer.run("find", "--rounds", "1", "-", stdin="#! rounds 2\nlock mcs threads 2\n"
+                      "0 cas done\n0 swap\n") == ("", NOWHERE[0][1], 1)
+
+
+def test_limit(tracer):
+    output, error, status = tracer.run("find", "mcs", "3", "--limit", "100", "0 cas done", "0 swap")
+    assert (output, status) == ("", 3)
+    assert re.fullmatch(r"locktrace: not decided: the search stopped at 1\d\d states "
+                        r"\(--limit allows more\)\n", error)
+
+
+@pytest.mark.parametrize("sketch", list(search_rows.sketches()), ids=str)
+def test_sketch(tracer, lockreplay, sketch):
+    """A schedule that is found is shortest, has its lines where it says, and is accepted whole."""
+    lock, threads, rounds, bits = sketch.space
+    output, error, status = tracer.run("find", lock, threads, "--rounds", rounds, "--bits", bits,
+                                       *sketch.lines)
+    if sketch.length is None:
+        number = re.search(r"all ([\d,]+) states", error)
+        assert (output, status, number[1].replace(",", "")) == ("", 1, str(sketch.states))
+        return
+    assert (error, status) == ("", 0)
+    run = search_rows.moves_of(output)
+    assert measured(searched(sketch.space), sketch.lines, run) == sketch.measure
+    assert ran(lockreplay, "replay", input=output).stdout.endswith(f"\nend {sketch.length}\n")
+    said = re.findall(r"^# line (\d+): (.*)$", output, re.MULTILINE)
+    assert [line for _, line in said] == sketch.lines
+    for number, line in said:
+        made = output.splitlines()[int(number) - 1].split()
+        assert [line.split()[0] in ("*", made[0]), line.split()[1]] == [True, made[1]]

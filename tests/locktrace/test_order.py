@@ -1,0 +1,311 @@
+"""`locktrace order`: the order of a run's logs, its trace and schedules, and logs that have none.
+
+What is said of each is worked out by hand from docs/TRACE.md and packaging/man/locktrace.1.
+"""
+import pytest
+
+from devices import Terminal, little_memory
+from traces import LOGS, ROUND
+from tree import cases
+
+ORDERED = b"\r\x1b[Kordering 100000 moves\r\x1b[Kwriting 100000 moves\r\x1b[K"
+MORE = ("{0}: warning: cut off, without its last line\n"
+        "locktrace: note: ordered up to there: {1} steps\n")
+# The step that cannot be placed, the next step of the other thread, if it has one, and the end.
+STUCK = "{0}: cannot be placed: {1}\n{4}{0}: note: {2} steps placed; {3}\n"
+NEXT = "{0}.log:{1}: note: thread {0}'s next step is '{2}': {3}\n"
+WAITS = "a step of another thread has to come before"
+BAD_HEADER = "1.log:1: not a log's header: lock NAME threads N thread T (BadHeader)\n"
+BAD_MOVE = "1.log:{}: not a move (BadLine)\n"
+WHOLE = ["dropped 0"]
+
+SWAPPED = ["acquire", "write next left 0", "swap tail found 0"]
+AWAITED = ["acquire", "write next left 0", "swap tail found 1", "write locked left 1",
+           "write next of 0 left 2", "read locked found 1", "read locked found 0"]
+RETURNED = ["release", "read next found 0", "cas tail done", *SWAPPED[:2], "swap tail found 1"]
+
+# The lock, the moves of threads 0 and 1 with the last lines of their logs, the status, and what is
+# said. A step that the lock cannot make, or that leaves another value, is surely wrong; less so
+# are, in this order, an outcome, a value that was found, and a step that waits for another.
+ENDINGS = [
+    ("a wrong step beside a cut log", "mcs", SWAPPED,
+     ["acquire", "write next left 0", "swap tail found 1 left 1", *WHOLE], 1,
+     STUCK.format("1.log:4", "thread 1's swap left 1 in tail, and the lock leaves 2", 5,
+                  "held by 0; queue 0", "")),
+    ("a value that a cut log may explain", "mcs", SWAPPED, [*AWAITED, *WHOLE], 0,
+     MORE.format("0.log", 9)),
+    ("a value that no log explains", "mcs", [*SWAPPED, *WHOLE], [*AWAITED, *WHOLE], 1,
+     STUCK.format("1.log:8", "thread 1's read found 0 in locked of 1, and the lock has 1", 9,
+                  "held by 0; queue 0,1", "")),
+    ("an outcome that a cut log may explain", "rw-simple", ["wlock", "section 1 entered"],
+     ["rlock", "section 3 entered", *WHOLE], 0, MORE.format("0.log", 3)),
+    ("an outcome that no log explains", "rw-simple", ["wlock", "section 1 entered", *WHOLE],
+     ["rlock", "section 3 entered", *WHOLE], 1,
+     STUCK.format("1.log:3", "thread 1's section came to 'entered', and the lock's to 'waits'", 3,
+                  "written by 0", "")),
+    ("a value is less certain than a step that waits", "mcs",
+     [*SWAPPED, "release", "read next found 2", *WHOLE],
+     ["acquire", "write next found 5 left 0", SWAPPED[2], *RETURNED, *WHOLE], 1,
+     STUCK.format("1.log:3", "thread 1's write found 5 in next of 1, and the lock has 0", 3,
+                  "held by nobody; queue empty", NEXT.format(0, 4, "0 swap tail found 0", WAITS))),
+]
+# Of two wrong steps the second is named, whichever thread makes it. `{t}` is its thread, and `{o}`
+# the other one, of which the line and the next step follow.
+SUSPECTS = [
+    ("a refused step and a value", "ticket", ["acquire", "add next_ticket found 5"],
+     ["acquire", "read now_serving found 0"],
+     "'{t} read', but thread {t}'s next step is 'add' (WrongStep)", 2,
+     "held by nobody; queue empty",
+     (3, "{o} add next_ticket found 5",
+      "thread {o}'s add found 5 in next_ticket, and the lock has 0")),
+    ("an outcome and a count", "rw-simple",
+     ["rlock", "section 1 entered", "runlock", "section 1 left"], ["wlock", "section 2 entered"],
+     "thread {t}'s section came to 'entered', and the lock's to 'waits'", 4, "read by {o}",
+     (5, "{o} section 1 left", "thread {o}'s section has the count 1, after the count 1")),
+    ("two outcomes", "rw-simple", ["wlock", "section 2 waits"], ["rlock", "section 1 waits"],
+     "thread {t}'s section came to 'waits', and the lock's to 'entered'", 2, "held by nobody",
+     (3, "{o} section 2 waits",
+      "thread {o}'s section came to 'waits', and the lock's to 'entered'")),
+]
+TAKEN = "acquire\nadd next_ticket found 0\nread now_serving found 0\ndropped 0\n"
+# What follows the header of thread 1's log, its bytes as they are; the status, and what is said.
+TEXTS = [
+    ("a move without its end", "acquire\nadd next_ticket found 1", 0, MORE.format("1.log", 4)),
+    ("half a move without its end", "acquire\nadd next_ti", 0, MORE.format("1.log", 4)),
+    ("half a move", "acquire\nadd next_ti\n", 4, BAD_MOVE.format(3)),
+    ("a last line without its end", "acquire\ndropped 0", 0, ""),
+    ("a move with its thread", "1 acquire\n", 4, BAD_MOVE.format(2)),
+    ("dropped moves", "acquire\ndropped 18446744073709551615\n", 0,
+     "1.log: warning: 18446744073709551615 moves were dropped\n"
+     "locktrace: note: ordered up to there: 4 steps\n"),
+    ("too many dropped moves", "acquire\ndropped 18446744073709551616\n", 4, BAD_MOVE.format(3)),
+]
+
+
+def order(tracer, *texts):
+    """Orders the logs of two threads."""
+    tracer.write(**{f"{thread}.log": text for thread, text in enumerate(texts)})
+    return tracer.run("order", "0.log", "1.log", "-o", "hand")
+
+
+def log(lock, thread, lines, threads=2):
+    return "\n".join([f"lock {lock} threads {threads} thread {thread}", *lines, ""])
+
+
+def named(rows):
+    return cases("row", {row[0]: row[1:] for row in rows})
+
+
+@named(ENDINGS)
+def test_logs_without_an_order(tracer, row):
+    lock, *logs, status, error = row
+    assert order(tracer, *(log(lock, t, moves) for t, moves in enumerate(logs))) == (
+        "", error, status)
+
+
+@pytest.mark.parametrize("t", [0, 1])
+@named(SUSPECTS)
+def test_step_that_is_named(tracer, row, t):
+    lock, less, more, said, placed, standing, (at, step, wrong) = row
+    logs = (less, more) if t else (more, less)
+    done = order(tracer, *(log(lock, u, [*moves, *WHOLE]) for u, moves in enumerate(logs)))
+    o = 1 - t
+    assert done == ("", STUCK.format(
+        f"{t}.log:{len(more) + 1}", said.format(t=t), placed, standing.format(o=o),
+        NEXT.format(o, at, step.format(o=o), wrong.format(o=o))), 1)
+
+
+HEADER = "lock ticket threads 2{} thread {}\n"
+LONGEST = "lock rw-simple threads 64 bits 64 thread 63\ndropped 0\n"
+
+
+@cases("first, second, status, error", {
+    **{name: (HEADER.format("", 0) + TAKEN, HEADER.format("", 1) + text, status, error)
+       for name, text, status, error in TEXTS},
+    "other bits": (HEADER.format(" bits 8", 0) + TAKEN, HEADER.format(" bits 9", 1) + "dropped 0\n",
+                   4, "1.log: of another lock than the first log's\n"),
+    "the same bits": (HEADER.format("", 0) + TAKEN, HEADER.format(" bits 64", 1) + "dropped 0\n",
+                      0, ""),
+    "long headers": (LONGEST, LONGEST.replace("63", "62"), 4, "locktrace: no log of thread 0\n"),
+})
+def test_text_of_a_log(tracer, first, second, status, error):
+    assert order(tracer, first, second) == ("", error, status)
+
+
+@pytest.mark.parametrize("size", [96, 97, 98, 200, 70_000])
+@cases("before, line, after, error", {
+    "a header": ([], HEADER.format("", 1).rstrip(), ["dropped 0"], BAD_HEADER),
+    "a move": ([HEADER.format("", 1).rstrip()], "acquire", ["dropped 0"], BAD_MOVE.format(2)),
+    "a last line": ([HEADER.format("", 1).rstrip()], "dropped 0", [], BAD_MOVE.format(2)),
+})
+def test_long_line(tracer, size, before, line, after, error):
+    """A line of more bytes than a header or a move may have: what it begins with does not count."""
+    text = "\n".join([*before, line.ljust(size), *after, ""])
+    assert order(tracer, HEADER.format("", 0) + TAKEN, text) == ("", error, 4)
+
+
+@pytest.mark.parametrize("size", [96, 97, 98, 200, 70_000])
+def test_long_header_of_a_trace(tracer, size):
+    assert tracer.run("check", stdin="lock ticket threads 2".ljust(size) + "\n") == (
+        "-:1: not a header (BadHeader)\n", "", 4)
+
+
+def test_refused_move_without_its_end(tracer):
+    assert tracer.run("check", stdin="lock mcs threads 2\n0 release") == (
+        "-:2: refused: '0 release', but thread 0 does not hold the lock in that mode (NotHolder)\n"
+        "-:2: note: held by nobody; queue empty\n", "", 1)
+
+
+def test_order(tracer):
+    made = tracer.folder / "made"
+    assert tracer.run("order", *LOGS, "-o", "made") == ("", "", 0)
+    assert tracer.run("check", "made/run.trace") == ("", "", 0)
+    assert sorted(path.name for path in made.iterdir()) == ["run-0001.schedule", "run.trace"]
+    assert tracer.run("schedule", "made/run.trace") == (
+        (made / "run-0001.schedule").read_text(), "", 0)
+
+
+CUT = "lock ticket threads 2 thread 1\nacquire\n"
+SPOILT = LOGS["thread-1.log"].replace("found 1", "found 7", 1)
+
+
+@cases("files, names, status, error", {
+    "a log is missing": ({}, "thread-0.log", 4, "locktrace: no log of thread 1\n"),
+    "a second log": ({}, "thread-0.log thread-0.log", 4,
+                     "thread-0.log: a second log of thread 0, beside thread-0.log\n"),
+    "stuck": ({"thread-1.log": SPOILT}, "thread-0.log thread-1.log", 1,
+              "thread-1.log:3: cannot be placed: thread 1's add found 7 in next_ticket, and the "
+              "lock has 1\n"
+              "thread-1.log:3: note: 7 steps placed; held by nobody; queue empty\n"),
+    "an empty log": ({"empty.log": ""}, "empty.log", 4, "empty.log:1: no header (NoHeader)\n"),
+    "of another lock": ({"own.log": HEADER.format("", 0) + "dropped 0\n",
+                         "other.log": "lock mcs threads 2 thread 1\ndropped 0\n"},
+                        "own.log other.log", 4,
+                        "other.log: of another lock than the first log's\n"),
+})
+def test_bad_logs(tracer, files, names, status, error):
+    tracer.write(**files)
+    assert tracer.run("order", *names.split(), "-o", "made") == ("", error, status)
+
+
+FAULTY_LOG = {"faulty.log": log("ticket", 0, ["aquire"], 1)}
+FAULT = "faulty.log:2: not a move (BadLine)\n"
+
+
+@cases("files, names, status, begin, end", {
+    "no such log": ({}, "absent thread-0.log", 3, "absent: ", "\n"),
+    "no log": ({}, "faulty thread-0.log", 4, "faulty:1: not a log's header", "\n"),
+    "cut off": ({"thread-1.log": CUT}, "thread-0.log thread-1.log", 0,
+                "thread-1.log: warning: cut off", "ordered up to there: 7 steps\n"),
+    # the greatest status wins, whichever log comes first; each is named
+    "faulty, absent": (FAULTY_LOG, "faulty.log absent.log", 4, f"{FAULT}absent.log: ", "\n"),
+    "absent, faulty": (FAULTY_LOG, "absent.log faulty.log", 4, "absent.log: ", f"\n{FAULT}"),
+})
+def test_logs_that_are_named(tracer, files, names, status, begin, end):
+    tracer.write(**files)
+    output, error, found = tracer.run("order", *names.split(), "-o", "made")
+    assert (output, found) == ("", status)
+    assert error.startswith(begin) and error.endswith(end)
+    assert error.count("\n") == (1 if status == 3 or files == {} else 2)
+    assert (tracer.folder / "made").exists() == (status == 0)
+
+
+def test_folder_that_cannot_be_made(tracer):
+    output, error, status = tracer.run("order", *LOGS, "-o", "good/made")
+    assert (output, status) == ("", 3) and error.startswith("locktrace: cannot write: ")
+
+
+def test_ten_million_moves(tracer):
+    """They are ordered, and in 200 MB it is said that memory is short."""
+    tracer.write(**{"long.log": log("ticket", 0, ROUND * 1_666_667 + WHOLE, 1)})
+    words = ["order", "long.log", "-o", "long"]
+    assert tracer.run(*words) == ("", "", 0)
+    with open(tracer.folder / "long" / "run.trace", "rb") as trace:
+        assert sum(1 for _ in trace) == 10_000_003
+    assert tracer.run(*words, preexec_fn=little_memory(200 << 20)) == (
+        "", "locktrace: out of memory\n", 3)
+
+
+MOST = 65_536  # moves of a schedule
+PAIRS = 4_681  # rounds of each of two threads: 14 moves a pair, but one poll less at the start
+LEFT_OUT = ("locktrace: warning: {} in no schedule. A schedule has at most 65536 moves, and after "
+            "those somebody was in a call\n")
+
+
+def schedules_in(folder):
+    """The moves of each schedule in a folder, by its name."""
+    return {path.name: path.read_text().splitlines()[1:]
+            for path in sorted(folder.glob("*.schedule"))}
+
+
+def test_parts_of_a_run(tracer):
+    """A run of one thread may be cut after each round: its schedules have all of its moves."""
+    lines = []
+    for ticket in range(30_000):
+        lines += ["acquire", f"add next_ticket found {ticket}", f"read now_serving found {ticket}",
+                  "release", f"read now_serving found {ticket}", "write now_serving"]
+    tracer.write(**{"thread-0.log": log("ticket", 0, [*lines, *WHOLE], 1)})
+    assert tracer.run("order", "thread-0.log", "-o", "made") == ("", "", 0)
+    made = schedules_in(tracer.folder / "made")
+    assert list(made) == [f"run-{k:04}.schedule" for k in (1, 2, 3)]
+    assert sum(made.values(), []) == [f"0 {word}" for word in ROUND] * 30_000
+    assert all(len(part) % 6 == 0 and len(part) <= MOST for part in made.values())
+
+
+def handed_over(polls):
+    """The logs of two threads that hand the lock over to each other: each has polled in vain when
+    the other one leaves, so somebody is in a call all the time. The last one polls `polls` times
+    more than that."""
+    logs = [[], []]
+    for ticket in range(2 * PAIRS):
+        moves = logs[ticket % 2]
+        moves += ["acquire", f"add next_ticket found {ticket}"]
+        last = polls if ticket == 2 * PAIRS - 1 else 0
+        vain = 0 if ticket == 0 else 1 + last
+        moves += [f"read now_serving found {ticket - 1}"] * vain
+        moves += [f"read now_serving found {ticket}", "release",
+                  f"read now_serving found {ticket}", f"write now_serving left {ticket + 1}"]
+    return logs
+
+
+@pytest.mark.parametrize("polls, said", [
+    (3, ""), (4, LEFT_OUT.format("1 move is")), (5, LEFT_OUT.format("2 moves are")),
+    (17, LEFT_OUT.format("14 moves are"))])
+def test_moves_left_out(tracer, polls, said):
+    """14 moves for each pair of rounds, but one, and the polls: 65,533 and so many."""
+    tracer.write(**{f"thread-{thread}.log": log("ticket", thread, [*moves, *WHOLE])
+                    for thread, moves in enumerate(handed_over(polls))})
+    assert tracer.run("order", *LOGS, "-o", "made") == ("", said, 0)
+    made = schedules_in(tracer.folder / "made")
+    assert {name: len(part) for name, part in made.items()} == {"run-0001.schedule": MOST}
+    assert tracer.run("check", "made/run.trace") == ("", "", 0)
+
+
+def test_schedules_of_an_earlier_order(tracer):
+    """They are removed, and nothing else of the folder is."""
+    made = tracer.folder / "again"
+    made.mkdir()
+    own = ["own.schedule", "run-0002.schedules", "run-2.schedule"]
+    tracer.write(**{f"again/{name}": "lock mcs threads 2\n" for name in own})
+    # a schedule has at most 65,536 moves: 10,922 rounds of 6
+    for count, schedules in ((21_845, 3), (10_923, 2), (10_922, 1)):
+        tracer.write(**{"one.log": log("ticket", 0, ROUND * count + WHOLE, 1)})
+        assert tracer.run("order", "one.log", "-o", "again") == ("", "", 0)
+        due = [f"run-{number:04}.schedule" for number in range(1, schedules + 1)]
+        assert sorted(path.name for path in made.iterdir()) == sorted([*own, *due, "run.trace"])
+    (made / "run-0002.schedule").mkdir()
+    output, error, status = tracer.run("order", "one.log", "-o", "again")
+    assert (output, status) == ("", 3) and error.startswith("locktrace: cannot write: ")
+
+
+@pytest.mark.parametrize("moves, said", [(99_998, b""), (100_000, ORDERED)])
+def test_progress_on_a_terminal(tracer, moves, said):
+    """From 100,000 moves on it is said what is done, and then that is cleared."""
+    calls = [line for n in range(1, moves // 2 + 1)
+             for line in (["runlock", "rlock"][n % 2], f"section {n}")]
+    tracer.write(**{"one.log": log("rw-simple", 0, [*calls, *WHOLE], 1)})
+    with Terminal() as terminal:
+        output = tracer.run("order", "one.log", "-o", "-", stderr=terminal.writer)[0]
+        assert terminal.written() == said
+    assert len(output.splitlines()) == moves + 1
+    assert not (tracer.folder / "-").exists()

@@ -1,0 +1,38 @@
+"""Random traces: each is accepted as it is, and with one value changed it is refused at that line.
+
+The runs are those of random_runs.py, with what each step found and left. The machine has another
+value than the changed one. A section's count alone may also be changed to one that is still in
+order, and is then accepted, or refused at the next count that is not above it.
+"""
+import json
+
+from dice import drawn, try_random
+from random_runs import changed_value, has_value, random_run
+
+RUNS = 10_000
+
+
+def changed_run(dice):
+    """A run; the line in its trace whose value is changed, 0 if none is, and whether it is a
+    count."""
+    run = random_run(dice)
+    changeable = [k for k, (_, line) in enumerate(run.moves) if has_value(line)]
+    if not changeable or dice.random() < 0.5:
+        return run, 0, False
+    k = dice.choice(changeable)
+    thread, line = run.moves[k]
+    run.moves[k] = thread, changed_value(dice, line, [1, 2, 5], max(run.places, 256))
+    return run, k + 2, line.startswith("section")  # the header is line 1
+
+
+def test_changed_value(tracer, request):
+    def check(drawn_run):
+        run, changed, is_count = drawn_run
+        moves = "".join(f"{thread} {line}\n" for thread, line in run.moves)
+        answer = json.loads(tracer.run("check", "--format", "json",
+                                       stdin=f"{run.header}\n{moves}")[0])
+        assert answer["ending"] in ("accepted", "refused"), answer
+        refused = answer["line"] if answer["ending"] == "refused" else 0
+        assert refused == changed or is_count and (refused == 0 or refused > changed), answer
+
+    try_random(request, drawn(changed_run), check, RUNS)

@@ -1,0 +1,80 @@
+"""`locktrace space`: the counts of the worked rows, and the graph of a space as a drawing."""
+import json
+import re
+
+import pytest
+
+import search_rows
+from spaces import searched
+from tree import cases
+
+TICKET_DRAWN = r"""digraph "ticket, 1 thread with 1 round" {
+  node [shape=box]
+  0 [label="next_ticket = 0, now_serving = 0\n0 Idle\nrounds begun: 0"]
+  1 [label="next_ticket = 0, now_serving = 0\n0 TakeTicket\nrounds begun: 1"]
+  2 [label="next_ticket = 1, now_serving = 0\n0 AwaitTurn(0)\nrounds begun: 1"]
+  3 [label="next_ticket = 1, now_serving = 0\n0 TicketInside(0)\nrounds begun: 1"]
+  4 [label="next_ticket = 1, now_serving = 0\n0 ReadServing(0)\nrounds begun: 1"]
+  5 [label="next_ticket = 1, now_serving = 0\n0 PassOn(0)\nrounds begun: 1"]
+  6 [label="next_ticket = 1, now_serving = 1\n0 Idle\nrounds begun: 1"]
+  0 -> 1 [label="0 acquire"]
+  1 -> 2 [label="0 add"]
+  2 -> 3 [label="0 read"]
+  3 -> 4 [label="0 release"]
+  4 -> 5 [label="0 read"]
+  5 -> 6 [label="0 write"]
+}
+"""
+
+
+@pytest.mark.parametrize("row, counts, _", list(search_rows.spaces()), ids=str)
+def test_counts(tracer, row, counts, _):
+    output, *more = tracer.run("space", row.lock, row.threads, "--rounds", row.rounds, "--bits",
+                               row.bits, "--format", "json")
+    assert more == ["", 0]
+    found = json.loads(output)
+    assert tuple(found[name] for name in counts._fields) == counts
+
+
+@cases("words, due", {
+    "text": ("mcs 3", "mcs, 3 threads with 1 round each: 1,018 states, 2,484 transitions, "
+             "24 moves to the farthest state\n"),
+    "JSON": ("ticket 2 --rounds 3 --bits 2 --format json",
+             '{"lock":"ticket","threads":2,"rounds":3,"bits":2,"states":289,"transitions":540,'
+             '"depth":36}\n'),
+    "a drawing": ("ticket 1 --format dot", TICKET_DRAWN),
+})
+def test_format(tracer, words, due):
+    assert tracer.run("space", *words.split()) == (due, "", 0)
+
+
+@pytest.mark.parametrize("more", ["--limit 100", "--format dot --limit 9"])
+def test_limit(tracer, more):
+    output, error, status = tracer.run("space", "mcs", "3", *more.split())
+    assert (output, status) == ("", 3)
+    assert re.fullmatch(r"locktrace: not decided: the search stopped at 1\d*\d states "
+                        r"\(--limit allows more\)\n", error)
+
+
+def graph_of(text):
+    """By the number of a state, the moves from it with the states that they lead to."""
+    graph = {int(node): {} for node in re.findall(r"^  (\d+) \[label=", text, re.MULTILINE)}
+    edges = re.findall(r'^  (\d+) -> (\d+) \[label="(\d+) (\w+)"\]$', text, re.MULTILINE)
+    for start, end, thread, word in edges:
+        graph[int(start)][int(thread), word] = int(end)
+    return graph
+
+
+@pytest.mark.parametrize("lock", search_rows.names())
+def test_drawing(tracer, lock):
+    """The graph of a space is that of the second replayer, from the first state on."""
+    output, *more = tracer.run("space", lock, "2", "--format", "dot")
+    assert more == ["", 0]
+    graph, space = graph_of(output), searched(search_rows.Space(lock, 2, 1, 64))
+    assert list(graph) == list(range(len(space)))
+    numbers = {0: 0}
+    for node, edges in graph.items():
+        moves = {(each.thread, each.word): each.after for each in space.transitions[numbers[node]]}
+        assert set(edges) == set(moves), f"from {node}"
+        for move, end in edges.items():
+            assert numbers.setdefault(end, moves[move]) == moves[move], f"from {node} by {move}"

@@ -1,0 +1,48 @@
+"""Traces and logs of two threads, with what `locktrace` says of each, for several tests."""
+
+GOOD = """# Two threads of an MCS lock
+lock mcs threads 2
+
+0 acquire
+0 write next left 0
+0 swap tail found 0 left 1
+1 acquire
+1 write next left 0
+1 swap tail found 1
+1 write locked left 1
+"""
+SCHEDULE = """
+lock mcs threads 2
+
+0 acquire
+0 write
+0 swap
+1 acquire
+1 write
+1 swap
+1 write
+"""
+OTHER = GOOD.replace("1 swap tail found 1", "1 swap tail found 2")
+BEFORE = "{0}:7: note: before it: 1 acquire\n{0}:8: note: before it: 1 write next left 0\n"
+OTHER_LINE = ("{0}:9: refused: thread 1's swap found 2 in tail, and the lock has 1\n" + BEFORE
+              + "{0}:6: note: tail was last written here: thread 0's swap left 1\n"
+              "{0}:9: note: held by 0; queue 0\n")
+WRONG = GOOD.replace("1 swap tail found 1", "1 write locked left 1")
+WRONG_LINE = ("{0}:9: refused: '1 write', but thread 1's next step is 'swap' (WrongStep)\n" + BEFORE
+              + "{0}:9: note: held by 0; queue 0\n")
+FAULTY = "lock ticket threads 2\n0 aquire\n"
+FAULTY_LINE = "{}:2: not a move (BadLine)\n"
+TEXTS = {"good": GOOD, "other": OTHER, "wrong": WRONG, "faulty": FAULTY}
+LOGS = {
+    "thread-0.log": "lock ticket threads 2 thread 0\nacquire\nadd next_ticket found 0\n"
+                    "read now_serving found 0\nrelease\nread now_serving found 0\n"
+                    "write now_serving left 1\ndropped 0\n",
+    "thread-1.log": "lock ticket threads 2 thread 1\nacquire\nadd next_ticket found 1\n"
+                    "read now_serving found 0\nread now_serving found 1\ndropped 0\n",
+}
+ROUND = ["acquire", "add", "read", "release", "read", "write"]  # of one thread
+
+
+def has(text, *parts):
+    """Whether a text has these parts, the first of them at its front."""
+    return text.startswith(parts[0]) and all(part in text for part in parts)

@@ -1,0 +1,54 @@
+"""Random choices for generators that draw from a `random.Random`, as hypothesis makes them.
+
+What hypothesis draws is bytes, and every choice of a generator takes the next of them. Behind the
+last byte all are 0, for the first of each choice. So a value that fails shrinks with its bytes.
+"""
+import random
+import zlib
+
+from hypothesis import given, seed, settings
+from hypothesis import strategies as st
+
+
+class Dice(random.Random):
+    def __init__(self, data):
+        super().__init__(0)
+        self.data, self.at = data, 0
+
+    def getrandbits(self, k):
+        count = (k + 7) // 8
+        self.at += count
+        taken = self.data[self.at - count:self.at].ljust(count, b"\0")
+        return int.from_bytes(taken, "big") >> (8 * count - k)
+
+    def random(self):
+        return self.getrandbits(16) / (1 << 16)
+
+    def sample(self, population, k):
+        """`Random` would look on for another one, and behind the last byte there is no other."""
+        rest = list(population)
+        return [rest.pop(self.randrange(len(rest))) for _ in range(k)]
+
+
+def drawn(generator, most=2_000):
+    """What a generator draws by at most so many bytes."""
+    return st.integers(0, most).flatmap(
+        lambda count: st.binary(min_size=count, max_size=count)).map(
+        lambda data: generator(Dice(data)))
+
+
+def try_random(request, strategy, check, count):
+    """Checks so many random values, or a tenth of them with --quick, and says so in the end. Each
+    test has a seed of its own, which follows from the one that is printed."""
+    tried, count = [], count // (10 if request.config.getoption("quick") else 1)
+
+    @settings(max_examples=count)
+    @given(strategy)
+    def check_one(value):
+        tried.append(1)
+        check(value)
+
+    number = int(request.config.getoption("hypothesis_seed"))
+    seed(number ^ zlib.crc32(request.node.nodeid.encode()))(check_one)()
+    assert len(tried) >= count
+    request.node.user_properties.append(("tried", f"{len(tried)} random values"))

@@ -1,0 +1,34 @@
+"""The tables of searches beside a search over the oracle (spaces.py).
+
+bench/count.py compares the rows of spaces.txt with SPIN's search, and tests/locktrace all of them
+with that of `locktrace`.
+"""
+import pytest
+
+import search_rows
+from spaces import PHASES, Space, measured, searched
+
+
+@pytest.mark.parametrize("row, counts, kinds", list(search_rows.spaces()), ids=str)
+def test_counts(row, counts, kinds):
+    space = searched(row)
+    assert (len(space), sum(map(len, space.transitions)), max(space.lengths)) == counts
+    assert len(space.kinds()) == kinds
+
+
+@pytest.mark.parametrize("lock", PHASES)
+def test_kinds(lock):
+    assert Space(lock, 2, 1).kinds() == search_rows.kinds(lock)
+
+
+@pytest.mark.parametrize("sketch", list(search_rows.sketches()), ids=str)
+def test_sketch(sketch):
+    """The run of a row is one of the space, and no run that has the lines is shorter."""
+    space = searched(sketch.space)
+    found = space.find(sketch.lines)
+    if sketch.length is None:
+        assert (found, len(space)) == (None, sketch.states)
+    else:
+        assert measured(space, sketch.lines, sketch.run) == sketch.measure
+        run = [(transition.thread, transition.word) for transition in found]
+        assert measured(space, sketch.lines, run) == sketch.measure

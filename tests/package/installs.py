@@ -1,0 +1,38 @@
+"""How what is installed and packaged is made, and Debian roots in which commands run."""
+import os
+
+from tree import TOP, environment, output, ran
+
+# Where folders of gigabytes are made: in Debian 13 /tmp is memory.
+LARGE = os.environ.get("TMPDIR") or "/var/tmp"
+TOOLS = TOP / "tests" / "tools"
+
+
+def make(*words, **how):
+    """What `make` says: of a target that writes a file, the last line is its name."""
+    how = {"env": environment(), "timeout": 600, **how}
+    return output("make", "--no-print-directory", "--silent", *words, cwd=TOP, **how)
+
+
+class Tree:
+    """A tree of programs and documents: the folder of `bin`, and the root that it lies in."""
+
+    def __init__(self, name, root, below):
+        self.name, self.root, self.tree = name, root, root / below
+        self.documents = self.tree / "share" / "doc" / "lockreplay"
+
+    def program(self, name):
+        return self.tree / "bin" / name
+
+
+def make_root(suite, root, *packages):
+    """Makes a minimal Debian with some packages."""
+    assert output(TOOLS / "root.sh", suite, root, *packages, timeout=600) == ""
+    return root
+
+
+def in_root(root, *words, see=(), **how):
+    """A command in a Debian root, which sees some folders of this machine."""
+    seen = [word for path in see for word in ("--see", path)]
+    return ran(TOOLS / "in_root.sh", *seen, root, *words,
+               **{"timeout": 3_600, "errors": "replace", **how})

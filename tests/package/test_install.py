@@ -1,0 +1,144 @@
+"""What `make install` puts into a folder, and that `make uninstall` takes all of it away again.
+
+Manual pages have no fault that mandoc finds, show the version, and name each word of the command
+line. Without a part of what is installed nothing is.
+"""
+import os
+import re
+import shutil
+from pathlib import Path
+
+import pytest
+
+from installs import make
+from tree import BUILT, TOP, VERSION, cases, output
+
+HELP_LINE = r"^ +(?:-\w, )?(?:--)?([a-z]+)(?: <[^>]*>)?(?:  |$)"  # `  -j, --jobs <N>  How many`
+LICENCE = "SPDX-License-Identifier: Apache-2.0 OR MIT"
+PAGES = ["lockreplay.1", "locktrace.1", "lockreplay-schedule.5", "locktrace-trace.5"]
+# What builds each part that is built.
+BUILDS = {BUILT["lockreplay"][0]: "cd crates/lockreplay && rt run",
+          BUILT["locktrace"][0]: "cd crates/locktrace && rt run",
+          BUILT["library"][0]: "cd crates/lk_trace_c && rt lib",
+          "page/lockreplay.html": "node page/build.mjs"}
+DOCUMENTS = """*.md CITATION.cff VERSION LICENSE-* THIRD-PARTY docs/*.md docs/pictures/*
+    page/lockreplay.html examples/*.* examples/recording/* examples/bindings/*.py record/*.h
+    record/lockreplay_record/*.h record/rust/Cargo.* record/rust/src/*.rs
+    record/rust/examples/**/*.rs crates/*/specs/**/*.antt"""
+
+
+@pytest.fixture
+def installed(trees):
+    return trees["installed"].tree
+
+
+def files(folder):
+    return {str(file.relative_to(folder)) for file in folder.rglob("*") if not file.is_dir()}
+
+
+def due_files():
+    """Where each file has to be. A list of modules may be empty, and is not installed then."""
+    found = {path for pattern in DOCUMENTS.split() for path in TOP.glob(pattern)}
+    return {"bin/lockreplay", "bin/locktrace", "lib/liblk_trace_c.a", "lib/pkgconfig/locktrace.pc",
+            "share/pkgconfig/lockreplay-record.pc", "include/locktrace.h",
+            "include/lockreplay_record.h",
+            *(f"include/lockreplay_record/{path.name}"
+              for path in TOP.glob("record/lockreplay_record/*.h")),
+            *(f"share/man/man{page[-1]}/{page}" for page in PAGES),
+            *(place.format(name) for name in ("lockreplay", "locktrace") for place in (
+                "share/bash-completion/completions/{}", "share/zsh/site-functions/_{}",
+                "share/fish/vendor_completions.d/{}.fish")),
+            *(f"share/doc/lockreplay/{path.relative_to(TOP)}" for path in found
+              if path.is_file() and path.stat().st_size)}
+
+
+def test_files(installed):
+    assert files(installed) == due_files()
+    for file in sorted(files(installed)):
+        is_program = file.startswith("bin/") or (installed / file).read_bytes().startswith(b"#!")
+        mode = (installed / file).stat().st_mode & 0o777
+        assert oct(mode) == ("0o755" if is_program else "0o644"), file
+
+
+def test_uninstall(tmp_path):
+    """What is another's stays."""
+    (tmp_path / "usr/local/bin").mkdir(parents=True)
+    (tmp_path / "usr/local/bin/other").write_text("another's\n")
+    for target in ("install-built", "uninstall"):
+        assert make(target, "PREFIX=/usr/local", f"DESTDIR={tmp_path}") == ""
+    assert files(tmp_path) == {"usr/local/bin/other"}
+
+
+@pytest.mark.parametrize("page", PAGES)
+def test_manual_page(installed, tmp_path, page):
+    """No message of mandoc, found by man, with the version, and no warning of groff."""
+    manual = shutil.copytree(installed / "share" / "man", tmp_path / "man")
+    name, section = page.rsplit(".", 1)
+    assert output("makewhatis", manual) == ""
+    # all of `mandoc -Tlint` but the conventions of OpenBSD's and NetBSD's base systems
+    assert output("mandoc", "-Tlint", "-Wstyle", "-M", manual,
+                  manual / f"man{section}" / page) == ""
+    shown = output("man", "-M", manual, "--warnings", section, name, env={
+        "PATH": os.environ["PATH"], "LANG": "C.UTF-8", "MANWIDTH": "80"})
+    assert f"version {VERSION}." in shown and ": warning: " not in shown
+
+
+@cases("name, commands, due", {
+    "lockreplay": ("lockreplay", "replay batch", "replay batch help workers"),
+    "locktrace": ("locktrace", "check explain order schedule find tour space cover",
+                  "check explain order schedule find tour space cover help version format color "
+                  "summary quiet jobs moves names rounds bits limit require"),
+})
+def test_words(installed, name, commands, due):
+    """What a program's help offers is what is due, and each word of it is in the program's page."""
+    page = (installed / f"share/man/man1/{name}.1").read_text()
+    helps = "".join(output(installed / "bin" / name, *command, "--help")
+                    for command in ([], *([it] for it in commands.split())))
+    words = set(re.findall(HELP_LINE, helps, re.MULTILINE))
+    assert words == set(due.split())
+    assert {word for word in words if re.search(rf"(Cm|Fl) {word}\b", page)} == words
+
+
+@pytest.mark.parametrize("word", ["--version", "-V"])
+def test_version(installed, word):
+    assert output(installed / "bin" / "locktrace", word) == f"locktrace {VERSION}\n"
+
+
+def test_licences(installed):
+    """What is copied alone says its licence, and the texts are there."""
+    documents = installed / "share" / "doc" / "lockreplay"
+    alone = [*installed.glob("include/**/*.h"), *documents.glob("examples/recording/*.[ch]"),
+             *documents.glob("examples/**/*.sh"), *documents.glob("examples/bindings/*"),
+             *documents.glob("record/**/*.[hr]*"), *documents.glob("page/*")]
+    assert len(alone) >= 80
+    assert [file.name for file in alone if LICENCE not in file.read_text()] == []
+    assert (documents / "LICENSE-APACHE").read_text() == Path(
+        "/usr/share/common-licenses/Apache-2.0").read_text()
+    notices = dict(re.findall(r"^(\S+) [^\n]*\n-+\n\n(.*?)(?:\n\n\n|\Z)",
+                              (documents / "THIRD-PARTY").read_text(), re.MULTILINE | re.DOTALL))
+    for crate in ("clap", "strsim", "thiserror", "itoa", "memchr", "arrayvec", "fast-float2"):
+        assert "Permission is hereby granted" in notices[crate]
+
+
+@pytest.mark.parametrize("part", [*BUILDS, "record/locktrace.h", "packaging/man/locktrace.1"])
+@pytest.mark.parametrize("is_empty", [False, True])
+def test_missing_part(tmp_path, part, is_empty):
+    """Nothing is installed without one, or with one that a build left empty, and it is named."""
+    copy, root = tmp_path / "copy", tmp_path / "nothing"
+    for pattern in [*DOCUMENTS.split(), "packaging/**/*", *BUILDS]:
+        for file in filter(Path.is_file, TOP.glob(pattern)):
+            (copy / file.relative_to(TOP)).parent.mkdir(parents=True, exist_ok=True)
+            shutil.copy(file, copy / file.relative_to(TOP))
+    (copy / part).unlink()
+    if is_empty:
+        (copy / part).touch()
+    assert output(copy / "packaging" / "install.sh", "install", root) == (
+        f"status 1: install.sh: there is no {part}\n")
+    assert not root.exists()
+
+
+@pytest.mark.parametrize("target", ["install", "dist", "deb", "install-built"])
+def test_stale_parts(target):
+    """`make` would build each part, if a source is newer than all that was built of it."""
+    told = make("--dry-run", "--what-if=crates/lk_words/src/lib.rt", target)
+    assert [command in told for command in BUILDS.values()] == [target != "install-built"] * 4

@@ -1,0 +1,109 @@
+"""Installed documents name only what is installed: their links, and paths in backticks.
+
+A link has to lead to an installed file. So has a path in backticks, from the top of the documents,
+from the document or as the end of another; or it is of a folder or file that docs/INSTALL.md says
+is in the repository alone; or a command of a document writes it. A word in capitals stands for any
+part of a path. A document with a block that such a folder or file is needed for, or `make` or `rt`,
+says that something is run in the repository. The definitions that a reader has to believe are all
+there.
+"""
+import fnmatch
+import os
+import re
+
+import pytest
+
+from document_blocks import blocks_of, without_blocks
+from document_names import WRITTEN, files_of
+from tree import TOP
+
+# INSTALL.md's list of what is not installed: the backticks from these words to the paragraph's end
+NOT_INSTALLED = re.compile(r"In the repository alone are (.*?)\n\n", re.DOTALL)
+PATH = re.compile(r"[\w.{}*-]+(/[\w.{},*-]+)+/?$|[\w-]+\.(md|h|txt|html)$")
+OF_REPOSITORY = re.compile(r"(?:^|[;&|(])\s*(?:make|rt)\b", re.MULTILINE)
+SAYS_WHERE = re.compile(r"\brun\s+in\s+the\s+repository\b")
+NAMED = re.compile(r"(?<!`)`([^`\n]+)`(?!`)|\]\(([^)\s]+)\)")
+
+
+def not_installed(documents):
+    """The folders and files that are not installed, as the documents themselves say."""
+    text = (documents / "docs" / "INSTALL.md").read_text()
+    return {f"/{name}/" for name in re.findall(r"`([^`]+)`", NOT_INSTALLED.search(text).group(1))}
+
+
+def found(path, near, files):
+    """The files and folders that a document in a folder may mean by a path."""
+    pattern = re.sub(r"\b[A-Z]{2,}\b(?!\.md)|\b[A-Z]\b", "*", path.rstrip("/"))
+    ways = [way for name in (pattern, os.path.normpath(f"{near}/{pattern}"), f"*/{pattern}")
+            for way in (name, f"{name}.*")]
+    return [file for file in files if any(fnmatch.fnmatchcase(file, way) for way in ways)]
+
+
+def is_installed(path, near, installed):
+    """Whether a path is of what is installed, or of what a document's command writes."""
+    return any(fnmatch.fnmatchcase(path, way) for way in WRITTEN) or bool(
+        found(path, near, installed))
+
+
+def is_elsewhere(path, near, repository, elsewhere):
+    return any(name in f"/{file}/" for file in found(path, near, repository) for name in elsewhere)
+
+
+def is_known(path, near, installed, repository, elsewhere):
+    return is_installed(path, near, installed) or is_elsewhere(path, near, repository, elsewhere)
+
+
+def needs_repository(block, near, installed, repository, elsewhere):
+    """Whether a block has a command of `make` or `rt`, or a file of the repository alone."""
+    if block.language not in ("sh", "console"):
+        return False
+    lines = block.lines
+    if block.language == "console":
+        lines = [command for command, _ in block.commands()]
+    text = "\n".join(lines)
+    paths = [word for word in re.findall(r"[^\s;&|()<>]+", text) if PATH.match(word)]
+    return bool(OF_REPOSITORY.search(text)) or any(
+        is_elsewhere(path, near, repository, elsewhere)
+        and not is_installed(path, near, installed) for path in paths)
+
+
+def missing_in(document, documents, lists):
+    """Each link and path of a document that leads to nothing."""
+    near = os.path.relpath(document.parent, documents)
+    text = "\n".join(line for _, line in without_blocks(document.read_text().splitlines()))
+    for block in blocks_of(document.read_text().splitlines()):
+        if needs_repository(block, near, *lists) and not SAYS_WHERE.search(text):
+            yield f"line {block.first} is for the repository, which is not said"
+    for path, link in NAMED.findall(text):
+        target = link.partition("#")[0]
+        if target and "://" not in target and not (document.parent / target).exists():
+            yield f"]({link})"
+        word = path.split(" ")[0]
+        if PATH.match(word) and not is_known(word, near, *lists):
+            yield f"`{path}`"
+
+
+@pytest.fixture(scope="module")
+def documents(trees):
+    return trees["installed"].documents
+
+
+@pytest.fixture(scope="module")
+def lists(trees, documents):
+    installed = list(files_of(documents)) + list(files_of(trees["installed"].tree))
+    return installed, list(files_of(TOP)), not_installed(documents)
+
+
+@pytest.mark.parametrize("name", [str(path.relative_to(TOP)) for pattern in (
+    "*.md", "docs/*.md", "examples/*.md", "examples/recording/*.md")
+    for path in sorted(TOP.glob(pattern))])
+def test_document(documents, lists, name):
+    assert sorted(set(missing_in(documents / name, documents, lists))) == []
+
+
+def test_definitions(documents):
+    """Each file of definitions is where documents say it is."""
+    specs = [path for path in sorted(TOP.glob("crates/*/specs/**/*.antt"))
+             if path.read_text().startswith("-- Definitions")]
+    assert len(specs) > 50
+    assert [str(path) for path in specs if not (documents / path.relative_to(TOP)).exists()] == []

@@ -1,0 +1,98 @@
+"""Tarball, package and release: what they say of themselves, and the same bytes each time."""
+import re
+import shutil
+
+import pytest
+
+from installs import make
+from tree import BUILT, TOP, VERSION, environment, output
+
+
+@pytest.fixture
+def field(made):
+    return lambda name: output("dpkg-deb", "--field", made("deb"), name).strip()
+
+
+def test_control(field):
+    assert field("Version") == VERSION
+    assert re.fullmatch(r"libc6 \(>= 2\.(\d+)\)", field("Depends"))
+    for part in ("locktrace", "page", "liblk_trace_c.a", "lockreplay_record.h", "Python",
+                 "x86-64-v2", "WebAssembly"):
+        assert part in field("Description")
+
+
+def test_lintian(made):
+    assert output("lintian", "--allow-root", "--fail-on", "error,warning", made("deb")) == ""
+
+
+@pytest.mark.parametrize("target", ["dist", "deb"])
+@pytest.mark.xdist_group("artifacts")
+def test_made_again(made, tmp_path, target):
+    """The same bytes with another folder for files, under another umask, and later."""
+    before = made(target).read_bytes()
+    make(target, umask=0o077, env=environment(TMPDIR=str(tmp_path), TZ="Asia/Tokyo",
+                                              SOURCE_DATE_EPOCH="1"))
+    assert made(target).read_bytes() == before
+
+
+def test_no_day(tmp_path):
+    """Without its day in CHANGELOG.md a version is not packed."""
+    shutil.copytree(TOP / "packaging", tmp_path / "packaging")
+    (tmp_path / "VERSION").write_text("9.9.9\n")
+    shutil.copy(TOP / "CHANGELOG.md", tmp_path)
+    assert output(tmp_path / "packaging" / "dist.sh") == (
+        "status 1: CHANGELOG.md has no line '## [9.9.9] - YEAR-MONTH-DAY'\n")
+
+
+class Release:
+    """A clone of this tree as it is now, with what was built, in which a release is made."""
+
+    def __init__(self, folder):
+        self.tree = folder
+        listed = output("git", "ls-files", "-co", "--exclude-standard", cwd=TOP).splitlines()
+        built = [BUILT[name][0] for name in ("lockreplay", "locktrace", "library")]
+        for name in [*filter(lambda name: (TOP / name).is_file(), listed), *built]:
+            (folder / name).parent.mkdir(parents=True, exist_ok=True)
+            shutil.copy(TOP / name, folder / name)
+        log = folder / "CHANGELOG.md"
+        log.write_text(re.sub(r"(## \[Unreleased\]\n).*?(?=^## \[\d)", r"\1\n", log.read_text(),
+                              flags=re.MULTILINE | re.DOTALL))
+        self.git("init", "--quiet")
+        self.git("add", "--all")
+        self.git("commit", "--quiet", "--message=All")
+
+    def git(self, *words):
+        return output("git", "-c", "user.name=A", "-c", "user.email=a@b.example", *words,
+                      cwd=self.tree)
+
+    def make(self):
+        return output(self.tree / "packaging" / "release.sh")
+
+    def files(self):
+        return {file.name: file.read_bytes() for file in (self.tree / "dist").iterdir()
+                if file.suffix != ".log"}
+
+    def refused(self, file, text):
+        """What a release says while a file has other text."""
+        kept = (self.tree / file).read_text()
+        (self.tree / file).write_text(text + kept)
+        told = self.make()
+        (self.tree / file).write_text(kept)
+        return told
+
+
+def test_release(tmp_path):
+    """Its four files, with their sums, are the same bytes twice. What is not committed or not
+    released is refused."""
+    release = Release(tmp_path / "tree")
+    assert len(release.make().splitlines()) == 3
+    files = release.files()
+    assert len(files) == 4
+    assert output("sha256sum", "--check", "--quiet", "SHA256SUMS", cwd=release.tree / "dist") == ""
+    shutil.rmtree(release.tree / "dist")
+    release.make()
+    assert release.files() == files
+    assert release.refused("README.md", "more\n") == (
+        "status 1: no release: what is here is not what is committed\n")
+    assert release.refused("CHANGELOG.md", "## [Unreleased]\n\n- A\n") == (
+        "status 1: no release: CHANGELOG.md has changes under [Unreleased]\n")

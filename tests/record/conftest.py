@@ -1,0 +1,33 @@
+"""The recorders, and the judge of what they record."""
+import pytest
+
+from recorders import RECORDERS, Judge, folder_of
+
+
+@pytest.fixture(scope="session")
+def shared(tmp_path_factory):
+    """A folder for what is built once, by whichever worker of pytest comes first."""
+    return folder_of(tmp_path_factory.getbasetemp()) / "recorders"
+
+
+@pytest.fixture(scope="session")
+def recorder(request, shared, library, locktrace):
+    return RECORDERS[request.param](shared, library, locktrace)
+
+
+@pytest.fixture(scope="session")
+def judge(locktrace, lockreplay):
+    return Judge(locktrace, lockreplay)
+
+
+def pytest_sessionfinish(session):
+    """Writes what was found of planted mistakes, if that was asked for."""
+    reporter = session.config.pluginmanager.get_plugin("terminalreporter")
+    if reporter is None or not session.config.getoption("write_planted"):
+        return
+    import planted_table
+    from test_planted import MISTAKES, MODES
+    found = {tuple(value[:3]): value[3] for reports in reporter.stats.values()
+             for report in reports for name, value in getattr(report, "user_properties", [])
+             if name == "planted"}
+    planted_table.write(MISTAKES, found, MODES)

@@ -1,0 +1,137 @@
+"""Where a mistake of a recorded lock first shows in a trace, found without any lock's machine.
+
+Each function takes a trace's moves, as pairs of a line's number and its words, and gives the number
+of the first line in which the mistake is seen, or None if the run went without it. Each knows the
+mistake by its own sign; nothing here replays a lock.
+"""
+
+
+def moves_of(text):
+    """The moves of a trace's text: (line number, words) without comments and header."""
+    lines = [(number, line.split(" ")) for number, line in enumerate(text.splitlines(), 1)
+             if line and not line.startswith("#")]
+    return lines[1:]
+
+
+def enters_at_another_ticket(moves):
+    """A thread calls `release` though the last poll did not find its ticket."""
+    ticket, served = {}, {}
+    for number, (thread, *move) in moves:
+        if move[0] == "add":
+            ticket[thread] = move[3]
+        elif move[0] == "read":
+            served[thread] = move[3]
+        elif move == ["release"] and served[thread] != ticket[thread]:
+            return number
+    return None
+
+
+def serves_another_ticket(bits):
+    """A release writes something else than one more than it read, in words of so many bits."""
+    def first(moves):
+        served = {}
+        for number, (thread, *move) in moves:
+            if move[:2] == ["read", "now_serving"]:
+                served[thread] = int(move[3])
+            elif move[0] == "write" and int(move[3]) != (served[thread] + 1) % (1 << bits):
+                return number
+        return None
+    return first
+
+
+def polls_again(moves):
+    """A thread polls once more after a poll that found its ticket."""
+    ticket, entered = {}, {}
+    for number, (thread, *move) in moves:
+        if move[0] == "add":
+            ticket[thread], entered[thread] = move[3], False
+        elif move[0] == "release":
+            ticket[thread] = None
+        elif move[0] == "read" and ticket.get(thread) is not None:
+            if entered[thread]:
+                return number
+            entered[thread] = move[3] == ticket[thread]
+    return None
+
+
+def makes(*words):
+    """The first move of a kind that the lock has not, or not there."""
+    def first(moves):
+        return next((number for number, (_, *move) in moves if move[:len(words)] == list(words)),
+                    None)
+    return first
+
+
+def loses_a_write(word):
+    """A swap or an addition finds something else than what was left in its word."""
+    def first(moves):
+        left = "0"
+        for number, (_, *move) in moves:
+            if move[1:2] != [word] or "left" not in move:
+                continue
+            if move[3] != left:
+                return number
+            left = move[move.index("left") + 1]
+        return None
+    return first
+
+
+def clears_nothing(moves):
+    """An acquire swaps without a write before."""
+    last = {}
+    for number, (thread, *move) in moves:
+        if move[0] == "swap" and last[thread] == "acquire":
+            return number
+        last[thread] = move[0]
+    return None
+
+
+def links_unlocked(moves):
+    """A thread links itself though its last write was not that of `locked`."""
+    last = {}
+    for number, (thread, *move) in moves:
+        if move[:3] == ["write", "next", "of"] and last[thread] != ["write", "locked", "left", "1"]:
+            return number
+        last[thread] = move
+    return None
+
+
+def grants_to_another(moves):
+    """A grant goes to another record than the one that the release read."""
+    successor = {}
+    for number, (thread, *move) in moves:
+        if move[:2] == ["read", "next"]:
+            successor[thread] = int(move[3])
+        elif move[:3] == ["write", "locked", "of"] and int(move[3]) + 1 != successor[thread]:
+            return number
+    return None
+
+
+def enters(is_wrong):
+    """The first section that enters where `is_wrong(call, inside, announced)` says that it may not.
+
+    `inside` are the calls of the other threads that have the lock, `announced` the other threads
+    that set the flag of a FIFO lock and wait for readers."""
+    def first(moves):
+        call, inside, announced = {}, {}, set()
+        for number, (thread, *move) in moves:
+            if move[0] != "section":
+                call[thread] = move[0]
+            elif move[2] == "moved":
+                announced.add(thread)
+            elif move[2] == "left":
+                inside.pop(thread, None)
+            elif move[2] == "entered":
+                others = [held for holder, held in inside.items() if holder != thread]
+                if is_wrong(call[thread], others, announced - {thread}):
+                    return number
+                announced.discard(thread)
+                inside[thread] = call[thread]
+        return None
+    return first
+
+
+writes_beside_another = enters(lambda call, inside, announced: call == "wlock" and inside)
+passes_a_writer = enters(lambda call, inside, announced: call == "rlock" and announced)
+reads_beside_a_writer = enters(
+    lambda call, inside, announced: call == "rlock" and (announced or "wlock" in inside))

@@ -1,0 +1,94 @@
+"""Explored runs: all runs of a few threads with few preemptions.
+
+Of a right lock in Rust they have to be those that explored_runs.py finds, each as often. Of a lock
+with a mistake some run has to be refused or to hang, with as many preemptions as are due, and with
+no fewer. Examples can check their runs by themselves, and then refuse the same.
+"""
+import re
+from collections import Counter
+
+import pytest
+
+from explored_runs import runs_of
+from mistakes import IN_C, IN_RUST
+from recorders import RECORDERS, words_of
+from tree import ran
+
+pytestmark = pytest.mark.slow
+
+IN_THREES = (3, 1)  # threads and rounds of a lock with a mistake
+MOST = 1  # preemptions of one
+RUST = [pytest.param("rust", example, id=example) for example in RECORDERS["rust"].examples]
+MISTAKES = [pytest.param("rust", mistake, id=str(mistake)) for mistake in IN_RUST]
+
+
+@pytest.mark.parametrize("counts", [(2, 1, 2), (2, 2, 2), (3, 1, 1)], ids=str)
+@pytest.mark.parametrize("recorder, example", RUST, indirect=["recorder"])
+def test_right_lock(recorder, judge, tmp_path, example, counts):
+    done = recorder.search(counts, tmp_path, example, "explore")
+    due = runs_of(example.replace("_", "-"), *counts)
+    said = f"{sum(due.values())} runs with up to {counts[2]} preemptions, all of them\n"
+    assert (done.stdout, done.stderr, done.returncode) == (said, "", 0)
+    traces = list(tmp_path.glob("*.trace"))
+    assert Counter(tuple(words_of(trace.read_text())) for trace in traces) == due
+    assert judge.accepts(traces)
+
+
+@pytest.mark.parametrize("recorder, mistake", MISTAKES, indirect=["recorder"])
+def test_mistake(recorder, locktrace, tmp_path, mistake):
+    tried = range(MOST + 1 if mistake.explored is None else mistake.explored + 1)
+    shown = []
+    for preemptions in tried:
+        folder = tmp_path / str(preemptions)
+        done = recorder.search([*IN_THREES, preemptions], folder, mistake.example, "explore",
+                               mistake)
+        refused = ran(locktrace, "check", *folder.glob("*.trace")).returncode != 0
+        shown.append(done.returncode == 1 or refused)
+    assert shown == [preemptions == mistake.explored for preemptions in tried]
+
+
+@pytest.mark.parametrize("recorder, example", RUST, indirect=["recorder"])
+def test_right_lock_that_checks_itself(recorder, tmp_path, example):
+    """It makes all runs, and saves none."""
+    done = ran(recorder.checked(example), "explore", 2, 1, 2, tmp_path)
+    assert (done.stderr, done.returncode, list(tmp_path.glob("*.trace"))) == ("", 0, [])
+    assert ", all of them\n" in done.stdout
+
+
+@pytest.mark.parametrize("recorder, mistake", [of for of in MISTAKES
+                                               if of.values[1].explored is not None],
+                         indirect=["recorder"])
+def test_mistake_that_checks_itself(recorder, judge, tmp_path, mistake):
+    """It saves the run that hangs or is refused, and says the line that `locktrace` says."""
+    done = ran(recorder.checked(mistake.example, mistake), "explore", *IN_THREES, mistake.explored,
+               tmp_path)
+    [trace] = tmp_path.glob("*.trace")
+    assert done.returncode == 1
+    said = re.match(r"refused at line (\d+) of the trace: ", done.stderr)
+    if said:
+        assert int(said[1]) == judge.refused_line(trace)
+    else:
+        assert " hang\n" in done.stderr
+
+
+# An example in C, its mistake, threads, rounds and preemptions: what a search says.
+EXPLORED = [
+    ("mcs", None, (2, 1, 0), "2 runs with up to 0 preemptions, all of them"),
+    ("mcs", None, (2, 1, 2), "128 runs with up to 2 preemptions, all of them"),
+    ("ticket", None, (2, 1, 2), "102 runs with up to 2 preemptions, all of them"),
+    ("rw_simple", None, (2, 1, 2), "114 runs with up to 2 preemptions, all of them"),
+    ("rw_fifo", None, (2, 1, 2), "114 runs with up to 2 preemptions, all of them"),
+    ("mcs", "link-before-locked", (2, 1, 2), ", the last one is refused"),
+    ("ticket", "serves-the-next-ticket", (2, 1, 2), ", the last one is refused"),
+]
+
+
+@pytest.mark.parametrize("recorder", ["c"], indirect=True)
+@pytest.mark.parametrize("example, name, counts, said", EXPLORED)
+def test_search_in_c(recorder, tmp_path, example, name, counts, said):
+    """The run that is refused is saved."""
+    mistake = next((it for it in IN_C if (it.example, it.name) == (example, name)), None)
+    done = recorder.search(counts, tmp_path, example, "EXPLORE", mistake)
+    assert said in done.stdout
+    assert done.returncode == (1 if mistake else 0)
+    assert (tmp_path / "run.trace").exists() == bool(mistake)

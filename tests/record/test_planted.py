@@ -1,0 +1,141 @@
+"""Planted mistakes in the recorded locks in C: in how many runs each is noticed, in each mode.
+
+Modes that give the same each time are compared with the tables of docs/PLANTED.md: of a right lock
+nothing may be refused. --write-planted tries the modes of real threads too, and writes the tables.
+"""
+import os
+import re
+import shutil
+import subprocess
+from pathlib import Path
+
+import pytest
+
+import planted_table
+from mistakes import PATCHES
+from recorders import SOURCES, once, plant
+from tree import TOP, ran
+
+HERE = Path(__file__).parent
+LOCKS = ("mcs", "ticket", "rw_fifo")
+RUNS = planted_table.RUNS
+REAL = ("4", "100")  # threads and rounds
+SEEDED = ("3", "30")
+SHORT = ("3", "4")  # what LR_PCT is for
+EXPLORED = ("3", "1", "2")  # threads, rounds and preemptions
+MOST = "3000"  # runs that are explored
+ENOUGH = 38  # mistakes that have to be noticed in all runs of one mode
+CHECKED = ["-DLR_SEED", "-DLR_CHECK"]
+MODES = {
+    "VALUES": ["-DLR_VALUES"],
+    "NOISE": ["-DLR_VALUES", "-DLR_NOISE", "-DLR_ATOMICS"],
+    "SEED": CHECKED,
+    "ATOMICS": [*CHECKED, "-DLR_ATOMICS"],
+    "PCT": [*CHECKED, "-DLR_ATOMICS", "-DLR_PCT=3", "-DLR_STEPS=150"],
+    "EXPLORE": ["-DLR_EXPLORE", "-DLR_ATOMICS"],
+    "FOLLOW": ["-DLR_FOLLOW", "-DLR_CHECK"],
+}
+REAL_MODES = ("VALUES", "NOISE")
+
+
+def mistakes_of(lock):
+    """The name of each mistake and what the lock does then; those of the tables in their order."""
+    what = {path.stem: path.read_text().splitlines()[0]
+            for path in sorted((PATCHES / "c" / lock).glob("*.patch"))}
+    known = [name for of, name in planted_table.read() if of == lock and name in what]
+    return [("none", "nothing is planted"),
+            *((name, what[name]) for name in dict.fromkeys([*known, *what]))]
+
+
+MISTAKES = {lock: mistakes_of(lock) for lock in LOCKS}
+
+
+def test_tables_have_every_patch():
+    found = {(path.parent.name, path.stem) for lock in LOCKS
+             for path in (PATCHES / "c" / lock).glob("*.patch")}
+    assert {(lock, name) for lock, name in planted_table.read() if name != "none"} == found
+
+
+def test_most_mistakes_are_noticed_in_all_runs_of_a_mode():
+    rows = planted_table.read()
+    assert sum(planted_table.is_in_all(row, MODES) for row in rows.values()) >= ENOUGH
+
+
+def build(lock, name, mode, library, folder):
+    """A copy of the lock with the mistake, built over the driver of planted mistakes."""
+    copy = folder / SOURCES.relative_to(TOP)
+    shutil.copytree(SOURCES, copy)
+    (folder / "record").symlink_to(TOP / "record")
+    if name != "none":
+        plant(PATCHES / "c" / lock / f"{name}.patch", folder)
+    (copy / "driver.h").rename(copy / "driver_of_one_run.h")
+    shutil.copy(HERE / "planted_driver.h", copy / "driver.h")
+    shutil.copy(HERE / "stuck.h", copy)
+    subprocess.run(["gcc", "-std=c11", "-O1", "-w", "-pthread", *MODES[mode], "-o",
+                    folder / "program", copy / f"{lock}.c",
+                    *([] if mode in REAL_MODES else [library])], check=True)
+    return folder / "program"
+
+
+def is_noticed(locktrace, program, seed, logs):
+    """Whether a run of real threads hangs or crashes, or its logs have no order."""
+    status = ran(program, *REAL, seed, logs).returncode
+    assert status != 3, "memory, a thread or a write was refused"
+    if status != 0:
+        return True
+    status = ran(locktrace, "order", "-q", *sorted(logs.glob("thread-*.log")), "-o",
+                 logs).returncode
+    assert status in (0, 1)
+    return status == 1
+
+
+def explored(said):
+    """Which run of a search is refused, and how many preemptions it has; or how many runs are
+    made."""
+    runs, preemptions = re.match(r"(\d+) runs with up to (\d+)", said).groups()
+    if "refused" in said:
+        return f"{runs}, {preemptions}"
+    return "none" if "preemptions, all of them" in said else f"none/{MOST}"
+
+
+def followed(said):
+    """How many schedules of a tour are refused."""
+    schedules, refused = re.match(r"(\d+) schedules of \d+ moves, (\d+) not", said).groups()
+    return f"{refused}/{schedules}"
+
+
+@pytest.fixture
+def tour(shared, locktrace):
+    def made(lock):
+        folder = shared / f"tour-{lock}"
+        once(folder.with_suffix(".made"), lambda: ran(
+            locktrace, "tour", lock.replace("_", "-"), "3", "-o", folder))
+        return folder
+    return made
+
+
+@pytest.mark.planted
+@pytest.mark.parametrize("mode", MODES)
+@pytest.mark.parametrize("lock, name", [
+    (lock, name) for lock, named in MISTAKES.items() for name, _ in named])
+def test_planted(library, locktrace, tour, tmp_path, pytestconfig, record_property, lock, name,
+                 mode):
+    is_written = pytestconfig.getoption("write_planted")
+    if mode in REAL_MODES and not is_written:
+        pytest.skip("what real threads do differs from run to run")
+    logs, program = tmp_path / "logs", build(lock, name, mode, library, tmp_path)
+    logs.mkdir()
+    # one thread at a time is fastest on one core
+    cores = sorted(os.sched_getaffinity(0))
+    on_one = ["taskset", "-c", cores[len(name) % len(cores)], program]
+    if mode in REAL_MODES:
+        said = str(sum(is_noticed(locktrace, program, seed, logs) for seed in range(1, RUNS + 1)))
+    elif mode == "EXPLORE":
+        said = explored(ran(*on_one, *EXPLORED, logs, MOST).stdout)
+    elif mode == "FOLLOW":
+        said = followed(ran(*on_one, tour(lock), logs).stdout)
+    else:
+        said = ran(*on_one, *(SHORT if mode == "PCT" else SEEDED), RUNS).stdout.strip()
+    record_property("planted", (lock, name, mode, said))
+    assert name != "none" or re.match(r"(0|none)(/\d+)?$", said), "a right lock is blamed"
+    assert is_written or said == planted_table.read()[lock, name].get(mode)
