@@ -123,9 +123,9 @@ pub(crate) fn step_by(
     requires { (bits t : ℕ) × (operation ≡ operation_of kind bits t phase) }
     ensures { result ≡ step_due kind phase }
 {
-    match family_of(kind) {
-        Family::Queue => Some(kind_of(operation?)),
-        Family::ReadWrite | Family::FifoReadWrite => read_write::step_due(phase),
+    match kind {
+        LockKind::Ticket | LockKind::Mcs => Some(kind_of(operation?)),
+        LockKind::RwSimple | LockKind::RwFifo => read_write::step_due(phase),
     }
 }
 
