@@ -126,6 +126,10 @@ endif
 test-programs: $(PROGRAM) $(TRACER) $(LIBRARY) test-needs
 	$(PYTEST) $(SPREAD) -m 'not (root or browser or planted)'
 
+## generate | fills the marked regions of files that have words and numbers of the crates
+generate:
+	tests/texts/generate.py
+
 ## page | builds the page's module and page/lockreplay.html
 page: $(MODULE)
 	node page/build.mjs $(MODULE)

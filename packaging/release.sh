@@ -22,7 +22,7 @@ unreleased() {
 
 [ -z "$(unreleased)" ] || refuse "CHANGELOG.md has changes under [Unreleased]"
 [ -z "$(git status --porcelain)" ] || refuse "what is here is not what is committed"
-tests/texts/versions.py > "$STAGE/versions" || refuse "$(cat "$STAGE/versions")"
+tests/texts/generate.py --check 2> "$STAGE/differs" || refuse "$(cat "$STAGE/differs")"
 
 SOURCE=$(packaging/source.sh)
 TARBALL=$(packaging/dist.sh)

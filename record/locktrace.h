@@ -23,26 +23,38 @@
 extern "C" {
 #endif
 
+/* generated: version */
 #define LT_VERSION "1.0.0"
+/* end */
 
 #define LT_NO_WORD UINT32_MAX
 
 /* The actions of a step: calls, and steps from 16 on. */
 enum {
-    LT_ACQUIRE = 0, LT_RELEASE, LT_RLOCK, LT_RUNLOCK, LT_WLOCK, LT_WUNLOCK, LT_DOWNGRADE,
-    LT_READ = 16, LT_WRITE, LT_SWAP, LT_CAS, LT_ADD, LT_SECTION
+    /* generated: numbers of moves */
+    LT_ACQUIRE = 0, LT_RELEASE = 1, LT_RLOCK = 2, LT_RUNLOCK = 3, LT_WLOCK = 4, LT_WUNLOCK = 5,
+    LT_DOWNGRADE = 6, LT_READ = 16, LT_WRITE = 17, LT_SWAP = 18, LT_CAS = 19, LT_ADD = 20,
+    LT_SECTION = 21,
+    /* end */
 };
 
 /* What came of a step. */
-enum { LT_CALLED = 0, LT_MOVED, LT_WAITS, LT_ENTERED, LT_LEFT };
+enum {
+    /* generated: numbers of outcomes */
+    LT_CALLED = 0, LT_MOVED = 1, LT_WAITS = 2, LT_ENTERED = 3, LT_LEFT = 4,
+    /* end */
+};
 
 /* Faults: 0 none; from 1 a move that the lock refuses; from 8 a value that is not the lock's; from
    16 a text that is no trace. */
 enum {
-    LT_ACCEPTED = 0, LT_NO_SUCH_THREAD, LT_WRONG_LOCK, LT_BUSY, LT_NOT_HOLDER, LT_ALREADY_HOLDS,
-    LT_NO_CALL, LT_WRONG_STEP, LT_OTHER_WORD, LT_FOUND_OTHER, LT_LEFT_OTHER, LT_WROTE_OTHER,
-    LT_COUNT_NOT_ABOVE, LT_OTHER_OUTCOME,
-    LT_NO_HEADER = 16, LT_BAD_HEADER, LT_BAD_THREADS, LT_WORDS_TOO_NARROW, LT_BAD_LINE
+    LT_ACCEPTED = 0,
+    /* generated: numbers of faults */
+    LT_NO_SUCH_THREAD = 1, LT_WRONG_LOCK = 2, LT_BUSY = 3, LT_NOT_HOLDER = 4, LT_ALREADY_HOLDS = 5,
+    LT_NO_CALL = 6, LT_WRONG_STEP = 7, LT_OTHER_WORD = 8, LT_FOUND_OTHER = 9, LT_LEFT_OTHER = 10,
+    LT_WROTE_OTHER = 11, LT_COUNT_NOT_ABOVE = 12, LT_OTHER_OUTCOME = 13, LT_NO_HEADER = 16,
+    LT_BAD_HEADER = 17, LT_BAD_THREADS = 18, LT_WORDS_TOO_NARROW = 19, LT_BAD_LINE = 20,
+    /* end */
 };
 
 /* A move that was made. `word` is its word's number in docs/LOCKS.md (mcs: 0 tail, 1 + 2j next of

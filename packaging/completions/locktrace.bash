@@ -2,51 +2,85 @@
 
 _locktrace() {
     local cur prev words cword split
-    _init_completion -s || return
-    case $prev in
-    --format)
-        case ${words[1]} in
-        check | order) COMPREPLY=($(compgen -W 'text tap json' -- "$cur")) ;;
-        space) COMPREPLY=($(compgen -W 'text json dot' -- "$cur")) ;;
-        *) COMPREPLY=($(compgen -W 'text json' -- "$cur")) ;;
-        esac
-        return ;;
-    --color) COMPREPLY=($(compgen -W 'auto always never' -- "$cur")); return ;;
-    -j | --jobs) COMPREPLY=($(compgen -W '{1..64}' -- "$cur")); return ;;
-    -o) _filedir -d; return ;;
-    --moves | --names | --rounds | --bits | --limit | --require) return ;;
+    _init_completion -s -n : || return
+    local commands='check explain order schedule find tour space cover help'
+    case $cword,${words[1]},$prev in
+    *,check,--format | *,order,--format) _locktrace_of 'text tap json' ;;
+    *,space,--format) _locktrace_of 'text json dot' ;;
+    *,cover,--format) _locktrace_of 'text json' ;;
+    *,check,--color) _locktrace_of 'auto always never' ;;
+    *,check,-j | *,check,--jobs) _locktrace_of '{1..64}' ;;
+    *,order,-o | *,tour,-o) _filedir -d ;;
+    *,cover,--require) _locktrace_kinds ;;
+    *,--format | *,--color | *,--moves | *,--names | *,--rounds | *,--bits | *,--limit) ;;
+    1,*) _locktrace_of "$commands --help -h --version -V" ;;
+    2,help,*) _locktrace_of "$commands" ;;
+    *,check,*) _locktrace_files '--format --color --summary --quiet -q --jobs -j --help -h' ;;
+    *,explain,*) _locktrace_files '--moves --names --help -h' ;;
+    *,order,*) _locktrace_files '-o --format --quiet -q --help -h' ;;
+    *,schedule,*) _locktrace_files '--help -h' ;;
+    *,find,*) _locktrace_lock '--rounds --bits --limit --help -h' ;;
+    *,tour,*) _locktrace_lock '-o --rounds --bits --limit --help -h' ;;
+    *,space,*) _locktrace_lock '--rounds --bits --limit --format --help -h' ;;
+    *,cover,*) _locktrace_files '--require --format --help -h' ;;
     esac
-    case $cword,${words[1]} in
-    1,*) COMPREPLY=($(compgen -W 'check explain order schedule find tour space cover help --help -h --version -V' -- "$cur")) ;;
-    2,help) COMPREPLY=($(compgen -W 'check explain order schedule find tour space cover help' -- "$cur")) ;;
-    *,check) _locktrace_words '--format --color --summary --quiet -q --jobs -j --help -h' ;;
-    *,explain) _locktrace_words '--moves --names --help -h' ;;
-    *,order) _locktrace_words '-o --format --quiet -q --help -h' ;;
-    *,schedule) _locktrace_words '--help -h' ;;
-    *,find) _locktrace_lock '--rounds --bits --limit --help -h' ;;
-    *,tour) _locktrace_lock '-o --rounds --bits --limit --help -h' ;;
-    *,space) _locktrace_lock '--rounds --bits --limit --format --help -h' ;;
-    *,cover) _locktrace_words '--require --format --help -h' ;;
-    esac
+    __ltrim_colon_completions "$cur"
+}
+
+# One of these words.
+_locktrace_of() {
+    COMPREPLY=($(compgen -W "$1" -- "$cur"))
 }
 
 # What is no option is a file.
-_locktrace_words() {
+_locktrace_files() {
     if [[ $cur == -* ]]; then
-        COMPREPLY=($(compgen -W "$1" -- "$cur"))
+        _locktrace_of "$1"
     else
         _filedir
     fi
 }
 
-# What is no option is a lock at first. A sketch may be in a file.
+# The first word that is no option, and no option's value, is a lock. A sketch may be in a file.
 _locktrace_lock() {
+    # generated: locks
+    local locks='ticket mcs rw-simple rw-fifo'
+    # end
+    local args
+    _count_args '=' '@(-o|--rounds|--bits|--limit|--format)'
     if [[ $cur == -* ]]; then
-        COMPREPLY=($(compgen -W "$1" -- "$cur"))
-    elif [[ $cword == 2 ]]; then
-        COMPREPLY=($(compgen -W 'ticket mcs rw-simple rw-fifo' -- "$cur"))
+        _locktrace_of "$1"
+    elif [[ $args == 2 ]]; then
+        _locktrace_of "$locks"
         [[ ${words[1]} == find && -z ${COMPREPLY[*]} ]] && _filedir
     fi
+}
+
+# A kind of transition, with a backslash before each blank unless it is in quotes.
+_locktrace_kinds() {
+    local -a kinds=(
+        all
+        # generated: kinds
+        'acquire: called' 'acquire: cleared its next' 'acquire: entered without waiting'
+        'acquire: joined the queue' 'acquire: set its locked' 'acquire: linked itself'
+        'acquire: poll of a missing grant' 'acquire: entered after waiting' 'release: called'
+        'release: found no link' 'release: found a link' 'release: successful compare-and-swap'
+        'release: failed compare-and-swap' 'release: poll of a missing link'
+        'release: found a late link' 'release: granted the lock' 'rlock: called' 'rlock: entered'
+        'rlock: poll with a writer' 'runlock: called' 'runlock: left' 'wlock: called'
+        'wlock: entered without waiting' 'wlock: poll of a taken lock' 'wunlock: called'
+        'wunlock: left' 'downgrade: called' 'downgrade: entered' 'wlock: announced itself'
+        'wlock: poll with readers inside' 'wlock: entered after the readers' 'wlock: entered'
+        'acquire: took a ticket' 'acquire: entered' 'acquire: poll before its turn'
+        'release: read the ticket served' 'release: served the next ticket'
+        # end
+    )
+    local kind quote=
+    [[ $cur == [\'\"]* ]] && quote=${cur::1}
+    for kind in "${kinds[@]}"; do
+        [[ $quote ]] || kind=${kind// /\\ }
+        [[ $quote$kind == "$cur"* ]] && COMPREPLY+=("$kind")
+    done
 }
 
 complete -F _locktrace locktrace

@@ -11,7 +11,52 @@ set -l find "__fish_seen_subcommand_from find; and not $help"
 set -l tour "__fish_seen_subcommand_from tour; and not $help"
 set -l space "__fish_seen_subcommand_from space; and not $help"
 set -l cover "__fish_seen_subcommand_from cover; and not $help"
-set -l locks 'ticket mcs rw-simple rw-fifo'
+# generated: locks
+set -l locks ticket mcs rw-simple rw-fifo
+# end
+
+function __locktrace_kinds
+    echo all
+    # generated: kinds
+    echo 'acquire: called'
+    echo 'acquire: cleared its next'
+    echo 'acquire: entered without waiting'
+    echo 'acquire: joined the queue'
+    echo 'acquire: set its locked'
+    echo 'acquire: linked itself'
+    echo 'acquire: poll of a missing grant'
+    echo 'acquire: entered after waiting'
+    echo 'release: called'
+    echo 'release: found no link'
+    echo 'release: found a link'
+    echo 'release: successful compare-and-swap'
+    echo 'release: failed compare-and-swap'
+    echo 'release: poll of a missing link'
+    echo 'release: found a late link'
+    echo 'release: granted the lock'
+    echo 'rlock: called'
+    echo 'rlock: entered'
+    echo 'rlock: poll with a writer'
+    echo 'runlock: called'
+    echo 'runlock: left'
+    echo 'wlock: called'
+    echo 'wlock: entered without waiting'
+    echo 'wlock: poll of a taken lock'
+    echo 'wunlock: called'
+    echo 'wunlock: left'
+    echo 'downgrade: called'
+    echo 'downgrade: entered'
+    echo 'wlock: announced itself'
+    echo 'wlock: poll with readers inside'
+    echo 'wlock: entered after the readers'
+    echo 'wlock: entered'
+    echo 'acquire: took a ticket'
+    echo 'acquire: entered'
+    echo 'acquire: poll before its turn'
+    echo 'release: read the ticket served'
+    echo 'release: served the next ticket'
+    # end
+end
 
 complete -c locktrace -f
 complete -c locktrace -n $none -a check -d 'Check each move and each value of traces'
@@ -40,13 +85,14 @@ for search in $find $tour $space
     complete -c locktrace -n $search -l rounds -x -d 'How many times each thread takes the lock'
     complete -c locktrace -n $search -l bits -x -d 'How many bits a word has'
     complete -c locktrace -n $search -l limit -x -d 'How many states are searched at most'
-    complete -c locktrace -n $search -a $locks
+    complete -c locktrace -n "$search; and not __fish_seen_subcommand_from $locks" -a "$locks"
 end
 complete -c locktrace -n $tour -s o -x -a '(__fish_complete_directories)' \
     -d 'Where the schedules are written'
 complete -c locktrace -n $space -l format -x -a 'text json dot' -d 'The form of the counts'
 complete -c locktrace -n $cover -l format -x -a 'text json' -d 'The form of the counts'
-complete -c locktrace -n $cover -l require -x -d 'Kinds that may not be missing, or all'
+complete -c locktrace -n $cover -l require -x -a '(__locktrace_kinds)' \
+    -d 'Kinds that may not be missing, or all'
 for files in $check $explain $order $schedule $find $cover
     complete -c locktrace -n $files -F
 end

@@ -4,6 +4,9 @@
 _locktrace() {
     local context state state_descr line
     local -A opt_args
+    # generated: locks
+    local -a locks=(ticket mcs rw-simple rw-fifo)
+    # end
     _arguments -C \
         '(- *)'{-h,--help}'[print help]' \
         '(- *)'{-V,--version}'[print the version]' \
@@ -40,26 +43,47 @@ _locktrace() {
         '--rounds[how many times each thread takes the lock]:number:' \
         '--bits[how many bits a word has]:number:' \
         '--limit[how many states are searched at most]:number:' \
-        '1: :_alternative "locks\:lock\:(ticket mcs rw-simple rw-fifo)" "files\:sketch\:_files"' \
-        '2:threads:' '*:line of a sketch:' ;;
+        "1: :_alternative 'locks\:lock\:($locks)' 'files\:sketch\:_files'" \
+        '2:threads:()' '*:line of a sketch:()' ;;
     tour) _arguments '(- *)'{-h,--help}'[print help]' \
         '-o[where the schedules are written]:folder:_files -/' \
         '--rounds[how many times each thread takes the lock]:number:' \
         '--bits[how many bits a word has]:number:' \
         '--limit[how many states are searched at most]:number:' \
-        '1:lock:(ticket mcs rw-simple rw-fifo)' '2:threads:' ;;
+        "1:lock:($locks)" '2:threads:()' ;;
     space) _arguments '(- *)'{-h,--help}'[print help]' \
         '--rounds[how many times each thread takes the lock]:number:' \
         '--bits[how many bits a word has]:number:' \
         '--limit[how many states are searched at most]:number:' \
         '--format[the form of the counts]:form:(text json dot)' \
-        '1:lock:(ticket mcs rw-simple rw-fifo)' '2:threads:' ;;
+        "1:lock:($locks)" '2:threads:()' ;;
     cover) _arguments '(- *)'{-h,--help}'[print help]' \
-        '--require[kinds that may not be missing]:names, or all:' \
+        '--require[kinds that may not be missing]:kind, or all:_locktrace_kinds' \
         '--format[the form of the counts]:form:(text json)' \
         '*:trace:_files' ;;
     help) _arguments '1:command:(check explain order schedule find tour space cover help)' ;;
     esac
+}
+
+_locktrace_kinds() {
+    local -a kinds=(
+        all
+        # generated: kinds
+        'acquire: called' 'acquire: cleared its next' 'acquire: entered without waiting'
+        'acquire: joined the queue' 'acquire: set its locked' 'acquire: linked itself'
+        'acquire: poll of a missing grant' 'acquire: entered after waiting' 'release: called'
+        'release: found no link' 'release: found a link' 'release: successful compare-and-swap'
+        'release: failed compare-and-swap' 'release: poll of a missing link'
+        'release: found a late link' 'release: granted the lock' 'rlock: called' 'rlock: entered'
+        'rlock: poll with a writer' 'runlock: called' 'runlock: left' 'wlock: called'
+        'wlock: entered without waiting' 'wlock: poll of a taken lock' 'wunlock: called'
+        'wunlock: left' 'downgrade: called' 'downgrade: entered' 'wlock: announced itself'
+        'wlock: poll with readers inside' 'wlock: entered after the readers' 'wlock: entered'
+        'acquire: took a ticket' 'acquire: entered' 'acquire: poll before its turn'
+        'release: read the ticket served' 'release: served the next ticket'
+        # end
+    )
+    compadd -a kinds
 }
 
 _locktrace "$@"

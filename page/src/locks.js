@@ -7,7 +7,9 @@ import { rwFifo } from './rw_fifo.js';
 import { rwSimple } from './rw_simple.js';
 import { ticket } from './ticket.js';
 
+// generated: modules by number
 export const LOCKS = [ticket, mcs, rwSimple, rwFifo];
+// end
 export const LOCK_NAMES = LOCKS.map(({ name }) => name);
 
 export const lockOf = (run) => LOCKS[run.kind];

@@ -5,15 +5,24 @@
 
 static inline int lr_is_lock(const char *lock)
 {
-    return lock && (!strcmp(lock, "ticket") || !strcmp(lock, "mcs") ||
-                    !strcmp(lock, "rw-simple") || !strcmp(lock, "rw-fifo"));
+    static const char *const locks[] = {
+        /* generated: locks */
+        "ticket", "mcs", "rw-simple", "rw-fifo",
+        /* end */
+    };
+    for (size_t i = 0; lock && i < sizeof locks / sizeof locks[0]; i++)
+        if (!strcmp(lock, locks[i])) return 1;
+    return 0;
 }
 
 /* Says which argument of `lr_open` is wrong, and returns whether one is. */
 static inline int lr_is_wrong(const char *lock, unsigned threads, unsigned bits, size_t moves)
 {
+    /* generated: locks */
+    static const char locks[] = "ticket, mcs, rw-simple or rw-fifo";
+    /* end */
     if (!lr_is_lock(lock))
-        lr_say("there is no lock '%s': ticket, mcs, rw-simple or rw-fifo", lock ? lock : "");
+        lr_say("there is no lock '%s': %s", lock ? lock : "", locks);
     else if (threads < 1 || threads > LR_THREADS)
         lr_say("%u threads: a run has 1 to %d", threads, LR_THREADS);
     else if (bits < 2 || bits > 64)

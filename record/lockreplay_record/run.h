@@ -15,13 +15,31 @@
 #include <time.h>
 
 enum { LR_THREADS = 64, LR_OWN = 256, LR_NOBODY = 256, LR_APART = 128, LR_SAID = 256 };
-enum { LR_CALL_acquire, LR_CALL_release, LR_CALL_rlock, LR_CALL_runlock, LR_CALL_wlock,
-       LR_CALL_wunlock, LR_CALL_downgrade, LR_STEP_read, LR_STEP_write, LR_STEP_swap, LR_STEP_cas,
-       LR_STEP_add, LR_STEP_section, LR_WORDS };
-enum { LR_PLACE_none, LR_PLACE_next_ticket, LR_PLACE_now_serving, LR_PLACE_tail, LR_PLACE_next,
-       LR_PLACE_locked };
-enum { LR_PART_none, LR_PART_found, LR_PART_left, LR_PART_done, LR_PART_failed,
-       LR_OUTCOME_moved, LR_OUTCOME_waits, LR_OUTCOME_entered, LR_OUTCOME_left };
+enum {
+    /* generated: calls */
+    LR_CALL_acquire, LR_CALL_release, LR_CALL_rlock, LR_CALL_runlock, LR_CALL_wlock,
+    LR_CALL_wunlock, LR_CALL_downgrade,
+    /* end */
+    /* generated: steps */
+    LR_STEP_read, LR_STEP_write, LR_STEP_swap, LR_STEP_cas, LR_STEP_add, LR_STEP_section,
+    /* end */
+    LR_WORDS
+};
+enum {
+    LR_PLACE_none,
+    /* generated: places */
+    LR_PLACE_next_ticket, LR_PLACE_now_serving, LR_PLACE_tail, LR_PLACE_next, LR_PLACE_locked,
+    /* end */
+};
+enum {
+    LR_PART_none,
+    /* generated: parts */
+    LR_PART_found, LR_PART_left, LR_PART_done, LR_PART_failed,
+    /* end */
+    /* generated: outcomes */
+    LR_OUTCOME_moved, LR_OUTCOME_waits, LR_OUTCOME_entered, LR_OUTCOME_left,
+    /* end */
+};
 
 typedef struct lr_kind {
     uint16_t word, place, owner, part; /* owner: the thread whose record it is, or LR_OWN */
@@ -148,9 +166,12 @@ __attribute__((format(printf, 1, 2))) static inline void lr_say(const char *form
 
 static inline const char *lr_word(unsigned word)
 {
-    static const char *const words[] = {"acquire", "release", "rlock", "runlock", "wlock",
-                                        "wunlock", "downgrade", "read", "write", "swap",
-                                        "cas", "add", "section"};
+    static const char *const words[] = {
+        /* generated: calls, steps */
+        "acquire", "release", "rlock", "runlock", "wlock", "wunlock", "downgrade", "read", "write",
+        "swap", "cas", "add", "section",
+        /* end */
+    };
     return words[word];
 }
 

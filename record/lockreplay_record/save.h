@@ -43,10 +43,18 @@ __attribute__((format(printf, 2, 3))) static inline void lr_put(lr_text *text, c
 
 static inline void lr_print_move(lr_text *text, const lr_move *move)
 {
-    static const char *const places[] = {"", " next_ticket", " now_serving", " tail",
-                                         " next", " locked"};
-    static const char *const parts[] = {"", " found", " left", " done", " failed",
-                                        " moved", " waits", " entered", " left"};
+    static const char *const places[] = {
+        "",
+        /* generated: places */
+        " next_ticket", " now_serving", " tail", " next", " locked",
+        /* end */
+    };
+    static const char *const parts[] = {
+        "",
+        /* generated: parts, outcomes */
+        " found", " left", " done", " failed", " moved", " waits", " entered", " left",
+        /* end */
+    };
     const lr_kind *kind = &move->kind;
     lr_put(text, "%s%s", lr_word(kind->word), places[kind->place]);
     if (kind->owner != LR_OWN) lr_put(text, " of %u", (unsigned)kind->owner);

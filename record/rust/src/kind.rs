@@ -16,8 +16,16 @@ pub(crate) enum Kind {
 }
 
 impl Kind {
-    const STEPS: [Kind; 6] =
-        [Kind::Read, Kind::Write, Kind::Swap, Kind::Cas, Kind::Add, Kind::Section];
+    const STEPS: [Kind; 6] = [
+        // generated: steps
+        Kind::Read,
+        Kind::Write,
+        Kind::Swap,
+        Kind::Cas,
+        Kind::Add,
+        Kind::Section,
+        // end
+    ];
 
     /// The kind that a word of a schedule is.
     pub(crate) fn of_word(word: &str) -> Option<Kind> {
@@ -36,12 +44,14 @@ impl Kind {
     pub(crate) fn word(self) -> &'static str {
         match self {
             Kind::Call(call) => call.name(),
+            // generated: steps
             Kind::Read => "read",
             Kind::Write => "write",
             Kind::Swap => "swap",
             Kind::Cas => "cas",
             Kind::Add => "add",
             Kind::Section => "section",
+            // end
         }
     }
 }

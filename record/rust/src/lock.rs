@@ -36,16 +36,25 @@ pub enum Lock {
 
 impl Lock {
     /// All locks.
-    pub const ALL: [Lock; 4] = [Lock::Ticket, Lock::Mcs, Lock::RwSimple, Lock::RwFifo];
+    pub const ALL: [Lock; 4] = [
+        // generated: locks
+        Lock::Ticket,
+        Lock::Mcs,
+        Lock::RwSimple,
+        Lock::RwFifo,
+        // end
+    ];
 
     /// The lock's name in a trace.
     #[must_use]
     pub fn name(self) -> &'static str {
         match self {
+            // generated: locks
             Lock::Ticket => "ticket",
             Lock::Mcs => "mcs",
             Lock::RwSimple => "rw-simple",
             Lock::RwFifo => "rw-fifo",
+            // end
         }
     }
 }

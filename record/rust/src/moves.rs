@@ -169,6 +169,7 @@ impl Call {
     /// All calls.
     #[cfg(feature = "record")]
     pub(crate) const ALL: [Call; 7] = [
+        // generated: calls
         Call::Acquire,
         Call::Release,
         Call::ReadLock,
@@ -176,11 +177,13 @@ impl Call {
         Call::WriteLock,
         Call::WriteUnlock,
         Call::Downgrade,
+        // end
     ];
 
     /// The call's word in a trace.
     pub(crate) fn name(self) -> &'static str {
         match self {
+            // generated: calls
             Call::Acquire => "acquire",
             Call::Release => "release",
             Call::ReadLock => "rlock",
@@ -188,6 +191,7 @@ impl Call {
             Call::WriteLock => "wlock",
             Call::WriteUnlock => "wunlock",
             Call::Downgrade => "downgrade",
+            // end
         }
     }
 }
@@ -201,11 +205,13 @@ impl fmt::Display for Call {
 impl fmt::Display for Word {
     fn fmt(&self, out: &mut fmt::Formatter<'_>) -> fmt::Result {
         out.write_str(match self {
+            // generated: places
             Word::NextTicket => "next_ticket",
             Word::NowServing => "now_serving",
             Word::Tail => "tail",
             Word::Next => "next",
             Word::Locked => "locked",
+            // end
         })
     }
 }
@@ -213,10 +219,12 @@ impl fmt::Display for Word {
 impl fmt::Display for Outcome {
     fn fmt(&self, out: &mut fmt::Formatter<'_>) -> fmt::Result {
         out.write_str(match self {
-            Outcome::Waits => "waits",
+            // generated: outcomes
             Outcome::Moved => "moved",
+            Outcome::Waits => "waits",
             Outcome::Entered => "entered",
             Outcome::Left => "left",
+            // end
         })
     }
 }

@@ -1,0 +1,67 @@
+"""Words that stay written by hand: in a sentence, beside what is said of each, or in a crate, whose
+proofs are of its text. They are compared with the catalogue.
+"""
+from catalogue import (ANSWERS, CALLS, DIFFERS, FAULTS, HOLDERS, LOCKS, MESSAGES, MOVES, OF,
+                       OF_TEXTS, OUTCOMES, PARTS, PLACES, REFUSED, RELEASE, RESULTS, STEPS, VERSION,
+                       between, found, read)
+
+RUST, PAGE, MAN = "record/rust/src", "page/src", "packaging/man"
+DUE, C = "crates/lk_trace/src/due.rt", "crates/lk_trace_c/src/numbers.rt"
+
+
+def either(words):
+    *others, last = words.values()
+    return f"{', '.join(others)} or {last}"
+
+
+# What files say, wherever their lines break.
+SAID = {
+    "record/lockreplay_record.h": [f"call) {either(CALLS)}", f"The lock is {either(LOCKS)};"],
+    "record/rust/Cargo.lock": [f'name = "lockreplay-record" version = "{VERSION}"'],
+    "crates/locktrace/src/*.rt": [f'VERSION: &str = "{VERSION}";', f'"{either(LOCKS)}"'],
+    "crates/lk_lines/src/unreadable.rt": [f'"{either(LOCKS)}"', f"({', '.join(STEPS.values())})"],
+    DUE: [f'"{either(OUTCOMES)}"', f"a word: {either(PLACES)}"],
+    C: [f'"{name}: {text}"' for name, text in MESSAGES.items() if name != "NoHeader"],
+    f"{PAGE}/codes.js": [
+        f"FIRST_STEP = {MOVES[STEPS['Read']]};",
+        "ANSWER = {{ accepted: {}, refused: {}, fault: {}, short: {} }};".format(*ANSWERS)],
+}
+# Of a file, what is between two patterns, and the words that a third one finds there. The order of
+# a list is due too.
+ALL, ITEM, KEY = (r"\A", r"\Z"), r"^\.It Li (\w+)", r"(\w+): ['`]"
+LISTS = (
+    ("VERSION", *ALL, ".+", [RELEASE]),
+    (DUE, "OPEN: ", r"\];", r'"(\w+)"', [*PLACES.values(), *PARTS]),
+    ("crates/lk_trace/src/line.rt", *ALL, r'b"(\w+)"', {*PLACES.values(), OF, *PARTS}),
+    ("crates/lk_trace/src/names.rt", *ALL, r'"\w+ (\w+) \{thread\}"', {OF}),
+    (C, r"match fault \{", "_ =>", r'=> (?:Refusal::|")(\w+)',
+     ["accepted", *REFUSED, *DIFFERS, *OF_TEXTS]),
+    (f"{RUST}/moves.rs", r"Display for Operation \{", r"\}\)", r'"(\w+)"',
+     {*STEPS.values()} - {STEPS["Section"]}),
+    (f"{PAGE}/texts.js", r"^  outcomes: \{", r"\}", r"(\w+): '\1'", [*RESULTS]),
+    (f"{PAGE}/texts.js", r"^    outcomes: \{", r"\}", KEY, [*OUTCOMES.values()]),
+    (f"{PAGE}/texts.js", r"^    why: \{", r"^    \}", KEY, [*OUTCOMES.values()]),
+    (f"{PAGE}/texts.js", r"^  refused: \{", "^    due", KEY, [*REFUSED]),
+    (f"{PAGE}/report.js", r"HOLDER_LETTERS = \[", r"\]", r"'(\w*)'",
+     [{"ReadBy": "r", "WrittenBy": "w"}.get(name, "") for name in HOLDERS]),
+    (f"{PAGE}/now.js", r"MODES = \[", r"\]", r"''|texts\.(\w+)",
+     [{"ReadBy": "asReader", "WrittenBy": "asWriter"}.get(name, "") for name in HOLDERS]),
+    (f"{PAGE}/read_write.js", "WRITER = ", ";", r"\d+", [str(HOLDERS["WrittenBy"])]),
+    (f"{MAN}/lockreplay.1", *ALL, ITEM, [*RESULTS, *REFUSED]),
+    (f"{MAN}/lockreplay-schedule.5", r"\.Ss Faults\n", r"\.Sh", ITEM, {*FAULTS}),
+    (f"{MAN}/locktrace-trace.5", r"\.It Ar values\n", r"\.It", r"\.Li (?!cas)(\w+)", PARTS),
+    ("tests/oracle/corpus.py", r"^FAULTS = \[", r"\]", r'"(\w+)"', {*FAULTS}),
+    ("tests/oracle/corpus.py", r"^REFUSALS = \[", r"LOCKS\[", r'(?:"|refused-)([A-Z]\w+)',
+     [*REFUSED]),
+)
+
+
+def faults():
+    """What a file does not say, or names otherwise."""
+    for path, texts in SAID.items():
+        said = " ".join(read(path).split())
+        yield from (f"{path}: it does not say {text}" for text in texts if text not in said)
+    for path, before, after, word, due in LISTS:
+        given = found(word, between(read(path), before, after))
+        if (given if isinstance(due, list) else set(given)) != due:
+            yield f"{path}: it names {given}, due {due}"

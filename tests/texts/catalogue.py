@@ -1,0 +1,95 @@
+"""The words, names and numbers of locks, moves and faults, each read where it is written once.
+
+Words are those of the parsers' tables, names those that the crates print, numbers those of the
+definitions that the proofs use. A table has a word for each variant of an enum, in its order.
+"""
+import re
+from pathlib import Path
+
+TOP = Path(__file__).resolve().parents[2]
+ENUMS, WORDS_OF = "crates/lk_locks/src/kinds.rt", "crates/lk_lines/src/vocabulary.rt"
+TRACE = "crates/lk_trace/src"
+SPECS = ("crates/lk_trace/specs/Codes.antt", "crates/lk_trace_c/specs/Numbers.antt",
+         "crates/lk_search/specs/Phases.antt", "crates/lk_page/specs/*.antt")
+# the tables of the kinds of transition
+KINDS = ("crates/lk_catalogue/src/*.rt", "crates/lk_search/src/kinds/*.rt")
+
+
+def read(*paths):
+    """The texts of files, one after the other. A path may be a pattern."""
+    return "".join(file.read_text(encoding="utf-8")
+                   for path in paths for file in sorted(TOP.glob(path)))
+
+
+def found(pattern, text):
+    return re.findall(pattern, text, re.MULTILINE)
+
+
+def between(text, before, after):
+    """What is between two patterns, where they are first."""
+    texts = re.findall(f"{before}(.*?){after}", text, re.DOTALL | re.MULTILINE)
+    if not texts:
+        raise LookupError(f"there is nothing between {before!r} and {after!r}")
+    return texts[0]
+
+
+def words(enum, *paths):
+    """The word of each variant, by a table of the parsers or the arms of a match."""
+    text = read(*paths)
+    word = dict(found(rf'\b{enum}::(\w+)[^"\n]*"([\w-]+)', text))
+    variants = found(r"^    (\w+)", between(text, rf"enum {enum} \{{", r"^\}"))
+    return {**{variant: word[variant] for variant in variants if variant in word}, **word}
+
+
+def numbers(definition):
+    """The number of each word, in the order of numbers, by the equations of a definition."""
+    equation = rf"^{definition} \(?(?:Call |Step )?(\w+).*? = \(?(\d+)(?:, \w+\))?$"
+    return {WORDS.get(variant, variant): int(number) for variant, number
+            in sorted(found(equation, read(*SPECS)), key=lambda it: int(it[1]))}
+
+
+def code_of(lock):
+    """The code of a lock in docs/LOCKS.md."""
+    return between(read("docs/LOCKS.md"), f"```{lock}\n", "\n```")
+
+
+def calls_of(lock):
+    return found(r"-- call (\w+)$", code_of(lock))
+
+
+LOCKS, CALLS, STEPS, OUTCOMES = (words(enum, ENUMS, WORDS_OF)
+                                 for enum in ("LockKind", "Op", "StepKind", "Outcome"))
+WORDS = {**LOCKS, **CALLS, **STEPS, **OUTCOMES,
+         **words("Refusal", ENUMS, "crates/lk_locks/src/refusals.rt"),
+         **words("Difference", f"{TRACE}/difference.rt"), **words("TextFault", f"{TRACE}/trace.rt")}
+del OUTCOMES["Called"]  # of a call
+# the message of each fault of a trace, without its name
+MESSAGES = {WORDS[variant]: text for text, variant in found(
+    r'#\[error\("(.*?) \(\{name\}\)".*\n    (\w+)', read(f"{TRACE}/trace.rt"))}
+# What may follow the word of a lock in a trace, after `of` and its thread; and the words of locks
+# that a trace names, which come before these parts. A monitor's are in no trace.
+DUE = read(f"{TRACE}/due.rt")
+OPEN, (OF, *PARTS) = (found(r'"(\w+)"', between(DUE, before, r"\];\n"))
+                      for before in ("OPEN: [^=]*", "PARTS: [^=]*"))
+PLACES = {variant: word for variant, word in words("WordName", f"{TRACE}/names.rt").items()
+          if word in OPEN}
+
+MOVES, RESULTS, REFUSED = map(numbers, ("move_number", "outcome_number", "refusal_number"))
+DIFFERS, OF_TEXTS, OF_SIZE = map(numbers, ("difference_number", "fault_number", "fault_codes"))
+FAULTS = {**OF_TEXTS, **OF_SIZE}
+PHASES, LOCK_CODES, HOLDERS = map(numbers, ("phase_code", "lock_code", "holding_code"))
+EXPECTED = {name.lower(): number for name, number in numbers("expected_code").items()}
+# What the page's module answers; the bits of a record's thread; and what there is for no word.
+ANSWERS = [*numbers("answer_of").values(), *(int(found(rf"\({name} ≡ (\d+)\)", read(path))[0])
+           for name, path in (("answer", "crates/lk_page/specs/Written.antt"),
+                              ("result", "crates/lk_page/src/lib.rt")))]
+BITS = {name: int(factor or 1) for factor, name in found(
+    r"(?:(\d+) \* )?bit \(?(?:r\.standing\.|r\.)?(\w+)",
+    between(read("crates/lk_page/specs/Layout.antt"), r"^thread_code r =\n", "\n\n"))}
+NO_WORD = numbers("touched_word")["None"]
+LIMITS = {name: int(number.replace("_", "")) for name, number in found(
+    r"^pub const (MOST_\w+): usize = ([\d_]+);", read("crates/lk_replay/src/schedule.rt"))}
+TRANSITIONS = list(dict.fromkeys(found(r'^    "([^"\n]+)":', read(*KINDS))))
+VERSION = read("VERSION").strip()
+# the newest release, and its day
+RELEASE, DAY = found(r"^## \[(\d+\.\d+\.\d+)\] - (.*)$", read("CHANGELOG.md"))[0]

@@ -1,0 +1,155 @@
+#!/usr/bin/env python3
+"""Fills the marked regions of the files that have words, names and numbers of the catalogue.
+
+    tests/texts/generate.py            writes what differs
+    tests/texts/generate.py --check    says what differs, and ends with 1 if something does
+
+A region is between two comments of the file's language, `generated: LISTS` and `end`. It is never
+edited. What is written by hand in several places (by_hand.py) is compared.
+"""
+import re
+import sys
+from textwrap import fill, indent
+
+import by_hand
+from catalogue import (BITS, CALLS, DAY, DIFFERS, EXPECTED, FAULTS, LIMITS, LOCK_CODES, LOCKS,
+                       MOVES, NO_WORD, OF_TEXTS, OUTCOMES, PARTS, PHASES, PLACES, REFUSED,
+                       RESULTS, STEPS, TOP, TRANSITIONS, VERSION, calls_of)
+
+REGION = re.compile(
+    r'^(?P<head>( *)(/\*|//|#|<!--|\.\\") generated: (?P<lists>[\w ,-]+?)(?: \*/| -->)?\n)'
+    r".*?(?P<end>^\2\3 end(?: \*/| -->)?$)", re.MULTILINE | re.DOTALL)
+
+
+class Words(list):
+    """Words that a form joins: `{all:, }`."""
+
+    def __format__(self, between):
+        return between.join(self)
+
+
+def word(text, **more):
+    """What a form may have of a word."""
+    return {"word": text, "WORD": re.sub("(?<=[a-z])(?=[A-Z])", "_", text).upper(), **more}
+
+
+def indexed(numbers):
+    """Words in the order of their numbers from 0 on. An empty one only takes a place."""
+    words = {number: text for text, number in numbers.items()}
+    return [words.get(number, "") for number in range(max(words) + 1)]
+
+
+# What the page calls the bits of a record's thread.
+BIT_NAMES = {"holds": "HOLDS", "is_queued": "IN_LINE", "writes": "AS_WRITER",
+             "is_unlinked": "UNLINKED", "waits": "WAITS"}
+LISTS = {
+    **{name: [word(text, variant=variant) for variant, text in words.items()] for name, words in {
+        "locks": LOCKS, "calls": CALLS, "steps": STEPS, "outcomes": OUTCOMES, "places": PLACES,
+    }.items()},
+    **{name: [word(text, number=number) for text, number in numbers.items()] for name, numbers in {
+        "numbers of moves": MOVES, "numbers of outcomes": RESULTS,
+        "numbers of faults": {**REFUSED, **DIFFERS, **OF_TEXTS},
+        # The module takes no memory, so it has no number for this.
+        "faults of texts": {**FAULTS, "OutOfMemory": max(FAULTS.values()) + 1},
+        "constants": {**{BIT_NAMES[name]: bit for name, bit in BITS.items()}, "NO_WORD": NO_WORD,
+                      **LIMITS},
+    }.items()},
+    **{name: [word(text) for text in words] for name, words in {
+        "parts": PARTS, "differences": DIFFERS, "kinds": TRANSITIONS,
+        "calls of ticket": calls_of("ticket"), "calls of rw-fifo": calls_of("rw-fifo"),
+        "outcomes by number": indexed(RESULTS), "phases by number": indexed(PHASES),
+        "refusals by number": indexed(REFUSED), "expected by number": indexed(EXPECTED),
+        "modules by number": [re.sub("-(.)", lambda it: it[1].upper(), lock)
+                              for lock in indexed(LOCK_CODES)],
+    }.items()},
+    "version": [word(VERSION, day=DAY)],
+    "codes": [word("Of", codes="Codes"), word("---", codes="---"), *(
+        word(kind, codes=", ".join(f"{number} {text}" for text, number in numbers.items()))
+        for kind, numbers in {
+            "lock": LOCK_CODES, "move": MOVES, "outcome": RESULTS, "refusal": REFUSED,
+            "fault": FAULTS, "phase": PHASES, "expected": EXPECTED}.items())],
+}
+# The regions of each file in their order: which lists, and the form of a word. As many words as fit
+# are on a line, or one if the form ends with it. A form of all words is filled once.
+ARM, NUMBER = '::{variant} => "{word}",\n', "LT_{WORD} = {number},"
+MANUAL, ALL = ".Li {others: , }\nor\n.Li {last} .", ".Li {all: , }"
+REGIONS = {
+    "record/locktrace.h": (
+        ("version", '#define LT_VERSION "{word}"'), ("numbers of moves", NUMBER),
+        ("numbers of outcomes", NUMBER), ("numbers of faults", NUMBER)),
+    "record/lockreplay_record.h": (("version", '#define LR_VERSION "{word}"'),),
+    "record/lockreplay_record/run.h": (
+        ("calls", "LR_CALL_{word},"), ("steps", "LR_STEP_{word},"), ("places", "LR_PLACE_{word},"),
+        ("parts", "LR_PART_{word},"), ("outcomes", "LR_OUTCOME_{word},"),
+        ("calls, steps", '"{word}",')),
+    "record/lockreplay_record/save.h": (
+        ("places", '" {word}",'), ("parts, outcomes", '" {word}",')),
+    "record/lockreplay_record/open.h": (
+        ("locks", '"{word}",'), ("locks", 'static const char locks[] = "{others:, } or {last}";')),
+    "record/rust/src/moves.rs": (
+        ("calls", "Call::{variant},\n"), ("calls", "Call" + ARM), ("places", "Word" + ARM),
+        ("outcomes", "Outcome" + ARM)),
+    "record/rust/src/kind.rs": (("steps", "Kind::{variant},\n"), ("steps", "Kind" + ARM)),
+    "record/rust/src/lock.rs": (("locks", "Lock::{variant},\n"), ("locks", "Lock" + ARM)),
+    "record/rust/Cargo.toml": (("version", 'version = "{word}"'),),
+    "CITATION.cff": (("version", "version: {word}\ndate-released: {day}\n"),),
+    "page/src/codes.js": (
+        ("numbers of moves", "{number}: '{word}',"),
+        ("outcomes by number", "export const OUTCOMES = ['{all:', '}'];"),
+        ("phases by number", "'{word}',"), ("faults of texts", "{number}: '{word}',"),
+        ("refusals by number", "'{word}',"), ("expected by number", "'{word}',"),
+        ("constants", "export const {word} = {number};\n")),
+    "page/src/locks.js": (("modules by number", "export const LOCKS = [{all:, }];"),),
+    "page/MODULE.md": (("codes", "| {word} | {codes} |\n"),),
+    "packaging/man/locktrace-trace.5": (
+        ("calls", MANUAL), ("steps", MANUAL), ("places", ALL + " ,"), ("outcomes", MANUAL)),
+    "packaging/man/lockreplay-schedule.5": (
+        ("locks", MANUAL), ("calls of ticket", ALL), ("calls of rw-fifo", ALL), ("steps", ALL)),
+    "packaging/man/locktrace.1": (
+        ("differences", ".Li Hangs , Unread , {others: , }\nand\n.Li {last} ."),),
+    "packaging/completions/locktrace.bash": (
+        ("locks", "local locks='{all: }'"), ("kinds", "'{word}'")),
+    "packaging/completions/locktrace.zsh": (
+        ("locks", "local -a locks=({all: })"), ("kinds", "'{word}'")),
+    "packaging/completions/locktrace.fish": (
+        ("locks", "set -l locks {all: }"), ("kinds", "echo '{word}'\n")),
+}
+
+
+def due_in(lists, form, margin):
+    """The text of a region."""
+    words = [each for name in lists.split(", ") for each in LISTS[name]]
+    if "{all" in form or "{last}" in form:
+        *others, last = every = [each["word"] for each in words]
+        return indent(form.format(all=Words(every), others=Words(others), last=last) + "\n", margin)
+    texts = [form.format_map(each) for each in words]
+    if form.endswith("\n"):
+        return indent("".join(texts), margin)
+    kept = " ".join(text.replace(" ", "\0") for text in texts)
+    return fill(kept, 99, initial_indent=margin, subsequent_indent=margin, break_on_hyphens=False,
+                break_long_words=False).replace("\0", " ") + "\n"
+
+
+def faults_in(path, is_check):
+    """What is wrong with a file. Its regions are compared if this is a check, and else filled."""
+    text, forms = (TOP / path).read_text(encoding="utf-8"), iter(REGIONS[path])
+    marked, due = [it["lists"] for it in REGION.finditer(text)], [it[0] for it in REGIONS[path]]
+    if marked != due:
+        return [f"{path}: it has the regions {marked}, due {due}"]
+    due = REGION.sub(lambda it: it["head"] + due_in(*next(forms), it[2]) + it["end"], text)
+    if not is_check:
+        (TOP / path).write_text(due, encoding="utf-8")
+    lines = enumerate(zip([*text.splitlines(), ""], [*due.splitlines(), ""]), 1)
+    return [f"{path}:{number}: {line!r}, due {other!r}: run make generate"
+            for number, (line, other) in lines if is_check and line != other][:1]
+
+
+def faults(is_check):
+    """What is wrong with any file."""
+    return [*(it for path in REGIONS for it in faults_in(path, is_check)), *by_hand.faults()]
+
+
+if __name__ == "__main__":
+    if sys.argv[1:] not in ([], ["--check"]):
+        sys.exit(__doc__)
+    sys.exit("\n".join(faults(bool(sys.argv[1:]))) or 0)

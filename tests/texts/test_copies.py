@@ -1,0 +1,61 @@
+"""What is written twice agrees.
+
+The code of docs/LOCKS.md is no copy: each line names a phase and the kind of its step, as the
+definitions `operation` and `after_call` of crates/lk_locks do. Operations of the ticket lock have
+names, in `laws`. The read-write locks share the file of their calls; the phases of each are those
+of its `step`, and take a section. Each model of bench/spin has a label for each phase.
+"""
+import re
+
+import generate
+from catalogue import CALLS, LOCKS, code_of, found, read
+
+SPECS = "crates/lk_locks/specs"
+KINDS = {"Read": "read", "Write": "write", "Swap": "swap", "CompareAndSwap": "cas",
+         "FetchAndAdd": "add"}
+
+
+def definitions_of(lock):
+    text = read(f"{SPECS}/{lock.replace('-', '_')}.antt")
+    return text + read(f"{SPECS}/laws.antt") if "specs.laws." in text else text
+
+
+def lines_defined(lock):
+    """The (kind, phase) of each step by the definitions. A call's word stands for a phase."""
+    own = definitions_of(lock)
+    text = own if "after_call" in own else read(f"{SPECS}/read_write.antt")
+    named = dict(found(rf"^(\w+)(?: \w+)* = ({'|'.join(KINDS)})\b", text))
+    steps = {(KINDS[named.get(operation, operation)], phase) for phase, operation in
+             found(r"^operation \w+ \(?([A-Z]\w+).* = Some \(?(\w+)", text)}
+    sections = {("section", phase) for phase in found(r"^step .*?\(?\b([A-Z]\w+)[^=]*=", own)}
+    calls = {("call", CALLS[call]) for call in found(r"^after_call .* (\w+) = Some", text)}
+    inside = {*found(r"^after_call \(?([A-Z]\w+).* = Some", text)} - {"Idle"}
+    return (steps or sections) | calls | {("inside", phase) for phase in inside}
+
+
+def lines_written(lock):
+    return {*found(r"-- (\w+) (\w+)(?: looks at .*)?$", code_of(lock))}
+
+
+def words_written(lock):
+    """The number of each word that has one of its own, in the table above the lock's code."""
+    above = read("docs/LOCKS.md").split(f"\n```{lock}\n")[0].rsplit("\n## ", 1)[1]
+    return {re.sub("[A-Z]", lambda big: f"_{big[0].lower()}", name): number
+            for number, name in found(r"^\| (\d+) \| `(\w+)` \|$", above)}
+
+
+def test_copies():
+    differ = generate.faults(is_check=True)
+    assert not differ, "\n".join(differ)
+
+
+def test_locks():
+    for lock in LOCKS.values():
+        written, text = lines_written(lock), definitions_of(lock)
+        differ = sorted(written ^ lines_defined(lock))
+        assert not differ, f"{lock}: in one of docs/LOCKS.md and the definitions: {differ}"
+        words = dict(found(r"^abbrev pub (\w+) : ℕ\n\1 = (\d+)$", text))
+        assert words_written(lock) == words, f"{lock}: words of docs/LOCKS.md, due {words}"
+        phases = {phase for kind, phase in written if kind != "call"}
+        labels = {*found(r"^(\w+):", read(f"bench/spin/{lock.replace('-', '_')}.pml"))}
+        assert labels == phases | {"end_Idle"}, f"{lock}: labels of its model, due {phases}"
