@@ -14,6 +14,7 @@ import { dirname, join } from 'node:path';
 import { fileURLToPath } from 'node:url';
 import { setFlagsFromString } from 'node:v8';
 import { bundle } from './build/bundle.mjs';
+import { kindsOf } from './build/kinds.mjs';
 import { lessonsOf, storedOf } from './build/lessons.mjs';
 import { rangesOf } from './build/ranges.mjs';
 import { codeOf, linesOf, wordsOf } from './src/locks_code.js';
@@ -43,7 +44,7 @@ function build(module) {
   const locks = read('..', 'docs', 'LOCKS.md');
   const [code, ranges] = [codeOf(locks), rangesOf(module)];
   const data = {
-    module: module.toString('base64'), code, words: wordsOf(locks), lessons,
+    module: module.toString('base64'), code, words: wordsOf(locks), kinds: kindsOf(module), lessons,
     stored: storedOf(module, lessons, ranges, linesOf(code)), ranges,
   };
   const script = `${bundle(SOURCES, 'main.js')}\nstart(${asScript(data)});`;

@@ -71,7 +71,7 @@ class Finding {
 
   // The kinds of the chosen lock. The lines of another lock's are not kept.
   listKinds() {
-    this.kinds = kindsOf(this.machine, LOCK_NAMES.indexOf(this.fields.lock.value));
+    this.kinds = kindsOf(this.fields.lock.value);
     const options = this.kinds.map(({ name }, at) => html`<option value="${at}">${name}</option>`);
     show(this.fields.kind, html`<option value="">${T.own}</option>${options}`);
     this.fields.kind.value = '';

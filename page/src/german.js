@@ -1,6 +1,7 @@
 // The sentences of the page in German, by the names of the English ones. The words of schedules
 // and reports stay as they are.
 
+import { germanKinds } from './german_kinds.js';
 import { germanLocks } from './german_locks.js';
 
 export const german = {
@@ -246,15 +247,6 @@ export const german = {
       what: 'Aufruf oder Schritt', outcome: 'Ergebnis', says: 'Was er tat', holds: 'Hält',
       line: 'Schlange', part: (from, to, count) => `Züge ${from} bis ${to} von ${count}`,
     },
-    says: {
-      acquire: '{who} ruft acquire auf. Ein Aufruf ändert kein Wort.',
-      release: '{who} ruft release auf, und hält die Sperre noch.',
-      rlock: '{who} ruft rlock auf und möchte lesen.',
-      runlock: '{who} ruft runlock auf, und liest noch.',
-      wlock: '{who} ruft wlock auf und möchte schreiben.',
-      wunlock: '{who} ruft wunlock auf, und schreibt noch.',
-      downgrade: '{who} ruft downgrade auf, und schreibt noch.',
-    },
     refused: {
       NoSuchThread: 'Es gibt keinen {thread}: Die Sperre hat {threads}, von 0 bis {last}.',
       WrongLock: '„{word}“ ist kein Zug dieser Sperre.',
@@ -341,4 +333,5 @@ export const german = {
     },
   },
   ...germanLocks,
+  kinds: germanKinds,
 };

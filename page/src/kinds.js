@@ -1,23 +1,28 @@
-// The kinds of transition of a lock: what the module calls each, the lines of a sketch of which
-// each shortest run has one, and the phases and the outcome by which a record shows it.
+// The kinds of transition of each lock, as the module gave them when the page was built: their
+// names, the lines of a sketch of which each shortest run has one, and their sentences.
 
-import { OUTCOMES, PHASES } from './codes.js';
-import { LOCKS } from './locks.js';
-import { textsOfKinds } from './search.js';
+import { translated } from './language.js';
+import { lockOf } from './locks.js';
 
-export const markOf = (before, outcome, after) => (
-  `${PHASES[before]} ${OUTCOMES[outcome]} ${PHASES[after]}`);
+const tables = {};
 
-export function kindsOf(machine, lock) {
-  return textsOfKinds(machine, lock).map(([name, ...sketch], at) => ({
-    name, sketch: sketch.join('\n'), mark: LOCKS[lock].kinds[at],
-  }));
+// {lock: [{name, sketch, says}, ..]}, before anything is drawn.
+export function learnKinds(kinds) {
+  const sentences = Object.entries(kinds).map(([lock, rows]) => (
+    [lock, Object.fromEntries(rows.map(({ name, says }) => [name, says]))]));
+  const says = translated('kinds', Object.fromEntries(sentences));
+  for (const [lock, rows] of Object.entries(kinds)) {
+    tables[lock] = rows.map((row) => ({ ...row, says: says[lock][row.name] }));
+  }
 }
 
+// By the lock's name in schedules.
+export const kindsOf = (lock) => tables[lock];
+
+export const kindOf = (run, move) => kindsOf(lockOf(run).name)[run.records.kind(move)];
+
 // The first move of a run that is a transition of this kind, or 0.
-export function firstOf(run, { mark }) {
+export function firstOf(run, kind) {
   const moves = Array.from({ length: run.count }, (_, at) => at + 1);
-  const { records } = run;
-  return moves.find((move) => (
-    markOf(run.phaseBefore(move), records.outcome(move), records.phase(move)) === mark)) ?? 0;
+  return moves.find((move) => kindOf(run, move) === kind) ?? 0;
 }

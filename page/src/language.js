@@ -1,5 +1,6 @@
 // The language of the page: what the address asks for with `&lang=`, else what the browser wants,
-// else English. The English sentences are beside what says them; another language is one file.
+// else English. The English sentences are beside what says them, or the module gives them; another
+// language is one file.
 
 import { german } from './german.js';
 

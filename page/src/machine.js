@@ -146,6 +146,7 @@ export class Records {
   line(move) { return this.view.getUint32((move - 1) * RECORD_BYTES, true); }
   thread(move) { return this.byte(move, 4); }
   action(move) { return this.byte(move, 5); }
+  kind(move) { return this.byte(move, 6); }
   isCall(move) { return !isStep(this.action(move)); }
   outcome(move) { return this.byte(move, 7); }
   phase(move) { return this.byte(move, 8); }

@@ -2,6 +2,7 @@
 
 import { fromBase64 } from './bytes.js';
 import { listen } from './controls.js';
+import { learnKinds } from './kinds.js';
 import { differences, language, LANGUAGES, sources } from './language.js';
 import { linesOf } from './locks_code.js';
 import { looks } from './looks.js';
@@ -45,6 +46,7 @@ function writeTexts() {
 
 export function start(data) {
   learnWords(data.words);
+  learnKinds(data.kinds);
   const machine = machineOf(data);
   const lessons = data.lessons.map((lesson) => ({ ...lesson, text: fromBase64(lesson.text) }));
   writeTexts();

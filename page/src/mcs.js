@@ -2,7 +2,7 @@
 // the order of the queue that the machine names. A link is drawn if the word says so; one that
 // is missing is drawn as missing.
 
-import { PHASE, PHASES } from './codes.js';
+import { PHASES } from './codes.js';
 import { firstFitting, fitted, widthOf } from './fitting.js';
 import { folding, movingThread } from './folding.js';
 import { translated } from './language.js';
@@ -16,38 +16,6 @@ import { say, texts } from './texts.js';
 const T = translated('mcs', {
   title: 'MCS queue lock', memory: 'Memory, in the order of the queue', noLink: 'no link',
   atRest: (who) => `Idle: ${who}`,
-  says: {
-    ClearNext: { moved: '{who} writes nil into {whose} own next.' },
-    SwapTail: {
-      moved: '{who} swaps the tail and finds {foundName}. From here on {who} is in the queue, '
-        + 'though no word of {foundWhose} record says so.',
-      entered: '{who} swaps the tail for {whose} record. The tail was nil: {who} enters.',
-    },
-    SetLocked: { moved: '{who} sets {whose} own locked to 1.' },
-    LinkTo: { moved: '{who} writes the link: {otherWhose} next now points to {whom}.' },
-    AwaitGrant: {
-      waits: '{who} polls {whose} own locked and waits: it is still {found}.',
-      entered: '{who} finds {whose} own locked at {found}, and enters.',
-    },
-    ReadNext: {
-      moved: '{who} looks for a successor and finds {foundName}.',
-      nil: '{who} looks for a successor: {whose} next is nil.',
-    },
-    CasTail: {
-      moved: 'The compare-and-swap fails: the tail is {foundName}, not {whom}. {whom} has '
-        + 'a successor, and has not seen yet who it is.',
-      left: 'The tail is still {whom}: the compare-and-swap sets it to nil, and {whom} has '
-        + 'left.',
-    },
-    AwaitLink: {
-      waits: '{who} polls: {whose} next is still nil. {who} has to wait for the link.',
-      moved: 'The link is there: {who} finds {foundName}.',
-    },
-    Grant: {
-      left: '{who} clears {otherWhose} locked, and has left. {other} is next, and enters with '
-        + 'its next poll.',
-    },
-  },
   captions: {
     nobody: 'The queue is empty.',
     alone: '{first} is alone in the queue.',
@@ -55,8 +23,10 @@ const T = translated('mcs', {
     missing: '{before} is followed by {after}, and only {after} knows.',
   },
 });
-const { says, captions, atRest } = T;
+const { captions, atRest } = T;
 const NIL = 'nil';
+// The phases with the number of another thread.
+const NAMES_ANOTHER = ['LinkTo', 'Grant'];
 
 const OWN_VARIABLE = { SetLocked: 'pred', LinkTo: 'pred', Grant: 'succ' };
 const RECORD = {
@@ -276,19 +246,14 @@ function restingNote(view, hidden) {
   return named && atRest(named);
 }
 
-// A release that finds no successor has a sentence of its own.
-function variant(run, move, phase) {
+// The thread whose record the word named before the move, and the one that the phase names.
+function values({ run, names }, move, phase) {
   const named = run.owned.named(run.records.found(move));
-  return phase === PHASE.ReadNext && named === undefined ? 'nil' : null;
-}
-
-function values(view, move, phase) {
-  const { run, names } = view;
-  const named = run.owned.named(run.records.found(move));
-  const foundName = named === undefined ? NIL : names.of(named);
-  const other = [PHASE.LinkTo, PHASE.Grant].includes(phase)
-    ? names.of(Number(run.phaseNumberBefore(move))) : '';
-  return { foundName, foundWhose: `${foundName}’s`, other, otherWhose: `${other}’s` };
+  const other = NAMES_ANOTHER.includes(PHASES[phase]);
+  return {
+    finds: named === undefined ? NIL : names.of(named),
+    other: other ? names.of(Number(run.phaseNumberBefore(move))) : '',
+  };
 }
 
 // Below a lane's mark: what the move found.
@@ -297,20 +262,9 @@ function mark(view, move) {
   return valueText(records.touched(move), records.found(move), view);
 }
 
-// Its kinds of transition in the module's order: phase before, outcome, phase after.
-const KINDS = [
-  'Idle called ClearNext', 'ClearNext moved SwapTail', 'SwapTail entered McsInside',
-  'SwapTail moved SetLocked', 'SetLocked moved LinkTo', 'LinkTo moved AwaitGrant',
-  'AwaitGrant waits AwaitGrant', 'AwaitGrant entered McsInside', 'McsInside called ReadNext',
-  'ReadNext moved CasTail', 'ReadNext moved Grant', 'CasTail left Idle',
-  'CasTail moved AwaitLink', 'AwaitLink waits AwaitLink', 'AwaitLink moved Grant',
-  'Grant left Idle',
-];
-
 export const mcs = {
-  kinds: KINDS,
   name: 'mcs', title: T.title, lesson: 'mcs', memory: T.memory,
   signs: ['fails', 'inCall', 'line', 'holds', 'unlinked', 'ended'],
-  says, mark, variant, values,
+  mark, values,
   wordName, valueText, draw, caption, leastWidth,
 };

@@ -22,19 +22,6 @@ const T = translated('readWrite', {
     readers: '{readers} inside, {words}.', writer: '{writer} writes, {words}.',
     nobody: 'Nobody is inside, {words}.',
   },
-  // The sentences that name no more than the counts of readers that come and that go.
-  sections: {
-    TryRead: {
-      waits: '{who} polls and waits: the flag is set.',
-      entered: '{who} finds the flag clear and counts itself: {coming} is now {left}.',
-    },
-    LeaveRead: { left: '{who} counts itself out: {going} is now {left}. {who} has left.' },
-    LeaveWrite: { left: '{who} clears the flag, and has left.' },
-    TryDowngrade: {
-      entered: '{who} becomes a reader in one section: {coming} is now {left}, and the flag is '
-        + 'clear.',
-    },
-  },
 });
 const { wants, captions } = T;
 const WRITER = 3;
@@ -113,14 +100,6 @@ export function monitorEnd(view, state, y) {
 const wordsText = (lock, state) => wordNames(lock)
   .map((name, word) => `${name} ${state.word(word)}`).join(', ');
 
-const counting = (text, coming, going) => text.replaceAll('{coming}', coming)
-  .replaceAll('{going}', going);
-
-// The sections' sentences with the names of both counts.
-export const sectionsSay = (coming, going) => Object.fromEntries(
-  Object.entries(T.sections).map(([phase, outcomes]) => [phase, Object.fromEntries(
-    Object.entries(outcomes).map(([name, text]) => [name, counting(text, coming, going)]))]));
-
 // Below the picture: who is inside, and the words.
 export function readersCaption(lock) {
   return (view, state) => {
@@ -142,15 +121,6 @@ export function sectionMark(lock, shortNames) {
 }
 
 // What the entries of `locks.js` share. The calls have long words, so the columns are wide.
-// The kinds of transition of both in the module's order: phase before, outcome, phase after.
-const KINDS = [
-  'Idle called TryRead', 'TryRead entered Reading', 'TryRead waits TryRead',
-  'Reading called LeaveRead', 'LeaveRead left Idle', 'Idle called TryWrite',
-  'TryWrite entered Writing', 'TryWrite waits TryWrite', 'Writing called LeaveWrite',
-  'LeaveWrite left Idle', 'Writing called TryDowngrade', 'TryDowngrade entered Reading',
-];
-
 export const readWrite = {
-  kinds: KINDS,
   memory: T.memory, leastColumn: 56, valueText: (_, value) => String(value),
 };

@@ -4,7 +4,7 @@
 import { translated } from './language.js';
 import { html } from './markup.js';
 import {
-  monitor, monitorEnd, readersCaption, readWrite, room, roomHeight, sectionMark, sectionsSay,
+  monitor, monitorEnd, readersCaption, readWrite, room, roomHeight, sectionMark,
 } from './read_write.js';
 import { picture, useOf, wordBox } from './shapes.js';
 import { say } from './texts.js';
@@ -14,23 +14,8 @@ import { wordNamed, wordNames } from './words.js';
 const T = translated('rwFifo', {
   title: 'FIFO read-write lock',
   announced: '{writer} is announced: no reader may pass.',
-  says: {
-    TryWrite: {
-      waits: '{who} polls and waits: the flag is set. {who} is not in the queue.',
-      moved: '{who} sets the flag, and so is announced: no reader enters before it. The '
-        + 'counts are {acquires} and {releases}, so {who} waits for the readers.',
-      entered: '{who} sets the flag, finds the counts equal, and writes.',
-    },
-    AwaitReaders: {
-      waits: '{who} polls and waits: the counts are {acquires} and {releases}, so there are '
-        + 'readers inside.',
-      entered: '{who} finds the counts equal, {acquires} and {releases}: no reader is inside, '
-        + 'and {who} writes.',
-    },
-    wraps: 'After {found} comes {left}: the count wraps around.',
-  },
+  wraps: 'After {found} comes {left}: the count wraps around.',
 });
-const says = { ...sectionsSay('readAcquires', 'readReleases'), ...T.says };
 
 const NAME = 'rw-fifo';
 const ACQUIRES = 'readAcquires';
@@ -83,24 +68,12 @@ function caption(view, state) {
   return { text: `${text} ${announced}` };
 }
 
-function values(view, move) {
-  const state = view.run.state(move);
-  return { acquires: held(state, ACQUIRES), releases: held(state, RELEASES) };
-}
-
 const leastWidth = (view) => (hasWheel(view.run.bits) ? 494 : 380);
-
-// The kinds that the simple lock does not have.
-const MORE_KINDS = [
-  'TryWrite moved AwaitReaders', 'AwaitReaders waits AwaitReaders',
-  'AwaitReaders entered Writing',
-];
 
 export const rwFifo = {
   ...readWrite, name: NAME, title: T.title, lesson: 'fifo',
-  kinds: [...readWrite.kinds, ...MORE_KINDS],
   signs: ['inCall', 'line', 'reads', 'writes', 'ended'],
-  says, wraps: ['TryRead', 'LeaveRead', 'TryDowngrade'],
-  mark: sectionMark(NAME, { [ACQUIRES]: 'acq.', [RELEASES]: 'rel.' }), values,
+  wraps: { text: T.wraps, kinds: ['rlock: entered', 'runlock: left', 'downgrade: entered'] },
+  mark: sectionMark(NAME, { [ACQUIRES]: 'acq.', [RELEASES]: 'rel.' }),
   wordName: (word) => wordNames(NAME)[word], draw, caption, leastWidth,
 };

@@ -4,22 +4,14 @@
 import { translated } from './language.js';
 import { html } from './markup.js';
 import {
-  monitor, monitorEnd, readersCaption, readWrite, room, roomHeight, sectionMark, sectionsSay,
+  monitor, monitorEnd, readersCaption, readWrite, room, roomHeight, sectionMark,
 } from './read_write.js';
 import { picture, useOf, wordBox } from './shapes.js';
 import { wordNamed, wordNames } from './words.js';
 
 const T = translated('rwSimple', {
   title: 'Simple read-write lock',
-  says: {
-    TryWrite: {
-      waits: '{who} polls and waits: readers is {readers}, and the flag is {flag}. Both have to '
-        + 'be 0.',
-      entered: '{who} finds no reader and the flag clear, sets the flag, and writes.',
-    },
-  },
 });
-const says = { ...sectionsSay('readers', 'readers'), ...T.says };
 
 const NAME = 'rw-simple';
 const READERS = 'readers';
@@ -43,16 +35,11 @@ function draw(view, state) {
 
 const caption = readersCaption(NAME);
 
-function values(view, move) {
-  const state = view.run.state(move);
-  return { readers: held(state, READERS), flag: held(state, FLAG) };
-}
-
 const leastWidth = () => 420;
 
 export const rwSimple = {
   ...readWrite, name: NAME, title: T.title, lesson: 'simple',
   signs: ['inCall', 'reads', 'writes', 'ended'],
-  says, mark: sectionMark(NAME, { [READERS]: 'read.' }), values,
+  mark: sectionMark(NAME, { [READERS]: 'read.' }),
   wordName: (word) => wordNames(NAME)[word], draw, caption, leastWidth,
 };

@@ -2,7 +2,7 @@
 // lines of a sketch. This file lends the memory, and gives the numbers their names. Whether a run
 // has a line the module says.
 
-import { bytesOf, lettersOf } from './bytes.js';
+import { bytesOf } from './bytes.js';
 import { MOVES } from './codes.js';
 
 export const FOUND = {
@@ -14,7 +14,6 @@ export const FOUND = {
 const MOST_STATES = 250000;
 const MOST_CELLS = 1 << 23;
 const MOST_MOVES_FOUND = 4096;
-const LONGEST_KIND = 256;
 const BYTE = 1;
 const SLOT = 4;
 const CELL = 8;
@@ -37,18 +36,6 @@ const asked = (slices) => slices.flatMap(({ at, length }) => [BigInt(at), BigInt
 
 // How many states a search may have: as many as their cells have room for.
 const statesFor = (width) => Math.min(MOST_STATES, Math.floor(MOST_CELLS / width));
-
-// Of each kind of transition of a lock what it is called, and the lines of a sketch that has it.
-export function textsOfKinds(machine, lock) {
-  const count = Number(machine.exports.kinds(BigInt(lock)));
-  return Array.from({ length: count }, (_, kind) => {
-    const [text] = lendSlices(machine, [[LONGEST_KIND, BYTE]]);
-    const length = machine.exports.kind_text(BigInt(lock), BigInt(kind), ...asked([text]));
-    const { buffer } = machine.exports.memory;
-    const { letters } = lettersOf(new Uint8Array(buffer, text.at, Number(length)));
-    return letters.split('\n');
-  });
-}
 
 // A move of a run by its code: 512 times that of the move, and its thread.
 const moveOf = (code) => `${code & 255} ${MOVES[code >> 9]}`;

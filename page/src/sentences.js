@@ -1,26 +1,34 @@
-// One sentence on what a move did: by the lock, the phase in which it found its thread, and its
-// outcome.
+// One sentence on what a move did: that of its kind of transition, with the move's values.
 
-import { MOVES, NO_WORD, OUTCOMES, PHASES } from './codes.js';
+import { NO_WORD } from './codes.js';
+import { kindOf } from './kinds.js';
 import { lockOf } from './locks.js';
 import { say, texts } from './texts.js';
+import { wordNames } from './words.js';
 
-export function sentence(view, move) {
+// What fills the places of a sentence. A word's place has its value after the move.
+function valuesOf(view, move) {
   const { run, names } = view;
   const { records } = run;
-  const who = names.of(records.thread(move));
-  if (records.isCall(move)) return say(texts.says[MOVES[records.action(move)]], { who });
   const lock = lockOf(run);
-  const phase = run.phaseBefore(move);
-  const key = lock.variant?.(run, move, phase) ?? OUTCOMES[records.outcome(move)];
-  const found = records.found(move);
-  const left = records.left(move);
-  const values = {
-    who, whom: who, whose: `${who}’s`, found, left, ...lock.values(view, move, phase),
+  const state = run.state(move);
+  const words = Object.fromEntries((wordNames(lock.name) ?? [])
+    .map((name, word) => [name, state.word(word)]));
+  return {
+    ...words, who: names.of(records.thread(move)), found: records.found(move),
+    left: records.left(move), number: run.phaseNumberBefore(move),
+    ...lock.values?.(view, move, run.phaseBefore(move)),
   };
-  const text = say(lock.says[PHASES[phase]][key], values);
-  const wraps = lock.wraps?.includes(PHASES[phase]) && left < found;
-  return wraps ? `${text} ${say(lock.says.wraps, values)}` : text;
+}
+
+export function sentence(view, move) {
+  const { run } = view;
+  const { records } = run;
+  const [kind, values] = [kindOf(run, move), valuesOf(view, move)];
+  const text = `${say(kind.says, values)}.`;
+  const { wraps } = lockOf(run);
+  const isWrap = wraps?.kinds.includes(kind.name) && records.left(move) < records.found(move);
+  return isWrap ? `${text} ${say(wraps.text, values)}` : text;
 }
 
 // What the move wrote, as `word = value`, and what was there; a section may write two.

@@ -4,7 +4,7 @@
 
 import { bytesOf } from './bytes.js';
 import { MOST_MOVES, MOVES } from './codes.js';
-import { kindsOf, markOf } from './kinds.js';
+import { kindsOf } from './kinds.js';
 import { LOCK_NAMES } from './locks.js';
 import { Records } from './machine.js';
 import { html } from './markup.js';
@@ -29,32 +29,30 @@ function nextOf(machine, { text, state, path }) {
     const line = `${thread} ${word}`;
     const longer = `${text}${line}\n`;
     const { state: after, records } = machine.play(bytesOf(longer), MOST_MOVES, true);
-    const outcome = new Records(records).outcome(after.played);
-    const mark = markOf(state.phase(thread), outcome, after.phase(thread));
-    return { text: longer, state: after, path: [...path, line], mark };
+    const kind = new Records(records).kind(after.played);
+    return { text: longer, state: after, path: [...path, line], kind };
   }));
 }
 
 // Of each kind that can be reached the moves to it, a nearest one first; and whether all states
 // were looked at, or all kinds found.
-function search(machine, first, names) {
+function search(machine, first, kinds) {
   const [ways, seen, waiting] = [new Map(), new Set([first.state.situation]), [first]];
-  while (waiting.length && ways.size < names.size && seen.size < MOST_STATES) {
+  while (waiting.length && ways.size < kinds.length && seen.size < MOST_STATES) {
     for (const next of nextOf(machine, waiting.shift())) {
-      const name = names.get(next.mark);
-      if (name && !ways.has(name)) ways.set(name, next.path);
+      const { name } = kinds[next.kind];
+      if (!ways.has(name)) ways.set(name, next.path);
       const { situation } = next.state;
       if (!seen.has(situation)) waiting.push(next);
       seen.add(situation);
     }
   }
-  return { ways: [...ways], whole: !waiting.length || ways.size === names.size };
+  return { ways: [...ways], whole: !waiting.length || ways.size === kinds.length };
 }
 
 export class Soon {
   constructor(session) {
     this.session = session;
-    this.names = [];
     this.known = new WeakMap();
   }
 
@@ -70,10 +68,10 @@ export class Soon {
   searched(run, move) {
     const { machine } = this.session;
     const { kind, threads, bits } = run;
-    this.names[kind] ??= new Map(kindsOf(machine, kind).map(({ mark, name }) => [mark, name]));
     const begun = headerOf(LOCK_NAMES[kind], threads, bits) + linesOf(run.records, move);
     const { state } = machine.play(bytesOf(begun), MOST_MOVES, false);
-    return search(machine, { text: begun, state, path: [] }, this.names[kind]);
+    return search(machine, { text: begun, state, path: [] },
+      kindsOf(LOCK_NAMES[kind]));
   }
 
   view() {

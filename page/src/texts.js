@@ -308,17 +308,6 @@ const english = {
     part: (from, to, count) => `Moves ${from} to ${to} of ${count}`,
   },
 
-  // One sentence for each call; those for the steps of a lock are in its file.
-  says: {
-    acquire: '{who} calls acquire. A call changes no word.',
-    release: '{who} calls release, and still holds the lock.',
-    rlock: '{who} calls rlock: it wants to read.',
-    runlock: '{who} calls runlock, and still reads.',
-    wlock: '{who} calls wlock: it wants to write.',
-    wunlock: '{who} calls wunlock, and still writes.',
-    downgrade: '{who} calls downgrade, and still writes.',
-  },
-
   refused: {
     NoSuchThread: 'There is no {thread}: the lock has {threads}, numbered from 0 to {last}.',
     WrongLock: '“{word}” is not a move of this lock.',

@@ -21,26 +21,14 @@ const T = translated('ticket', {
   title: 'Ticket lock', memory: 'Memory: who has which ticket', next: 'next',
   strip: 'The tickets in use, in the order of the queue, and the next one',
   stripShort: 'Tickets in the order of the queue',
-  says: {
-    TakeTicket: {
-      moved: '{who} takes ticket {found}, and is in the queue from here on. next_ticket is now '
-        + '{left}.',
-    },
-    AwaitTurn: {
-      waits: '{who} polls and waits: now_serving is {found}, and {whose} ticket is {number}.',
-      entered: '{who} finds {whose} ticket, {found}, in now_serving, and enters.',
-    },
-    ReadServing: { moved: '{who} reads now_serving, to pass it on: it is {found}.' },
-    PassOn: { left: '{who} writes {left} into now_serving, and has left.' },
-    wraps: 'After {found} comes {left}: the numbers wrap around.',
-  },
+  wraps: 'After {found} comes {left}: the numbers wrap around.',
   captions: {
     nobody: 'No ticket is in use: the next one is {next}.',
     line: 'Ticket {serving} is served; the next ticket is {next}.',
     wraps: 'The tickets have wrapped around: {first} is served before {last}.',
   },
 });
-const { says, captions } = T;
+const { captions } = T;
 
 const CELL = 74;
 const CELL_ROW = 92;
@@ -182,21 +170,13 @@ function caption(view, state) {
 }
 
 const mark = ({ run }, move) => String(run.records.found(move));
-const values = (view, move) => ({ number: view.run.phaseNumberBefore(move) });
 
 const leastWidth = (view) => (hasWheel(view.run.bits) ? 466 : 446);
 
-// Its kinds of transition in the module's order: phase before, outcome, phase after.
-const KINDS = [
-  'Idle called TakeTicket', 'TakeTicket moved AwaitTurn', 'AwaitTurn entered TicketInside',
-  'AwaitTurn waits AwaitTurn', 'TicketInside called ReadServing', 'ReadServing moved PassOn',
-  'PassOn left Idle',
-];
-
 export const ticket = {
-  kinds: KINDS,
   name: NAME, title: T.title, lesson: 'ticket', memory: T.memory,
   signs: ['inCall', 'line', 'holds', 'ended'],
-  says, wraps: ['TakeTicket', 'PassOn'], mark, values,
+  wraps: { text: T.wraps, kinds: ['acquire: took a ticket', 'release: served the next ticket'] },
+  mark,
   wordName, valueText, draw, caption, leastWidth,
 };

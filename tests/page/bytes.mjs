@@ -179,7 +179,7 @@ function checkRow(machine, row) {
 function checkKinds(machine) {
   assert.deepEqual([0, 1, 2, 3, 4].map((lock) => Number(machine.exports.kinds(BigInt(lock)))),
     [7, 16, 12, 15, 0]);
-  const text = 'acquire: called\n* acquire';
+  const text = 'acquire: called\n{who} calls acquire; a call changes no word\n* acquire';
   const written = (length) => Number(machine.exports.kind_text(0n, 0n, BigInt(machine.base),
     BigInt(length)));
   assert.equal(written(text.length), text.length);

@@ -101,12 +101,12 @@ function checkSketch(machine, [space, sketch, expected]) {
   checkMet(run, lines);
 }
 
-// What a kind is called, and the lines of its sketch.
+// The name of a kind, its sentence, and the lines of its sketch.
 function kindText(machine, lock, kind) {
-  machine.lend(256);
+  machine.lend(1024);
   machine.text = null;
   const length = Number(machine.exports.kind_text(BigInt(lock), BigInt(kind),
-    BigInt(machine.base), 256n));
+    BigInt(machine.base), 1024n));
   const bytes = new Uint8Array(machine.exports.memory.buffer, machine.base, length);
   return new TextDecoder().decode(bytes).split('\n');
 }
@@ -116,7 +116,7 @@ function checkKinds(machine, lock, names, lengths) {
   assert.equal(count, names.length, lock);
   const asked = { lock, threads: 2, bits: 64, rounds: 1 };
   names.forEach(([, kind, expected], i) => {
-    const [name, ...lines] = kindText(machine, LOCKS.indexOf(lock), i);
+    const [name, , ...lines] = kindText(machine, LOCKS.indexOf(lock), i);
     assert.equal(name, expected);
     const run = transitionsOf(machine, asked, find(machine, asked, lines).run);
     const [, , length] = lengths.find((row) => row[1] === kind);

@@ -14,7 +14,8 @@ use Rattle.lk_locks.specs.declared.kinds.Phase.{Phase}
 use Rattle.lk_locks.specs.declared.kinds.Phase.TheVariants.{Idle}
 use Rattle.lk_locks.proofs.Moves.{accepted_of}
 use Rattle.lk_replay.specs.declared.schedule.Line.{Line}
-use Rattle.lk_page.specs.Told.{AreTouched, IsOwn, IsRecord, own_word, standing}
+use Rattle.lk_page.specs.Told.{AreTouched, IsOwn, IsRecord, kind_number, own_word, standing}
+use Rattle.lk_page.specs.Told.{transition_of}
 use Rattle.lk_page.specs.Next.{allowed_calls, waits_after}
 use Rattle.lk_page.specs.Playing.{moment}
 use Rattle.lk_page.specs.declared.told.Standing.{Standing}
@@ -25,12 +26,19 @@ pub state_after : (k next : Tracked) (t : ℕ) (m : Move) → refusal_of k.state
     → next ≡ after_tracked k t m → next.state ≡ next_state k.state t m
 state_after k next t m a e = ap (λ (x : Tracked). x.state) e ∙ rw a refl
 
-pub is_told : (k next : Tracked) (es : List Entry) (l : Line) (o : Outcome) (p : Phase)
+pub is_told : (k next : Tracked) (es : List Entry) (l : Line) (o : Outcome) (kind : ℕ) (p : Phase)
     (d : Option StepKind) (stand : Standing) (calls : ℕ) (waits : Bool)
     (first second : Option Touch)
     → k ≡ tracked k.state es → refusal_of k.state l.thread l.action ≡ None
     → next ≡ after_tracked k l.thread l.action
-    → o ≡ (change_of k.state l.thread l.action).outcome → p ≡ phase_at next.state.phases l.thread
+    → o ≡ (change_of k.state l.thread l.action).outcome
+    → kind ≡ kind_number next.state.kind (record {
+      from = phase_at k.state.phases l.thread;
+      action = l.action;
+      outcome = o;
+      after = phase_at next.state.phases l.thread;
+    })
+    → p ≡ phase_at next.state.phases l.thread
     → d ≡ step_due next.state.kind (phase_at next.state.phases l.thread)
     → stand ≡ standing (holding_in next) (waiting_in next) l.thread
     → calls ≡ allowed_calls next.state l.thread
@@ -42,6 +50,7 @@ pub is_told : (k next : Tracked) (es : List Entry) (l : Line) (o : Outcome) (p :
       thread = l.thread;
       action = l.action;
       outcome = o;
+      kind = kind;
       phase = p;
       due = d;
       standing = stand;
@@ -50,7 +59,7 @@ pub is_told : (k next : Tracked) (es : List Entry) (l : Line) (o : Outcome) (p :
       first = first;
       second = second;
     })
-is_told k next es l o p d stand calls waits first second h a e oe pe de se ce we touched own =
+is_told k next es l o kind p d stand calls waits first second h a e oe ke pe de se ce we touched own =
     let g =
     e ∙ ap (λ (x : Tracked). after_tracked x l.thread l.action) h
     ∙ tracked_on k.state l.thread l.action es a in
@@ -60,6 +69,7 @@ is_told k next es l o p d stand calls waits first second h a e oe pe de se ce we
     (accepted_of k.state l.thread l.action a).thread in
     record {
       accepted = rw oe refl;
+      kind = ke ∙ rw (oe, is) (ap (λ (x : Tracked). kind_number x.state.kind (transition_of k.state l)) g);
       phase = pe ∙ is;
       due =
           de ∙ ap (step_due next.state.kind) is

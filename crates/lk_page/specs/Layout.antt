@@ -39,7 +39,7 @@ thread_code r =
 unfoldable pub record_bytes : Record → List ℕ
 record_bytes r =
     to_le_bytes w32 r.line
-    ++ (r.thread ∷ move_number r.action ∷ 0 ∷ outcome_number r.outcome
+    ++ (r.thread ∷ move_number r.action ∷ r.kind ∷ outcome_number r.outcome
     ∷ phase_code r.phase ∷ thread_code r ∷ [])
     ++ to_le_bytes w16 (touched_word r.first) ++ to_le_bytes w16 (touched_word r.second)
     ++ (due_code r.due ∷ r.calls ∷ [])

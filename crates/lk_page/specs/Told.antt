@@ -11,6 +11,7 @@ use Rattle.lk_locks.specs.Steps.{refusal_of, change_of, next_state}
 use Rattle.lk_locks.specs.Steps.{entries_of}
 use Rattle.lk_locks.specs.Sequential.{has}
 use Rattle.lk_locks.specs.Holding.{Holding, Free, HeldBy, ReadBy, WrittenBy, holding_of, waiting_of}
+use Rattle.lk_locks.specs.declared.kinds.LockKind.{LockKind}
 use Rattle.lk_locks.specs.declared.kinds.Move.{Move}
 use Rattle.lk_locks.specs.declared.kinds.Move.TheVariants.{Call, Step}
 use Rattle.lk_locks.specs.declared.kinds.Entry.{Entry}
@@ -18,6 +19,8 @@ use Rattle.lk_replay.specs.Schedule.{Plan}
 use Rattle.lk_replay.specs.Replay.{start_of, made_by}
 use Rattle.lk_replay.specs.declared.schedule.Line.{Line}
 use Rattle.lk_page.specs.Next.{allowed_calls, waits_after}
+use Rattle.lk_catalogue.specs.Kinds.{kind_of}
+use Rattle.lk_catalogue.specs.declared.kinds.Observed.{Observed}
 use Rattle.lk_page.specs.declared.told.Touch.{Touch}
 use Rattle.lk_page.specs.declared.told.Standing.{Standing}
 use Rattle.lk_page.specs.declared.told.Record.{Record}
@@ -94,10 +97,24 @@ writes h t = false
 abbrev pub standing : Holding → List ℕ → ℕ → Standing
 standing h queue t = record { holds = holds h t; is_queued = has queue t; writes = writes h t }
 
+-- the number of a transition's kind; each transition of a lock has one
+abbrev pub kind_number : LockKind → Observed → ℕ
+kind_number kind x = option_map_or (λ place. place) (kind_of kind x) 255
+
+-- an accepted move as a transition
+abbrev pub transition_of : State → Line → Observed
+transition_of s l = record {
+  from = phase_at s.phases l.thread;
+  action = l.action;
+  outcome = (change_of s l.thread l.action).outcome;
+  after = (change_of s l.thread l.action).phase;
+}
+
 -- the record of an accepted move
 pub record IsRecord (m : Moment) (l : Line) (r : Record) : Type 0 where
   pub accepted : (made_by m.state l).accepted
       ≡ record { line = r.line; thread = r.thread; action = r.action; outcome = r.outcome }
+  pub kind : r.kind ≡ kind_number m.state.kind (transition_of m.state l)
   pub phase : r.phase ≡ (change_of m.state l.thread l.action).phase
   pub due : r.due ≡ step_due m.state.kind (change_of m.state l.thread l.action).phase
   pub stands : r.standing

@@ -10,7 +10,7 @@
 ghost use Rattle.std.specs.Prelude.{◌≡◌, ◌<◌, ◌≤◌, length};
 ghost use Rattle.std.specs.Option.{option_map_or};
 ghost use Rattle.lk_replay.specs.Schedule.{plan_of};
-ghost use Rattle.lk_search.specs.Kinds.{kind_count};
+ghost use Rattle.lk_catalogue.specs.Kinds.{kind_count};
 ghost use Rattle.lk_page.specs.Asked.{IsAsked, asked_by, lock_of};
 ghost use Rattle.lk_page.specs.Codes.{expected_code};
 ghost use Rattle.lk_page.specs.Sought.{IsAnswered, states_within};
@@ -35,10 +35,10 @@ use asking::{asked_of, lock_of};
 use codes::{expected_code, fault_codes};
 use finding::{MOST_TEXT, seek};
 use kind_texts::put_kind;
+use lk_catalogue::kinds_of;
 use lk_lines::{Expected, unreadable_header, unreadable_move};
 use lk_locks::Tracker;
 use lk_replay::ScheduleReader;
-use lk_search::kinds_of;
 use playing::play_moves;
 use sought::{sought_code, sought_number};
 use state::{STATE_BYTES, fault_bytes, state_bytes};
@@ -135,9 +135,9 @@ pub extern "C" fn kinds(lock: u64) -> u64
     kinds_of(lock_of(lock)).len() as u64
 }
 
-/// Writes what a kind of transition is called, and the lines of a sketch of which each shortest run
-/// of two threads has a transition of this kind. A line feed is between two of them. Returns how
-/// many bytes that are: 0 if there is no such kind, or `text` is too short.
+/// Writes the name of a kind of transition, its sentence, and the lines of a sketch of which each
+/// shortest run of two threads has a transition of this kind. A line feed is between two of them.
+/// Returns how many bytes that are: 0 if there is no such kind, or `text` is too short.
 #[unsafe(no_mangle)]
 pub extern "C" fn kind_text(lock: u64, kind: u64, text: &mut [u8]) -> u64
     ensures fits { result ≤ length text.old }

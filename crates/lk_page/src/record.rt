@@ -4,7 +4,7 @@ ghost use Rattle.std.specs.Prelude.{◌≡◌, ◌<◌, ◌≤◌, List, length,
 ghost use Rattle.lk_locks.specs.Steps.{refusal_of, refused_with};
 ghost use Rattle.lk_locks.specs.Play.{tracked, after_tracked, holding_in, waiting_in};
 ghost use Rattle.lk_locks.specs.declared.kinds.Entry.{Entry};
-ghost use Rattle.lk_page.specs.Told.{IsRecord, standing};
+ghost use Rattle.lk_page.specs.Told.{IsRecord, kind_number, standing};
 ghost use Rattle.lk_page.specs.Layout.{record_bytes, touched_word, found_of, left_of};
 ghost use Rattle.lk_page.specs.Layout.{thread_code};
 
@@ -14,7 +14,8 @@ use crate::layout::{put_bytes, put_u64};
 use crate::next::{allowed_calls, waits_after};
 use crate::told::{Record, Standing, Touch};
 use arrayvec::ArrayVec;
-use lk_locks::{Holders, Refusal, Tracker};
+use lk_catalogue::{Observed, place_of};
+use lk_locks::{Holders, LockKind, Refusal, Tracker};
 use lk_replay::Line;
 use lk_search::phase_code;
 use lk_trace::{move_number, outcome_number};
@@ -39,6 +40,13 @@ fn standing_of(lock: &Tracker<WordArray>, thread: u8) -> Standing
     }
 }
 
+// The number of a transition's kind. Each transition of a lock has one.
+fn kind_number(kind: LockKind, transition: Observed) -> u8
+    ensures { result ≡ kind_number kind transition }
+{
+    place_of(kind, transition).map_or(u8::MAX, |place| place as u8)
+}
+
 /// Makes a move, and returns what it did.
 pub fn play_line(lock: &mut Tracker<WordArray>, line: &Line) -> Result<Record, Refusal>
     ensures refused { refused_with result
@@ -48,15 +56,24 @@ pub fn play_line(lock: &mut Tracker<WordArray>, line: &Line) -> Result<Record, R
         → IsRecord (record { state = lock.old.state; entries = es }) line.now told) }
 {
     lock.machine().check(line.thread, line.action)?;
+    let from = lock.machine().phase(line.thread);
     let (first, second) = touches(lock.machine(), line.thread, line.action);
     let (outcome, _) = lock.play(line.thread, line.action)?;
     let standing = standing_of(lock, line.thread);
+    let after = lock.machine().phase(line.thread);
+    let transition = Observed {
+        from,
+        action: line.action,
+        outcome,
+        after,
+    };
     Ok(Record {
         line: line.number,
         thread: line.thread,
         action: line.action,
         outcome,
-        phase: lock.machine().phase(line.thread),
+        kind: kind_number(lock.kind(), transition),
+        phase: after,
         due: lock.machine().next_step(line.thread),
         standing,
         calls: allowed_calls(lock.machine(), line.thread),
@@ -106,7 +123,7 @@ pub fn record_bytes(told: &Record) -> ArrayVec<u8, 56>
         &[
             told.thread,
             move_number(told.action),
-            0,
+            told.kind,
             outcome_number(told.outcome),
             code,
             thread_code(told),

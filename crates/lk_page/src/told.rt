@@ -25,6 +25,8 @@ pub struct Record {
     pub thread: u8,
     pub action: Move,
     pub outcome: Outcome,
+    /// The number of its kind of transition among those of its lock.
+    pub kind: u8,
     /// What its thread is after it: its phase, the step that is then due, and its standing.
     pub phase: Phase,
     pub due: Option<StepKind>,
