@@ -8,6 +8,7 @@ use Rattle.lk_locks.specs.State.{phase_at}
 use Rattle.lk_locks.specs.Steps.{refusal_of, change_of, next_state}
 use Rattle.lk_locks.specs.Play.{Tracked, tracked, after_tracked, holding_in, waiting_in}
 use Rattle.lk_locks.specs.declared.kinds.Entry.{Entry}
+use Rattle.lk_locks.specs.declared.kinds.LockKind.{LockKind}
 use Rattle.lk_locks.specs.declared.kinds.Move.{Move}
 use Rattle.lk_locks.specs.declared.kinds.Outcome.{Outcome}
 use Rattle.lk_locks.specs.declared.kinds.Phase.{Phase}
@@ -15,7 +16,6 @@ use Rattle.lk_locks.specs.declared.kinds.Phase.TheVariants.{Idle}
 use Rattle.lk_locks.proofs.Moves.{accepted_of}
 use Rattle.lk_replay.specs.declared.schedule.Line.{Line}
 use Rattle.lk_page.specs.Told.{AreTouched, IsOwn, IsRecord, kind_number, own_word, standing}
-use Rattle.lk_page.specs.Told.{transition_of}
 use Rattle.lk_page.specs.Next.{allowed_calls, waits_after}
 use Rattle.lk_page.specs.Playing.{moment}
 use Rattle.lk_page.specs.declared.told.Standing.{Standing}
@@ -26,18 +26,14 @@ pub state_after : (k next : Tracked) (t : ℕ) (m : Move) → refusal_of k.state
     → next ≡ after_tracked k t m → next.state ≡ next_state k.state t m
 state_after k next t m a e = ap (λ (x : Tracked). x.state) e ∙ rw a refl
 
-pub is_told : (k next : Tracked) (es : List Entry) (l : Line) (o : Outcome) (kind : ℕ) (p : Phase)
-    (d : Option StepKind) (stand : Standing) (calls : ℕ) (waits : Bool)
+pub is_told : (k next : Tracked) (es : List Entry) (l : Line) (o : Outcome) (kind : ℕ)
+    (lock : LockKind) (from p : Phase) (d : Option StepKind) (stand : Standing) (calls : ℕ) (waits : Bool)
     (first second : Option Touch)
     → k ≡ tracked k.state es → refusal_of k.state l.thread l.action ≡ None
     → next ≡ after_tracked k l.thread l.action
     → o ≡ (change_of k.state l.thread l.action).outcome
-    → kind ≡ kind_number next.state.kind (record {
-      from = phase_at k.state.phases l.thread;
-      action = l.action;
-      outcome = o;
-      after = phase_at next.state.phases l.thread;
-    })
+    → kind ≡ kind_number lock (record { from = from; action = l.action; outcome = o; after = p })
+    → lock ≡ next.state.kind → from ≡ phase_at k.state.phases l.thread
     → p ≡ phase_at next.state.phases l.thread
     → d ≡ step_due next.state.kind (phase_at next.state.phases l.thread)
     → stand ≡ standing (holding_in next) (waiting_in next) l.thread
@@ -59,7 +55,8 @@ pub is_told : (k next : Tracked) (es : List Entry) (l : Line) (o : Outcome) (kin
       first = first;
       second = second;
     })
-is_told k next es l o kind p d stand calls waits first second h a e oe ke pe de se ce we touched own =
+is_told k next es l o kind lock from p d stand calls waits first second
+    h a e oe ke le fe pe de se ce we touched own =
     let g =
     e ∙ ap (λ (x : Tracked). after_tracked x l.thread l.action) h
     ∙ tracked_on k.state l.thread l.action es a in
@@ -69,7 +66,7 @@ is_told k next es l o kind p d stand calls waits first second h a e oe ke pe de 
     (accepted_of k.state l.thread l.action a).thread in
     record {
       accepted = rw oe refl;
-      kind = ke ∙ rw (oe, is) (ap (λ (x : Tracked). kind_number x.state.kind (transition_of k.state l)) g);
+      kind = ke ∙ rw (le, fe, oe, pe, is, g) refl;
       phase = pe ∙ is;
       due =
           de ∙ ap (step_due next.state.kind) is
