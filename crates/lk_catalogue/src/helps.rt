@@ -103,7 +103,8 @@ pub fn help_for(kind: LockKind, phase: Phase, difference: Difference) -> &'stati
 pub fn help_for_text(fault: TextFault) -> &'static str {
     match fault {
         TextFault::NoHeader => "begin with a header, as in: lock mcs threads 2",
-        TextFault::BadHeader => "write a header as in: lock mcs threads 2, or lock ticket threads 4 bits 8",
+        TextFault::BadHeader =>
+            "write a header as in: lock mcs threads 2, or lock ticket threads 4 bits 8",
         TextFault::BadThreads => "give the lock 1 to 64 threads",
         TextFault::WordsTooNarrow => "give the words more bits, or the lock fewer threads",
         TextFault::BadLine => "write a thread and a call or a step, as in: 0 acquire",
