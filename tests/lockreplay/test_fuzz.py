@@ -19,11 +19,11 @@ import schedules
 from dice import drawn, try_random
 
 ROUND, ONE_BY_ONE, LONGEST = 150, 6, 3000
-SMALL, TEXTS = 60, 1000
+SMALL, TEXTS = 60, 2000
 SHORTENING = 60  # seconds
 FOUND = Path(__file__).with_name("found")
 SMALL_TEXTS = st.lists(drawn(lambda dice: schedules.random_text(dice, SMALL), 600),
-                       min_size=1, max_size=8)
+                       min_size=1, max_size=9)
 
 
 def due(reports):
@@ -58,7 +58,7 @@ def test_small_texts(replayer, request):
     def check(texts):
         assert batch(replayer, texts) == due(list(map(oracle.report_of, texts)))
 
-    try_random(request, SMALL_TEXTS, check, TEXTS)
+    try_random(request, SMALL_TEXTS, check, TEXTS, 5)
 
 
 def shortened(pieces, differs):

@@ -6,6 +6,8 @@ order, and is then accepted, or refused at the next count that is not above it.
 """
 import json
 
+from hypothesis import strategies as st
+
 from dice import drawn, try_random
 from random_runs import changed_value, has_value, random_run
 
@@ -26,13 +28,16 @@ def changed_run(dice):
 
 
 def test_changed_value(tracer, request):
-    def check(drawn_run):
-        run, changed, is_count = drawn_run
-        moves = "".join(f"{thread} {line}\n" for thread, line in run.moves)
-        answer = json.loads(tracer.run("check", "--format", "json",
-                                       stdin=f"{run.header}\n{moves}")[0])
-        assert answer["ending"] in ("accepted", "refused"), answer
-        refused = answer["line"] if answer["ending"] == "refused" else 0
-        assert refused == changed or is_count and (refused == 0 or refused > changed), answer
+    def check(runs):
+        for k, (run, _, _) in enumerate(runs):
+            moves = "".join(f"{thread} {line}\n" for thread, line in run.moves)
+            tracer.write(**{f"{k}.trace": f"{run.header}\n{moves}"})
+        files = [f"{k}.trace" for k in range(len(runs))]
+        said = tracer.run("check", "--format", "json", *files)[0].splitlines()
+        assert len(said) == len(runs)
+        for (_, changed, is_count), answer in zip(runs, map(json.loads, said)):
+            assert answer["ending"] in ("accepted", "refused"), answer
+            refused = answer["line"] if answer["ending"] == "refused" else 0
+            assert refused == changed or is_count and (refused == 0 or refused > changed), answer
 
-    try_random(request, drawn(changed_run), check, RUNS)
+    try_random(request, st.lists(drawn(changed_run, 700), min_size=1, max_size=9), check, RUNS, 5)

@@ -37,18 +37,18 @@ def drawn(generator, most=2_000):
         lambda data: generator(Dice(data)))
 
 
-def try_random(request, strategy, check, count):
-    """Checks so many random values, or a tenth of them with --quick, and says so in the end. Each
-    test has a seed of its own, which follows from the one that is printed."""
+def try_random(request, strategy, check, count, at_once=1):
+    """Checks so many random values, or a tenth of them with --quick, and says so in the end. If
+    some are tried at once, the strategy makes lists, which have so many on average. Each test has a
+    seed of its own, which follows from the one that is printed."""
     tried, count = [], count // (10 if request.config.getoption("quick") else 1)
 
-    @settings(max_examples=count)
+    @settings(max_examples=count // at_once)
     @given(strategy)
-    def check_one(value):
-        tried.append(1)
-        check(value)
+    def check_some(values):
+        tried.append(len(values) if at_once > 1 else 1)
+        check(values)
 
     number = int(request.config.getoption("hypothesis_seed"))
-    seed(number ^ zlib.crc32(request.node.nodeid.encode()))(check_one)()
-    assert len(tried) >= count
-    request.node.user_properties.append(("tried", f"{len(tried)} random values"))
+    seed(number ^ zlib.crc32(request.node.nodeid.encode()))(check_some)()
+    request.node.user_properties.append(("tried", f"{sum(tried)} random values"))

@@ -151,6 +151,7 @@ def test_guide_with_its_mistake(guide, judge):
     assert f"logs/run.trace:{judge.refused_line(folder / 'logs' / 'run.trace')}: " in GUIDE
 
 
+@pytest.mark.xdist_group("cargo")  # which lets one of them work in a folder
 @pytest.mark.parametrize("recorder", ["rust"], indirect=True)
 @pytest.mark.parametrize("words", [
     f"{tool} {features}".strip() for tool in ("test", "clippy --all-targets")
