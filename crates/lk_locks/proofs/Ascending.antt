@@ -8,24 +8,24 @@ use Rattle.std.specs.List.Sorted.{IsNonDecreasingBy, IsPartitionPoint}
 use Rattle.std.proofs.lemmas.Bool.{eqb-true, le-ltb, leb-false, leb-true, lt-ltb, ltb-false}
 use Rattle.std.proofs.lemmas.Bool.{ltb-true, cases_Bool, or_parts}
 use Rattle.std.proofs.lemmas.Bool.Decides.{nat_tests}
-use Rattle.lk_locks.specs.Sequential.{has, IsAscending, joined, left_by}
+use Rattle.lk_locks.specs.Sequential.{has, IsAscending, with_reader, without_reader}
 
 -- a property of all in the list and of one that joins holds of all after that
-pub all_joined : (Holds : ℕ → Type 0) (ts : List ℕ) (t : ℕ) → Holds t → AllByRecursion Holds ts
-    → AllByRecursion Holds (joined ts t)
-all_joined Holds [] t holds all = (holds, tt)
-all_joined Holds (first ∷ ts) t holds (here, rest) = elim (cases_Bool (nat_lt t first)) [
+pub all_with_reader : (Holds : ℕ → Type 0) (ts : List ℕ) (t : ℕ) → Holds t → AllByRecursion Holds ts
+    → AllByRecursion Holds (with_reader ts t)
+all_with_reader Holds [] t holds all = (holds, tt)
+all_with_reader Holds (first ∷ ts) t holds (here, rest) = elim (cases_Bool (nat_lt t first)) [
   | inl smaller ↦ rw smaller (holds, (here, rest))
-  | inr not_smaller ↦ rw not_smaller (here, all_joined Holds ts t holds rest)
+  | inr not_smaller ↦ rw not_smaller (here, all_with_reader Holds ts t holds rest)
 ]
 
 -- a property of all in the list holds of all after one has left
-pub all_left : (Holds : ℕ → Type 0) (ts : List ℕ) (t : ℕ) → AllByRecursion Holds ts
-    → AllByRecursion Holds (left_by ts t)
-all_left Holds [] t all = tt
-all_left Holds (first ∷ ts) t (here, rest) = elim (cases_Bool (eqb t first)) [
+pub all_without_reader : (Holds : ℕ → Type 0) (ts : List ℕ) (t : ℕ) → AllByRecursion Holds ts
+    → AllByRecursion Holds (without_reader ts t)
+all_without_reader Holds [] t all = tt
+all_without_reader Holds (first ∷ ts) t (here, rest) = elim (cases_Bool (eqb t first)) [
   | inl leaves ↦ rw leaves rest
-  | inr stays ↦ rw stays (here, all_left Holds ts t rest)
+  | inr stays ↦ rw stays (here, all_without_reader Holds ts t rest)
 ]
 
 -- numbers above a number are above each smaller one
@@ -36,28 +36,33 @@ all_above t u (v ∷ ts) smaller (above, rest) =
     (omega (arith, above), all_above t u ts smaller rest)
 
 -- the readers stay in ascending order if one joins
-pub ascending_joined : (ts : List ℕ) (t : ℕ) → IsAscending ts → has ts t ≡ false
-    → IsAscending (joined ts t)
-ascending_joined [] t ascending absent = (tt, tt)
-ascending_joined (first ∷ ts) t (above, ascending) absent = elim (cases_Bool (nat_lt t first)) [
-  | inl smaller ↦
-      let is_below : t < first = ltb-true t first smaller in
-      rw smaller ((is_below, all_above t first ts is_below above), (above, ascending))
-  | inr not_smaller ↦
-      let (differ, absent_after) = or_parts (eqb t first) (has ts t) absent in
-      let is_above : first < t = grind (arith, nat_tests, not_smaller, differ) in
-      rw not_smaller (
-        all_joined (λ u. first < u) ts t is_above above,
-        ascending_joined ts t ascending absent_after,
-      )
-]
+pub ascending_with_reader : (ts : List ℕ) (t : ℕ) → IsAscending ts → has ts t ≡ false
+    → IsAscending (with_reader ts t)
+ascending_with_reader [] t ascending absent = (tt, tt)
+ascending_with_reader (first ∷ ts) t (above, ascending) absent =
+    elim (cases_Bool (nat_lt t first)) [
+      | inl smaller ↦
+          let is_below : t < first = ltb-true t first smaller in
+          rw smaller ((is_below, all_above t first ts is_below above), (above, ascending))
+      | inr not_smaller ↦
+          let (differ, absent_after) = or_parts (eqb t first) (has ts t) absent in
+          let is_above : first < t = grind (arith, nat_tests, not_smaller, differ) in
+          rw not_smaller (
+            all_with_reader (λ u. first < u) ts t is_above above,
+            ascending_with_reader ts t ascending absent_after,
+          )
+    ]
 
 -- the readers stay in ascending order if one leaves
-pub ascending_left : (ts : List ℕ) (t : ℕ) → IsAscending ts → IsAscending (left_by ts t)
-ascending_left [] t ascending = tt
-ascending_left (first ∷ ts) t (above, ascending) = elim (cases_Bool (eqb t first)) [
+pub ascending_without_reader : (ts : List ℕ) (t : ℕ) → IsAscending ts
+    → IsAscending (without_reader ts t)
+ascending_without_reader [] t ascending = tt
+ascending_without_reader (first ∷ ts) t (above, ascending) = elim (cases_Bool (eqb t first)) [
   | inl leaves ↦ rw leaves ascending
-  | inr stays ↦ rw stays (all_left (λ u. first < u) ts t above, ascending_left ts t ascending)
+  | inr stays ↦ rw stays (
+    all_without_reader (λ u. first < u) ts t above,
+    ascending_without_reader ts t ascending,
+  )
 ]
 
 -- the first of an ascending list is below each one after it
@@ -87,7 +92,7 @@ never_falls (t ∷ ts) (above, ascending) (suc i) (suc j) d le within =
 -- the place after those up to a thread is where it joins
 pub placed : (ts : List ℕ) (t i : ℕ) → i ≤ length ts
     → IsPartitionPoint (λ u. leb u t ≡ true) (λ u. leb u t ≡ false) ts i
-    → insert ts i t ≡ joined ts t
+    → insert ts i t ≡ with_reader ts t
 placed [] t zero within point = refl
 placed [] t (suc i) within point = absurd (omega (arith, within))
 placed (u ∷ ts) t zero within point =
@@ -102,7 +107,7 @@ placed (u ∷ ts) t (suc i) within point =
 -- the place after those below a thread is its own
 pub found : (ts : List ℕ) (t i : ℕ) → IsAscending ts → has ts t ≡ true → i ≤ length ts
     → IsPartitionPoint (λ u. ltb u t ≡ true) (λ u. ltb u t ≡ false) ts i
-    → (i < length ts) × (remove ts i ≡ left_by ts t)
+    → (i < length ts) × (remove ts i ≡ without_reader ts t)
 found [] t i ascending member within point = absurd (cc)
 found (u ∷ ts) t zero (above, ascending) member within point = elim (cases_Bool (eqb t u)) [
   | inl same ↦ (omega arith, rw same refl)

@@ -10,7 +10,7 @@ use Rattle.lk_locks.specs.Sequential.{Sequential, thread_of}
 use Rattle.lk_locks.specs.Legal.{after_entries, Legal}
 use Rattle.lk_locks.specs.invariants.Locks.{AgreeAs, IsPhaseOf, owed_of}
 use Rattle.lk_locks.specs.Holding.{holder_after}
-use Rattle.lk_locks.specs.Play.{Tracked, followed}
+use Rattle.lk_locks.specs.Play.{Tracked, tracker_with}
 use Rattle.lk_locks.specs.invariants.Kept.{IsInTurn, Kept, IsRecorded}
 use Rattle.lk_locks.proofs.Cases.{AreOf, IsAgreed}
 use Rattle.lk_locks.proofs.Threads.{each_phase}
@@ -104,7 +104,7 @@ legal_of s q es k = record {
 -- a lock and its history go on by an accepted move
 pub recorded_on : (k : Tracked) (es : List Entry) (t : ℕ) (m : Move) → IsRecorded k es
     → refusal_of k.state t m ≡ None
-    → IsRecorded (followed k (next_state k.state t m) (entries_of k.state t m)) (es
+    → IsRecorded (tracker_with k (next_state k.state t m) (entries_of k.state t m)) (es
     ++ entries_of k.state t m)
 recorded_on k es t m r a =
     let new : List Entry = entries_of k.state t m in

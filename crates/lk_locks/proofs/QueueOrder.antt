@@ -7,7 +7,7 @@ use Rattle.lk_locks.specs.Sequential.{Sequential, nobody, is_head, after_act, af
 use Rattle.lk_locks.specs.Legal.{IsEnabled, AreEnabled, OfEveryLegal}
 use Rattle.lk_locks.specs.Holding.{holder_after, one_or_none}
 use Rattle.lk_locks.specs.Exclusion.{IsHeldInTurn, HasOneHolder}
-use Rattle.lk_locks.specs.Order.{IsInOrder, requested, entered}
+use Rattle.lk_locks.specs.Order.{IsInOrder, request_order, entering_order}
 use Rattle.lk_locks.proofs.Places.{HasOne, any_of}
 use Rattle.lk_locks.proofs.Histories.{holder_append, after_enabled}
 use Rattle.lk_locks.specs.Types.{Acquire, Release, Entry, Acted, Returned}
@@ -56,7 +56,8 @@ head_split q t at_head = grind arith
 -- the holder, those that enter and some others are, in order, the queue and those that join it
 abbrev AreServed : Option ℕ → List ℕ → List Entry → Type 0
 AreServed holder queue es =
-    (rest : List ℕ) × (one_or_none holder ++ (entered es ++ rest) ≡ queue ++ requested es)
+    (rest : List ℕ)
+    × (one_or_none holder ++ (entering_order es ++ rest) ≡ queue ++ request_order es)
 
 -- the holder is the first of the threads that wait or hold
 served_now : (holder : Option ℕ) (queue : List ℕ) → HeadHolds holder queue
@@ -69,9 +70,9 @@ served_now (Some t) queue head_holds = (
 
 -- the queue that an enabled entry leaves, with later requests
 queue_after : (q : Sequential) (e : Entry) (es : List Entry) → IsEnabled q e
-    → (after_entry q e).queue ++ requested es ≡ (after_act q e).queue ++ requested es
+    → (after_entry q e).queue ++ request_order es ≡ (after_act q e).queue ++ request_order es
 queue_after q e es enabled =
-    ap (λ now. now.queue ++ requested es) (after_enabled q e enabled)
+    ap (λ now. now.queue ++ request_order es) (after_enabled q e enabled)
 
 -- the threads enter in the order in which they joined the queue
 served : (es : List Entry) (q : Sequential) (holder : Option ℕ) → AreEnabled q es
@@ -80,14 +81,14 @@ served [] q holder enabled head_holds = served_now holder q.queue head_holds
 served (Acted t Acquire ∷ es) q holder (may_act, enabled) (head_holds, may_hold, along) =
     let (rest, is) = served es (after_entry q (Acted t Acquire)) holder enabled along in
     let queued = is ∙ queue_after q (Acted t Acquire) es may_act in
-    (rest, queued ∙ append_assoc q.queue (t ∷ []) (requested es))
+    (rest, queued ∙ append_assoc q.queue (t ∷ []) (request_order es))
 served (Acted t Release ∷ es) q holder (may_act, enabled) (head_holds, held, along) =
     let (rest, is) = served es (after_entry q (Acted t Release)) None enabled along in
     let split = head_split q.queue t (head_holds t (rw held (eq-eqb t t refl))) in (
       rest,
       rw held
           (ap (λ threads. t ∷ threads) (is ∙ queue_after q (Acted t Release) es may_act)
-          ∙ ap (λ threads. threads ++ requested es) split),
+          ∙ ap (λ threads. threads ++ request_order es) split),
     )
 served (Returned t Acquire ∷ es) q holder (may_act, enabled) (head_holds, free, along) =
     let (rest, is) = served es q (Some t) enabled along in (rest, rw free is)

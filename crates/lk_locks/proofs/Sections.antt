@@ -7,7 +7,7 @@ use Rattle.std.proofs.lemmas.Bool.{cases_Bool, eq-eqb, eqb-false, eqb-true}
 use Rattle.std.proofs.lemmas.List.{get_or-set_other, get_or-set_same, length-set}
 use Rattle.lk_words.specs.declared.operation.Effect.{Effect}
 use Rattle.lk_locks.specs.read_write.{IsChangeOf, IsOn, Tells, change_at, change_to, word_count}
-use Rattle.lk_locks.specs.invariants.read_write.{count_with, third_word, written}
+use Rattle.lk_locks.specs.invariants.read_write.{count_with, third_word, after_writes}
 use Rattle.lk_locks.specs.Types.{Family, FifoReadWrite, Outcome, Queue, ReadWrite}
 
 -- the words of the monitor, counted by whether there is a third one
@@ -64,14 +64,14 @@ writes_of bits family ws third first other room is f o = record {
 
 -- a word after the writes
 at_first : (ws : List ℕ) (i x : ℕ) (other : Option (ℕ × ℕ)) → Writes ws (Some (i, x)) other
-    → slice_index (written ws (Some (i, x)) other) i ≡ x
+    → slice_index (after_writes ws (Some (i, x)) other) i ≡ x
 at_first ws i x None w = get_or-set_same ws i x 0 (omega (arith, w.first_is, w.some))
 at_first ws i x (Some (j, y)) w =
     get_or-set_other (set ws i x) j i y 0 (λ e. omega (arith, e, w.first_is, w.other_is.0))
     ∙ get_or-set_same ws i x 0 (omega (arith, w.first_is, w.some))
 
 at_other : (ws : List ℕ) (first : Option (ℕ × ℕ)) (i v : ℕ) → i < length ws
-    → slice_index (written ws first (Some (i, v))) i ≡ v
+    → slice_index (after_writes ws first (Some (i, v))) i ≡ v
 at_other ws None i v h = get_or-set_same ws i v 0 h
 at_other ws (Some (j, x)) i v h =
     get_or-set_same (set ws j x) i v 0 (omega (arith, h, length-set ws j x))
@@ -81,7 +81,7 @@ abbrev IsOff : Option (ℕ × ℕ) → ℕ → Type 0
 IsOff write i = IfSome write (λ w. i ≢ w.0)
 
 off : (ws : List ℕ) (first other : Option (ℕ × ℕ)) (i : ℕ) → IsOff first i → IsOff other i
-    → slice_index (written ws first other) i ≡ slice_index ws i
+    → slice_index (after_writes ws first other) i ≡ slice_index ws i
 off ws None None i a b = refl
 off ws (Some (j, x)) None i a b = get_or-set_other ws j i x 0 a
 off ws None (Some (k, y)) i a b = get_or-set_other ws k i y 0 b
@@ -108,11 +108,11 @@ goes_to : (before after : List ℕ) (i v : ℕ) → slice_index after i ≡ v
 goes_to before after i v e = rw e refl
 
 pub first_is : (ws : List ℕ) (first other : Option (ℕ × ℕ)) → Writes ws first other
-    → change_at ws (written ws first other) 0 ≡ change_to ws first
+    → change_at ws (after_writes ws first other) 0 ≡ change_to ws first
 first_is ws None other w =
-    stays ws (written ws None other) 0 (off ws None other 0 tt (off_other ws None other w))
+    stays ws (after_writes ws None other) 0 (off ws None other 0 tt (off_other ws None other w))
 first_is ws (Some (zero, x)) other w =
-    goes_to ws (written ws (Some (0, x)) other) 0 x (at_first ws 0 x other w)
+    goes_to ws (after_writes ws (Some (0, x)) other) 0 x (at_first ws 0 x other w)
 first_is ws (Some (suc i, x)) other w = absurd (omega (arith, w.first_is))
 
 or_none : (change : Option Effect) → option_or change None ≡ change
@@ -120,24 +120,25 @@ or_none None = refl
 or_none (Some e) = refl
 
 pub second_is : (ws : List ℕ) (first other : Option (ℕ × ℕ)) → Writes ws first other
-    → option_or (change_at ws (written ws first other) 1) (change_at ws (written ws first other) 2)
+    → option_or (change_at ws (after_writes ws first other) 1)
+    (change_at ws (after_writes ws first other) 2)
     ≡ change_to ws other
 second_is ws first None w =
-    let off_at : (i : ℕ) → 0 < i → change_at ws (written ws first None) i ≡ None =
-    λ i h. stays ws (written ws first None) i
+    let off_at : (i : ℕ) → 0 < i → change_at ws (after_writes ws first None) i ≡ None =
+    λ i h. stays ws (after_writes ws first None) i
     (off ws first None i (off_first ws first None i w h) tt) in
     rw (off_at 1 (omega arith), off_at 2 (omega arith)) refl
 second_is ws first (Some (suc zero, v)) w =
-    rw (stays ws (written ws first (Some (1, v))) 2
+    rw (stays ws (after_writes ws first (Some (1, v))) 2
     (off ws first (Some (1, v)) 2 (off_first ws first (Some (1, v)) 2 w (omega arith))
     (λ e. omega (arith, e))))
     (or_none _
-    ∙ goes_to ws (written ws first (Some (1, v))) 1 v (at_other ws first 1 v w.other_is.2))
+    ∙ goes_to ws (after_writes ws first (Some (1, v))) 1 v (at_other ws first 1 v w.other_is.2))
 second_is ws first (Some (suc (suc zero), v)) w =
-    rw (stays ws (written ws first (Some (2, v))) 1
+    rw (stays ws (after_writes ws first (Some (2, v))) 1
     (off ws first (Some (2, v)) 1 (off_first ws first (Some (2, v)) 1 w (omega arith))
     (λ e. omega (arith, e))))
-    (goes_to ws (written ws first (Some (2, v))) 2 v (at_other ws first 2 v w.other_is.2))
+    (goes_to ws (after_writes ws first (Some (2, v))) 2 v (at_other ws first 2 v w.other_is.2))
 second_is ws first (Some (i, v)) w = absurd (omega (arith, w.other_is.0, w.other_is.1))
 
 changed : (ws after : List ℕ) (i v : ℕ) → i < length ws → slice_index after i ≡ v
@@ -161,17 +162,17 @@ unchanged ws i v = elim (cases_Bool (slice_index ws i == v)) [
 ]
 
 first_change : (ws : List ℕ) (first other : Option (ℕ × ℕ)) → Writes ws first other
-    → IsChangeOf ws (written ws first other) (change_to ws first)
+    → IsChangeOf ws (after_writes ws first other) (change_to ws first)
 first_change ws None other w = tt
 first_change ws (Some (i, x)) other w =
-    changed ws (written ws (Some (i, x)) other) i x (omega (arith, w.first_is, w.some))
+    changed ws (after_writes ws (Some (i, x)) other) i x (omega (arith, w.first_is, w.some))
     (at_first ws i x other w)
 
 second_change : (ws : List ℕ) (first other : Option (ℕ × ℕ)) → Writes ws first other
-    → IsChangeOf ws (written ws first other) (change_to ws other)
+    → IsChangeOf ws (after_writes ws first other) (change_to ws other)
 second_change ws first None w = tt
 second_change ws first (Some (i, v)) w =
-    changed ws (written ws first (Some (i, v))) i v w.other_is.2
+    changed ws (after_writes ws first (Some (i, v))) i v w.other_is.2
     (at_other ws first i v w.other_is.2)
 
 are_apart : (ws : List ℕ) (first other : Option (ℕ × ℕ)) → Writes ws first other → (j : ℕ)
@@ -199,15 +200,15 @@ off_or_same ws after (Some (i, v)) j n is other = elim (cases_Bool (j == i)) [
 pub told : (ws : List ℕ) (first other : Option (ℕ × ℕ)) (outcome : Outcome)
     → Writes ws first other
     → Tells (record { first = change_to ws first; second = change_to ws other; outcome = outcome })
-    ws (written ws first other)
+    ws (after_writes ws first other)
 told ws first other outcome w = record {
   first_is = first_change ws first other w;
   second_is = second_change ws first other w;
   apart = are_apart ws first other w;
   others = λ j a b.
-      off_or_same ws (written ws first other) other j b
+      off_or_same ws (after_writes ws first other) other j b
       (λ v e. rw e (at_other ws first j v (rw e at w.other_is).2))
-      (λ off_b. off_or_same ws (written ws first other) first j a
+      (λ off_b. off_or_same ws (after_writes ws first other) first j a
       (λ v e. rw e (at_first ws j v other (rw e at w)))
       (λ off_a. off ws first other j off_a off_b));
 }

@@ -46,8 +46,8 @@ abbrev pub less_one : ℕ → ℕ → ℕ
 less_one bits x = (x + (2 ^ bits - 1)) % 2 ^ bits
 
 -- the words, with one added to word i
-abbrev pub raised : ℕ → List ℕ → ℕ → List ℕ
-raised bits words i = set words i (plus_one bits (slice_index words i))
+abbrev pub with_one_more : ℕ → List ℕ → ℕ → List ℕ
+with_one_more bits words i = set words i (plus_one bits (slice_index words i))
 
 abbrev pub announcement : Family → ℕ → Op → List Entry
 announcement FifoReadWrite t WriteLock = Announced t ∷ []

@@ -1,5 +1,5 @@
 -- Definitions. The state of a lock: its kind, its words, and the phase of each thread.
-use Rattle.std.specs.Prelude.{ℕ, List, get_or, replicate}
+use Rattle.std.specs.Prelude.{ℕ, List, slice_index_or, replicate}
 use Rattle.lk_locks.specs.Locks.{word_count}
 use Rattle.lk_locks.specs.Types.{LockKind, Phase, Idle}
 
@@ -12,7 +12,7 @@ pub record State : Type 0 where
 
 -- the phase of thread t
 abbrev pub phase_at : List Phase → ℕ → Phase
-phase_at phases t = get_or phases t Idle
+phase_at phases t = slice_index_or phases t Idle
 
 -- at the start all threads are idle. The words are the caller's, all 0
 abbrev pub start : LockKind → ℕ → List ℕ → ℕ → State

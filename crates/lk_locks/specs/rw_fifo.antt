@@ -5,7 +5,7 @@
 -- clear, and only then adds one to `readAcquires`; a writer waits until the flag is clear, and then
 -- sets it; the counts have B bits and wrap; signals are not modelled; a writer may downgrade.
 use Rattle.std.specs.Prelude.{ℕ, Bool, ◌==◌, List, slice_index, set, if◌then◌else◌}
-use Rattle.lk_locks.specs.Change.{Change, to, raised}
+use Rattle.lk_locks.specs.Change.{Change, to, with_one_more}
 use Rattle.lk_locks.specs.Types.{Phase, Idle, TryRead, Reading, LeaveRead, TryWrite, AwaitReaders}
 use Rattle.lk_locks.specs.Types.{Writing, LeaveWrite, TryDowngrade, Moved, Waits, Entered, Left}
 
@@ -28,9 +28,9 @@ are_gone ws = slice_index ws read_acquires == slice_index ws read_releases
 abbrev pub step : ℕ → List ℕ → Phase → Change
 step bits ws TryRead =
     if slice_index ws flag == 0
-    then to (raised bits ws read_acquires) Reading Entered
+    then to (with_one_more bits ws read_acquires) Reading Entered
     else to ws TryRead Waits
-step bits ws LeaveRead = to (raised bits ws read_releases) Idle Left
+step bits ws LeaveRead = to (with_one_more bits ws read_releases) Idle Left
 step bits ws TryWrite =
     if slice_index ws flag == 0
     then (if are_gone ws
@@ -40,5 +40,5 @@ step bits ws TryWrite =
 step bits ws AwaitReaders =
     if are_gone ws then to ws Writing Entered else to ws AwaitReaders Waits
 step bits ws LeaveWrite = to (set ws flag 0) Idle Left
-step bits ws TryDowngrade = to (set (raised bits ws read_acquires) flag 0) Reading Entered
+step bits ws TryDowngrade = to (set (with_one_more bits ws read_acquires) flag 0) Reading Entered
 step bits ws p = to ws p Waits

@@ -6,7 +6,7 @@
 -- modelled, and a thread that waits may poll at any time; the count has B bits; a writer may
 -- downgrade.
 use Rattle.std.specs.Prelude.{ℕ, ◌==◌, ◌&&◌, List, slice_index, set, if◌then◌else◌}
-use Rattle.lk_locks.specs.Change.{Change, to, raised, less_one}
+use Rattle.lk_locks.specs.Change.{Change, to, with_one_more, less_one}
 use Rattle.lk_locks.specs.Types.{Phase, Idle, TryRead, Reading, LeaveRead, TryWrite, Writing}
 use Rattle.lk_locks.specs.Types.{LeaveWrite, TryDowngrade, Waits, Entered, Left}
 
@@ -21,7 +21,7 @@ flag = 1
 abbrev pub step : ℕ → List ℕ → Phase → Change
 step bits ws TryRead =
     if slice_index ws flag == 0
-    then to (raised bits ws readers) Reading Entered
+    then to (with_one_more bits ws readers) Reading Entered
     else to ws TryRead Waits
 step bits ws LeaveRead = to (set ws readers (less_one bits (slice_index ws readers))) Idle Left
 step bits ws TryWrite =
@@ -29,5 +29,5 @@ step bits ws TryWrite =
     then to (set ws flag 1) Writing Entered
     else to ws TryWrite Waits
 step bits ws LeaveWrite = to (set ws flag 0) Idle Left
-step bits ws TryDowngrade = to (set (raised bits ws readers) flag 0) Reading Entered
+step bits ws TryDowngrade = to (set (with_one_more bits ws readers) flag 0) Reading Entered
 step bits ws p = to ws p Waits

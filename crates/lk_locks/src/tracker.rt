@@ -4,7 +4,7 @@
 ghost use Rattle.std.specs.Prelude.{◌≡◌, [], IfOk};
 ghost use Rattle.lk_locks.specs.Change.{entries_by};
 ghost use Rattle.lk_locks.specs.Holding.{holder_after, holding, IsListed};
-ghost use Rattle.lk_locks.specs.Play.{Tracked, tracked, after_tracked, holding_in, waiting_in};
+ghost use Rattle.lk_locks.specs.Play.{Tracked, tracker_of, tracker_after, holding_in, waiting_in};
 ghost use Rattle.lk_locks.specs.invariants.Kept.{IsRecorded, IsTracked};
 ghost use Rattle.lk_locks.specs.State.{start_of};
 ghost use Rattle.lk_locks.specs.Sequential.{nobody};
@@ -45,7 +45,7 @@ impl<W: Words> Model for Tracker<W> {
 impl Tracker<WordArray> {
     /// A new lock of this shape.
     pub fn at_start(shape: Shape) -> Tracker<WordArray>
-        ensures start { result ≡ tracked (start_of shape) [] }
+        ensures start { result ≡ tracker_of (start_of shape) [] }
         ensures recorded { IsRecorded result [] }
     {
         Tracker::of_new(Machine::at_start(shape))
@@ -56,7 +56,7 @@ impl<W: Words> Tracker<W> {
     // The tracker of a lock on which nothing was played.
     pub(crate) fn of_new(machine: Machine<W>) -> Tracker<W>
         requires { IsTracked machine (nobody machine.kind) }
-        ensures { result ≡ tracked machine [] }
+        ensures { result ≡ tracker_of machine [] }
     {
         let sequential = SeqLock::new(machine.kind());
         Tracker {
@@ -78,7 +78,7 @@ impl<W: Words> Tracker<W> {
             (λ played. played.0 ≡ (change_of self.old.state t m).outcome) }
         ensures entries { IfOk result
             (λ played. entries_by t played.1 ≡ entries_of self.old.state t m) }
-        ensures after { self.new ≡ after_tracked self.old t m }
+        ensures after { self.new ≡ tracker_after self.old t m }
     {
         let (outcome, added) = self.machine.play(t, m)?;
         // a call is no act, so the sequential object and the holder stay

@@ -1,7 +1,7 @@
 -- What is written at the end is what the text says.
 use Rattle.std.proofs.Common.{◌≡◌, ℕ, List, [], ◌++◌, length, take, drop, Option}
 use Rattle.std.proofs.Common.{Result, Ok, refl, ap, ◌∙◌}
-use Rattle.lk_locks.specs.Play.{Tracked, tracked, holding_in, waiting_in}
+use Rattle.lk_locks.specs.Play.{Tracked, tracker_of, holding_in, waiting_in}
 use Rattle.lk_locks.specs.declared.kinds.Refusal.{Refusal}
 use Rattle.lk_lines.specs.Faults.{Fault}
 use Rattle.lk_replay.specs.Replay.{start_of, replay_from}
@@ -24,7 +24,7 @@ same_state p most moves k count refused old new h m = rw (h.after, h.made, h.sto
 pub plays : (p : Plan) (read : Result Plan Fault) (most answer moves : ℕ) (first k : Tracked)
     (count : ℕ) (refused : Option (ℕ × Refusal))
     (records_old records_new state_old state_new bytes : List ℕ)
-    → read ≡ Ok p → first ≡ tracked (start_of p) []
+    → read ≡ Ok p → first ≡ tracker_of (start_of p) []
     → HavePlayed first.state (take most p.moves) records_old k count refused records_new
     → answer ≡ answer_of refused → moves ≡ length p.moves
     → bytes ≡ bytes_of_state moves count refused k.state (holding_in k) (waiting_in k)

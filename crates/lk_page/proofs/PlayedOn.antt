@@ -4,7 +4,7 @@ use Rattle.std.proofs.Common.{subst, ◌∙◌, arith}
 use Rattle.lk_locks.specs.State.{State}
 use Rattle.lk_locks.specs.Steps.{refusal_of}
 use Rattle.lk_locks.specs.Steps.{entries_of}
-use Rattle.lk_locks.specs.Play.{Tracked, after_tracked}
+use Rattle.lk_locks.specs.Play.{Tracked, tracker_after}
 use Rattle.lk_locks.specs.declared.kinds.Refusal.{Refusal}
 use Rattle.lk_replay.specs.declared.schedule.Line.{Line}
 use Rattle.lk_page.specs.Told.{Moment, IsRecord, after_line}
@@ -25,13 +25,13 @@ one_record m l ls count old now new r a told w h =
 pub playing_on : (s : State) (ms : List Line) (old : List ℕ) (k next : Tracked) (l : Line)
     (rest : List Line) (count : ℕ) (now written : List ℕ) (r : Record)
     (p : ArePlaying s ms old k (l ∷ rest) count now)
-    → refusal_of k.state l.thread l.action ≡ None → next ≡ after_tracked k l.thread l.action
+    → refusal_of k.state l.thread l.action ≡ None → next ≡ tracker_after k l.thread l.action
     → IsRecord (moment k.state p.entries) l r
     → written ≡ placed now (count * 56) (record_bytes r)
     → ArePlaying s ms old next rest (count + 1) written
 playing_on s ms old k next l rest count now written r p a e told w =
     let g =
-    e ∙ ap (λ (x : Tracked). after_tracked x l.thread l.action) p.tracks
+    e ∙ ap (λ (x : Tracked). tracker_after x l.thread l.action) p.tracks
     ∙ tracked_on k.state l.thread l.action p.entries a in
     rw g (record {
       entries = p.entries ++ entries_of k.state l.thread l.action;
@@ -47,7 +47,7 @@ playing_on s ms old k next l rest count now written r p a e told w =
 pub playing_stops : (s : State) (ms : List Line) (old : List ℕ) (k next : Tracked) (l : Line)
     (rest : List Line) (count : ℕ) (now : List ℕ) (x : Refusal)
     → ArePlaying s ms old k (l ∷ rest) count now
-    → refusal_of k.state l.thread l.action ≡ Some x → next ≡ after_tracked k l.thread l.action
+    → refusal_of k.state l.thread l.action ≡ Some x → next ≡ tracker_after k l.thread l.action
     → HavePlayed s ms old next count (Some (l.number, x)) now
 playing_stops s ms old k next l rest count now x p a e =
     let same : next ≡ k = e ∙ rw a refl in

@@ -6,7 +6,7 @@ use Rattle.lk_locks.specs.declared.kinds.StepKind.{StepKind}
 use Rattle.std.proofs.lemmas.List.{get_or-set_same}
 use Rattle.lk_locks.specs.State.{phase_at}
 use Rattle.lk_locks.specs.Steps.{refusal_of, change_of, next_state}
-use Rattle.lk_locks.specs.Play.{Tracked, tracked, after_tracked, holding_in, waiting_in}
+use Rattle.lk_locks.specs.Play.{Tracked, tracker_of, tracker_after, holding_in, waiting_in}
 use Rattle.lk_locks.specs.declared.kinds.Entry.{Entry}
 use Rattle.lk_locks.specs.declared.kinds.LockKind.{LockKind}
 use Rattle.lk_locks.specs.declared.kinds.Move.{Move}
@@ -23,14 +23,14 @@ use Rattle.lk_page.specs.declared.told.Touch.{Touch}
 use Rattle.lk_page.proofs.Tracks.{tracked_on}
 
 pub state_after : (k next : Tracked) (t : ℕ) (m : Move) → refusal_of k.state t m ≡ None
-    → next ≡ after_tracked k t m → next.state ≡ next_state k.state t m
+    → next ≡ tracker_after k t m → next.state ≡ next_state k.state t m
 state_after k next t m a e = ap (λ (x : Tracked). x.state) e ∙ rw a refl
 
 pub is_told : (k next : Tracked) (es : List Entry) (l : Line) (o : Outcome) (kind : ℕ)
-    (lock : LockKind) (from p : Phase) (d : Option StepKind) (stand : Standing) (calls : ℕ) (waits : Bool)
-    (first second : Option Touch)
-    → k ≡ tracked k.state es → refusal_of k.state l.thread l.action ≡ None
-    → next ≡ after_tracked k l.thread l.action
+    (lock : LockKind) (from p : Phase) (d : Option StepKind) (stand : Standing) (calls : ℕ)
+    (waits : Bool) (first second : Option Touch)
+    → k ≡ tracker_of k.state es → refusal_of k.state l.thread l.action ≡ None
+    → next ≡ tracker_after k l.thread l.action
     → o ≡ (change_of k.state l.thread l.action).outcome
     → kind ≡ kind_number lock (record { from = from; action = l.action; outcome = o; after = p })
     → lock ≡ next.state.kind → from ≡ phase_at k.state.phases l.thread
@@ -58,7 +58,7 @@ pub is_told : (k next : Tracked) (es : List Entry) (l : Line) (o : Outcome) (kin
 is_told k next es l o kind lock from p d stand calls waits first second
     h a e oe ke le fe pe de se ce we touched own =
     let g =
-    e ∙ ap (λ (x : Tracked). after_tracked x l.thread l.action) h
+    e ∙ ap (λ (x : Tracked). tracker_after x l.thread l.action) h
     ∙ tracked_on k.state l.thread l.action es a in
     let is =
     ap (λ (x : Tracked). phase_at x.state.phases l.thread) g

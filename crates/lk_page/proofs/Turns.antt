@@ -4,7 +4,7 @@ use Rattle.std.proofs.Common.{None, Some, ap, sym, ◌∙◌}
 use Rattle.std.proofs.lemmas.List.{length-set}
 use Rattle.lk_locks.specs.State.{State, phase_at}
 use Rattle.lk_locks.specs.Steps.{refusal_of, change_of}
-use Rattle.lk_locks.specs.Play.{Tracked, tracked, after_tracked}
+use Rattle.lk_locks.specs.Play.{Tracked, tracker_of, tracker_after}
 use Rattle.lk_locks.specs.declared.kinds.Entry.{Entry}
 use Rattle.lk_locks.specs.declared.kinds.Move.{Move}
 use Rattle.lk_locks.specs.declared.kinds.Refusal.{Refusal}
@@ -24,8 +24,8 @@ pub turn_made : (s : State) (moves left after : List Line) (old now written : Li
     (k next : Tracked) (l : Line) (most count : ℕ) (r : Record)
     → ArePlaying s (take most moves) old k (take (most - count) left) count now → count < most
     → Some l ≡ first_of left → after ≡ drop 1 left → None ≡ refusal_of k.state l.thread l.action
-    → next ≡ after_tracked k l.thread l.action
-    → ((es : List Entry) → k ≡ tracked k.state es → IsRecord (moment k.state es) l r)
+    → next ≡ tracker_after k l.thread l.action
+    → ((es : List Entry) → k ≡ tracker_of k.state es → IsRecord (moment k.state es) l r)
     → written ≡ placed now (count * 56) (record_bytes r)
     → ArePlaying s (take most moves) old next (take (most - (count + 1)) after) (count + 1) written
 turn_made s moves left after old now written k next l most count r p h f d a e told w =
@@ -38,7 +38,7 @@ pub turn_refused : (s : State) (moves left : List Line) (old now : List ℕ) (k 
     (l : Line) (most count : ℕ) (x : Refusal)
     → ArePlaying s (take most moves) old k (take (most - count) left) count now → count < most
     → Some l ≡ first_of left → Some x ≡ refusal_of k.state l.thread l.action
-    → next ≡ after_tracked k l.thread l.action
+    → next ≡ tracker_after k l.thread l.action
     → HavePlayed s (take most moves) old next count (Some (l.number, x)) now
 turn_refused s moves left old now k next l most count x p h f a e =
     playing_stops s (take most moves) old k next l
@@ -46,13 +46,13 @@ turn_refused s moves left old now k next l most count x p h f a e =
     (rw (next_asked most count left l h (sym f)) at p) (sym a) e
 
 pub same_threads : (k next : Tracked) (t : ℕ) (m : Move) → None ≡ refusal_of k.state t m
-    → next ≡ after_tracked k t m → length next.state.phases ≡ length k.state.phases
+    → next ≡ tracker_after k t m → length next.state.phases ≡ length k.state.phases
 same_threads k next t m a e =
     ap (λ (s : State). length s.phases) (state_after k next t m (sym a) e)
     ∙ length-set k.state.phases t (change_of k.state t m).phase
 
 pub same_words : (k next : Tracked) (t : ℕ) (m : Move) → None ≡ refusal_of k.state t m
-    → next ≡ after_tracked k t m → length next.state.words ≡ length k.state.words
+    → next ≡ tracker_after k t m → length next.state.words ≡ length k.state.words
 same_words k next t m a e =
     ap (λ (s : State). length s.words) (state_after k next t m (sym a) e)
     ∙ same_length k.state.kind k.state.bits k.state.words t (phase_at k.state.phases t) m

@@ -1,7 +1,7 @@
 -- Invariants. Moves that are played one after another.
 use Rattle.std.specs.Prelude.{◌≡◌, ℕ, ◌+◌, List, [], length, Option}
 use Rattle.lk_locks.specs.State.{State}
-use Rattle.lk_locks.specs.Play.{Tracked, tracked}
+use Rattle.lk_locks.specs.Play.{Tracked, tracker_of}
 use Rattle.lk_locks.specs.declared.kinds.Entry.{Entry}
 use Rattle.lk_locks.specs.declared.kinds.Refusal.{Refusal}
 use Rattle.lk_replay.specs.Replay.{replay_from}
@@ -18,14 +18,14 @@ pub record HavePlayed (s : State) (ms : List Line) (old : List ℕ) (k : Tracked
   pub made : count ≡ length (replay_from s ms).made
   pub stopped : refused ≡ (replay_from s ms).refused
   pub after : k
-      ≡ tracked (after_lines (moment s []) ms).state (after_lines (moment s []) ms).entries
+      ≡ tracker_of (after_lines (moment s []) ms).state (after_lines (moment s []) ms).entries
   pub records : AreRecords (moment s []) ms 0 old new
 
 -- `count` of the moves `ms` were made, and `rest` is left of them
 pub record ArePlaying (s : State) (ms : List Line) (old : List ℕ) (k : Tracked) (rest : List Line)
     (count : ℕ) (now : List ℕ) : Type 0 where
   pub entries : List Entry
-  pub tracks : k ≡ tracked k.state entries
+  pub tracks : k ≡ tracker_of k.state entries
   pub made : count + length (replay_from k.state rest).made ≡ length (replay_from s ms).made
   pub stopped : (replay_from k.state rest).refused ≡ (replay_from s ms).refused
   pub after : after_lines (moment k.state entries) rest ≡ after_lines (moment s []) ms

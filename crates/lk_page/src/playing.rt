@@ -1,7 +1,7 @@
 //! Plays the moves of a schedule, and writes a record of each.
 
 ghost use Rattle.std.specs.Prelude.{◌≡◌, ◌+◌, ◌*◌, ◌<◌, ◌≤◌, length, take, []};
-ghost use Rattle.lk_locks.specs.Play.{tracked};
+ghost use Rattle.lk_locks.specs.Play.{tracker_of};
 ghost use Rattle.lk_page.specs.Layout.{record_bytes};
 ghost use Rattle.lk_page.specs.Playing.{HavePlayed};
 ghost use Rattle.lk_page.specs.Written.{placed};
@@ -32,7 +32,7 @@ pub fn play_moves(
     most: u64,
     records: &mut [u8],
 ) -> Stopped
-    requires fresh { lock.old ≡ tracked lock.old.state [] }
+    requires fresh { lock.old ≡ tracker_of lock.old.state [] }
     requires few { length reader.old.moves ≤ 65536 }
     ensures played { HavePlayed lock.old.state
         (take most reader.old.moves) records.old lock.new result.count result.refused records.new }

@@ -2,7 +2,7 @@
 
 ghost use Rattle.std.specs.Prelude.{◌≡◌, ◌<◌, ◌≤◌, List, length, IfOk, None, Some};
 ghost use Rattle.lk_locks.specs.Steps.{refusal_of, refused_with};
-ghost use Rattle.lk_locks.specs.Play.{tracked, after_tracked, holding_in, waiting_in};
+ghost use Rattle.lk_locks.specs.Play.{tracker_of, tracker_after, holding_in, waiting_in};
 ghost use Rattle.lk_locks.specs.declared.kinds.Entry.{Entry};
 ghost use Rattle.lk_page.specs.Told.{IsRecord, kind_number, standing};
 ghost use Rattle.lk_page.specs.Layout.{record_bytes, touched_word, found_of, left_of};
@@ -51,8 +51,9 @@ fn kind_number(kind: LockKind, transition: Observed) -> u8
 pub fn play_line(lock: &mut Tracker<WordArray>, line: &Line) -> Result<Record, Refusal>
     ensures refused { refused_with result
         ≡ refusal_of lock.old.state line.now.thread line.now.action }
-    ensures after { lock.new ≡ after_tracked lock.old line.now.thread line.now.action }
-    ensures record { IfOk result (λ told. (es : List Entry) → lock.old ≡ tracked lock.old.state es
+    ensures after { lock.new ≡ tracker_after lock.old line.now.thread line.now.action }
+    ensures record { IfOk result (λ told. (es : List Entry)
+        → lock.old ≡ tracker_of lock.old.state es
         → IsRecord (record { state = lock.old.state; entries = es }) line.now told) }
 {
     lock.machine().check(line.thread, line.action)?;

@@ -10,8 +10,9 @@ use Rattle.std.proofs.Math.Nat.{add-mul, pow-suc}
 use Rattle.std.proofs.lemmas.Bool.{cases_Bool, ltb-true, ltb-false}
 use Rattle.std.proofs.lemmas.Fmt.{decimal_digit}
 use Rattle.std.proofs.lemmas.Nat.{mod-mul-add, ones_cat, ones_le_self}
-use Rattle.lk_locks.proofs.Ascending.{all_joined, all_left, ascending_joined, ascending_left}
-use Rattle.lk_locks.specs.Sequential.{IsAscending, has, joined, left_by}
+use Rattle.lk_locks.proofs.Ascending.{all_with_reader, all_without_reader}
+use Rattle.lk_locks.proofs.Ascending.{ascending_with_reader, ascending_without_reader}
+use Rattle.lk_locks.specs.Sequential.{IsAscending, has, with_reader, without_reader}
 use Rattle.lk_replay.specs.Occupancy.{AreReaders, below, bits_of, numbers_in}
 use Rattle.lk_replay.specs.Report.{later_numbers}
 use Rattle.lk_replay.proofs.Digits.{two_digits}
@@ -232,7 +233,8 @@ pub record Joins (now text : List ℕ) (bits t at : ℕ) : Type 0 where
   pub room : length text + 4 ≤ 320
   pub fits : bits + 1 * 2 ^ t % 2 ^ 64 < 2 ^ 64
   pub after : (new : List ℕ) (more : ℕ) → new ≡ (take at text ++ (44 ∷ decimal t)) ++ drop at text
-      → more ≡ bits + 1 * 2 ^ t % 2 ^ 64 → AreReaders new more × (numbers_in new ≡ joined now t)
+      → more ≡ bits + 1 * 2 ^ t % 2 ^ 64
+      → AreReaders new more × (numbers_in new ≡ with_reader now t)
 
 pub reader_joins : (now text : List ℕ) (bits t at : ℕ) → AreReaders text bits
     → numbers_in text ≡ now → has now t ≡ false → t < 64 → length now < 64
@@ -243,16 +245,16 @@ reader_joins now text bits t at readers is absent small few place =
     let ascending : IsAscending now = rw (← is) readers.ascending in
     let bits_are : bits ≡ bits_of now = readers.bits_are ∙ ap bits_of is in
     let cut = cut_to_join now t absent in
-    let put = put_in (below now t) now (joined now t) text t at cut listed place in
-    let all = all_joined (λ u. u < 64) now t small fit in
-    let up = ascending_joined now t ascending absent in
-    let one = is_bit (below now t) now (joined now t) t cut small up all in
+    let put = put_in (below now t) now (with_reader now t) text t at cut listed place in
+    let all = all_with_reader (λ u. u < 64) now t small fit in
+    let up = ascending_with_reader now t ascending absent in
+    let one = is_bit (below now t) now (with_reader now t) t cut small up all in
     record {
       within = put.within;
       room = omega (arith, ap length listed, later_most now fit, few);
       fits = omega (arith, bits_are, one.bit, one.fits);
       after = λ new more new_is more_is.
-          are_readers (joined now t) new more (new_is ∙ put.whole)
+          are_readers (with_reader now t) new more (new_is ∙ put.whole)
           (omega (arith, more_is, bits_are, one.bit)) up all;
     }
 
@@ -261,7 +263,8 @@ pub record Leaves (now text : List ℕ) (bits t at gone : ℕ) : Type 0 where
   pub within : at + gone ≤ length text
   pub fits : 1 * 2 ^ t % 2 ^ 64 ≤ bits
   pub after : (new : List ℕ) (less : ℕ) → new ≡ take at text ++ drop (at + gone) text
-      → less ≡ bits - 1 * 2 ^ t % 2 ^ 64 → AreReaders new less × (numbers_in new ≡ left_by now t)
+      → less ≡ bits - 1 * 2 ^ t % 2 ^ 64
+      → AreReaders new less × (numbers_in new ≡ without_reader now t)
 
 pub reader_leaves : (now text : List ℕ) (bits t at gone : ℕ) → AreReaders text bits
     → numbers_in text ≡ now → has now t ≡ true → t < 64
@@ -273,13 +276,14 @@ reader_leaves now text bits t at gone readers is present small place wide =
     let ascending : IsAscending now = rw (← is) readers.ascending in
     let bits_are : bits ≡ bits_of now = readers.bits_are ∙ ap bits_of is in
     let cut = cut_to_leave now t ascending present in
-    let taken = taken_out (below now t) (left_by now t) now text t at gone cut listed place wide in
-    let one = is_bit (below now t) (left_by now t) now t cut small ascending fit in
+    let taken =
+    taken_out (below now t) (without_reader now t) now text t at gone cut listed place wide in
+    let one = is_bit (below now t) (without_reader now t) now t cut small ascending fit in
     record {
       within = taken.within;
       fits = omega (arith, bits_are, one.bit);
       after = λ new less new_is less_is.
-          are_readers (left_by now t) new less (new_is ∙ taken.rest)
+          are_readers (without_reader now t) new less (new_is ∙ taken.rest)
           (omega (arith, less_is, bits_are, one.bit))
-          (ascending_left now t ascending) (all_left (λ u. u < 64) now t fit);
+          (ascending_without_reader now t ascending) (all_without_reader (λ u. u < 64) now t fit);
     }

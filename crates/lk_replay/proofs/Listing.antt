@@ -9,7 +9,7 @@ use Rattle.std.proofs.lemmas.Bool.{cases_Bool, eqb-true, le-ltb, lt-ltb, ltb-fal
 use Rattle.std.proofs.lemmas.Bool.{ltb-true, ne_eqb}
 use Rattle.std.proofs.lemmas.Bool.Decides.{nat_tests}
 use Rattle.std.proofs.lemmas.Fmt.{decimal_digit, length-decimal-le}
-use Rattle.lk_locks.specs.Sequential.{IsAscending, has, is_head, joined, left_by}
+use Rattle.lk_locks.specs.Sequential.{IsAscending, has, is_head, with_reader, without_reader}
 use Rattle.lk_locks.proofs.Ascending.{below_member}
 use Rattle.std.proofs.lemmas.Grind.{flat_map-append}
 use Rattle.lk_replay.specs.Occupancy.{IsQueue, below, numbers_from, numbers_in}
@@ -131,7 +131,7 @@ pub record AreCut (low less more : List ℕ) (t : ℕ) : Type 0 where
   pub with_it : more ≡ low ++ t ∷ after
 
 pub cut_to_leave : (xs : List ℕ) (t : ℕ) → IsAscending xs → has xs t ≡ true
-    → AreCut (below xs t) (left_by xs t) xs t
+    → AreCut (below xs t) (without_reader xs t) xs t
 cut_to_leave [] t a h = cc
 cut_to_leave (x ∷ xs) t (b, a) h = elim (cases_Bool (eqb t x)) [
   | inl e ↦ let same : t ≡ x = eqb-true t x e in
@@ -149,7 +149,7 @@ cut_to_leave (x ∷ xs) t (b, a) h = elim (cases_Bool (eqb t x)) [
 ]
 
 pub cut_to_join : (xs : List ℕ) (t : ℕ) → has xs t ≡ false
-    → AreCut (below xs t) xs (joined xs t) t
+    → AreCut (below xs t) xs (with_reader xs t) t
 cut_to_join [] t absent = record { after = []; without = refl; with_it = refl }
 cut_to_join (x ∷ xs) t absent =
     let (differ, others) = or_parts (eqb t x) (has xs t) absent in

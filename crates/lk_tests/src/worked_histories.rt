@@ -21,7 +21,7 @@ ghost use Rattle.lk_locks.specs.Holding.{HeldBy, ReadBy, WrittenBy};
 ghost use Rattle.lk_locks.specs.Exclusion.{IsQueueLock, HasOneHolder, IsHeldInTurn, IsHeldByHead};
 ghost use Rattle.lk_locks.specs.Exclusion.{StopsWriting, HasOneWriter, IsNeverBesideReader};
 ghost use Rattle.lk_locks.specs.Exclusion.{IsAnnouncedFirst};
-ghost use Rattle.lk_locks.specs.Order.{requested, entered, IsInOrder};
+ghost use Rattle.lk_locks.specs.Order.{request_order, entering_order, IsInOrder};
 ghost use Rattle.lk_locks.specs.Calls.{ActsOnce, ActsInCalls, ReturnsNext};
 ghost use Rattle.lk_locks.specs.Steps.{entries_after};
 ghost use Rattle.lk_locks.specs.State.{start};
@@ -113,9 +113,9 @@ pub fn writers_of_read_write_locks()
 
 /// Who asked first enters first.
 pub fn order_of_entering()
-    ensures asked { requested one_inside ≡ 0 ∷ 1 ∷ [] }
-    ensures first { entered one_inside ≡ 0 ∷ [] }
-    ensures both { entered handed_on ≡ 0 ∷ 1 ∷ [] }
+    ensures asked { request_order one_inside ≡ 0 ∷ 1 ∷ [] }
+    ensures first { entering_order one_inside ≡ 0 ∷ [] }
+    ensures both { entering_order handed_on ≡ 0 ∷ 1 ∷ [] }
     ensures in_order { IsInOrder handed_on }
     ensures out_of_order { IsInOrder overtaken → ⊥ }
     ensures not_asked { IsInOrder unasked → ⊥ }

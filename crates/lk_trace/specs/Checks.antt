@@ -13,7 +13,7 @@ use Rattle.lk_locks.specs.Locks as locks
 use Rattle.lk_locks.specs.Locks.{operation_of}
 use Rattle.lk_locks.specs.Steps.{refusal_of, change_of, next_state}
 use Rattle.lk_locks.specs.Steps.{entries_of}
-use Rattle.lk_locks.specs.Play.{Tracked, tracked, followed}
+use Rattle.lk_locks.specs.Play.{Tracked, tracker_of, tracker_with}
 use Rattle.lk_locks.specs.declared.kinds.LockKind.{LockKind}
 use Rattle.lk_locks.specs.declared.kinds.Move.{Move}
 use Rattle.lk_locks.specs.declared.kinds.Move.TheVariants.{Call, Step}
@@ -37,11 +37,11 @@ pub record Checked : Type 0 where
 
 -- a lock of this shape, on which nothing was done
 abbrev pub new_lock : Shape → Checked
-new_lock shape = record { lock = tracked (start_of shape) []; sections = 0 }
+new_lock shape = record { lock = tracker_of (start_of shape) []; sections = 0 }
 
 -- a lock in this state, of whose sections this was the greatest count
 abbrev pub on : State → ℕ → Checked
-on s sections = record { lock = tracked s []; sections = sections }
+on s sections = record { lock = tracker_of s []; sections = sections }
 
 abbrev pub is_word : Option WordName → WordName → Bool
 is_word (Some word) given = same_word word given
@@ -125,7 +125,7 @@ count_given last seen = last
 
 -- the lock after a move that it accepts
 abbrev pub moved : Tracked → ℕ → Move → Tracked
-moved lock t m = followed lock (next_state lock.state t m) (entries_of lock.state t m)
+moved lock t m = tracker_with lock (next_state lock.state t m) (entries_of lock.state t m)
 
 -- a line without a difference is made
 abbrev pub checked : Checked → TraceLine → Checked

@@ -13,7 +13,7 @@ use Rattle.lk_workers.specs.declared.live.LivePhase.TheVariants.{Idle, Waiting, 
 use Rattle.lk_workers.specs.declared.live.rule.SeatState.{SeatState}
 use Rattle.lk_workers.specs.Counting.{sum_over, indicator, once_below}
 use Rattle.lk_workers.specs.Seats.{operation, with_operation, Table, sum_over_seats, next_of}
-use Rattle.lk_workers.specs.Seats.{first_of, known}
+use Rattle.lk_workers.specs.Seats.{first_of, seat_with}
 use Rattle.lk_workers.specs.Seats.{serving_of, ticket_indicator, ticket_indicator_in, IsHolding}
 use Rattle.lk_workers.specs.SeatSteps.{LiveStep, take_step, look_step, read_step, pass_step}
 use Rattle.lk_workers.specs.SeatSteps.{seat_after}
@@ -36,9 +36,9 @@ told live tells st me found r is t r' is' =
 
 -- a seat's view, as its struct keeps it
 pub view_of_seat : (me : Sees) (q : SeatState) (c : List (ℕ × Unit {0})) → me ≡ (q ∷ [], c) → c ≡ []
-    → me ≡ (known q.phase q.ticket q.left q.taken q.seen me.0 ∷ [], [])
+    → me ≡ (seat_with q.phase q.ticket q.left q.taken q.seen me.0 ∷ [], [])
 view_of_seat me q c e none_held = e ∙ (λ k. (
-  known q.phase q.ticket q.left q.taken q.seen (sym e k).0 ∷ [],
+  seat_with q.phase q.ticket q.left q.taken q.seen (sym e k).0 ∷ [],
   none_held k,
 ))
 
@@ -46,7 +46,7 @@ pub looked : (me : Sees) (p : LivePhase) (r : SeatState) (found : ℕ) (c : List
     (b : Bool)
     → me ≡ (seat_after look_step r found ∷ [], c) → c ≡ [] → (found == r.ticket) ≡ b
     → p ≡ (if b then Inside else Waiting)
-    → me ≡ (known p r.ticket r.left r.taken found me.0 ∷ [], [])
+    → me ≡ (seat_with p r.ticket r.left r.taken found me.0 ∷ [], [])
 looked me p r found c b e none_held is same_phase =
     let is_p : (if (found == r.ticket) then Inside else Waiting) ≡ p =
     ap (λ d. if d then Inside else Waiting) is ∙ sym same_phase in

@@ -44,8 +44,8 @@ first_of [] = new_seat 0 0
 first_of (r ∷ rs) = r
 
 -- the state of a seat: the numbers that it keeps itself, and the loads and operations of its view
-abbrev pub known : LivePhase → ℕ → ℕ → ℕ → ℕ → List SeatState → SeatState
-known phase ticket left taken seen v = record (first_of v) {
+abbrev pub seat_with : LivePhase → ℕ → ℕ → ℕ → ℕ → List SeatState → SeatState
+seat_with phase ticket left taken seen v = record (first_of v) {
   phase = phase;
   ticket = ticket;
   left = left;

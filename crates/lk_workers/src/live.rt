@@ -14,7 +14,8 @@ ghost use Rattle.lk_locks.specs.declared.kinds.Outcome.TheVariants.{Moved, Waits
 ghost use Rattle.lk_locks.specs.laws.{after_take, after_look, after_read_serving, after_pass};
 ghost use Rattle.lk_workers.specs.declared.live.LivePhase.TheVariants.{Idle, Waiting, Inside};
 ghost use Rattle.lk_workers.specs.declared.live.LivePhase.TheVariants.{Leaving};
-ghost use Rattle.lk_workers.specs.Seats.{Live, known, new_seat, ticket_in, thread_of, with_seen};
+ghost use Rattle.lk_workers.specs.Seats.{Live, seat_with, new_seat, ticket_in, thread_of};
+ghost use Rattle.lk_workers.specs.Seats.{with_seen};
 ghost use Rattle.lk_workers.specs.Seats.{AreApart};
 ghost use Rattle.lk_workers.specs.LockState.{IsEnd};
 ghost use Rattle.lk_workers.specs.SeatSteps.{take_step, look_step, read_step, pass_step};
@@ -76,11 +77,11 @@ impl Model for LiveSeat {
 
     ghost view = { λ s. record {
       table = s.seat.table_id;
-      state = known s.phase s.ticket s.left s.taken s.seen s.seat.me.0;
+      state = seat_with s.phase s.ticket s.left s.taken s.seen s.seat.me.0;
     } };
 
     ghost invariant = { λ s.
-        (s.seat.me ≡ (known s.phase s.ticket s.left s.taken s.seen s.seat.me.0 ∷ [], []))
+        (s.seat.me ≡ (seat_with s.phase s.ticket s.left s.taken s.seen s.seat.me.0 ∷ [], []))
         × (s.ticket < 2 ^ 40) };
 }
 

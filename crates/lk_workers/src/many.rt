@@ -10,8 +10,8 @@ ghost use Rattle.std.specs.Prelude.{[], IfOk};
 ghost use Rattle.std.specs.Thread.{IsSync};
 ghost use Rattle.lk_replay.specs.Report.{report_text};
 ghost use Rattle.lk_workers.specs.Drawing.{IsSeatOf, drawer};
-ghost use Rattle.lk_workers.specs.invariants.Collected.{bytes_of, numbered, MayWork, IsDone};
-ghost use Rattle.lk_workers.specs.invariants.Collected.{IsEachOnce, placed};
+ghost use Rattle.lk_workers.specs.invariants.Collected.{bytes_of, numbered_bytes, MayWork, IsDone};
+ghost use Rattle.lk_workers.specs.invariants.Collected.{IsEachOnce, places_with};
 
 use crate::draws::{DrawSeat, Draws};
 use crate::gate::Gate;
@@ -121,7 +121,7 @@ fn draw_all<G: Gate, R: Threads + Sync>(
 ) -> Result<Vec<Numbered>, AllocError>
     requires workers { (1 ≤ workers) × (workers ≤ 8) }
     requires texts { length texts.now ≤ 65536 }
-    ensures { IfOk result (λ v. IsEachOnce (bytes_of texts.now) (numbered v.items)) }
+    ensures { IfOk result (λ v. IsEachOnce (bytes_of texts.now) (numbered_bytes v.items)) }
 {
     let share = texts.len() as u64 + 1;
     let (draws, seat) = Draws::open(alloc, u64::from(workers) * share)?;
@@ -138,7 +138,7 @@ fn place_all(
 ) -> Result<Vec<Vec<u8>>, AllocError>
     requires { All (λ p. p.0 < length texts.now) reports.items }
     ensures { IfOk result (λ places. bytes_of places.items
-        ≡ placed (map (λ _. []) texts.now) (numbered reports.items)) }
+        ≡ places_with (map (λ _. []) texts.now) (numbered_bytes reports.items)) }
 {
     let mut places: Vec<_> = texts.iter().map(|_| Vec::new(alloc)).collect(alloc)?;
     for (number, report) in reports {

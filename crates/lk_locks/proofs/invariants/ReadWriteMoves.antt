@@ -5,7 +5,7 @@ use Rattle.std.proofs.Common.{nat_lt, unwrap_or, ◌+◌, ◌<◌, ◌∙◌, �
 use Rattle.std.proofs.lemmas.Bool.{lt-ltb}
 use Rattle.std.proofs.lemmas.List.{length-set}
 use Rattle.lk_locks.specs.Change.{acts}
-use Rattle.lk_locks.specs.Sequential.{Sequential, after_act, has, is_allowed, left_by}
+use Rattle.lk_locks.specs.Sequential.{Sequential, after_act, has, is_allowed, without_reader}
 use Rattle.lk_locks.specs.invariants.Threads.{is_this}
 use Rattle.lk_locks.specs.invariants.read_write.{AgreeAsCounted, is_announced, is_reading, flag_of}
 use Rattle.lk_locks.specs.invariants.read_write.{is_writing, AreHolders}
@@ -14,7 +14,8 @@ use Rattle.lk_locks.specs.State.{phase_at}
 use Rattle.lk_locks.proofs.Cases.{IsAgreed, IsTaken}
 use Rattle.lk_locks.proofs.invariants.HolderLists.{flag_none, holders_downgrade, holders_frame}
 use Rattle.lk_locks.proofs.invariants.HolderLists.{holders_join, holders_leave, holders_unwrite}
-use Rattle.lk_locks.proofs.invariants.HolderLists.{holders_write, length_joined, length_left}
+use Rattle.lk_locks.proofs.invariants.HolderLists.{holders_write, length_with_reader}
+use Rattle.lk_locks.proofs.invariants.HolderLists.{length_without_reader}
 use Rattle.lk_locks.proofs.invariants.HolderLists.{no_writer, none_announced, readers_few}
 use Rattle.lk_locks.proofs.invariants.HolderLists.{readers_fit, flag_some, holders_announce}
 use Rattle.lk_locks.specs.declared.kinds.Entry.TheVariants.{Called}
@@ -77,7 +78,7 @@ module _ {Count : ℕ → Type 0} {flag bits : ℕ} {ps : List Phase} {q : Seque
         (allowed, (tt, tt)),
         rw allowed
             (counted More Reading (after_act q (Acted t ReadLock))
-            (rw (length_joined q.readers t)
+            (rw (length_with_reader q.readers t)
             (one_more (length q.readers) (readers_fit agreed.holders t in_lock unread)
             agreed.count))
             (flag_stays ∙ agreed.flag_is) (holders_join agreed.holders t in_lock was unwritten)),
@@ -90,13 +91,13 @@ module _ {Count : ℕ → Type 0} {flag bits : ℕ} {ps : List Phase} {q : Seque
       → IsAgreed (AgreeAsCounted Fewer next bits (set ps t Idle)) q (acts t ReadUnlock)
   leaves {Fewer} was may_act one_fewer flag_stays =
       let reads = agreed.holders.reading t ∙ ap is_reading was in
-      let fewer : length (left_by q.readers t) + 1 ≡ length q.readers =
-      length_left q.readers t reads in (
+      let fewer : length (without_reader q.readers t) + 1 ≡ length q.readers =
+      length_without_reader q.readers t reads in (
         (may_act reads, (tt, tt)),
         rw (may_act reads)
             (counted Fewer Idle (after_act q (Acted t ReadUnlock))
-            (one_fewer (length (left_by q.readers t)) (omega (arith, readers_few agreed.holders))
-            (rw fewer agreed.count))
+            (one_fewer (length (without_reader q.readers t))
+            (omega (arith, readers_few agreed.holders)) (rw fewer agreed.count))
             (flag_stays ∙ agreed.flag_is)
             (holders_leave agreed.holders t in_lock was
             (no_writer q.writer q.readers q.announced t agreed.holders.alone reads))),
@@ -147,7 +148,7 @@ module _ {Count : ℕ → Type 0} {flag bits : ℕ} {ps : List Phase} {q : Seque
         (may_act written, (tt, tt)),
         rw (may_act written)
             (counted More Reading (after_act q (Acted t Downgrade))
-            (rw (length_joined q.readers t)
+            (rw (length_with_reader q.readers t)
             (one_more (length q.readers) (readers_fit agreed.holders t in_lock unread)
             agreed.count))
             (rw (none_announced q.writer q.readers q.announced t agreed.holders.alone written)

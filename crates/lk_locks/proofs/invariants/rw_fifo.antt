@@ -8,7 +8,7 @@ use Rattle.std.proofs.lemmas.Bool.Decides.{eqb_tells}
 use Rattle.std.proofs.lemmas.List.{get_or-set_other, get_or-set_same, length-set, length-replicate}
 use Rattle.std.proofs.lemmas.Nat.{pow_pos}
 use Rattle.std.proofs.lemmas.Bool.{eq-eqb, ne_eqb}
-use Rattle.lk_locks.specs.Change.{plus_one, raised}
+use Rattle.lk_locks.specs.Change.{plus_one, with_one_more}
 use Rattle.lk_locks.specs.Sequential.{nobody, Sequential, after_act, is_allowed}
 use Rattle.lk_locks.specs.State.{start}
 use Rattle.lk_locks.specs.invariants.Locks.{AgreeAs}
@@ -43,9 +43,9 @@ none_read bits ws ps q agreed counts_equal =
 
 -- one reader more came
 one_came : (bits : ℕ) (ws : List ℕ) (n : ℕ) → 3 ≤ length ws → Count bits ws n
-    → Count bits (raised bits ws 0) (n + 1)
+    → Count bits (with_one_more bits ws 0) (n + 1)
 one_came bits ws n three_words counted =
-    let left_stays : slice_index (raised bits ws 0) 1 ≡ slice_index ws 1 =
+    let left_stays : slice_index (with_one_more bits ws 0) 1 ≡ slice_index ws 1 =
     get_or-set_other ws 0 1 _ 0 (omega arith) in
     record {
       left = rw left_stays counted.left;
@@ -57,9 +57,9 @@ one_came bits ws n three_words counted =
 
 -- one reader left
 one_left : (bits : ℕ) (ws : List ℕ) (n : ℕ) → 3 ≤ length ws → Count bits ws (n + 1)
-    → Count bits (raised bits ws 1) n
+    → Count bits (with_one_more bits ws 1) n
 one_left bits ws n three_words counted =
-    let left_is : slice_index (raised bits ws 1) 1 ≡ plus_one bits (slice_index ws 1) =
+    let left_is : slice_index (with_one_more bits ws 1) 1 ≡ plus_one bits (slice_index ws 1) =
     get_or-set_same ws 1 _ 0 (omega arith) in
     record {
       left = rw left_is (plus_one-lt bits (slice_index ws 1));
@@ -153,8 +153,8 @@ keeps bits ws ps q t TryDowngrade (Step s) given =
     downgrades given.agrees t given.thread given.phase_is
     (λ written. rw (below_64 given, given.kind_is, written))
     (λ n fits counted.
-    same_count bits (raised bits ws 0) 0 (n + 1) (one_came bits ws n given.enough counted))
-    (get_or-set_same (raised bits ws 0) 2 0 0
+    same_count bits (with_one_more bits ws 0) 0 (n + 1) (one_came bits ws n given.enough counted))
+    (get_or-set_same (with_one_more bits ws 0) 2 0 0
     (omega (arith, given.enough, length-set ws 0 (plus_one bits (slice_index ws 0)))))
 keeps bits ws ps q t p (Step s) given = cc
 

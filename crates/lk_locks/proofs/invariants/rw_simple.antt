@@ -6,7 +6,7 @@ use Rattle.std.proofs.Common.{◌^◌, ◌∙◌, ◌≡◌, ◌≤◌}
 use Rattle.std.proofs.Math.Nat.{add-mod_right, mod-eq_of_lt}
 use Rattle.std.proofs.lemmas.Bool.Decides.{eqb_tells}
 use Rattle.std.proofs.lemmas.List.{get_or-set_other, get_or-set_same, length-set, length-replicate}
-use Rattle.lk_locks.specs.Change.{less_one, plus_one, raised}
+use Rattle.lk_locks.specs.Change.{less_one, plus_one, with_one_more}
 use Rattle.lk_locks.specs.Sequential.{nobody, is_allowed}
 use Rattle.lk_locks.specs.State.{start}
 use Rattle.lk_locks.specs.invariants.Locks.{AgreeAs}
@@ -29,7 +29,7 @@ less bits count in_word =
 
 -- one more reader is counted, if the count does not wrap
 one_more : (bits : ℕ) (ws : List ℕ) (n : ℕ) → 2 ≤ length ws → n + 1 < 2 ^ bits → Count ws n
-    → Count (raised bits ws 0) (n + 1)
+    → Count (with_one_more bits ws 0) (n + 1)
 one_more bits ws n two_words in_word counted =
     get_or-set_same ws 0 _ 0 (omega arith) ∙ ap (plus_one bits) counted ∙ mod-eq_of_lt in_word
 
@@ -86,9 +86,9 @@ keeps bits ws ps q t TryDowngrade (Step s) given =
     downgrades given.agrees t given.thread given.phase_is
     (λ written. rw (below_64 given, given.kind_is, written))
     (λ n fits counted.
-    get_or-set_other (raised bits ws 0) 1 0 0 0 (omega arith)
+    get_or-set_other (with_one_more bits ws 0) 1 0 0 0 (omega arith)
     ∙ one_more bits ws n given.enough (omega (arith, given.agrees.narrow)) counted)
-    (get_or-set_same (raised bits ws 0) 1 0 0
+    (get_or-set_same (with_one_more bits ws 0) 1 0 0
     (omega (arith, given.enough, length-set ws 0 (plus_one bits (slice_index ws 0)))))
 keeps bits ws ps q t p (Step s) given = cc
 

@@ -25,9 +25,9 @@ AreLinks kind n ws = Unit {0}
 
 -- the entries that the pending call of thread t has still to add to the history
 abbrev pub owed_of : LockKind → ℕ → Phase → List Entry
-owed_of Ticket t p = ticket.owed t p
-owed_of Mcs t p = mcs.owed t p
-owed_of kind t p = read_write.owed (family_of kind) t p
+owed_of Ticket t p = ticket.owed_of t p
+owed_of Mcs t p = mcs.owed_of t p
+owed_of kind t p = read_write.owed_of (family_of kind) t p
 
 -- the words and phases of the lock agree with its sequential object
 abbrev pub AgreeAs : LockKind → State → Sequential → Type 0

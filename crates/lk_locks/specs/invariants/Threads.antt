@@ -1,11 +1,12 @@
 -- Invariants. Lists of threads.
-use Rattle.std.specs.Prelude.{◌≡◌, ℕ, ◌<◌, List, [], ◌∷◌, Option, Some, Bool, true, false, eqb}
+use Rattle.std.specs.Prelude.{◌≡◌, ℕ, ◌<◌, List, [], ◌∷◌, Option, Some, Bool, true, false}
+use Rattle.std.specs.Prelude.{nat_eq}
 use Rattle.std.specs.Option.{option_eq}
 use Rattle.lk_locks.specs.Sequential.{has}
 
 -- there is one, and it is t
 abbrev pub is_this : Option ℕ → ℕ → Bool
-is_this o t = option_eq eqb (Some t) o
+is_this o t = option_eq nat_eq (Some t) o
 
 abbrev pub EachOnce : List ℕ → Type 0
 EachOnce [] = Unit {0}

@@ -27,17 +27,17 @@ abbrev pub AreLinks : ℕ → List ℕ → Type 0
 AreLinks n ws = (slice_index ws tail ≤ n) × ((i : ℕ) → i < n → slice_index ws (next i) ≤ n)
 
 -- the entries that the pending call of thread i has still to add to the history
-abbrev pub owed : ℕ → Phase → List Entry
-owed i ClearNext = acts i Acquire
-owed i SwapTail = acts i Acquire
-owed i (SetLocked j) = Returned i Acquire ∷ []
-owed i (LinkTo j) = Returned i Acquire ∷ []
-owed i AwaitGrant = Returned i Acquire ∷ []
-owed i ReadNext = acts i Release
-owed i CasTail = acts i Release
-owed i AwaitLink = acts i Release
-owed i (Grant j) = acts i Release
-owed i p = []
+abbrev pub owed_of : ℕ → Phase → List Entry
+owed_of i ClearNext = acts i Acquire
+owed_of i SwapTail = acts i Acquire
+owed_of i (SetLocked j) = Returned i Acquire ∷ []
+owed_of i (LinkTo j) = Returned i Acquire ∷ []
+owed_of i AwaitGrant = Returned i Acquire ∷ []
+owed_of i ReadNext = acts i Release
+owed_of i CasTail = acts i Release
+owed_of i AwaitLink = acts i Release
+owed_of i (Grant j) = acts i Release
+owed_of i p = []
 
 -- an answer that names a thread, or none: a link is below 65, since there are at most 64 threads
 abbrev pub IsInRange : Phase → Answer → Type 0

@@ -14,14 +14,14 @@ use Rattle.lk_locks.specs.Types.{Downgrade, Phase, TryRead, Reading, LeaveRead, 
 use Rattle.lk_locks.specs.Types.{AwaitReaders, Writing, LeaveWrite, TryDowngrade}
 
 -- the entries that the pending call of thread i has still to add to the history
-abbrev pub owed : Family → ℕ → Phase → List Entry
-owed family i TryRead = acts i ReadLock
-owed family i LeaveRead = acts i ReadUnlock
-owed family i TryWrite = announcement family i WriteLock ++ acts i WriteLock
-owed family i AwaitReaders = acts i WriteLock
-owed family i LeaveWrite = acts i WriteUnlock
-owed family i TryDowngrade = acts i Downgrade
-owed family i p = []
+abbrev pub owed_of : Family → ℕ → Phase → List Entry
+owed_of family i TryRead = acts i ReadLock
+owed_of family i LeaveRead = acts i ReadUnlock
+owed_of family i TryWrite = announcement family i WriteLock ++ acts i WriteLock
+owed_of family i AwaitReaders = acts i WriteLock
+owed_of family i LeaveWrite = acts i WriteUnlock
+owed_of family i TryDowngrade = acts i Downgrade
+owed_of family i p = []
 
 abbrev pub is_reading : Phase → Bool
 is_reading Reading = true
@@ -52,15 +52,15 @@ pub record AreHolders (ps : List Phase) (q : Sequential) : Type 0 where
   pub alone : IsAlone q.writer q.readers q.announced
 
 -- the words after a section that made these writes
-abbrev pub written : List ℕ → Option (ℕ × ℕ) → Option (ℕ × ℕ) → List ℕ
-written ws None None = ws
-written ws (Some first) None = set ws first.0 first.1
-written ws None (Some other) = set ws other.0 other.1
-written ws (Some first) (Some other) = set (set ws first.0 first.1) other.0 other.1
+abbrev pub after_writes : List ℕ → Option (ℕ × ℕ) → Option (ℕ × ℕ) → List ℕ
+after_writes ws None None = ws
+after_writes ws (Some first) None = set ws first.0 first.1
+after_writes ws None (Some other) = set ws other.0 other.1
+after_writes ws (Some first) (Some other) = set (set ws first.0 first.1) other.0 other.1
 
 -- a section that finds these words makes this change
 pub record IsSection (section : Section) (ws : List ℕ) (change : Change) : Type 0 where
-  pub words : written ws section.first section.other ≡ change.words
+  pub words : after_writes ws section.first section.other ≡ change.words
   pub phase : section.phase ≡ change.phase
   pub outcome : section.outcome ≡ change.outcome
 

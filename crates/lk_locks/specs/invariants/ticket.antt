@@ -18,12 +18,12 @@ is_phase (TicketInside t) = true
 is_phase p = is_some (operation 64 p)
 
 -- the entries that the pending call of thread i has still to add to the history
-abbrev pub owed : ℕ → Phase → List Entry
-owed i TakeTicket = acts i Acquire
-owed i (AwaitTurn t) = Returned i Acquire ∷ []
-owed i (ReadServing t) = acts i Release
-owed i (PassOn v) = acts i Release
-owed i p = []
+abbrev pub owed_of : ℕ → Phase → List Entry
+owed_of i TakeTicket = acts i Acquire
+owed_of i (AwaitTurn t) = Returned i Acquire ∷ []
+owed_of i (ReadServing t) = acts i Release
+owed_of i (PassOn v) = acts i Release
+owed_of i p = []
 
 -- the ticket that a thread has
 abbrev pub ticket_of : Phase → Option ℕ

@@ -4,7 +4,7 @@
 ghost use Rattle.std.specs.Prelude.{◌≡◌, ◌+◌, ◌++◌, ◌∷◌, ◌<◌, ◌≤◌, [], IsTrue, length, take, ℕ};
 ghost use Rattle.std.specs.Prelude.{List, None, drop, false};
 ghost use Rattle.lk_locks.specs.Holding.{shared_by};
-ghost use Rattle.lk_locks.specs.Sequential.{has, is_head, joined, left_by};
+ghost use Rattle.lk_locks.specs.Sequential.{has, is_head, with_reader, without_reader};
 ghost use Rattle.lk_replay.specs.Occupancy.{AreReaders, IsQueue, below, numbers_in};
 ghost use Rattle.lk_replay.specs.Report.{holding_text, later_numbers, queue_text};
 
@@ -109,7 +109,7 @@ impl Readers {
         requires few { length self.old < 64 }
         requires fits { thread < 64 }
         requires absent { has self.old thread ≡ false }
-        ensures { self.new ≡ joined self.old thread }
+        ensures { self.new ≡ with_reader self.old thread }
     {
         let at = self.place_of(thread);
         let (block, len) = thread_block(b',', thread);
@@ -121,7 +121,7 @@ impl Readers {
     pub fn leave(&mut self, thread: u8)
         requires fits { thread < 64 }
         requires present { IsTrue (has self.old thread) }
-        ensures { self.new ≡ left_by self.old thread }
+        ensures { self.new ≡ without_reader self.old thread }
     {
         let at = self.place_of(thread);
         self.text.remove(at, width(thread) + 1);

@@ -10,8 +10,8 @@ use Rattle.lk_workers.specs.Drawing.{Counter, Drawer, IsSeatOf}
 abbrev pub bytes_of : List (Vec ℕ Global) → List (List ℕ)
 bytes_of texts = map (λ t. t.items) texts
 
-abbrev pub numbered : List (ℕ × Vec ℕ Global) → List (ℕ × List ℕ)
-numbered reports = map (λ p. (p.0, p.1.items)) reports
+abbrev pub numbered_bytes : List (ℕ × Vec ℕ Global) → List (ℕ × List ℕ)
+numbered_bytes reports = map (λ p. (p.0, p.1.items)) reports
 
 -- the report of text k
 abbrev pub report_at : List (List ℕ) → ℕ → List ℕ
@@ -37,7 +37,8 @@ MayWork c texts workers s =
 abbrev pub IsDone : Counter → List (Vec ℕ Global) → ℕ → Drawer → List (ℕ × Vec ℕ Global) → Type 0
 IsDone c texts workers s reports =
     IsSeatOf c s × (length s.drawn + s.left ≡ workers * (length texts + 1))
-    × (numbered reports ≡ reports_of (bytes_of texts) s.drawn) × IsThrough (bytes_of texts) s.drawn
+    × (numbered_bytes reports ≡ reports_of (bytes_of texts) s.drawn)
+    × IsThrough (bytes_of texts) s.drawn
 
 -- the number of each text is there once, with its report, and no other number
 abbrev pub IsEachOnce : List (List ℕ) → List (ℕ × List ℕ) → Type 0
@@ -46,6 +47,6 @@ IsEachOnce texts ps =
     × ((k : ℕ) → k < length texts → occurrences k (filter (λ j. ltb j (length texts)) ks) ≡ 1)
 
 -- the reports put into their places
-abbrev pub placed : List (List ℕ) → List (ℕ × List ℕ) → List (List ℕ)
-placed places [] = places
-placed places (p ∷ ps) = placed (slice_set places p.0 p.1) ps
+abbrev pub places_with : List (List ℕ) → List (ℕ × List ℕ) → List (List ℕ)
+places_with places [] = places
+places_with places (p ∷ ps) = places_with (slice_set places p.0 p.1) ps

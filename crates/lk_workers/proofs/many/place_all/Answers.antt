@@ -3,7 +3,7 @@ use Rattle.std.proofs.Common.{ap, ap₂, subst₂, sym, rules, tests}
 use Rattle.std.proofs.lemmas.Iterator.{YieldsList-from_map_by, YieldsList-from_slice}
 use Rattle.std.proofs.lemmas.Iterator.{items_from_drains}
 use lib.ListN.{length-map}
-use Rattle.lk_workers.specs.invariants.Collected.{bytes_of, numbered, placed}
+use Rattle.lk_workers.specs.invariants.Collected.{bytes_of, numbered_bytes, places_with}
 use Rattle.lk_workers.proofs.Places.{put, goes, first}
 use Rattle.lk_workers.proofs.many.place_all.Goals as goal
 
@@ -21,7 +21,7 @@ loop-number-init c =
     search rules in
     let long : length places ≡ length texts =
     sym (length-map places (λ t. t.items)) ∙ ap length empty ∙ length-map texts _ in (
-      ap₂ (λ os ps. placed os (numbered ps)) empty same,
+      ap₂ (λ os ps. places_with os (numbered_bytes ps)) empty same,
       subst₂ (λ n (ps : List (ℕ × Vec ℕ Global)). All (λ p. p.0 < n) ps) (sym long) (sym same)
           c.requires,
       long,
