@@ -108,7 +108,7 @@ class Finding {
       return;
     }
     byId('find').close();
-    const text = scheduleOf(asked.header, found.run, asked);
+    const text = scheduleOf(asked.header, found.moves, asked);
     const run = this.page.session.runOf(text);
     this.page.open(text, null, (asked.kind && firstOf(run, asked.kind)) || run.count, run);
     this.page.modes.set('lessons');

@@ -200,7 +200,6 @@ export const german = {
       soon: 'Was als Nächstes geschehen kann',
       inMoves: (count) => (count === 1 ? 'in 1 Zug' : `in ${count} Zügen`),
       soonCut: 'Was weiter weg ist, wurde nicht gesucht.',
-      soonFar: (most) => `Das wird nach höchstens ${most} Zügen gezeigt.`,
       newLock: 'Neuer Ablauf',
       lock: 'Sperre', threads: 'Threads', bits: 'Bits', begin: 'Beginnen',
       full: 'Ein Ablauf hat höchstens 65.536 Züge.',

@@ -122,12 +122,6 @@ export class State {
   recordName(thread) { return this.bytes[threadAt(thread) + 5]; }
   phaseNumber(thread) { return this.view.getBigUint64(threadAt(thread) + 8, true); }
   word(index) { return this.view.getBigUint64(WORDS_AT + 8 * index, true); }
-  // Threads and words alone: the same for two states, however they were reached.
-  get situation() {
-    const threads = this.bytes.subarray(THREADS_AT, threadAt(this.threads));
-    const words = this.bytes.subarray(WORDS_AT, WORDS_AT + 8 * this.wordCount);
-    return `${threads.join()};${words.join()}`;
-  }
 }
 
 // The records of all moves played. Moves are counted from 1.

@@ -12,7 +12,7 @@ const T = texts.play;
 const LONGEST_LINE = 32;
 
 // The moves that the machine accepts next from this thread, as words of a schedule.
-export function choicesOf(state, thread) {
+function choicesOf(state, thread) {
   const due = state.dueStep(thread);
   if (due) return [{ word: MOVES[due], look: 'due' }];
   return CALLS.filter((call) => state.allows(thread, call))
@@ -51,7 +51,7 @@ export function playView(session, state, every) {
     <ul class="threads">${threads.map(row)}</ul>`;
 }
 
-export const headerOf = (lock, threads, bits) => (
+const headerOf = (lock, threads, bits) => (
   `lock ${lock} threads ${threads}${String(bits) === '64' ? '' : ` bits ${bits}`}\n`);
 
 // The header of a new schedule. Whether it is one the machine says.

@@ -220,7 +220,6 @@ const english = {
     soon: 'What can happen next',
     inMoves: (count) => (count === 1 ? 'in 1 move' : `in ${count} moves`),
     soonCut: 'What is further away was not searched.',
-    soonFar: (most) => `This is shown after at most ${most} moves.`,
     lock: 'lock', threads: 'threads', bits: 'bits', begin: 'Begin',
     full: 'A schedule has at most 65,536 moves.',
     faulty: 'The text has a fault. Correct it, or begin a new schedule.',

@@ -6,8 +6,9 @@
 // Of each row of tests/rows/sketches.txt: the length of the run that is found, or the number of
 // states if there is none; the run is accepted by `play`, and has the lines. Of each kind of
 // transition: its name, as in tests/rows/names.txt, and after how many moves the run that its
-// sketch finds takes it, as in tests/rows/kinds.txt. Then what is answered if memory, moves or a
-// line are at fault.
+// sketch finds takes it, and the run from a new lock to this kind, as in tests/rows/kinds.txt. Of
+// each row of tests/rows/soon.txt: the same of a run from a state. Then what is answered if memory,
+// moves or a line are at fault.
 
 import assert from 'node:assert/strict';
 import { readFileSync } from 'node:fs';
@@ -32,10 +33,8 @@ function moveOf(code) {
   return { thread: code % 256, word, meets: Math.floor(code / 256) % 2 === 1 };
 }
 
-// What is found for these lines, by a search in so many cells.
-function find(machine, { lock, threads, bits, rounds }, lines, room = {}) {
-  const { cells = CELLS, moves = MOST_FOUND, most = 1e6 } = room;
-  const text = bytesOf(lines.join('\n'));
+// What is found by a search in so many cells. `call` gives the module a text and the memory.
+function search(machine, text, { cells = CELLS, moves = MOST_FOUND, numbers = 1 }, call) {
   const sizes = [8, 8 * moves, 8 * cells, 4 * SLOTS, text.length];
   const places = sizes.map((_, i) => machine.base
     + sizes.slice(0, i).reduce((sum, size) => sum + size, 0));
@@ -44,24 +43,40 @@ function find(machine, { lock, threads, bits, rounds }, lines, room = {}) {
   const { buffer } = machine.exports.memory;
   new Uint8Array(buffer, places[4], text.length).set(text);
   const slice = (at, length) => [BigInt(at), BigInt(length)];
-  const asked = [LOCKS.indexOf(lock), threads, bits, rounds, most].map(BigInt);
-  const answer = Number(machine.exports.find_moment(...slice(places[4], text.length), ...asked,
-    ...slice(places[2], cells), ...slice(places[3], SLOTS), ...slice(places[1], moves),
-    ...slice(places[0], 1)));
+  const answer = Number(call(slice(places[4], text.length), [...slice(places[2], cells),
+    ...slice(places[3], SLOTS), ...slice(places[1], moves), ...slice(places[0], numbers)]));
   const number = Number(new BigUint64Array(buffer, places[0], 1)[0]);
   const codes = [...new BigUint64Array(buffer, places[1], moves)].map(Number);
   const run = answer === FOUND.run ? codes.slice(moves - number).map(moveOf) : null;
   return { answer, number, run };
 }
 
+// What is found for these lines.
+function find(machine, { lock, threads, bits, rounds }, lines, room = {}) {
+  const asked = [LOCKS.indexOf(lock), threads, bits, rounds, room.most ?? 1e6].map(BigInt);
+  return search(machine, bytesOf(lines.join('\n')), room, (text, memory) => (
+    machine.exports.find_moment(...text, ...asked, ...memory)));
+}
+
+const headerOf = ({ lock, threads, bits }) => (
+  `lock ${lock} threads ${threads}${bits < 64 ? ` bits ${bits}` : ''}\n`);
+
+// What is found from the state after these lines of a schedule.
+function findSoon(machine, asked, lines, kind, room = {}) {
+  const numbers = [lines.length, kind, asked.rounds, 1e6].map(BigInt);
+  const schedule = bytesOf(headerOf(asked) + lines.map((line) => `${line}\n`).join(''));
+  return search(machine, schedule, room, (text, memory) => (
+    machine.exports.soon(...text, ...numbers, ...memory)));
+}
+
 // The transitions of an accepted run, as the rows write them.
-function transitionsOf(machine, { lock, threads, bits }, run) {
-  const header = `lock ${lock} threads ${threads}${bits < 64 ? ` bits ${bits}` : ''}\n`;
+function transitionsOf(machine, asked, run) {
+  const header = headerOf(asked);
   const text = bytesOf(header + run.map(({ thread, word }) => `${thread} ${word}\n`).join(''));
   const { state, records } = machine.play(text, run.length, true);
   assert.equal(state.answer, ANSWER.accepted, `${header}${JSON.stringify(run)}`);
   const read = new Records(records);
-  const phases = new Array(threads).fill('Idle');
+  const phases = new Array(asked.threads).fill('Idle');
   return run.map(({ thread }, at) => {
     const [move, from] = [at + 1, phases[thread]];
     phases[thread] = PHASES[read.phase(move)];
@@ -121,7 +136,46 @@ function checkKinds(machine, lock, names, lengths) {
     const run = transitionsOf(machine, asked, find(machine, asked, lines).run);
     const [, , length] = lengths.find((row) => row[1] === kind);
     assert.equal(run.indexOf(kind) + 1, Number(length), `${lock}: ${name}`);
+    const near = findSoon(machine, asked, [], i);
+    assert.deepEqual([near.answer, near.number], [FOUND.run, Number(length)], `${lock}: ${name}`);
   });
+}
+
+// Only the last move of the run is of this kind, and it alone is said to be.
+function checkSoon(machine, names, [space, moves, rounds, kind, expected]) {
+  const [lock, threads] = space.split(' ');
+  const asked = { lock, threads: Number(threads), bits: 64, rounds: Number(rounds) };
+  const lines = moves.split(';').map((line) => line.trim());
+  const place = names.filter((row) => row[0] === lock).findIndex((row) => row[1] === kind);
+  const { answer, number, run } = findSoon(machine, asked, lines, place);
+  const [word, states] = expected.split(' ');
+  if (word === 'nowhere') {
+    assert.deepEqual([answer, number], [FOUND.nowhere, Number(states)], `${moves}: ${kind}`);
+    return;
+  }
+  assert.deepEqual([answer, number], [FOUND.run, Number(word)], `${moves}: ${kind}`);
+  assert.deepEqual(run.map(({ meets }) => meets), run.map((_, at) => at === run.length - 1));
+  const { records } = machine.play(bytesOf(headerOf(asked) + lines.join('\n')), lines.length, true);
+  const made = lines.slice(0, new Records(records).count)
+    .map((line) => ({ thread: Number(line.split(' ')[0]), word: line.split(' ')[1] }));
+  const taken = transitionsOf(machine, asked, [...made, ...run]).slice(made.length);
+  assert.equal(taken.indexOf(kind), run.length - 1, `${moves}: ${kind}`);
+}
+
+function checkSoonFaults(machine) {
+  const asked = { lock: 'ticket', threads: 2, bits: 64, rounds: 0 };
+  // thread 0 leaves the lock by its fourth move
+  const answerTo = (room, other, lines = ['0 acquire', '0 add']) => {
+    const { answer, number } = findSoon(machine, { ...asked, ...other }, lines, 6, room);
+    return [answer, number];
+  };
+  assert.deepEqual(answerTo({}), [FOUND.run, 4]);
+  assert.deepEqual(answerTo({ moves: 3 }), [FOUND.longRun, 0]);
+  // a row has 10 cells
+  assert.deepEqual(answerTo({ cells: 10 * 4 - 1 }), [FOUND.tooLarge, 4]);
+  assert.equal(answerTo({}, { rounds: 256 })[0], FOUND.notAsked);
+  assert.equal(answerTo({}, {}, ['0 acquire', '0 lost'])[0], FOUND.notAsked);
+  assert.equal(answerTo({ numbers: 0 })[0], 8);
 }
 
 function checkFaults(machine) {
@@ -153,4 +207,8 @@ for (const lock of LOCKS) {
   checkKinds(machine, lock, ofLock(names), ofLock(lengths));
 }
 checkFaults(machine);
-console.log(`moments: ${sketches.length} sketches and ${names.length} kinds as their rows say`);
+const soon = rowsOf('soon.txt');
+for (const row of soon) checkSoon(machine, names, row);
+checkSoonFaults(machine);
+console.log(`moments: ${sketches.length} sketches, ${names.length} kinds and ${soon.length} runs`
+  + ' from a state as their rows say');

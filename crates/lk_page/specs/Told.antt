@@ -18,6 +18,7 @@ use Rattle.lk_locks.specs.declared.kinds.Entry.{Entry}
 use Rattle.lk_replay.specs.Schedule.{Plan}
 use Rattle.lk_replay.specs.Replay.{start_of, made_by}
 use Rattle.lk_replay.specs.declared.schedule.Line.{Line}
+use Rattle.lk_search.specs.Sketches.{transition_of}
 use Rattle.lk_page.specs.Next.{allowed_calls, waits_after}
 use Rattle.lk_catalogue.specs.Kinds.{kind_of}
 use Rattle.lk_catalogue.specs.declared.kinds.Observed.{Observed}
@@ -101,20 +102,11 @@ standing h queue t = record { holds = holds h t; is_queued = has queue t; writes
 abbrev pub kind_number : LockKind → Observed → ℕ
 kind_number kind x = option_map_or (λ place. place) (kind_of kind x) 255
 
--- an accepted move as a transition
-abbrev pub transition_of : State → Line → Observed
-transition_of s l = record {
-  from = phase_at s.phases l.thread;
-  action = l.action;
-  outcome = (change_of s l.thread l.action).outcome;
-  after = (change_of s l.thread l.action).phase;
-}
-
 -- the record of an accepted move
 pub record IsRecord (m : Moment) (l : Line) (r : Record) : Type 0 where
   pub accepted : (made_by m.state l).accepted
       ≡ record { line = r.line; thread = r.thread; action = r.action; outcome = r.outcome }
-  pub kind : r.kind ≡ kind_number m.state.kind (transition_of m.state l)
+  pub kind : r.kind ≡ kind_number m.state.kind (transition_of m.state l.thread l.action)
   pub phase : r.phase ≡ (change_of m.state l.thread l.action).phase
   pub due : r.due ≡ step_due m.state.kind (change_of m.state l.thread l.action).phase
   pub stands : r.standing

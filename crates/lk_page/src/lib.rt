@@ -1,20 +1,26 @@
 //! A schedule in a page: its text is read and played by the proved machine, and written out move by
-//! move for a page to draw; a shortest run is looked for that has the lines of a sketch; and of a
-//! line that cannot be read, it is told where it stops.
+//! move for a page to draw; a shortest run is looked for that has the lines of a sketch, or leads
+//! from a state to a transition of a kind; and of a line that cannot be read, it is told where it
+//! stops.
 //!
 //! It is built to a WebAssembly module that imports nothing. An exported function takes no memory
 //! there, so all that it reads and writes are slices that the page lends. page/MODULE.md lists
 //! their bytes.
 #![tactic(auto)]
 
-ghost use Rattle.std.specs.Prelude.{◌≡◌, ◌<◌, ◌≤◌, length};
+ghost use Rattle.std.specs.Prelude.{◌≡◌, ◌<◌, ◌≤◌, Err, Ok, length, take};
 ghost use Rattle.std.specs.Option.{option_map_or};
-ghost use Rattle.lk_replay.specs.Schedule.{plan_of};
+ghost use Rattle.lk_lines.specs.Faults.{Fault};
+ghost use Rattle.lk_replay.specs.Schedule.{Plan, plan_of};
 ghost use Rattle.lk_catalogue.specs.Kinds.{kind_count};
-ghost use Rattle.lk_page.specs.Asked.{IsAsked, asked_by, lock_of};
+ghost use Rattle.lk_search.specs.Runs.{initial};
+ghost use Rattle.lk_search.specs.Sketches.{OfKind};
+ghost use Rattle.lk_page.specs.Asked.{IsAsked, asked_by, lock_of, start_of};
 ghost use Rattle.lk_page.specs.Codes.{expected_code};
-ghost use Rattle.lk_page.specs.Sought.{IsAnswered, states_within};
+ghost use Rattle.lk_page.specs.Sought as sought;
+ghost use Rattle.lk_page.specs.Sought.{IsAnswer, IsAnswered, states_within};
 ghost use Rattle.lk_page.specs.Stops.{stop_of};
+ghost use Rattle.lk_page.specs.Told.{after_lines, beginning};
 ghost use Rattle.lk_page.specs.Written.{IsTold};
 
 mod asking;
@@ -33,12 +39,13 @@ mod told;
 
 use asking::{asked_of, lock_of};
 use codes::{expected_code, fault_codes};
-use finding::{MOST_TEXT, seek};
+use finding::{MOST_TEXT, seek, seek_from};
 use kind_texts::put_kind;
 use lk_catalogue::kinds_of;
 use lk_lines::{Expected, unreadable_header, unreadable_move};
 use lk_locks::Tracker;
 use lk_replay::ScheduleReader;
+use lk_search::Bounds;
 use playing::play_moves;
 use sought::{sought_code, sought_number};
 use state::{STATE_BYTES, fault_bytes, state_bytes};
@@ -106,8 +113,9 @@ pub extern "C" fn find_moment(
         → (result ≡ 7) × (codes.new ≡ codes.old) × (number.new ≡ number.old) }
     ensures answered { let asked = asked_by lock threads bits rounds in
         0 < length number.old → IsAsked lock threads bits rounds → length text.now < 65536
-        → IsAnswered text.now asked (states_within most (length cells.old) asked) codes.new result
-        number.old number.new }
+        → IsAnswered (sought.IsTold text.now asked
+        (states_within most (length cells.old) (start_of asked)) codes.new)
+        result number.old number.new }
 {
     if number.is_empty() {
         return 8;
@@ -119,6 +127,66 @@ pub extern "C" fn find_moment(
         return 7;
     };
     let sought = seek(text, asked, most as usize, cells, slots, codes);
+    number[0] = sought_number(sought);
+    sought_code(sought)
+}
+
+/// Plays at most `most` moves of a schedule text, as `play` does, and looks for a shortest run from
+/// there whose last move is a transition of the kind with this number. Each thread begins at most
+/// `rounds` more rounds, and at most `states` states are searched, or as many as fit into `cells`
+/// and `slots`.
+///
+/// What it returns and writes is as of `find_moment`, but for the answers to a text that is no
+/// sketch. It returns 7 if the text has a fault or `rounds` is above 255.
+#[unsafe(no_mangle)]
+pub extern "C" fn soon(
+    text: &[u8],
+    most: u64,
+    kind: u64,
+    rounds: u64,
+    states: u64,
+    cells: &mut [u64],
+    slots: &mut [u32],
+    codes: &mut [u64],
+    number: &mut [u64],
+) -> u64
+    ensures short { length number.old ≡ 0
+        → (result ≡ 8) × (codes.new ≡ codes.old) × (number.new ≡ number.old) }
+    ensures many { 0 < length number.old → 255 < rounds
+        → (result ≡ 7) × (codes.new ≡ codes.old) × (number.new ≡ number.old) }
+    ensures faulty { (fault : Fault) → 0 < length number.old → plan_of text.now ≡ Err fault
+        → (result ≡ 7) × (codes.new ≡ codes.old) × (number.new ≡ number.old) }
+    ensures answered { (p : Plan) → 0 < length number.old → rounds < 256
+        → plan_of text.now ≡ Ok p
+        → let start = initial (after_lines (beginning p) (take most p.moves)).state in
+        IsAnswered (IsAnswer (record { rounds = rounds; goal = OfKind kind }) start 1
+        (states_within states (length cells.old) start) codes.new)
+        result number.old number.new }
+{
+    if number.is_empty() {
+        return 8;
+    }
+    if rounds > 255 {
+        return 7;
+    }
+    let Ok(mut reader) = ScheduleReader::open(text) else {
+        return 7;
+    };
+    let header = reader.header();
+    // a shape has a thread
+    let _threads = header.threads();
+    let mut lock = Tracker::at_start(header);
+    let _stopped = play_moves(&mut lock, &mut reader, most, &mut []);
+    let bounds = Bounds::of_kind(rounds as u8, kind as usize);
+    let sought = seek_from(
+        lock.machine(),
+        bounds,
+        1,
+        states as usize,
+        cells,
+        slots,
+        codes,
+    );
     number[0] = sought_number(sought);
     sought_code(sought)
 }

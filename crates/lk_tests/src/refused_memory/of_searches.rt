@@ -1,6 +1,7 @@
 //! What a search of a small lock and a tour of it answer if memory is refused.
 
 ghost use Rattle.std.specs.Prelude.{◌≡◌, [], IfOk};
+ghost use Rattle.lk_search.specs.Sketches.{Lines};
 
 use crate::holding::holds;
 use crate::refusing::{refuse, was_refused};
@@ -10,7 +11,7 @@ use std::alloc::Global;
 use std::process::Abort;
 
 fn explored(alloc: Global) -> Result<Space<'static, Heap>, SearchFault>
-    ensures { IfOk result (λ space. space.bounds.sketch ≡ []) }
+    ensures { IfOk result (λ space. space.bounds.goal ≡ Lines []) }
 {
     Space::explore(Heap::new(alloc)?, ticket_lock(), Bounds::new(1, &[]), 41)
 }

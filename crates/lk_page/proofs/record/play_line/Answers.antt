@@ -1,4 +1,4 @@
-use Rattle.std.proofs.Common.{ap, refl, sym, ◌∙◌}
+use Rattle.std.proofs.Common.{ap, sym, ◌∙◌}
 use Rattle.lk_locks.specs.State.{State, phase_at}
 use Rattle.lk_locks.specs.Locks.{step_due}
 use Rattle.lk_locks.specs.Steps.{refused_with}
