@@ -5,9 +5,8 @@
 //! of their own: it uses what the others make public, as any crate does, and none of them is
 //! proved anew for its tests. A test is proved before it is run, so few functions go through many
 //! rows. What the built programs show is not tried here: reports, and each request for memory
-//! refused on each worked row (tests/rows.py, tests/refusals.py); traces and orders
-//! (tests/rows/locktrace); the sizes, sketches and tours of small locks (tests/searches.py,
-//! tests/search_counts.py, tests/search_sketches.py).
+//! refused on each worked row (tests/lockreplay); traces and orders (tests/locktrace); the sizes,
+//! sketches and tours of small locks (tests/oracle).
 #![tactic(auto)]
 
 #[cfg(test)]
