@@ -1,4 +1,5 @@
-// The kinds of transition of each lock, as the module names them: {lock: [{name, says, sketch}, ..]}.
+// The kinds of transition of each lock, as the module names them:
+// {lock: [{name, says, sketch}, ..]}.
 
 import { lettersOf } from '../src/bytes.js';
 import { LOCK_NAMES } from '../src/locks.js';

@@ -1,5 +1,5 @@
-//! Advice after a line in which a run differs from the published algorithm, by the lock and the phase
-//! of the thread, and after a line that is none of a trace.
+//! Advice after a line in which a run differs from the published algorithm, by the lock and the
+//! phase of the thread, and after a line that is none of a trace.
 
 use crate::{mcs, rw_fifo, rw_simple, ticket};
 use lk_locks::{LockKind, Phase, Refusal};

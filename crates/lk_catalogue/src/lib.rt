@@ -1,5 +1,5 @@
-//! The transitions of each lock in words: their kinds, a sentence for each, what a thread that polls
-//! waits for, and what helps after a refusal.
+//! The transitions of each lock in words: their kinds, a sentence for each, what a thread that
+//! polls waits for, and what helps after a refusal.
 //!
 //! Each lock has a module with its table. Programs, the page and the library for C take all their
 //! words about a lock from these tables, so that a sentence is written once. A sentence has places,

@@ -23,8 +23,8 @@ fn put_line(text: &mut [u8], at: usize, line: &str) -> Option<usize>
     put(text, end, line.as_bytes())
 }
 
-/// Writes the name of a kind, and after it its sentence and the lines of its sketch, each after a line
-/// feed. Answers where they end, if they fit.
+/// Writes the name of a kind, and after it its sentence and the lines of its sketch, each after a
+/// line feed. Answers where they end, if they fit.
 pub fn put_kind(text: &mut [u8], kind: Kind) -> Option<usize>
     ensures size { length text.new ≡ length text.old }
     ensures fits { IfSome result (λ end. end ≤ length text.old) }
