@@ -58,7 +58,7 @@ def test_small_texts(replayer, request):
     def check(texts):
         assert batch(replayer, texts) == due(list(map(oracle.report_of, texts)))
 
-    try_random(request, SMALL_TEXTS, check, TEXTS, 5)
+    try_random(request, SMALL_TEXTS, check, TEXTS, 4)
 
 
 def shortened(pieces, differs):

@@ -40,4 +40,4 @@ def test_changed_value(tracer, request):
             refused = answer["line"] if answer["ending"] == "refused" else 0
             assert refused == changed or is_count and (refused == 0 or refused > changed), answer
 
-    try_random(request, st.lists(drawn(changed_run, 700), min_size=1, max_size=9), check, RUNS, 5)
+    try_random(request, st.lists(drawn(changed_run, 700), min_size=1, max_size=9), check, RUNS, 4)

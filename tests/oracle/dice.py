@@ -9,6 +9,8 @@ import zlib
 from hypothesis import given, seed, settings
 from hypothesis import strategies as st
 
+CHUNK = 8  # bytes
+
 
 class Dice(random.Random):
     def __init__(self, data):
@@ -30,11 +32,13 @@ class Dice(random.Random):
         return [rest.pop(self.randrange(len(rest))) for _ in range(k)]
 
 
-def drawn(generator, most=2_000):
-    """What a generator draws by at most so many bytes."""
-    return st.integers(0, most).flatmap(
-        lambda count: st.binary(min_size=count, max_size=count)).map(
-        lambda data: generator(Dice(data)))
+def drawn(generator, most=1_200):
+    """What a generator draws by at most so many bytes. They are drawn in chunks, each of which can
+    shrink by itself."""
+    chunk = st.binary(min_size=CHUNK, max_size=CHUNK)
+    return st.integers(0, most // CHUNK).flatmap(
+        lambda count: st.lists(chunk, min_size=count, max_size=count)).map(
+        lambda chunks: generator(Dice(b"".join(chunks))))
 
 
 def try_random(request, strategy, check, count, at_once=1):
