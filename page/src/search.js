@@ -13,8 +13,8 @@ export const FOUND = {
 // their own, 64 MB.
 const MOST_STATES = 250000;
 const MOST_CELLS = 1 << 23;
-// There is a search for each kind of the lock: of 10,082 states of an MCS lock of two threads.
-const MOST_NEXT_CELLS = 1 << 17;
+// There is a search for each kind of the lock: of 20,164 states of an MCS lock of two threads.
+const MOST_NEXT_CELLS = 1 << 18;
 const MOST_MOVES_FOUND = 4096;
 const BYTE = 1;
 const SLOT = 4;
