@@ -80,13 +80,13 @@ const ROWS = [
     what: 'a swap and a failed compare-and-swap are recorded',
     text: LATE_LINK, most: 99, records: 10 * RECORD_BYTES, state: STATE_BYTES, answer: 1,
     inRecords: {
-      // on line 5 thread 0 swaps the tail and enters, holds and is in the queue; word 0 was 0 and
-      // is 1
-      [at(3, 0)]: 5, [at(3, 4)]: 0, [at(3, 5)]: 18, [at(3, 6)]: 0, [at(3, 7)]: 3, [at(3, 8)]: 11,
+      // on line 5 thread 0 swaps the tail and enters, which is kind 2, holds and is in the queue;
+      // word 0 was 0 and is 1
+      [at(3, 0)]: 5, [at(3, 4)]: 0, [at(3, 5)]: 18, [at(3, 6)]: 2, [at(3, 7)]: 3, [at(3, 8)]: 11,
       [at(3, 9)]: 3, [at(3, 10)]: 0, [at(3, 11)]: 0, [at(3, 12)]: 255, [at(3, 13)]: 255,
       [at(3, 16)]: 0, [at(3, 24)]: 1,
-      // a compare-and-swap of the tail that fails
-      [at(9, 0)]: 11, [at(9, 5)]: 19, [at(9, 7)]: 1, [at(9, 8)]: 14, [at(9, 10)]: 0,
+      // a compare-and-swap of the tail that fails, which is kind 12
+      [at(9, 0)]: 11, [at(9, 5)]: 19, [at(9, 6)]: 12, [at(9, 7)]: 1, [at(9, 8)]: 14, [at(9, 10)]: 0,
       [at(9, 11)]: 0, [at(9, 16)]: 2, [at(9, 24)]: 2,
     },
   },
@@ -124,8 +124,8 @@ const ROWS = [
       // `readAcquires` goes from 0 to 1, and the flag from 1 to 0
       [at(4, 10)]: 0, [at(4, 12)]: 2, [at(4, 16)]: 0, [at(4, 24)]: 1, [at(4, 32)]: 1,
       [at(4, 40)]: 0,
-      // it reads, and may leave
-      [at(4, 8)]: 17, [at(4, 9)]: 1,
+      // it is kind 11, reads, and may leave
+      [at(4, 6)]: 11, [at(4, 8)]: 17, [at(4, 9)]: 1,
       // after the records nothing is written
       [at(4, 55)]: 0, [at(5, 0)]: OLD, [at(6, 19)]: OLD,
     },
