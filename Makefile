@@ -119,7 +119,7 @@ check: needs-rt
 	$(if $(filter $(CRATE),$(TESTS)),$(MAKE) --no-print-directory test-refused)
 else
 check: $(PROGRAM) $(TRACER) $(LIBRARY) test-needs
-	$(PYTEST) $(SPREAD) -m 'not (root or browser or planted or slow)' --quick
+	$(PYTEST) $(SPREAD) -m 'not (root or browser or planted or slow)' --quick --fuzz-seconds 5
 endif
 
 # Nothing is proved here.

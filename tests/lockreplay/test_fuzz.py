@@ -106,7 +106,6 @@ def is_round_right(replayer, chance, texts, reports):
             and all(is_right(replayer, texts[k]) for k in singles))
 
 
-@pytest.mark.slow
 def test_random_texts(replayer, pytestconfig, record_property):
     seed, tried = int(pytestconfig.getoption("hypothesis_seed")), 0
     chance = random.Random(seed)

@@ -11,6 +11,8 @@ import pytest
 from recorders import COMPILERS, IN_C_PLUS_PLUS, RECORDERS, SOURCES, WARNINGS, compile_c, language
 from tree import TOP, output, ran
 
+pytestmark = pytest.mark.slow
+
 HERE = Path(__file__).parent
 GUIDE = (TOP / "docs" / "GUIDE.md").read_text()
 SANITIZERS = ["address,undefined", "thread"]

@@ -12,6 +12,8 @@ from mistakes import PATCHES
 from recorders import COMPILERS, SOURCES, WARNINGS, compile_c, language, plant, words_of
 from tree import EXAMPLES, TOP, ran
 
+pytestmark = pytest.mark.slow
+
 HERE = Path(__file__).parent
 
 # What the command line defines, and what the compiler then says.
