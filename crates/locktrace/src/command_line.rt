@@ -3,8 +3,9 @@
 use crate::searches::{self, SearchJob};
 use clap::error::ErrorKind;
 use clap::{Arg, ArgAction, ArgMatches, Command, value_parser};
-use lk_order_files::OrderJob;
-use lk_trace_files::{CheckJob, Format};
+use lk_jobs::Format;
+use lk_jobs::check::CheckJob;
+use lk_jobs::order::OrderJob;
 use std::alloc::{AllocError, Global};
 use thiserror::Error;
 

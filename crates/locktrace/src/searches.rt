@@ -2,7 +2,9 @@
 
 use crate::command_line::{ParseFault, copied, names_in, option_arg, usage, value_arg};
 use clap::{ArgAction, ArgMatches, Command, value_parser};
-use lk_search_files::{Asked, CoverJob, Format, Source, SpaceFormat, is_kind};
+use lk_jobs::cover::{CoverJob, Format, is_kind};
+use lk_jobs::sketch::Source;
+use lk_jobs::space::{Asked, SpaceFormat};
 use std::alloc::{AllocError, Global};
 
 /// How many states are searched if nothing else is asked for.

@@ -1,0 +1,6 @@
+pub mod Reading
+pub mod Accepting
+pub mod Endings
+pub mod LogReading
+pub mod Shelves
+pub mod Texts

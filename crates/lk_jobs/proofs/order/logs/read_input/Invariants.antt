@@ -1,0 +1,8 @@
+-- So much of the log was read.
+use Rattle.lk_text.specs.Lines.{left}
+use Rattle.lk_jobs.specs.invariants.{ReadsInput}
+use Rattle.lk_jobs.proofs.order.logs.read_input.Given as goal
+
+abbrev pub invariant-loop-number : goal.invariant-loop-number
+invariant-loop-number g l =
+    ReadsInput (g.I.Read.remaining l.fn.input) (left g.I.Read.remaining l.lines) l.reader

@@ -1,0 +1,11 @@
+pub mod Accepted
+pub mod Answered
+pub mod Counted
+pub mod Drawn
+pub mod Fates
+pub mod Orders
+pub mod Statuses
+pub mod TourFiles
+pub mod Verdicts
+pub mod Written
+pub mod invariants

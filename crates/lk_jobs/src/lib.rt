@@ -1,0 +1,28 @@
+//! The jobs of the program `locktrace`, each in a module of its own.
+//!
+//! Traces are checked (`check`), explained (`explain`) and written as schedules (`schedule`); the
+//! logs of a run's threads are put into one order (`order`). All runs of a lock are searched: for
+//! the lines of a sketch (`find`, `sketch`), for schedules that take every transition (`tour`), to
+//! be counted or drawn (`space`), and to see which transitions traces took (`cover`).
+#![tactic(auto)]
+
+mod blame;
+pub mod check;
+mod course;
+pub mod cover;
+pub mod explain;
+pub mod find;
+mod formats;
+mod numbers;
+pub mod order;
+mod progress;
+mod run;
+pub mod schedule;
+mod sentences;
+pub mod sketch;
+pub mod space;
+mod texts;
+pub mod tour;
+mod waiting;
+
+pub use formats::Format;

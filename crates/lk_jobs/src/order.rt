@@ -1,0 +1,191 @@
+//! Logs as files: those of a run's threads are put into one order, which is written as a trace and
+//! as schedules.
+//!
+//! `order_logs` does that with the files of a job, and says in the form that it asks for what is
+//! wrong. `search_logs` orders logs that were read. The program `locktrace` gives `order_logs` its
+//! files.
+ghost use Rattle.std.specs.Prelude.{IfOk};
+ghost use Rattle.lk_jobs.specs.Orders.{IsSought};
+
+mod files;
+mod logs;
+mod report;
+mod search;
+
+pub use search::{BadLog, Search, Sought, search_logs};
+
+use crate::course::Course;
+use crate::formats::Format;
+use crate::progress::Progress;
+use files::{write_schedules, write_trace};
+use lk_order::{Log, Order};
+use lk_text::{Count, Failure};
+use logs::take_logs;
+use report::{OrderReport, put_cut, put_hang, put_stuck};
+use std::alloc::{AllocError, Global};
+use std::fs;
+use std::io::{Eprint, Write};
+use std::rt::Files;
+
+/// What is to be put into one order, the folder for what is found, and what is said of it. For a
+/// folder `-` the trace alone is written, to the output, and all that is said goes to `errors`.
+#[derive(Debug, Drop)]
+pub struct OrderJob {
+    pub format: Format,
+    /// Whether nothing is said.
+    pub quiet: bool,
+    pub logs: Vec<String>,
+    pub folder: String,
+}
+
+// The folder that stands for the output.
+const OUTPUT: &str = "-";
+
+// Why moves are in no schedule.
+const TOO_LONG: &str = "A schedule has at most 65536 moves, and after those somebody was in a call";
+
+// Writes the trace and the schedules of an order into a folder.
+fn write_found<R: Files>(
+    rt: &R,
+    alloc: Global,
+    order: &Order,
+    hung: Option<&Course>,
+    folder: &str,
+    report: &mut OrderReport,
+) -> Result<(), Failure> {
+    fs::create_dir_all(rt, folder)?;
+    let path = format!(in alloc; "{folder}/run.trace")?;
+    let mut file = fs::create(rt, path.as_str())?;
+    write_trace(alloc, order, hung, &mut file)?;
+    let left_out = write_schedules(rt, alloc, order, folder)?;
+    if left_out > 0 {
+        let moves = Count(left_out as u64, "move is", "moves are");
+        let said = format_args!("{moves} in no schedule. {TOO_LONG}");
+        report.warnings.put(0, said)?;
+    }
+    Ok(())
+}
+
+// Writes an order, to the output or into the job's folder.
+fn write_order<R: Files, O: Write>(
+    rt: &R,
+    alloc: Global,
+    search: &Search,
+    folder: &str,
+    report: &mut OrderReport,
+    output: &mut O,
+) -> Result<(), Failure> {
+    let (order, hung) = (&search.found.order, search.hung.as_ref());
+    if folder == OUTPUT {
+        write_trace(alloc, order, hung, output)
+    } else {
+        write_found(rt, alloc, order, hung, folder, report)
+    }
+}
+
+// Says how far an order came, and why not further. `names` has the files of the threads, and `open`
+// those that have not ended.
+fn put_ending(
+    report: &mut OrderReport,
+    search: &Search,
+    names: &[&str],
+    open: &[bool],
+) -> Result<(), AllocError> {
+    let order = &search.found.order;
+    report.placed = order.len();
+    match (search.found.ending, &search.hung) {
+        (lk_order::Ending::Stuck(stuck), _) => put_stuck(report, order, names, stuck),
+        (_, Some(course)) => put_hang(report, order, names, course),
+        (lk_order::Ending::Cut, None) => put_cut(report, order, names, open),
+        (lk_order::Ending::Whole, None) => Ok(()),
+    }
+}
+
+// How many moves logs have.
+fn moves_of(logs: &[Log]) -> usize {
+    logs.iter()
+        .fold(0, |sum, log| sum.saturating_add(log.moves().len()))
+}
+
+// Looks for the order of the logs, and writes it.
+fn order_into<R: Files + Eprint, O: Write>(
+    rt: &R,
+    alloc: Global,
+    job: &OrderJob,
+    progress: &mut Progress<'_, R>,
+    report: &mut OrderReport,
+    output: &mut O,
+) -> Result<Sought, Failure>
+    ensures { IfOk result (IsSought R.File.remaining) }
+{
+    let taken = match take_logs(rt, alloc, &job.logs, &mut report.messages)? {
+        Ok(taken) => taken,
+        Err(bad) => {
+            bad.put_fields(&mut report.fields)?;
+            return Ok(Sought::Bad(bad));
+        }
+    };
+    let logs = taken.shelf.logs(alloc)?;
+    progress.begin("ordering", moves_of(&logs));
+    let search = match search_logs(alloc, logs, &taken.open)? {
+        Some(search) => search,
+        None => {
+            report.messages.put(0, "the logs are not of one run")?;
+            return Ok(Sought::Bad(BadLog::OtherLock));
+        }
+    };
+    progress.begin("writing", moves_of(search.found.order.logs()));
+    write_order(rt, alloc, &search, &job.folder, report, output)?;
+    put_ending(report, &search, &taken.names, &taken.open)?;
+    Ok(Sought::Order(search))
+}
+
+// Writes what is said of a job. Where the output has the trace, all of it goes to `errors`.
+fn put_report<O: Write>(
+    alloc: Global,
+    report: &OrderReport,
+    sought: &Sought,
+    job: &OrderJob,
+    output: &mut O,
+    errors: &mut String,
+) -> Result<(), Failure> {
+    let folder = job.folder.as_str();
+    let mut text = String::new(alloc);
+    report.put(sought.ending(), job.format, folder, &mut text, errors)?;
+    if folder == OUTPUT {
+        errors.push_str(&text)?;
+    } else {
+        output.write_all(text.as_bytes())?;
+        output.flush()?;
+    }
+    Ok(())
+}
+
+/// Puts the logs into one order and writes its trace and its schedules into the folder. What there
+/// is to say goes into `errors`, or as TAP or JSON to the output. If standard error is a terminal,
+/// it shows what is done with long logs. The answer says how the job ends.
+///
+/// # Errors
+///
+/// A file could not be written, or a request for memory was refused.
+pub fn order_logs<R: Files + Eprint, O: Write>(
+    rt: &R,
+    alloc: Global,
+    job: &OrderJob,
+    is_terminal: bool,
+    output: &mut O,
+    errors: &mut String,
+) -> Result<Sought, Failure>
+    ensures { IfOk result (IsSought R.File.remaining) }
+{
+    let mut report = OrderReport::new(alloc);
+    let mut progress = Progress::new(rt, is_terminal && !job.quiet);
+    let sought = order_into(rt, alloc, job, &mut progress, &mut report, output);
+    progress.end();
+    let sought = sought?;
+    if job.quiet {
+        return Ok(sought);
+    }
+    put_report(alloc, &report, &sought, job, output, errors)?;
+    Ok(sought)
+}

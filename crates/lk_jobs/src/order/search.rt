@@ -1,0 +1,201 @@
+//! The search for the order of a run's logs, what is wrong with logs for which no order is looked
+//! for, and how the job ends by it.
+//!
+//! A run hangs if each thread that has not ended polls, and would poll on. The logs of threads that
+//! run freely are not saved at one moment. So here the next poll of such a thread has to fail as
+//! well, by the lock after all steps.
+
+ghost use Rattle.std.specs.Prelude.{◌≡◌, ◌↔◌, IfOk, IfSome, IsSome};
+ghost use Rattle.lk_order.specs.Runs.{IsOneRun};
+ghost use Rattle.lk_jobs.specs.Orders.{IsHung, IsSearch, ending_of_bad, ending_of_search};
+ghost use Rattle.lk_jobs.specs.Orders.{ending_of_sought};
+
+use crate::blame::Waiting;
+use crate::check::Ending;
+use crate::course::{Course, Fate};
+use crate::formats::put_code;
+use lk_order::{Found, Log, LogFault, Order, Unfit, find_order};
+use lk_trace::{Checker, Event};
+use std::alloc::{AllocError, Global};
+use std::fmt::Write;
+use thiserror::Error;
+
+/// What is wrong with a log, or with the logs together.
+#[derive(Clone, Copy, PartialEq, Eq, Debug, Error)]
+pub enum BadLog {
+    /// It could not be opened or read. The input's own error is what is said of it.
+    #[error("it cannot be read")]
+    Unread,
+    #[error("{0}")]
+    Fault(LogFault),
+    /// It is of another lock than the first one.
+    #[error("{}", Unfit::OtherLock)]
+    OtherLock,
+    /// This thread's log is of another run than the first one.
+    #[error("of another run than the first log's")]
+    OtherRun(u8),
+    #[error("a second log of thread {0}")]
+    SecondLog(u8),
+    #[error("no log of thread {0}")]
+    Missing(u8),
+}
+
+impl BadLog {
+    /// How the job ends.
+    pub fn ending(self) -> Ending
+        ensures { result ≡ ending_of_bad self }
+    {
+        match self {
+            BadLog::Unread => Ending::Unread,
+            _ => Ending::Faulty,
+        }
+    }
+
+    // Its name for programs: of a fault the one that its sentence has in brackets.
+    fn code(self) -> &'static str {
+        match self {
+            BadLog::Unread => "Unread",
+            BadLog::Fault(LogFault::NoHeader) => "NoHeader",
+            BadLog::Fault(LogFault::BadHeader) => "BadHeader",
+            BadLog::Fault(LogFault::BadMove | LogFault::AfterTheEnd) => "BadLine",
+            BadLog::Fault(LogFault::TooLong) => "TooLong",
+            BadLog::Fault(LogFault::OutOfMemory) => "OutOfMemory",
+            BadLog::OtherLock => "OtherLock",
+            BadLog::OtherRun(_) => "OtherRun",
+            BadLog::SecondLog(_) => "SecondLog",
+            BadLog::Missing(_) => "NoLog",
+        }
+    }
+
+    /// Writes its name, and the thread of the run that it is about, as further fields of a JSON
+    /// object.
+    pub fn put_fields(self, text: &mut String) -> Result<(), AllocError> {
+        put_code(text, self.code())?;
+        match self {
+            BadLog::OtherRun(thread) | BadLog::SecondLog(thread) | BadLog::Missing(thread) => {
+                write!(text, ",\"thread\":{thread}")
+            }
+            _ => Ok(()),
+        }
+    }
+}
+
+/// What a search found.
+#[derive(Drop)]
+pub struct Search {
+    pub found: Found,
+    /// How far the threads came, if the run hangs.
+    pub hung: Option<Course>,
+}
+
+impl Search {
+    /// How the job ends.
+    pub fn ending(&self) -> Ending
+        ensures { result ≡ ending_of_search self.now }
+    {
+        match (self.found.ending, &self.hung) {
+            (lk_order::Ending::Stuck(_), _) => Ending::Refused,
+            (_, Some(_)) => Ending::Hangs,
+            (_, None) => Ending::Accepted,
+        }
+    }
+}
+
+/// What came of the logs of a run.
+#[derive(Drop)]
+pub enum Sought {
+    /// No order was looked for.
+    Bad(BadLog),
+    /// An order was looked for.
+    Order(Search),
+}
+
+impl Sought {
+    /// How the job ends.
+    pub fn ending(&self) -> Ending
+        ensures { result ≡ ending_of_sought self.now }
+    {
+        match self {
+            Sought::Bad(bad) => bad.ending(),
+            Sought::Order(search) => search.ending(),
+        }
+    }
+}
+
+// Makes the steps of an order again, and notes how far each thread comes.
+fn course_of(order: &Order) -> Course {
+    let mut course = Course::new();
+    let header = order.header();
+    let mut checker = Checker::new(header);
+    let mut at = [0usize; 256];
+    for k in 0..order.len() {
+        let Some(line) = order.line(k) else {
+            break;
+        };
+        let t = line.thread as usize;
+        let place = at[t];
+        at[t] = place.saturating_add(1);
+        let log = order.logs().get(t);
+        let number = log.and_then(|log| log.line_of(place)).unwrap_or(0);
+        if let Ok(made) = checker.step(line) {
+            course.take(u64::from(number), b"".as_slice(), Event::Made(line, made));
+        }
+    }
+    course
+}
+
+// How far the threads came, if the run hangs. `unended` has the threads whose logs say that they
+// have not ended.
+fn hung_course(order: &Order, unended: &[bool]) -> Option<Course>
+    ensures { IfSome result (IsHung order.now) }
+{
+    if !unended.contains(&true) {
+        return None;
+    }
+    let mut course = course_of(order);
+    let threads = order.header().threads();
+    for t in 0..threads {
+        let is_open = unended.get(t as usize).copied().unwrap_or(false);
+        let log = order.logs().get(t as usize)?;
+        let is_whole = is_open || log.dropped() == Some(0);
+        if !is_whole || order.next(t).is_some() {
+            return None;
+        }
+        course.end(t, !is_open);
+    }
+    let hangs = course.hangs(threads) && !may_go_on(order, &course);
+    hangs.then_some(course)
+}
+
+// Whether a thread that has not ended would find what it polls for.
+fn may_go_on(order: &Order, course: &Course) -> bool {
+    let lock = order.checker().lock();
+    (0..order.header().threads()).any(|thread| {
+        course.fate(thread) == Fate::Hangs && Waiting { lock, thread }.may_go_on()
+    })
+}
+
+/// Looks for the order of a run's logs. `unended` has the threads whose logs say that they have not
+/// ended. None is answered if the logs are not those of one run.
+///
+/// # Errors
+///
+/// A request for memory was refused.
+pub fn search_logs(
+    alloc: Global,
+    logs: Vec<Log>,
+    unended: &[bool],
+) -> Result<Option<Search>, AllocError>
+    ensures one_run { IfOk result (λ search. IsSome search ↔ IsOneRun logs.items) }
+    ensures logs { IfOk result (λ search. IfSome search (λ s. s.found.order.logs ≡ logs.items)) }
+    ensures search { IfOk result (λ search. IfSome search IsSearch) }
+{
+    let Some(found) = find_order(alloc, logs)? else {
+        return Ok(None);
+    };
+    let hung = match found.ending {
+        lk_order::Ending::Stuck(_) => None,
+        _ => hung_course(&found.order, unended),
+    };
+    Ok(Some(Search { found, hung }))
+}

@@ -1,0 +1,54 @@
+//! A run as a schedule.
+
+ghost use Rattle.std.specs.Prelude.{◌≡◌, ◌++◌, string_bytes, OnOk};
+ghost use Rattle.std.specs.List.{flat_map};
+ghost use Rattle.lk_jobs.specs.Written.{header_line, move_line, schedule_of};
+
+use lk_lines::{lock_text, move_text};
+use lk_locks::Shape;
+use lk_search::Taken;
+use std::alloc::AllocError;
+use std::fmt::Write;
+
+// Writes the header of a schedule.
+fn put_header(text: &mut String, header: Shape) -> Result<(), AllocError>
+    ensures { OnOk result (string_bytes text.new ≡ string_bytes text.old
+        ++ header_line header.kind header.threads header.bits) }
+{
+    let (name, threads, bits) = (lock_text(header.kind()), header.threads(), header.bits());
+    if bits < 64 {
+        writeln!(text, "lock {name} threads {threads} bits {bits}")
+    } else {
+        writeln!(text, "lock {name} threads {threads}")
+    }
+}
+
+// Writes the line of a move.
+fn put_move(text: &mut String, taken: Taken) -> Result<(), AllocError>
+    ensures { OnOk result
+        (string_bytes text.new ≡ string_bytes text.old ++ move_line taken) }
+{
+    let (thread, word) = (taken.thread, move_text(taken.action));
+    writeln!(text, "{thread} {word}")
+}
+
+// Writes the lines of a run's moves.
+#[tactic(auto, using(crate::proofs::Texts::one_line_more))]
+fn put_moves(text: &mut String, run: &[Taken]) -> Result<(), AllocError>
+    ensures { OnOk result
+        (string_bytes text.new ≡ string_bytes text.old ++ flat_map move_line run.now) }
+{
+    for taken in run {
+        put_move(text, *taken)?;
+    }
+    Ok(())
+}
+
+/// Writes the header of a run's lock, and a line for each move.
+pub fn put_run(text: &mut String, header: Shape, run: &[Taken]) -> Result<(), AllocError>
+    ensures { OnOk result (string_bytes text.new ≡ string_bytes text.old
+        ++ schedule_of header.kind header.threads header.bits run.now) }
+{
+    put_header(text, header)?;
+    put_moves(text, run)
+}

@@ -1,2 +1,0 @@
-pub mod LogReading
-pub mod Shelves

@@ -1,8 +1,0 @@
--- So much of the log was read.
-use Rattle.lk_text.specs.Lines.{left}
-use Rattle.lk_order_files.specs.invariants.{ReadsInput}
-use Rattle.lk_order_files.proofs.reading.read_input.Given as goal
-
-abbrev pub invariant-loop-number : goal.invariant-loop-number
-invariant-loop-number g l =
-    ReadsInput (g.I.Read.remaining l.fn.input) (left g.I.Read.remaining l.lines) l.reader

@@ -1,4 +1,0 @@
-pub mod Accepted
-pub mod Fates
-pub mod Verdicts
-pub mod invariants
