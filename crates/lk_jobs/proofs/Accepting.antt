@@ -20,12 +20,13 @@ use Rattle.lk_trace.specs.declared.trace.Event.{Event}
 use Rattle.lk_trace.specs.declared.trace.Event.TheVariants.{Skipped}
 use Rattle.lk_trace.specs.declared.trace.TextFault.{TextFault}
 use Rattle.lk_jobs.specs.Accepted.{IsMove, AreMoves, IsHeader, IsTrace}
-use Rattle.lk_jobs.specs.Verdicts.{Verdict, IsOfText, unless_ended, verdict, verdict_from}
-use Rattle.lk_jobs.specs.Verdicts.{hanging, hangs_in, if_hangs, verdict_in, verdict_of}
-use Rattle.lk_jobs.specs.declared.check.Ending.{Ending}
-use Rattle.lk_jobs.specs.declared.check.Ending.TheVariants.{Accepted, Refused, Unread}
-use Rattle.lk_jobs.specs.declared.check.Ending.TheVariants.{Faulty, Hangs}
-use Rattle.lk_jobs.specs.declared.check.Report.{Report}
+use Rattle.lk_jobs.specs.Verdicts.{Verdict, IsOfText, counts_in, unless_ended, verdict}
+use Rattle.lk_jobs.specs.Verdicts.{hanging, hangs_in, if_hangs, verdict_from, verdict_in}
+use Rattle.lk_jobs.specs.Verdicts.{verdict_of}
+use Rattle.lk_jobs.specs.declared.report.Ending.{Ending}
+use Rattle.lk_jobs.specs.declared.report.Ending.TheVariants.{Accepted, Refused, Unread}
+use Rattle.lk_jobs.specs.declared.report.Ending.TheVariants.{Faulty, Hangs}
+use Rattle.lk_jobs.specs.declared.report.Report.{Report}
 
 -- a line, and those after it
 line_read : (n : ℕ) (r after : Option Checked) (e : Event) (line : List ℕ) (lines : List (List ℕ))
@@ -212,9 +213,11 @@ ends_well true v is none = let no : true ≡ false = none in cc
 
 -- a report with the text's verdict is the text's
 pub of_text : (report : Report) (text : List ℕ)
-    → (report.ending ≢ Unread → verdict_in report ≡ verdict_of text) → IsOfText report text
-of_text report text is = record {
+    → (report.ending ≢ Unread → verdict_in report ≡ verdict_of text)
+    → (report.ending ≢ Unread → report.summary ≡ counts_in text) → IsOfText report text
+of_text report text is counts = record {
   verdict_is = is;
+  counts_are = counts;
   accepted = λ read.
       let lines = lines_of text in
       let h = hangs_in lines in

@@ -3,4 +3,4 @@ pub mod Accepting
 pub mod Endings
 pub mod LogReading
 pub mod Shelves
-pub mod Texts
+pub mod Listed

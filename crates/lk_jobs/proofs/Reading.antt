@@ -1,6 +1,6 @@
 -- What is kept of a line means what the line means, and the verdict is read line by line.
 use Rattle.std.proofs.Common.{◌≡◌, ℕ, ◌+◌, ◌<◌, List, [], ◌∷◌, length, take, Bool, true, false}
-use Rattle.std.proofs.Common.{◌==◌, ◌||◌, None, Some, Result, Ok, Err, IfOk, IfSome, refl}
+use Rattle.std.proofs.Common.{◌==◌, ◌||◌, None, Some, Result, Err, IfSome, refl}
 use Rattle.std.proofs.Common.{sym, ap, ap₂, ◌∙◌, arith, length-take-le, get_or-take, inl, inr}
 use Rattle.std.specs.Prelude.{Option, if◌then◌else◌, nat_lt}
 use Rattle.std.specs.Io.KnownBytes.{IsAtEnd}
@@ -9,6 +9,7 @@ use Rattle.std.proofs.lemmas.Bool.{cond-true, lt-ltb, cases_lt, eqb-true, false_
 use Rattle.lk_lines.specs.Lines.{lines_of, is_skipped}
 use Rattle.lk_text.specs.Lines.{TakesLine, kept}
 use Rattle.lk_text.specs.declared.lines.Line.{Line}
+use Rattle.lk_text.specs.declared.summary.Summary.{Summary}
 use Rattle.lk_trace.specs.Checks.{Checked}
 use Rattle.lk_trace.specs.Lines.{short_line_of}
 use Rattle.lk_trace.specs.Traces.{event_of, after_text_line, read_header_of}
@@ -23,11 +24,11 @@ use Rattle.lk_trace.specs.declared.trace.TextFault.TheVariants.{BadHeader}
 use Rattle.lk_jobs.proofs.Accepting.{of_text}
 use Rattle.lk_jobs.specs.Fates.{after_comment, after_line, hangs_after, hangs_at, said_of}
 use Rattle.lk_jobs.specs.declared.course.Fate.{Fate}
-use Rattle.lk_jobs.specs.Verdicts.{Verdict, IsOfText, at_end, if_hangs, unless_ended}
-use Rattle.lk_jobs.specs.Verdicts.{verdict_from, verdict_in}
+use Rattle.lk_jobs.specs.Verdicts.{Verdict, IsOfText, at_end, counts_after, if_hangs, noted_line}
+use Rattle.lk_jobs.specs.Verdicts.{unless_ended, unless_over, verdict_from, verdict_in}
 use Rattle.lk_jobs.specs.invariants.{Follows, ReadsText}
-use Rattle.lk_jobs.specs.declared.check.Ending.TheVariants.{Unread}
-use Rattle.lk_jobs.specs.declared.check.Report.{Report}
+use Rattle.lk_jobs.specs.declared.report.Ending.TheVariants.{Unread}
+use Rattle.lk_jobs.specs.declared.report.Report.{Report}
 
 -- what is kept of a line says what the line says, if no line of more than 96 bytes says anything
 same_said : {A : Type 0} (says : List ℕ → A) (nothing : A) (line : List ℕ)
@@ -126,6 +127,22 @@ step number reading after lines rest line kept is same now =
     (verdict_from (number + 1) r rest))
     (sym (kept_event reading line kept same)) (sym (now ∙ kept_after reading line kept same))
 
+-- the counts, a line later
+later_counts : (reading after : Option Checked) (counts more : Summary) (lines rest : List (List ℕ))
+    (line kept : List ℕ) → lines ≡ line ∷ rest → kept ≡ take 97 line
+    → after ≡ after_text_line reading kept → more ≡ noted_line counts after (event_of reading kept)
+    → counts_after reading counts lines
+    ≡ unless_over (event_of reading kept) counts (counts_after after more rest)
+unfolding counts_after
+later_counts reading after counts more lines rest line kept is same now noted =
+    let event = kept_event reading line kept same in
+    let next : after ≡ after_text_line reading line = now ∙ kept_after reading line kept same in
+    ap (counts_after reading counts) is
+    ∙ ap₂ (λ (e : Event) (r : Option Checked). unless_over e counts
+    (counts_after r (noted_line counts r e) rest)) (sym event) (sym next)
+    ∙ ap (λ (s : Summary). unless_over (event_of reading kept) counts (counts_after after s rest))
+    (sym noted)
+
 goes_on : (number : ℕ) (event : Event) (on : Bool) (report : Report) (behind : Verdict)
     → Follows number event on report → on ≡ true → unless_ended number event behind ≡ behind
 goes_on number Skipped on report behind follows is = refl
@@ -134,29 +151,47 @@ goes_on number (Made line outcome) on report behind follows is = refl
 goes_on number (Differs line difference) on report behind follows is = absurd (cc (follows.0, is))
 goes_on number (Fault fault) on report behind follows is = absurd (cc (follows.0, is))
 
+counts_on : (number : ℕ) (event : Event) (on : Bool) (report : Report) (now later : Summary)
+    → Follows number event on report → on ≡ true → unless_over event now later ≡ later
+counts_on number Skipped on report now later follows is = refl
+counts_on number (Began header) on report now later follows is = refl
+counts_on number (Made line outcome) on report now later follows is = refl
+counts_on number (Differs line difference) on report now later follows is =
+    absurd (cc (follows.0, is))
+counts_on number (Fault fault) on report now later follows is = absurd (cc (follows.0, is))
+
 -- a line that does not end the text
 pub line_on : (all old new : Option (List ℕ)) (number : ℕ) (reading after : Option Checked)
-    (fates told : List Fate) (line : Line) (bytes : List ℕ) (on : Bool) (report : Report)
-    → ReadsText all old number reading fates
+    (fates told : List Fate) (counts more : Summary) (line : Line) (bytes : List ℕ) (on : Bool)
+    (report : Report) → ReadsText all old number reading fates counts
     → TakesLine old new line → bytes ≡ kept line → Follows number (event_of reading bytes) on report
     → on ≡ true → after ≡ after_text_line reading bytes
     → told ≡ after_line fates (event_of reading bytes) bytes
-    → ReadsText all new (number + 1) after told
-line_on None old new number reading after fates told line bytes on report reads taken same follows
-    is now last = tt
-line_on (Some text) None new number reading after fates told line bytes on report reads taken same
-    follows is now last = absurd reads
-line_on (Some text) (Some rest) None number reading after fates told line bytes on report reads
-    taken same follows is now last = absurd taken
-line_on (Some text) (Some rest) (Some left) number reading after fates told line bytes on report
-    reads taken same follows is now last =
-    reads
-    ∙ ap₂ if_hangs
-    (later reading after fates told (lines_of rest) (lines_of left) taken.bytes bytes taken.first
-    (same ∙ taken.kept_is) now last)
-    (step number reading after (lines_of rest) (lines_of left) taken.bytes bytes taken.first
-    (same ∙ taken.kept_is) now
-    ∙ goes_on number (event_of reading bytes) on report _ follows is)
+    → more ≡ noted_line counts after (event_of reading bytes)
+    → ReadsText all new (number + 1) after told more
+line_on None old new number reading after fates told counts more line bytes on report reads taken
+    same follows is now last noted = tt
+line_on (Some text) None new number reading after fates told counts more line bytes on report reads
+    taken same follows is now last noted = absurd reads
+line_on (Some text) (Some rest) None number reading after fates told counts more line bytes on
+    report reads taken same follows is now last noted = absurd taken
+line_on (Some text) (Some rest) (Some left) number reading after fates told counts more line bytes
+    on report reads taken same follows is now last noted = record {
+      verdict_is =
+          reads.verdict_is
+          ∙ ap₂ if_hangs
+          (later reading after fates told (lines_of rest) (lines_of left) taken.bytes bytes
+          taken.first
+          (same ∙ taken.kept_is) now last)
+          (step number reading after (lines_of rest) (lines_of left) taken.bytes bytes taken.first
+          (same ∙ taken.kept_is) now
+          ∙ goes_on number (event_of reading bytes) on report _ follows is);
+      counts_are =
+          reads.counts_are
+          ∙ later_counts reading after counts more (lines_of rest) (lines_of left) taken.bytes bytes
+          taken.first (same ∙ taken.kept_is) now noted
+          ∙ counts_on number (event_of reading bytes) on report counts _ follows is;
+    }
 
 -- a line that ends it: then it does not matter whether the run hangs
 ends_all : (h : Bool) (number : ℕ) (event : Event) (on : Bool) (report : Report) (after : Verdict)
@@ -170,24 +205,44 @@ ends_all true number (Differs line difference) on report after follows is = sym 
 ends_all false number (Fault fault) on report after follows is = sym follows.1
 ends_all true number (Fault fault) on report after follows is = sym follows.1
 
-pub line_last : (all old new : Option (List ℕ)) (number : ℕ) (reading : Option Checked)
-    (fates : List Fate) (line : Line) (bytes : List ℕ) (on : Bool) (report : Report)
-    → ReadsText all old number reading fates
+counts_end : (number : ℕ) (event : Event) (on : Bool) (report : Report) (reading : Option Checked)
+    (counts later : Summary) → Follows number event on report → on ≡ false
+    → unless_over event counts later ≡ noted_line counts reading event
+counts_end number Skipped on report reading counts later follows is = absurd (cc (follows, is))
+counts_end number (Began header) on report reading counts later follows is =
+    absurd (cc (follows, is))
+counts_end number (Made line made) on report reading counts later follows is =
+    absurd (cc (follows, is))
+counts_end number (Differs line difference) on report None counts later follows is = refl
+counts_end number (Differs line difference) on report (Some c) counts later follows is = refl
+counts_end number (Fault fault) on report None counts later follows is = refl
+counts_end number (Fault fault) on report (Some c) counts later follows is = refl
+
+pub line_last : (all old new : Option (List ℕ)) (number : ℕ) (reading after : Option Checked)
+    (fates : List Fate) (counts : Summary) (line : Line) (bytes : List ℕ) (on : Bool)
+    (report : Report) → ReadsText all old number reading fates counts
     → TakesLine old new line → bytes ≡ kept line → Follows number (event_of reading bytes) on report
-    → on ≡ false → IfSome all (IsOfText report)
-line_last None old new number reading fates line bytes on report reads taken same follows is = tt
-line_last (Some text) None new number reading fates line bytes on report reads taken same follows
-    is = absurd reads
-line_last (Some text) (Some rest) None number reading fates line bytes on report reads taken same
-    follows is = absurd taken
-line_last (Some text) (Some rest) (Some left) number reading fates line bytes on report reads taken
-    same follows is =
+    → on ≡ false → after ≡ after_text_line reading bytes
+    → report.summary ≡ noted_line counts after (event_of reading bytes)
+    → IfSome all (IsOfText report)
+line_last None old new number reading after fates counts line bytes on report reads taken same
+    follows is now noted = tt
+line_last (Some text) None new number reading after fates counts line bytes on report reads taken
+    same follows is now noted = absurd reads
+line_last (Some text) (Some rest) None number reading after fates counts line bytes on report reads
+    taken same follows is now noted = absurd taken
+line_last (Some text) (Some rest) (Some left) number reading after fates counts line bytes on report
+    reads taken same follows is now noted =
     let h = hangs_after reading fates (lines_of rest) in
-    of_text report text (λ _. sym (reads
+    of_text report text (λ _. sym (reads.verdict_is
     ∙ ap (if_hangs h)
     (step number reading _ (lines_of rest) (lines_of left) taken.bytes bytes taken.first
     (same ∙ taken.kept_is) refl)
     ∙ ends_all h number (event_of reading bytes) on report _ follows is))
+    (λ _. noted ∙ sym (reads.counts_are
+    ∙ later_counts reading after counts report.summary (lines_of rest) (lines_of left) taken.bytes
+    bytes taken.first (same ∙ taken.kept_is) now noted
+    ∙ counts_end number (event_of reading bytes) on report after counts _ follows is))
 
 no_lines : lines_of [] ≡ []
 unfolding lines_of
@@ -203,26 +258,32 @@ no_later : (reading : Option Checked) (fates : List Fate)
 unfolding hangs_after
 no_later reading fates = refl
 
+no_counts : (reading : Option Checked) (counts : Summary) → counts_after reading counts [] ≡ counts
+unfolding counts_after
+no_counts reading counts = refl
+
 -- the end of the text
 pub reads_end : (all left : Option (List ℕ)) (number : ℕ) (reading : Option Checked)
-    (fates : List Fate) (report : Report)
-    → ReadsText all left number reading fates → IsAtEnd left
+    (fates : List Fate) (counts : Summary) (report : Report)
+    → ReadsText all left number reading fates counts → IsAtEnd left
     → verdict_in report ≡ if_hangs (hangs_at reading fates) (at_end number reading)
-    → IfSome all (IsOfText report)
-reads_end None left number reading fates report reads end is = tt
-reads_end (Some text) None number reading fates report reads end is = absurd reads
-reads_end (Some text) (Some rest) number reading fates report reads end is =
+    → report.summary ≡ counts → IfSome all (IsOfText report)
+reads_end None left number reading fates counts report reads end is same = tt
+reads_end (Some text) None number reading fates counts report reads end is same = absurd reads
+reads_end (Some text) (Some rest) number reading fates counts report reads end is same =
     let none : lines_of rest ≡ [] = ap lines_of end ∙ no_lines in
     of_text report text (λ _.
     is
-    ∙ sym (reads
+    ∙ sym (reads.verdict_is
     ∙ ap₂ if_hangs (ap (hangs_after reading fates) none ∙ no_later reading fates)
     (ap (verdict_from number reading) none ∙ none_left number reading)))
+    (λ _.
+    same
+    ∙ sym (reads.counts_are ∙ ap (counts_after reading counts) none ∙ no_counts reading counts))
 
 -- the report of an input that failed
-pub reads_unread : {E : Type 0} (all : Option (List ℕ)) (r : Result Report E)
-    → IfOk r (λ report. report.ending ≡ Unread) → IfOk r (λ report. IfSome all (IsOfText report))
-reads_unread None (Ok report) unread = tt
-reads_unread (Some text) (Ok report) unread =
-    of_text report text (λ read. absurd (read unread))
-reads_unread all (Err e) unread = tt
+pub of_unread : (all : Option (List ℕ)) (report : Report) → report.ending ≡ Unread
+    → IfSome all (IsOfText report)
+of_unread None report unread = tt
+of_unread (Some text) report unread =
+    of_text report text (λ read. absurd (read unread)) (λ read. absurd (read unread))

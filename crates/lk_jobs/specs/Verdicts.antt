@@ -1,20 +1,23 @@
 -- Definitions. How a whole text ends: its lines are read one after another, up to the first that
 -- ends it. And the status of the program by it.
-use Rattle.std.specs.Prelude.{◌≡◌, ◌≢◌, ◌↔◌, ◌⊎◌, ◌+◌, ◌<◌, ℕ, List, [], ◌∷◌, length}
-use Rattle.std.specs.Prelude.{fold, max, slice_index_or}
+use Rattle.std.specs.Prelude.{◌≡◌, ◌≢◌, ◌↔◌, ◌+◌, ◌≤◌, ℕ, List, [], ◌∷◌}
+use Rattle.std.specs.Prelude.{length, fold, max}
 use Rattle.std.specs.Prelude.{Option, None, Some, IfSome, Result, IfOk, Bool, true, false}
+use Rattle.std.specs.List.{All}
 use Rattle.std.specs.declared.alloc.AllocError.{AllocError}
 use Rattle.lk_lines.specs.Lines.{lines_of}
 use Rattle.lk_trace.specs.Checks.{Checked}
 use Rattle.lk_trace.specs.Traces.{event_of, after_text_line}
 use Rattle.lk_trace.specs.declared.trace.Event.{Event}
-use Rattle.lk_trace.specs.declared.trace.Event.TheVariants.{Differs, Fault}
+use Rattle.lk_trace.specs.declared.trace.Event.TheVariants.{Differs, Fault, Made}
+use Rattle.lk_text.specs.Summaries.{new_summary, noted}
+use Rattle.lk_text.specs.declared.summary.Summary.{Summary}
 use Rattle.lk_jobs.specs.Accepted.{IsTrace}
 use Rattle.lk_jobs.specs.Fates.{hangs_after, new_fates}
-use Rattle.lk_jobs.specs.declared.check.Ending.{Ending}
-use Rattle.lk_jobs.specs.declared.check.Ending.TheVariants.{Accepted, Refused, Unread}
-use Rattle.lk_jobs.specs.declared.check.Ending.TheVariants.{Faulty, Hangs}
-use Rattle.lk_jobs.specs.declared.check.Report.{Report}
+use Rattle.lk_jobs.specs.declared.report.Ending.{Ending}
+use Rattle.lk_jobs.specs.declared.report.Ending.TheVariants.{Accepted, Refused, Unread}
+use Rattle.lk_jobs.specs.declared.report.Ending.TheVariants.{Faulty, Hangs}
+use Rattle.lk_jobs.specs.declared.report.Report.{Report}
 
 -- 1 if a move or a value is refused or the run hangs, 3 if the file could not be read, 4 if it is
 -- no trace
@@ -75,28 +78,60 @@ verdict_of text = if_hangs (hangs_in (lines_of text)) (verdict_from 1 None (line
 abbrev pub verdict_in : Report → Verdict
 verdict_in report = verdict report.ending report.line
 
--- the report is the text's, unless the input failed: its ending and its line, and `Accepted`
--- exactly if the text is an accepted trace whose run does not hang
+-- the counts after a line that came to this, and led to this lock
+abbrev pub noted_line : Summary → Option Checked → Event → Summary
+noted_line counts (Some c) (Made line made) = noted counts c.lock line made
+noted_line counts reading event = counts
+
+-- a line that ends the text counts nothing, and none after it
+abbrev pub unless_over : Event → Summary → Summary → Summary
+unless_over (Differs line difference) now later = now
+unless_over (Fault fault) now later = now
+unless_over event now later = later
+
+-- the counts at the end, when these lines are left
+unfoldable pub counts_after : Option Checked → Summary → List (List ℕ) → Summary
+counts_after reading counts [] = counts
+counts_after reading counts (line ∷ lines) =
+    unless_over (event_of reading line) counts
+    (counts_after (after_text_line reading line)
+    (noted_line counts (after_text_line reading line) (event_of reading line)) lines)
+
+-- the counts of a text
+abbrev pub counts_in : List ℕ → Summary
+counts_in text = counts_after None new_summary (lines_of text)
+
+-- neither the verdict nor the counts change
+abbrev pub SameVerdict : Report → Report → Type 0
+SameVerdict old new = (verdict_in new ≡ verdict_in old) × (new.summary ≡ old.summary)
+
+-- the report is the text's, unless the input failed: its ending, its line and its counts, and
+-- `Accepted` exactly if the text is an accepted trace whose run does not hang
 pub record IsOfText (report : Report) (text : List ℕ) : Type 0 where
   pub verdict_is : report.ending ≢ Unread → verdict_in report ≡ verdict_of text
+  pub counts_are : report.ending ≢ Unread → report.summary ≡ counts_in text
   pub accepted : report.ending ≢ Unread
       → (report.ending ≡ Accepted) ↔ (IsTrace (lines_of text) × (hangs_in (lines_of text) ≡ false))
-
--- each report is that of the input at its place
-abbrev pub AreOfTexts : {I : Type 0} → (I → Option (List ℕ)) → List I
-    → List (Result Report AllocError) → Type 0
-AreOfTexts {I} remaining inputs reports =
-    (i : ℕ) (input : I) (d : Result Report AllocError) → i < length inputs
-    → input ≡ slice_index_or inputs i input
-    → IfOk (slice_index_or reports i d) (λ report. IfSome (remaining input) (IsOfText report))
 
 -- the ending of a text that such an input has
 abbrev pub EndsOne : {I : Type 0} → (I → Option (List ℕ)) → Ending → Type 0
 EndsOne {I} remaining ending =
     (input : I) × IfSome (remaining input) (λ text. ending ≡ (verdict_of text).ending)
 
--- the ending of a file or of standard input, unless that cannot be read
-abbrev pub EndsInput : {F S : Type 0} → (F → Option (List ℕ)) → (S → Option (List ℕ)) → Ending
+-- the ending of such an input, unless that cannot be read
+abbrev pub EndsInput : {I : Type 0} → (I → Option (List ℕ)) → Ending → Type 0
+EndsInput remaining ending = ending ≢ Unread → EndsOne remaining ending
+
+-- each report, unless memory was refused, has the ending of such an input
+abbrev pub AreChecked : {I : Type 0} → (I → Option (List ℕ)) → List (Result Report AllocError)
     → Type 0
-EndsInput of_file of_input ending =
-    ending ≢ Unread → EndsOne of_file ending ⊎ EndsOne of_input ending
+AreChecked remaining reports =
+    All (λ r. IfOk r (λ report. EndsInput remaining report.ending)) reports
+
+-- the status is at least the greatest of so many endings of such inputs
+pub record IsCovered {I : Type 0} (remaining : I → Option (List ℕ)) (count status : ℕ) : Type 0
+  where
+    pub endings : List Ending
+    pub one_each : length endings ≡ count
+    pub each : All (EndsInput remaining) endings
+    pub worst : greatest_status endings ≤ status

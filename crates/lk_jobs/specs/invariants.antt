@@ -11,13 +11,14 @@ use Rattle.lk_trace.specs.declared.trace.Event.TheVariants.{Differs, Fault}
 use Rattle.lk_order.specs.Logs.{Reading, ThreadLog}
 use Rattle.lk_order.specs.Shelves.{IsUnfit, Shelved, log_at}
 use Rattle.lk_order.specs.declared.shelf.Unfit.TheVariants as unfit
+use Rattle.lk_text.specs.declared.summary.Summary.{Summary}
 use Rattle.lk_jobs.specs.Fates.{hangs_after}
-use Rattle.lk_jobs.specs.Verdicts.{EndsInput, if_hangs, verdict, verdict_from, verdict_in}
-use Rattle.lk_jobs.specs.Verdicts.{verdict_of}
+use Rattle.lk_jobs.specs.Verdicts.{EndsInput, counts_after, counts_in, if_hangs, verdict}
+use Rattle.lk_jobs.specs.Verdicts.{verdict_from, verdict_in, verdict_of}
 use Rattle.lk_jobs.specs.declared.course.Fate.{Fate}
-use Rattle.lk_jobs.specs.declared.check.Ending.{Ending}
-use Rattle.lk_jobs.specs.declared.check.Ending.TheVariants.{Refused, Faulty}
-use Rattle.lk_jobs.specs.declared.check.Report.{Report}
+use Rattle.lk_jobs.specs.declared.report.Ending.{Ending}
+use Rattle.lk_jobs.specs.declared.report.Ending.TheVariants.{Refused, Faulty}
+use Rattle.lk_jobs.specs.declared.report.Report.{Report}
 use Rattle.lk_jobs.specs.Orders.{IsInFile, Reads}
 use Rattle.lk_jobs.specs.declared.order.search.BadLog.{BadLog}
 use Rattle.lk_jobs.specs.declared.order.search.BadLog.TheVariants as bad
@@ -30,17 +31,24 @@ Follows number (Fault fault) on report = (on ≡ false) × (verdict_in report �
 Follows number event on report = on ≡ true
 
 -- what is left of a text ends as the text does
-abbrev pub ReadsText : Option (List ℕ) → Option (List ℕ) → ℕ → Option Checked → List Fate → Type 0
-ReadsText all left number reading fates =
-    IfSome all (λ text. IsSomeAnd left (λ rest. verdict_of text
-    ≡ if_hangs (hangs_after reading fates (lines_of rest))
-    (verdict_from number reading (lines_of rest))))
+pub record EndsAs (text rest : List ℕ) (number : ℕ) (reading : Option Checked) (fates : List Fate)
+    (counts : Summary) : Type 0 where
+  pub verdict_is :
+      verdict_of text
+      ≡ if_hangs (hangs_after reading fates (lines_of rest))
+      (verdict_from number reading (lines_of rest))
+  pub counts_are : counts_in text ≡ counts_after reading counts (lines_of rest)
+
+abbrev pub ReadsText : Option (List ℕ) → Option (List ℕ) → ℕ → Option Checked → List Fate
+    → Summary → Type 0
+ReadsText all left number reading fates counts =
+    IfSome all (λ text. IsSomeAnd left (λ rest. EndsAs text rest number reading fates counts))
 
 -- so many endings more, which are those of inputs if the others are
-pub record Adds {F S : Type 0} (of_file : F → Option (List ℕ)) (of_input : S → Option (List ℕ))
-    (count : ℕ) (old new : List Ending) : Type 0 where
+pub record Adds {I : Type 0} (remaining : I → Option (List ℕ)) (count : ℕ) (old new : List Ending)
+    : Type 0 where
   pub one_each : length new ≡ length old + count
-  pub each : All (EndsInput of_file of_input) old → All (EndsInput of_file of_input) new
+  pub each : All (EndsInput remaining) old → All (EndsInput remaining) new
 
 -- so much of an input was read as a log's
 abbrev pub ReadsInput : Option (List ℕ) → Option (List ℕ) → Reading → Type 0

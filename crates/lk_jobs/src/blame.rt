@@ -2,14 +2,18 @@
 //! the last write to its word, and a poll after which the thread should have waited, or should not.
 //! Of a run that hangs it is what each thread waits for, by the words of its lock.
 
+ghost use Rattle.std.specs.Prelude.{◌<◌, length};
+
 use crate::course::{Course, Fate, Step};
+use crate::report::Notes;
 use crate::sentences::{Awaited, polled_for};
-use crate::texts::{Called, Lock, Notes, Shown};
+use crate::texts::{Lock, put_line};
 use lk_lines::move_text;
 use lk_locks::{Move, Op, Outcome, Refusal};
+use lk_text::Value;
 use lk_trace::{Difference, TraceLine, WordName, name_at};
 use std::alloc::AllocError;
-use std::fmt;
+use std::fmt::{InlineText, Write};
 
 // The word that a thread's next step is on, if it is on one, and its place.
 fn next_word(lock: &Lock, thread: u8) -> Option<(WordName, usize)> {
@@ -21,85 +25,83 @@ fn next_word(lock: &Lock, thread: u8) -> Option<(WordName, usize)> {
     Some((name_at(lock.kind(), place)?, place))
 }
 
-// What the last poll of a thread found, and what it polls for.
-#[derive(Clone, Copy)]
-struct Poll<'a> {
-    lock: &'a Lock,
-    step: Step,
-    // what the thread did after it
-    did: &'static str,
+// The name of a word as a text, or nothing.
+fn word_text(word: Option<WordName>) -> InlineText<40> {
+    word.map_or(InlineText::new(), |word| InlineText::of(word))
 }
 
-impl fmt::Display for Poll<'_> {
-    fn fmt<W: fmt::Write>(&self, f: &mut fmt::Formatter<W>) -> fmt::Result {
-        let (step, did, kind) = (self.step, self.did, self.lock.kind());
-        let (called, word) = (Called(step.line.thread, &[]), move_text(step.line.action));
-        write!(f, "{called} {did}: its {word}")?;
-        if let Some(effect) = step.made.effect {
-            let found = effect.found;
-            if let Some(name) = name_at(kind, effect.word) {
-                write!(f, " of {name} found {found}")?;
-            }
+// What a thread waits for, as a text.
+fn due_text(awaited: Option<Awaited>) -> InlineText<40> {
+    match awaited {
+        Some(Awaited::Ticket(due) | Awaited::Value(due) | Awaited::Other(due)) => {
+            InlineText::of(due)
         }
-        match polled_for(kind, step.made.from) {
-            Some(Awaited::Ticket(ticket)) => write!(f, " and its ticket is {ticket}"),
-            Some(Awaited::Value(due)) => write!(f, " and it waits for {due}"),
-            Some(Awaited::Other(due)) => write!(f, " and it waits for another value than {due}"),
-            Some(Awaited::Section(due)) => write!(f, " waits for {due}"),
-            None => Ok(()),
-        }
+        Some(Awaited::Section(due)) => InlineText::of(due),
+        None => InlineText::new(),
     }
 }
 
-// The last poll of a thread, if the thread should have done otherwise after it.
-fn poll_before(
-    lock: &Lock,
-    last: Option<Step>,
-    action: Move,
-    refusal: Refusal,
-) -> Option<Poll<'_>> {
-    let step = last?;
-    let did = match (step.made.outcome, refusal, action) {
+// What a thread did after its last poll, if it should have done otherwise.
+fn did_after(outcome: Outcome, action: Move, refusal: Refusal) -> Option<&'static str> {
+    match (outcome, refusal, action) {
         (
             Outcome::Waits,
             Refusal::Busy,
             Move::Call(Op::Release | Op::ReadUnlock | Op::WriteUnlock | Op::Downgrade),
-        ) => "entered",
-        (Outcome::Waits, Refusal::Busy | Refusal::WrongStep { .. }, _) => "went on",
-        (Outcome::Entered | Outcome::Left, Refusal::NoCall, _) => "did not see its call end",
-        _ => return None,
-    };
-    Some(Poll { lock, step, did })
+        ) => Some("entered"),
+        (Outcome::Waits, Refusal::Busy | Refusal::WrongStep { .. }, _) => Some("went on"),
+        (Outcome::Entered | Outcome::Left, Refusal::NoCall, _) => {
+            Some("did not see its call end")
+        }
+        _ => None,
+    }
 }
 
-/// Says what helps to see why the move in this line is refused.
-pub fn put_blame(
-    notes: &mut Notes,
-    lock: &Lock,
-    course: &Course,
-    line: TraceLine,
-    difference: Difference,
-) -> Result<(), AllocError> {
-    let steps = course.steps(line.thread);
-    for step in steps.iter().rev() {
-        if let Some(step) = step {
-            let line = Shown(&step.line);
-            notes.put(step.number, format_args!("before it: {line}"))?;
+// What is said of a poll: of one on a word, or of a section.
+fn poll_sentence(is_on_word: bool, awaited: Option<Awaited>) -> &'static str {
+    match awaited {
+        Some(Awaited::Ticket(_)) => {
+            "{who} {did}: its {step} of {word} found {found} and its ticket is {due}"
         }
-    }
-    match difference {
-        Difference::Refused(refusal) => {
-            match poll_before(lock, steps[0], line.action, refusal) {
-                Some(poll) => notes.put(poll.step.number, poll),
-                None => Ok(()),
-            }
+        Some(Awaited::Value(_)) => {
+            "{who} {did}: its {step} of {word} found {found} and it waits for {due}"
         }
-        Difference::FoundOther { .. } | Difference::WroteOther { .. } => {
-            put_write(notes, lock, course, line.thread)
+        Some(Awaited::Other(_)) => {
+            "{who} {did}: its {step} of {word} found {found} and it waits for another value than \
+                {due}"
         }
-        _ => Ok(()),
+        Some(Awaited::Section(_)) => "{who} {did}: its {step} waits for {due}",
+        None if is_on_word => "{who} {did}: its {step} of {word} found {found}",
+        None => "{who} {did}: its {step}",
     }
 }
+
+// Says what the last poll of a thread found, and what it polls for.
+fn put_poll(notes: &mut Notes, lock: &Lock, step: Step, did: &str) -> Result<(), AllocError> {
+    let awaited = polled_for(lock.kind(), step.made.from);
+    let found = step.made.effect.map_or(0, |effect| effect.found);
+    let word = step
+        .made
+        .effect
+        .and_then(|effect| name_at(lock.kind(), effect.word));
+    let places = [
+        (
+            "who",
+            Value::Numbered("thread", u64::from(step.line.thread)),
+        ),
+        ("did", Value::Text(did)),
+        (
+            "step",
+            Value::Short(InlineText::of(move_text(step.line.action))),
+        ),
+        ("word", Value::Short(word_text(word))),
+        ("found", Value::Number(found)),
+        ("due", Value::Short(due_text(awaited))),
+    ];
+    notes.say(step.number, poll_sentence(word.is_some(), awaited), &places)
+}
+
+const LAST_WRITE: &str = "{word} was last written here: {who}'s {step} left {left}";
 
 // Says who wrote the word last that the thread's next step is on.
 fn put_write(
@@ -114,76 +116,152 @@ fn put_write(
     let Some((step, left)) = course.written(place) else {
         return Ok(());
     };
-    let (called, action) = (Called(step.line.thread, &[]), move_text(step.line.action));
-    notes.put(
-        step.number,
-        format_args!("{word} was last written here: {called}'s {action} left {left}"),
-    )
+    let places = [
+        ("word", Value::Short(word_text(Some(word)))),
+        (
+            "who",
+            Value::Numbered("thread", u64::from(step.line.thread)),
+        ),
+        (
+            "step",
+            Value::Short(InlineText::of(move_text(step.line.action))),
+        ),
+        ("left", Value::Number(left)),
+    ];
+    notes.say(step.number, LAST_WRITE, &places)
+}
+
+// Says which moves a thread made last.
+fn put_steps(notes: &mut Notes, course: &Course, thread: u8) -> Result<(), AllocError> {
+    let steps = course.steps(thread);
+    for step in steps.iter().rev() {
+        if let Some(step) = step {
+            let mut said = notes.text();
+            said.push_str("before it: ")?;
+            put_line(&mut said, &step.line)?;
+            notes.put_in("", step.number, said)?;
+        }
+    }
+    Ok(())
+}
+
+// Says after which poll a refused move came, if the thread should have done otherwise.
+fn put_poll_before(
+    notes: &mut Notes,
+    lock: &Lock,
+    course: &Course,
+    line: TraceLine,
+    refusal: Refusal,
+) -> Result<(), AllocError> {
+    let Some(step) = course.steps(line.thread)[0] else {
+        return Ok(());
+    };
+    match did_after(step.made.outcome, line.action, refusal) {
+        Some(did) => put_poll(notes, lock, step, did),
+        None => Ok(()),
+    }
+}
+
+/// Says what helps to see why the move in this line is refused.
+pub fn put_blame(
+    notes: &mut Notes,
+    lock: &Lock,
+    course: &Course,
+    line: TraceLine,
+    difference: Difference,
+) -> Result<(), AllocError> {
+    put_steps(notes, course, line.thread)?;
+    match difference {
+        Difference::Refused(refusal) => put_poll_before(notes, lock, course, line, refusal),
+        Difference::FoundOther { .. } | Difference::WroteOther { .. } => {
+            put_write(notes, lock, course, line.thread)
+        }
+        _ => Ok(()),
+    }
 }
 
 /// What is said of a run that hangs.
 pub const HANGS: &str = "hangs: each thread that has not ended waits";
 
-/// What a thread waits for, and what its lock has; nothing of one that polls nothing.
-#[derive(Clone, Copy)]
-pub struct Waiting<'a> {
-    pub lock: &'a Lock,
-    pub thread: u8,
+/// Whether a thread's next step, if it is in a call, would be no failed poll.
+pub fn may_go_on(lock: &Lock, thread: u8) -> bool {
+    let machine = lock.machine();
+    thread < machine.threads()
+        && machine
+            .effect(thread)
+            .is_some_and(|effect| effect.outcome() != Outcome::Waits)
 }
 
-impl Waiting<'_> {
-    /// Whether its next step, if it is in a call, would be no failed poll.
-    pub fn may_go_on(&self) -> bool {
-        let machine = self.lock.machine();
-        self.thread < machine.threads()
-            && machine
-                .effect(self.thread)
-                .is_some_and(|effect| effect.outcome() != Outcome::Waits)
-    }
-
-    // Writes each word of a monitor with its value.
-    fn put_monitor<W: fmt::Write>(&self, f: &mut fmt::Formatter<W>) -> fmt::Result {
-        for (place, value) in self.lock.machine().words().as_slice().iter().enumerate() {
-            if let Some(word) = name_at(self.lock.kind(), place) {
-                f.write_str(if place > 0 { ", " } else { "; " })?;
-                write!(f, "{word} is {value}")?;
-            }
+// What a thread that hangs waits for.
+fn wait_sentence(awaited: Option<Awaited>) -> &'static str {
+    match awaited {
+        Some(Awaited::Ticket(_)) => {
+            "{who} waits from here on for {word} to be {due}, its ticket; {word} is {value}{missed}"
         }
-        Ok(())
-    }
-
-    // Writes what the word that is polled is waited for to be, and what it is.
-    fn put_word<W: fmt::Write>(&self, f: &mut fmt::Formatter<W>, due: Awaited) -> fmt::Result {
-        let Some((word, place)) = next_word(self.lock, self.thread) else {
-            return Ok(());
-        };
-        let words = self.lock.machine().words().as_slice();
-        let value = words.get(place).copied().unwrap_or(0);
-        match due {
-            Awaited::Ticket(due) => write!(f, "{word} to be {due}, its ticket")?,
-            Awaited::Value(due) => write!(f, "{word} to be {due}")?,
-            Awaited::Other(due) => write!(f, "{word} to be other than {due}")?,
-            Awaited::Section(_) => return Ok(()),
+        Some(Awaited::Value(_)) => {
+            "{who} waits from here on for {word} to be {due}; {word} is {value}{missed}"
         }
-        write!(f, "; {word} is {value}")
+        Some(Awaited::Other(_)) => {
+            "{who} waits from here on for {word} to be other than {due}; {word} is {value}{missed}"
+        }
+        Some(Awaited::Section(_)) => "{who} waits from here on for {due}; {words}{missed}",
+        None => "{who} waits from here on for nothing{missed}",
     }
 }
 
-impl fmt::Display for Waiting<'_> {
-    fn fmt<W: fmt::Write>(&self, f: &mut fmt::Formatter<W>) -> fmt::Result {
-        let machine = self.lock.machine();
-        if self.thread >= machine.threads() {
-            return Ok(());
-        }
-        match polled_for(self.lock.kind(), machine.phase(self.thread)) {
-            None => f.write_str("nothing"),
-            Some(Awaited::Section(due)) => {
-                f.write_str(due)?;
-                self.put_monitor(f)
-            }
-            Some(due) => self.put_word(f, due),
+// Writes each word of a lock with its value.
+fn put_words(text: &mut String, lock: &Lock) -> Result<(), AllocError> {
+    for (place, value) in lock.machine().words().as_slice().iter().enumerate() {
+        if let Some(word) = name_at(lock.kind(), place) {
+            text.push_str(if place > 0 { ", " } else { "" })?;
+            write!(text, "{word} is {value}")?;
         }
     }
+    Ok(())
+}
+
+// The value of the word at a place.
+fn value_at(lock: &Lock, place: usize) -> u64 {
+    let words = lock.machine().words().as_slice();
+    words.get(place).copied().unwrap_or(0)
+}
+
+// Says what a thread waits for, and since which line of its file.
+fn put_wait(
+    notes: &mut Notes,
+    lock: &Lock,
+    thread: u8,
+    file: &str,
+    since: u64,
+) -> Result<(), AllocError>
+    requires { thread < length lock.now.state.phases }
+{
+    let awaited = polled_for(lock.kind(), lock.machine().phase(thread));
+    let polled = next_word(lock, thread);
+    let mut words = notes.text();
+    if let Some(Awaited::Section(_)) = awaited {
+        put_words(&mut words, lock)?;
+    }
+    let missed = if may_go_on(lock, thread) {
+        ", so it did not look again"
+    } else {
+        ""
+    };
+    let places = [
+        ("who", Value::Numbered("thread", u64::from(thread))),
+        (
+            "word",
+            Value::Short(word_text(polled.map(|(word, _)| word))),
+        ),
+        ("due", Value::Short(due_text(awaited))),
+        (
+            "value",
+            Value::Number(polled.map_or(0, |(_, place)| value_at(lock, place))),
+        ),
+        ("words", Value::Text(words.as_str())),
+        ("missed", Value::Short(InlineText::of(missed))),
+    ];
+    notes.say_in(file, since, wait_sentence(awaited), &places)
 }
 
 /// Says of each thread that hangs what it waits for, and since which line of its file. If a thread
@@ -197,15 +275,7 @@ pub fn put_waits(
     for thread in 0..lock.machine().threads() {
         if course.fate(thread) == Fate::Hangs {
             let file = files.get(thread as usize).copied().unwrap_or("");
-            let since = course.since(thread).unwrap_or(0);
-            let (called, waiting) = (Called(thread, &[]), Waiting { lock, thread });
-            let missed = if waiting.may_go_on() {
-                ", so it did not look again"
-            } else {
-                ""
-            };
-            let said = format_args!("{called} waits from here on for {waiting}{missed}");
-            notes.put_in(file, since, said)?;
+            put_wait(notes, lock, thread, file, course.since(thread).unwrap_or(0))?;
         }
     }
     Ok(())

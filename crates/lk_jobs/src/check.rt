@@ -1,256 +1,260 @@
-//! The check of one input: read line by line, up to the first line that differs from the machine or
-//! is not a trace's.
+//! The job of checking files, by several threads if that is asked for. The reports come in the
+//! order of the files.
 
-ghost use Rattle.std.specs.Prelude.{◌≡◌, IfOk, IfSome, None};
-ghost use Rattle.lk_trace.specs.Traces.{after_text_line, event_of};
-ghost use Rattle.lk_jobs.specs.Fates.{after_line, hangs_at};
-ghost use Rattle.lk_jobs.specs.Verdicts.{IsOfText, at_end, greatest_status, if_hangs};
-ghost use Rattle.lk_jobs.specs.Verdicts.{status_of, verdict, verdict_in};
-ghost use Rattle.lk_jobs.specs.invariants.{Follows};
+ghost use Rattle.lk_jobs.specs.Verdicts.{AreChecked, EndsInput};
+ghost use Rattle.lk_jobs.specs.invariants.{Adds};
+ghost use Rattle.lk_text.specs.Sources.{left_in};
+ghost use Rattle.std.specs.List.{All};
+ghost use Rattle.std.specs.Prelude.{◌≡◌, ◌++◌, ◌∷◌, [], IfOk, OnOk, length, vec_len};
 
-mod files;
-
-pub use files::{CheckJob, check_files, check_side_by_side};
-
-use crate::blame::{HANGS, put_blame, put_waits};
-use crate::course::Course;
-use crate::formats::{put_code, put_refused};
-use crate::texts::{Notes, Standing, Wrong};
-use lk_lines::Status;
-use lk_text::{Line, Lines, Summary};
-use lk_trace::{Checker, Difference, Event, TextFault, TraceLine, TraceReader};
+use crate::follow::{follow_file, follow_input, unread};
+use crate::formats::{COLORED, Format, PLAIN, put_counts, put_json, put_tap, put_text};
+use crate::progress::Progress;
+use crate::report::{Ending, Report};
+use lk_text::{Failure, STANDARD, put_plan};
 use std::alloc::{AllocError, Global};
-use std::fmt::Write;
-use std::io::{Error, ErrorKind, Read};
+use std::io::{Read, Write};
+use std::rt::Runtime;
+use std::thread::{Threads, map_vec};
+use std::{fs, io};
 
-/// How an input ended, by the statuses of the program: the greatest wins.
-#[derive(Clone, Copy, PartialEq, Eq, Debug)]
-pub enum Ending {
-    /// The text is an accepted trace.
-    Accepted,
-    /// A line differs from the machine.
-    Refused,
-    /// It could not be opened or read.
-    Unread,
-    /// The text is no trace.
-    Faulty,
-    /// The text is an accepted trace, and its run hangs.
-    Hangs,
+/// What a check is asked for. A file `-` is standard input.
+#[derive(Debug, Drop)]
+pub struct CheckJob {
+    pub format: Format,
+    pub summary: bool,
+    /// Whether nothing is written.
+    pub quiet: bool,
+    /// Whether the text has the colors of a terminal.
+    pub colored: bool,
+    /// How many threads share the files.
+    pub workers: u8,
+    pub files: Vec<String>,
 }
 
-impl Ending {
-    /// The status of the program if this is the worst ending.
-    pub fn status(self) -> u8
-        ensures { result ≡ status_of self }
-    {
-        let status = match self {
-            Ending::Accepted => Status::Accepted,
-            Ending::Refused | Ending::Hangs => Status::Refused,
-            Ending::Unread => Status::Failed,
-            Ending::Faulty => Status::Faulty,
-        };
-        status as u8
-    }
-
-    /// Its name in JSON.
-    pub fn text(self) -> &'static str {
-        match self {
-            Ending::Accepted => "accepted",
-            Ending::Refused => "refused",
-            Ending::Unread => "unread",
-            Ending::Faulty => "faulty",
-            Ending::Hangs => "hangs",
+// Writes the report of a job's input of this number, from 1, and this name. There is no summary of
+// one that could not be read.
+fn put_report(
+    text: &mut String,
+    job: &CheckJob,
+    number: usize,
+    name: &str,
+    report: &Report,
+) -> Result<(), AllocError> {
+    let counted = job.summary && report.ending != Ending::Unread;
+    let colors = if job.colored { COLORED } else { PLAIN };
+    match job.format {
+        _ if job.quiet => Ok(()),
+        Format::Text => {
+            put_text(text, name, report, colors)?;
+            if counted {
+                put_counts(text, name, report, colors)?;
+            }
+            Ok(())
         }
+        Format::Tap => put_tap(text, number, name, report, counted),
+        Format::Json => put_json(text, name, report, counted),
     }
 }
 
-/// The greatest of the endings' statuses.
-pub fn worst(endings: &[Ending]) -> u8
-    ensures { result ≡ greatest_status endings.now }
-{
-    endings
-        .iter()
-        .fold(0, |worst, ending| ending.status().max(worst))
-}
-
-/// What came of one input.
+// The reports of a job, in the order of its files.
 #[derive(Drop)]
-pub struct Report {
-    pub ending: Ending,
-    /// The line that ended it, from 1; 0 if none did.
-    pub line: u64,
-    /// What is said of that line, or of the input.
-    pub message: String,
-    /// What else helps to see why, with the lines that it is about.
-    pub notes: Notes,
-    /// The same for programs: further fields of its JSON object, each after a comma.
-    pub fields: String,
-    /// Who held and who was in the queue then.
-    pub standing: String,
-    pub summary: Summary,
+struct Reports<'a> {
+    job: &'a CheckJob,
+    // what waits to be written
+    text: String,
+    endings: Vec<Ending>,
 }
 
-impl Report {
-    fn new(alloc: Global) -> Report {
-        Report {
-            ending: Ending::Accepted,
-            line: 0,
-            message: String::new(alloc),
-            notes: Notes::new(alloc),
-            fields: String::new(alloc),
-            standing: String::new(alloc),
-            summary: Summary::default(),
+impl<'a> Reports<'a> {
+    fn new(alloc: Global, job: &'a CheckJob) -> Result<Reports<'a>, AllocError>
+        ensures { IfOk result (λ reports. reports.endings.items ≡ []) }
+    {
+        let mut text = String::new(alloc);
+        if job.format == Format::Tap && !job.quiet {
+            put_plan(&mut text, job.files.len())?;
         }
+        let endings = Vec::new(alloc);
+        Ok(Reports { job, text, endings })
     }
 
-    fn settle(&mut self, ending: Ending, line: u64)
-        ensures { verdict_in self.new ≡ verdict ending line }
+    // Writes the report of the next file, of this name.
+    fn put<O: Write>(&mut self, output: &mut O, name: &str, report: &Report) -> Result<(), Failure>
+        ensures { OnOk result
+            (self.new.endings.items ≡ self.old.endings.items ++ report.now.ending ∷ []) }
     {
-        self.ending = ending;
-        self.line = line;
-    }
-
-    // Says in what a line differs, and who holds and waits.
-    fn explain(
-        &mut self,
-        checker: &Checker,
-        course: &Course,
-        line: TraceLine,
-        difference: Difference,
-    ) -> Result<(), AllocError>
-        ensures { IfOk result (λ _. verdict_in self.new ≡ verdict_in self.old) }
-    {
-        let lock = checker.lock();
-        let wrong = Wrong(lock, line, difference, &[]);
-        write!(self.message, "refused: {wrong}")?;
-        put_refused(&mut self.fields, lock, course, line, difference)?;
-        put_blame(&mut self.notes, lock, course, line, difference)?;
-        write!(self.standing, "{}", Standing(lock))
-    }
-
-    // Says who waits for what, and who holds.
-    fn explain_hang(&mut self, checker: &Checker, course: &Course) -> Result<(), AllocError>
-        ensures { IfOk result (λ _. verdict_in self.new ≡ verdict_in self.old) }
-    {
-        let lock = checker.lock();
-        self.message.push_str(HANGS)?;
-        put_code(&mut self.fields, "Hangs")?;
-        put_waits(&mut self.notes, lock, course, &[])?;
-        write!(self.standing, "{}", Standing(lock))
-    }
-
-    // Says why the text is no trace.
-    fn fault(&mut self, fault: TextFault) -> Result<(), AllocError>
-        ensures { IfOk result (λ _. verdict_in self.new ≡ verdict_in self.old) }
-    {
-        put_code(&mut self.fields, fault.name())?;
-        write!(self.message, "{fault}")
-    }
-
-    // The text has no more lines.
-    fn end(&mut self, trace: &TraceReader, course: &Course, number: u64) -> Result<(), AllocError>
-        ensures { IfOk result (λ _. verdict_in self.new
-            ≡ if_hangs (hangs_at trace.now course.now) (at_end number trace.now)) }
-    {
-        if let Some(checker) = trace.checker() {
-            if course.hangs(checker.lock().machine().threads()) {
-                self.settle(Ending::Hangs, 0);
-                return self.explain_hang(checker, course);
-            }
-            self.settle(Ending::Accepted, 0);
-            return Ok(());
-        }
-        self.settle(Ending::Faulty, number);
-        self.fault(TextFault::NoHeader)
+        let number = self.endings.len().saturating_add(1);
+        put_report(&mut self.text, self.job, number, name, report)?;
+        output.write_all(self.text.as_bytes())?;
+        self.text.clear();
+        self.endings.push(report.ending)?;
+        Ok(())
     }
 }
 
-/// A report of an input that could not be opened or read.
-///
-/// # Errors
-///
-/// A request for memory was refused.
-pub fn unread(alloc: Global, error: &Error) -> Result<Report, AllocError>
-    ensures { IfOk result (λ report. report.ending ≡ Ending.Unread) }
-{
-    let mut report = Report::new(alloc);
-    write!(report.message, "{error}")?;
-    put_code(&mut report.fields, "Unread")?;
-    report.ending = Ending::Unread;
-    Ok(report)
-}
-
-// Reads a line of this number into the trace. True if it is to be read on.
-fn take_line(
-    trace: &mut TraceReader,
-    course: &mut Course,
-    number: u64,
-    line: &[u8],
-    report: &mut Report,
-) -> Result<bool, AllocError>
-    ensures after { IfOk result (λ _. trace.new ≡ after_text_line trace.old line.now) }
-    ensures told { IfOk result (λ _. course.new
-        ≡ after_line course.old (event_of trace.old line.now) line.now) }
-    ensures reported { IfOk result
-        (λ on. Follows number (event_of trace.old line.now) on report.new) }
-{
-    let event = trace.line(line);
-    course.take(number, line, event);
-    match &event {
-        Event::Skipped | Event::Began(_) => Ok(true),
-        Event::Made(line, made) => {
-            if let Some(checker) = trace.checker() {
-                report.summary.note(checker.lock(), *line, *made);
-            }
-            Ok(true)
-        }
-        Event::Differs(line, difference) => {
-            report.settle(Ending::Refused, number);
-            if let Some(checker) = trace.checker() {
-                report.explain(checker, course, *line, *difference)?;
-            }
-            Ok(false)
-        }
-        Event::Fault(fault) => {
-            report.settle(Ending::Faulty, number);
-            report.fault(*fault)?;
-            Ok(false)
-        }
-    }
-}
-
-/// Checks an input to its end, or up to the first line that ends it. `watch` is called with the
-/// number of each line that is read, from 1.
-///
-/// # Errors
-///
-/// A request for memory was refused. An input that fails is no error: that is reported.
-pub fn check_input<R: Read + Drop, F: FnMut(u64)>(
+// Checks the file of this name. A terminal is `told` how far it is.
+fn check_file<R: Runtime>(
+    rt: &R,
     alloc: Global,
-    input: R,
-    mut watch: F,
+    name: &str,
+    told: bool,
 ) -> Result<Report, AllocError>
-    requires { (f : _) (number : _) → F.pre f number }
-    ensures { IfOk result (λ report. IfSome (R.remaining input) (IsOfText report)) }
+    ensures { IfOk result
+        (λ report. EndsInput (left_in R.File.remaining R.Reader.remaining) report.ending) }
 {
-    let mut report = Report::new(alloc);
-    let mut lines = Lines::new(alloc, input)?;
-    let mut line = Line::new();
-    let mut trace = TraceReader::new();
-    let mut course = Course::new();
-    for number in 1..u64::MAX {
-        match lines.next_line(&mut line) {
-            Ok(true) => {}
-            Ok(false) => {
-                report.end(&trace, &course, number)?;
-                return Ok(report);
-            }
-            Err(error) => return unread(alloc, &error),
-        }
-        if !take_line(&mut trace, &mut course, number, line.bytes(), &mut report)? {
-            return Ok(report);
-        }
-        watch(number);
+    let mut progress = Progress::new(rt, told);
+    let report = follow_file(
+        rt,
+        alloc,
+        name,
+        &[],
+        |number, _, _| -> Result<(), AllocError> {
+            progress.line(name, number);
+            Ok(())
+        },
+    );
+    progress.end();
+    report
+}
+
+// Checks a file that was opened, or could not be.
+fn check_opened<I: Read + Drop>(alloc: Global, input: io::Result<I>) -> Result<Report, AllocError>
+    ensures { IfOk result (λ report. EndsInput I.remaining report.ending) }
+{
+    match input {
+        Ok(input) => follow_input(alloc, input, &[], |_, _, _| -> Result<(), AllocError> {
+            Ok(())
+        }),
+        Err(error) => unread(alloc, &error),
     }
-    unread(alloc, &Error::from(ErrorKind::FileTooLarge))
+}
+
+// Checks files side by side, each by a thread of its own.
+fn check_side_by_side<R: Threads + Sync, I: Read + Send + Drop>(
+    rt: &R,
+    alloc: Global,
+    inputs: Vec<io::Result<I>>,
+) -> Result<Vec<Result<Report, AllocError>>, AllocError>
+    ensures one_each { IfOk result (λ reports. vec_len reports ≡ vec_len inputs) }
+    ensures each { IfOk result (λ reports. AreChecked I.remaining reports.items) }
+{
+    map_vec(
+        rt,
+        inputs,
+        &|input: io::Result<I>| check_opened(alloc, input),
+    )
+}
+
+// Opens the files of these names.
+fn open_each<R: Runtime>(
+    rt: &R,
+    alloc: Global,
+    names: &[String],
+) -> Result<Vec<io::Result<R::File>>, AllocError> {
+    let mut inputs = Vec::new(alloc);
+    for name in names {
+        inputs.push(fs::open(rt, name.as_str()))?;
+    }
+    Ok(inputs)
+}
+
+// Checks the files of a round side by side, and writes their reports.
+fn check_round<R: Runtime + Threads + Sync, O: Write>(
+    rt: &R,
+    alloc: Global,
+    names: &[String],
+    reports: &mut Reports<'_>,
+    output: &mut O,
+) -> Result<(), Failure>
+where
+    R::File: Send,
+    ensures { OnOk result (Adds (left_in R.File.remaining R.Reader.remaining) (length names.now)
+        reports.old.endings.items reports.new.endings.items) }
+{
+    let inputs = open_each(rt, alloc, names)?;
+    let mut checked = check_side_by_side(rt, alloc, inputs)?.into_iter();
+    for name in names {
+        let report = checked.next().unwrap_or(Err(AllocError))?;
+        reports.put(output, name, &report)?;
+    }
+    Ok(())
+}
+
+// Checks the files by rounds of as many as there are workers.
+fn check_rounds<R: Runtime + Threads + Sync, O: Write>(
+    rt: &R,
+    alloc: Global,
+    job: &CheckJob,
+    reports: &mut Reports<'_>,
+    output: &mut O,
+) -> Result<(), Failure>
+where
+    R::File: Send,
+    ensures { OnOk result (Adds (left_in R.File.remaining R.Reader.remaining)
+        (length job.now.files.items) reports.old.endings.items reports.new.endings.items) }
+{
+    let mut rest = job.files.as_slice();
+    while rest.len() > 0 {
+        let (names, others) = rest.split_at((job.workers as usize).max(1).min(rest.len()));
+        check_round(rt, alloc, names, reports, output)?;
+        rest = others;
+    }
+    Ok(())
+}
+
+// Checks the files one after another, and writes each report as soon as it is there.
+fn check_each<R: Runtime, O: Write>(
+    rt: &R,
+    alloc: Global,
+    files: &[String],
+    told: bool,
+    reports: &mut Reports<'_>,
+    output: &mut O,
+) -> Result<(), Failure>
+    ensures { OnOk result (Adds (left_in R.File.remaining R.Reader.remaining) (length files.now)
+        reports.old.endings.items reports.new.endings.items) }
+{
+    for name in files {
+        let report = check_file(rt, alloc, name, told)?;
+        reports.put(output, name, &report)?;
+    }
+    Ok(())
+}
+
+// Whether several threads share the files. They are checked one after another if one is standard
+// input.
+fn is_shared(job: &CheckJob) -> bool {
+    let is_given = job.files.iter().any(|name| name.as_str() == STANDARD);
+    job.workers > 1 && job.files.len() > 1 && !is_given
+}
+
+/// Checks the files, writes their reports, and gives their endings, in the order of the files.
+/// `told` if a terminal is told how far it is.
+///
+/// # Errors
+///
+/// The output failed, or a request for memory was refused. A file that fails is no error: that is
+/// reported.
+pub fn check_files<R: Runtime + Threads + Sync, O: Write>(
+    rt: &R,
+    alloc: Global,
+    job: &CheckJob,
+    told: bool,
+    output: &mut O,
+) -> Result<Vec<Ending>, Failure>
+where
+    R::File: Send,
+    ensures one_each { IfOk result
+        (λ endings. length endings.items ≡ length job.now.files.items) }
+    ensures each { IfOk result
+        (λ endings. All (EndsInput (left_in R.File.remaining R.Reader.remaining)) endings.items) }
+{
+    let mut reports = Reports::new(alloc, job)?;
+    if is_shared(job) {
+        check_rounds(rt, alloc, job, &mut reports, output)?;
+    } else {
+        check_each(rt, alloc, &job.files, told, &mut reports, output)?;
+    }
+    output.flush()?;
+    Ok(reports.endings)
 }

@@ -1,25 +1,27 @@
 //! The job of counting which kinds of transition traces took. The counts are written as text or as
 //! JSON, and which of the required ones are missing.
 
-ghost use Rattle.std.specs.Prelude.{◌≡◌, max};
-ghost use Rattle.lk_jobs.specs.Statuses.{number_of};
+ghost use Rattle.std.specs.Prelude.{[], IfOk, length};
+ghost use Rattle.lk_text.specs.Sources.{left_in};
+ghost use Rattle.lk_jobs.specs.Verdicts.{EndsInput, IsCovered};
+ghost use Rattle.lk_jobs.specs.invariants.{Adds};
 
-use crate::sketch::put_unread;
-use lk_lines::{Status, lock_text, move_text};
+use crate::follow::follow_file;
+use crate::formats::{PLAIN, put_text};
+use crate::report::{Ending, worst};
+use lk_lines::{Status, lock_text};
 use lk_locks::LockKind;
-use lk_search::{Coverage, Kind, LOCKS, Observed, kinds_of};
-use lk_text::{Count, Summary, has_counter, take_lines};
-use lk_trace::{Difference, Event, Made, TextFault, TraceLine, TraceReader};
 pub use lk_search::is_kind;
+use lk_search::{Coverage, Kind, LOCKS, Observed, kinds_of};
+use lk_text::{Value, fill, has_counter, json};
+use lk_trace::{Event, Made, TraceLine, TraceReader};
 use std::alloc::{AllocError, Global};
 use std::fmt::Write;
-use std::io::Read;
 use std::rt::Runtime;
-use std::{fmt, fs};
 
 /// The form of what is written.
 #[derive(Clone, Copy, PartialEq, Eq, Debug)]
-pub enum Format {
+pub enum CoverFormat {
     Text,
     Json,
 }
@@ -27,7 +29,7 @@ pub enum Format {
 /// Which traces are counted, and what they have to have.
 #[derive(Debug, Drop)]
 pub struct CoverJob {
-    pub format: Format,
+    pub format: CoverFormat,
     /// Whether each kind is required of each lock of which there is a trace.
     pub all: bool,
     /// The names of the kinds that are required.
@@ -53,17 +55,10 @@ fn coverage_of(coverages: &mut [Coverage], kind: LockKind) -> Option<&mut Covera
 }
 
 // Counts a move that was made.
-fn note_move(
-    coverages: &mut [Coverage],
-    summary: &mut Summary,
-    trace: &TraceReader,
-    line: TraceLine,
-    made: Made,
-) {
+fn note_move(coverages: &mut [Coverage], trace: &TraceReader, line: TraceLine, made: Made) {
     let Some(checker) = trace.checker() else {
         return;
     };
-    summary.note(checker.lock(), line, made);
     let coverage = coverage_of(coverages, checker.lock().kind());
     if let (Some(coverage), Some(after)) = (coverage, checker.phase(line.thread)) {
         coverage.note(Observed {
@@ -75,143 +70,110 @@ fn note_move(
     }
 }
 
-// Counts a trace that was read up to its end, or up to a line that ends it.
-fn note_end(coverages: &mut [Coverage], summary: &Summary, trace: &TraceReader) {
-    let Some(checker) = trace.checker() else {
-        return;
-    };
-    if let Some(coverage) = coverage_of(coverages, checker.lock().kind()) {
-        coverage.end_trace(summary.rounds());
-    }
-}
-
-// Reads a line of this number. A status if it ends the trace.
-fn take_line(
-    coverages: &mut [Coverage],
-    summary: &mut Summary,
-    trace: &mut TraceReader,
-    (name, number, line): (&str, u64, &[u8]),
-    errors: &mut String,
-) -> Result<Option<Status>, AllocError> {
-    match trace.line(line) {
-        Event::Skipped | Event::Began(_) => Ok(None),
-        Event::Made(line, made) => {
-            note_move(coverages, summary, trace, line, made);
-            Ok(None)
-        }
-        Event::Differs(line, difference) => {
-            if let Difference::Refused(_) = difference {
-                writeln!(errors, "{name}:{number}: refused: {difference}")?;
-            } else {
-                let step = move_text(line.action);
-                writeln!(errors, "{name}:{number}: refused: {step} {difference}")?;
-            }
-            Ok(Some(Status::Refused))
-        }
-        Event::Fault(fault) => {
-            writeln!(errors, "{name}:{number}: {fault}")?;
-            Ok(Some(Status::Faulty))
-        }
-    }
-}
-
-// Reads a trace up to its end, or up to a line that ends it.
-fn take_trace<R: Read + Drop>(
-    alloc: Global,
-    input: R,
-    name: &str,
-    coverages: &mut [Coverage],
-    errors: &mut String,
-) -> Result<Status, AllocError> {
-    let (mut trace, mut summary) = (TraceReader::new(), Summary::default());
-    let (number, ended) = take_lines(alloc, input, |number, line| {
-        let read = (name, number, line.bytes());
-        take_line(coverages, &mut summary, &mut trace, read, errors)
-    })?;
-    note_end(coverages, &summary, &trace);
-    match ended {
-        Ok(None) if trace.checker().is_some() => Ok(Status::Accepted),
-        Ok(None) => {
-            let fault = TextFault::NoHeader;
-            writeln!(errors, "{name}:{number}: {fault}")?;
-            Ok(Status::Faulty)
-        }
-        Ok(Some(status)) => Ok(status),
-        Err(error) => put_unread(errors, name, error),
-    }
-}
-
-// Reads the trace in a file.
+// Reads the trace in a file up to its end, or up to a line that ends it.
 fn take_file<R: Runtime>(
     rt: &R,
     alloc: Global,
     name: &str,
     coverages: &mut [Coverage],
     errors: &mut String,
-) -> Result<Status, AllocError> {
-    if name == "-" {
-        return take_trace(alloc, rt.reader(), name, coverages, errors);
-    }
-    match fs::open(rt, name) {
-        Ok(input) => take_trace(alloc, input, name, coverages, errors),
-        Err(error) => put_unread(errors, name, error),
-    }
-}
-
-// The command that gives a schedule with a transition of a kind.
-#[derive(Clone, Copy)]
-struct Command(LockKind, Kind);
-
-impl fmt::Display for Command {
-    fn fmt<W: fmt::Write>(&self, f: &mut fmt::Formatter<W>) -> fmt::Result {
-        let Command(lock, kind) = *self;
-        let name = lock_text(lock);
-        write!(f, "locktrace find {name} 2")?;
-        for line in kind.sketch.iter().copied() {
-            write!(f, " '{line}'")?;
-        }
-        Ok(())
-    }
-}
-
-fn put_text(text: &mut String, coverage: &Coverage) -> Result<(), AllocError> {
-    let (lock, kinds) = (coverage.kind(), kinds_of(coverage.kind()));
-    let (name, seen, all) = (lock_text(lock), coverage.seen(), kinds.len());
-    let moves = Count(coverage.moves(), "move", "moves");
-    writeln!(
-        text,
-        "{name}: {seen} of {all} kinds of transition, in {moves}"
+) -> Result<Ending, AllocError>
+    ensures { IfOk result
+        (λ ending. EndsInput (left_in R.File.remaining R.Reader.remaining) ending) }
+{
+    let mut kind = None;
+    let report = follow_file(
+        rt,
+        alloc,
+        name,
+        &[],
+        |_, trace, event| -> Result<(), AllocError> {
+            match event {
+                Event::Began(header) => kind = Some(header.kind()),
+                Event::Made(line, made) => note_move(coverages, trace, line, made),
+                _ => {}
+            }
+            Ok(())
+        },
     )?;
-    for (kind, count) in kinds.iter().zip(coverage.counts()) {
-        let (name, command) = (kind.name, Command(lock, *kind));
-        if *count > 0 {
-            writeln!(text, "{count:>10}  {name}")?;
-        } else {
-            writeln!(text, "{count:>10}  {name}: {command}")?;
-        }
+    if let Some(coverage) = kind.and_then(|kind| coverage_of(coverages, kind)) {
+        coverage.end_trace(report.summary.wraps());
     }
-    if has_counter(lock) {
-        let rounds = coverage.rounds();
-        writeln!(text, "{rounds:>10}  the counter wrapped around")?;
+    put_text(errors, name, &report, PLAIN)?;
+    Ok(report.ending)
+}
+
+// Writes the command that gives a schedule with a transition of a kind.
+fn put_command(text: &mut String, lock: LockKind, kind: Kind) -> Result<(), AllocError> {
+    fill(
+        text,
+        "locktrace find {lock} 2",
+        &[("lock", Value::Text(lock_text(lock)))],
+    )?;
+    for line in kind.sketch {
+        fill(text, " '{line}'", &[("line", Value::Text(line))])?;
     }
     Ok(())
 }
 
-fn put_json(text: &mut String, coverage: &Coverage) -> Result<(), AllocError> {
+const SEEN: &str = "{lock}: {seen} of {all} kinds of transition, in {moves}\n";
+
+// Writes how often there was each kind, and how to reach those that there were not.
+fn put_text_of(text: &mut String, coverage: &Coverage) -> Result<(), AllocError> {
     let (lock, kinds) = (coverage.kind(), kinds_of(coverage.kind()));
-    let (name, moves, rounds) = (lock_text(lock), coverage.moves(), coverage.rounds());
-    write!(
-        text,
-        "{{\"lock\":\"{name}\",\"moves\":{moves},\"rounds\":{rounds},\"kinds\":["
-    )?;
-    for (place, (kind, count)) in kinds.iter().zip(coverage.counts()).enumerate() {
-        let (name, command) = (kind.name, Command(lock, *kind));
-        text.push_str(if place > 0 { "," } else { "" })?;
-        write!(text, "{{\"name\":\"{name}\",\"count\":{count}")?;
+    let places = [
+        ("lock", Value::Text(lock_text(lock))),
+        ("seen", Value::Number(coverage.seen() as u64)),
+        ("all", Value::Number(kinds.len() as u64)),
+        ("moves", Value::Count(coverage.moves(), "move", "moves")),
+    ];
+    fill(text, SEEN, &places)?;
+    for (kind, count) in kinds.iter().zip(coverage.counts()) {
+        write!(text, "{count:>10}  ")?;
+        text.push_str(kind.name)?;
         if *count == 0 {
-            write!(text, ",\"find\":\"{command}\"")?;
+            text.push_str(": ")?;
+            put_command(text, lock, *kind)?;
         }
-        text.push_str("}")?;
+        text.push('\n')?;
+    }
+    if has_counter(lock) {
+        write!(text, "{:>10}", coverage.rounds())?;
+        text.push_str("  the counter wrapped around\n")?;
+    }
+    Ok(())
+}
+
+// Writes how often there was a kind, as an object of JSON.
+fn put_kind(
+    text: &mut String,
+    alloc: Global,
+    lock: LockKind,
+    kind: Kind,
+    count: u64,
+) -> Result<(), AllocError> {
+    text.push('{')?;
+    json::string(text, "name", kind.name)?;
+    json::number(text, "count", count)?;
+    if count == 0 {
+        let mut command = String::new(alloc);
+        put_command(&mut command, lock, kind)?;
+        json::string(text, "find", command.as_str())?;
+    }
+    text.push('}')
+}
+
+// Writes the same as an object of JSON.
+fn put_json_of(text: &mut String, alloc: Global, coverage: &Coverage) -> Result<(), AllocError> {
+    let lock = coverage.kind();
+    text.push('{')?;
+    json::string(text, "lock", lock_text(lock))?;
+    json::number(text, "moves", coverage.moves())?;
+    json::number(text, "wraps", coverage.rounds())?;
+    json::name(text, "kinds")?;
+    for (place, (kind, count)) in kinds_of(lock).iter().zip(coverage.counts()).enumerate() {
+        text.push_str(if place > 0 { "," } else { "[" })?;
+        put_kind(text, alloc, lock, *kind, *count)?;
     }
     text.push_str("]}\n")
 }
@@ -219,14 +181,15 @@ fn put_json(text: &mut String, coverage: &Coverage) -> Result<(), AllocError> {
 // Writes the counts of each lock of which there was a trace.
 fn put_coverage(
     text: &mut String,
-    format: Format,
+    alloc: Global,
+    format: CoverFormat,
     coverages: &[Coverage],
 ) -> Result<(), AllocError> {
     for coverage in coverages {
         match format {
             _ if coverage.traces() == 0 => {}
-            Format::Text => put_text(text, coverage)?,
-            Format::Json => put_json(text, coverage)?,
+            CoverFormat::Text => put_text_of(text, coverage)?,
+            CoverFormat::Json => put_json_of(text, alloc, coverage)?,
         }
     }
     Ok(())
@@ -246,8 +209,11 @@ fn put_unseen(errors: &mut String, coverage: &Coverage) -> Result<bool, AllocErr
     let mut missing = false;
     for (kind, count) in kinds_of(coverage.kind()).iter().zip(coverage.counts()) {
         if *count == 0 {
-            let name = kind.name;
-            writeln!(errors, "locktrace: missing in {lock}: {name}")?;
+            let places = [
+                ("lock", Value::Text(lock)),
+                ("name", Value::Text(kind.name)),
+            ];
+            fill(errors, "locktrace: missing in {lock}: {name}\n", &places)?;
             missing = true;
         }
     }
@@ -278,24 +244,35 @@ fn put_missing(
             .iter()
             .all(|coverage| count_of(coverage, name) == 0)
         {
-            writeln!(errors, "locktrace: missing: {name}")?;
+            let name = Value::Text(name.as_str());
+            fill(errors, "locktrace: missing: {name}\n", &[("name", name)])?;
             missing = true;
         }
     }
     Ok(missing)
 }
 
-// The greater of two statuses.
-fn worse(one: Status, other: Status) -> Status
-    ensures { number_of result ≡ max (number_of one) (number_of other) }
+// Reads the traces in the files, and gives their endings.
+fn take_files<R: Runtime>(
+    rt: &R,
+    alloc: Global,
+    files: &[String],
+    coverages: &mut [Coverage],
+    errors: &mut String,
+) -> Result<Vec<Ending>, AllocError>
+    ensures { IfOk result (λ endings. Adds (left_in R.File.remaining R.Reader.remaining)
+        (length files.now) [] endings.items) }
 {
-    if other as u8 > one as u8 { other } else { one }
+    let mut endings = Vec::new(alloc);
+    for name in files {
+        endings.push(take_file(rt, alloc, name, coverages, errors)?)?;
+    }
+    Ok(endings)
 }
 
 /// Counts which kinds of transition the traces took, and writes the counts to `text`, and what else
-/// there is to say to `errors`. The status is `Accepted`; `Refused` if a move is refused, or a kind
-/// that is required is missing; `Failed` if a trace could not be read; `Faulty` if a text is no
-/// trace. Of several the greatest is answered.
+/// there is to say to `errors`. The status is the greatest of those of the traces' endings, and
+/// `Refused` if a kind that is required is missing.
 ///
 /// # Errors
 ///
@@ -306,16 +283,18 @@ pub fn cover_traces<R: Runtime>(
     job: &CoverJob,
     text: &mut String,
     errors: &mut String,
-) -> Result<Status, AllocError> {
+) -> Result<u8, AllocError>
+    ensures { IfOk result (λ status. IsCovered (left_in R.File.remaining R.Reader.remaining)
+        (length job.now.files.items) status) }
+{
     let mut coverages = nothing_counted(alloc)?;
-    let mut worst = Status::Accepted;
-    for name in &job.files {
-        let status = take_file(rt, alloc, name, coverages.as_mut_slice(), errors)?;
-        worst = worse(worst, status);
-    }
-    put_coverage(text, job.format, &coverages)?;
-    if put_missing(errors, &coverages, job.all, &job.required)? {
-        worst = worse(worst, Status::Refused);
-    }
-    Ok(worst)
+    let endings = take_files(rt, alloc, &job.files, coverages.as_mut_slice(), errors)?;
+    put_coverage(text, alloc, job.format, &coverages)?;
+    let missing = put_missing(errors, &coverages, job.all, &job.required)?;
+    let least = if missing {
+        Status::Refused
+    } else {
+        Status::Accepted
+    };
+    Ok(worst(&endings).max(least as u8))
 }

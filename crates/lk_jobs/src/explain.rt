@@ -1,27 +1,67 @@
-//! Each move of a trace, with what it found and left, by the words' names, and a sentence; and why
-//! the first wrong one is wrong.
+//! The job of explaining a trace: each move with what it found and left, by the words' names, and a
+//! sentence; and why the first wrong one is wrong.
 
-use crate::check::Ending;
+ghost use Rattle.std.specs.Prelude.{IfOk};
+ghost use Rattle.lk_text.specs.Sources.{left_in};
+ghost use Rattle.lk_jobs.specs.Verdicts.{EndsInput};
+
+use crate::follow::follow_file;
+use crate::formats::{BARE, PLAIN, put_text};
+use crate::report::{Ending, Report};
 use crate::sentences::sentence;
-use crate::texts::{Called, Lock, Standing, Wrong};
+use crate::texts::{Lock, called, put_standing};
 use crate::waiting::write_waiting;
 use lk_lines::{MOVE_WORDS, move_named, move_text, outcome_text};
-use lk_locks::{Machine, Move, SectionEffect};
-use lk_text::{Failure, put_wrong, take_lines, wrong_in_header};
-use lk_trace::{
-    Event, MOST_OF_A_LINE, Made, TextFault, TraceLine, TraceReader, name_at, unreadable_line,
-};
+use lk_locks::{Machine, Move, Outcome, SectionEffect};
+use lk_text::{Failure, Value, fill};
+use lk_trace::{Event, Made, TraceLine, TraceReader, name_at};
 use lk_words::{Effect, WordArray};
 use std::alloc::{AllocError, Global};
-use std::fmt::Write as _;
-use std::io::{Read, Write};
+use std::fmt::InlineText;
+use std::io::Write;
+use std::rt::Runtime;
 
 /// What is explained, and what the threads are called.
-#[derive(Clone, Copy)]
-pub struct Asked<'a> {
+#[derive(Debug, Drop)]
+pub struct ExplainJob {
+    /// A file `-` is standard input.
+    pub file: String,
     /// The first and the last line, from 1.
     pub lines: (u64, u64),
-    pub names: &'a [String],
+    pub names: Vec<String>,
+}
+
+const CAME: &str = "{number}: {thread} {step}: {outcome}";
+
+const SAME: &str = ", {word} {found}";
+
+const CHANGED: &str = ", {word} {found} to {left}";
+
+const THREADS: &str = "  the lock has {threads} threads, from 0 on\n";
+
+const DUE: &str = "  due: {thread} {step}\n";
+
+const CALL: &str = " {thread} {step}";
+
+// Writes what a step found and left.
+fn put_values(text: &mut String, lock: &Lock, effect: Effect) -> Result<(), AllocError> {
+    let Some(word) = name_at(lock.kind(), effect.word) else {
+        return Ok(());
+    };
+    let places = [
+        ("word", Value::Short(InlineText::of(word))),
+        ("found", Value::Number(effect.found)),
+        ("left", Value::Number(effect.left)),
+    ];
+    fill(
+        text,
+        if effect.found == effect.left {
+            SAME
+        } else {
+            CHANGED
+        },
+        &places,
+    )
 }
 
 // Writes the words that a section changed.
@@ -34,144 +74,188 @@ fn put_changes(text: &mut String, lock: &Lock, section: SectionEffect) -> Result
     Ok(())
 }
 
-// Writes what a step found and left.
-fn put_values(text: &mut String, lock: &Lock, effect: Effect) -> Result<(), AllocError> {
-    let (found, left) = (effect.found, effect.left);
-    match name_at(lock.kind(), effect.word) {
-        Some(word) if found == left => write!(text, ", {word} {found}"),
-        Some(word) => write!(text, ", {word} {found} to {left}"),
-        None => Ok(()),
-    }
+// Writes a move, and what came of it.
+fn put_outcome(
+    text: &mut String,
+    number: u64,
+    line: TraceLine,
+    outcome: Outcome,
+) -> Result<(), AllocError> {
+    let places = [
+        ("number", Value::Number(number)),
+        ("thread", Value::Number(u64::from(line.thread))),
+        ("step", Value::Short(InlineText::of(move_text(line.action)))),
+        (
+            "outcome",
+            Value::Short(InlineText::of(outcome_text(outcome))),
+        ),
+    ];
+    fill(text, CAME, &places)
 }
 
-// Writes a move that was made.
+// Writes a move that was made in the line of this number.
 fn put_move(
     text: &mut String,
     names: &[String],
     lock: &Lock,
+    number: u64,
     line: TraceLine,
     made: Made,
 ) -> Result<(), AllocError> {
-    let (thread, word) = (line.thread, move_text(line.action));
-    let came = outcome_text(made.outcome);
-    write!(text, "{thread} {word}: {came}")?;
+    put_outcome(text, number, line, made.outcome)?;
     if let Some(effect) = made.effect {
         put_values(text, lock, effect)?;
     }
     if let Some(section) = made.section {
         put_changes(text, lock, section)?;
     }
-    let meaning = sentence(lock.kind(), made.from, line.action, made.outcome);
-    let (called, standing) = (Called(thread, names), Standing(lock));
-    writeln!(text, "; {called} {meaning}; {standing}")
+    fill(text, "; {who} ", &[("who", called(line.thread, names))])?;
+    text.push_str(sentence(lock.kind(), made.from, line.action, made.outcome))?;
+    text.push_str("; ")?;
+    put_standing(text, lock)?;
+    text.push('\n')
+}
+
+// Writes the calls of a thread that would be accepted.
+fn put_calls(
+    text: &mut String,
+    machine: &Machine<WordArray>,
+    thread: u8,
+) -> Result<(), AllocError> {
+    text.push_str("  accepted would be:")?;
+    for word in MOVE_WORDS {
+        let named = move_named(word.as_bytes());
+        if named.is_some_and(|action| machine.check(thread, action).is_ok()) {
+            let number = Value::Number(u64::from(thread));
+            fill(
+                text,
+                CALL,
+                &[("thread", number), ("step", Value::Text(word))],
+            )?;
+        }
+    }
+    text.push('\n')
 }
 
 // Writes what a thread could do: its next step, or the calls that would be accepted.
 fn put_due(text: &mut String, machine: &Machine<WordArray>, thread: u8) -> Result<(), AllocError> {
     let threads = machine.threads();
     if thread >= threads {
-        return writeln!(text, "  the lock has {threads} threads, from 0 on");
+        return fill(
+            text,
+            THREADS,
+            &[("threads", Value::Number(u64::from(threads)))],
+        );
     }
-    if let Some(next) = machine.next_step(thread) {
-        return writeln!(text, "  due: {thread} {}", move_text(Move::Step(next)));
-    }
-    write!(text, "  accepted would be:")?;
-    for word in MOVE_WORDS {
-        let named = move_named(word.as_bytes());
-        if named.is_some_and(|action| machine.check(thread, action).is_ok()) {
-            write!(text, " {thread} {word}")?;
-        }
-    }
-    writeln!(text)
+    let Some(next) = machine.next_step(thread) else {
+        return put_calls(text, machine, thread);
+    };
+    let number = Value::Number(u64::from(thread));
+    let step = Value::Text(move_text(Move::Step(next)));
+    fill(text, DUE, &[("thread", number), ("step", step)])
 }
 
-// Writes what is wrong with a line.
-fn put_fault(
+// Describes the move of a line, if it is asked for.
+fn put_event(
     text: &mut String,
-    alloc: Global,
+    job: &ExplainJob,
+    trace: &TraceReader,
     number: u64,
-    line: &[u8],
-    fault: TextFault,
+    event: &Event,
 ) -> Result<(), AllocError> {
-    writeln!(text, "{number}: {fault}")?;
-    if line.len() > MOST_OF_A_LINE {
-        return writeln!(text, "  no header and no move has more than 96 bytes");
-    }
-    let wrong = match fault {
-        TextFault::BadLine => unreadable_line(line),
-        _ => wrong_in_header(line),
-    };
-    put_wrong(text, alloc, line, wrong)
-}
-
-// Describes the move of a line, or says why the trace ends there.
-fn explain_line(
-    alloc: Global,
-    asked: &Asked<'_>,
-    trace: &mut TraceReader,
-    number: u64,
-    line: &[u8],
-    text: &mut String,
-) -> Result<Option<Ending>, AllocError> {
-    let event = trace.line(line);
-    if let Event::Fault(fault) = event {
-        put_fault(text, alloc, number, line, fault)?;
-        return Ok(Some(Ending::Faulty));
-    }
     let Some(checker) = trace.checker() else {
-        return Ok(None);
+        return Ok(());
     };
-    let lock = checker.lock();
+    let (lock, (first, last)) = (checker.lock(), job.lines);
     match event {
-        Event::Made(line, made) => {
-            let (first, last) = asked.lines;
-            if first <= number && number <= last {
-                write!(text, "{number}: ")?;
-                put_move(text, asked.names, lock, line, made)?;
-            }
-            Ok(None)
+        Event::Made(line, made) if first <= number && number <= last => {
+            put_move(text, &job.names, lock, number, *line, *made)
         }
-        Event::Differs(line, difference) => {
-            let wrong = Wrong(lock, line, difference, asked.names);
-            writeln!(text, "{number}: refused: {wrong}\n  {}", Standing(lock))?;
-            put_due(text, lock.machine(), line.thread)?;
-            Ok(Some(Ending::Refused))
-        }
-        _ => Ok(None),
+        _ => Ok(()),
     }
 }
 
-/// Describes each move of a trace that is asked for, and returns how the trace ended.
+// Writes what the thread of a refused move could do.
+fn put_due_after(text: &mut String, trace: &TraceReader, event: &Event) -> Result<(), AllocError> {
+    match (event, trace.checker()) {
+        (Event::Differs(line, _), Some(checker)) => {
+            put_due(text, checker.lock().machine(), line.thread)
+        }
+        _ => Ok(()),
+    }
+}
+
+const ENDS: &str = "{line}: {text}\n";
+
+const MORE: &str = "  {text}\n";
+
+const MORE_AT: &str = "  {line}: {text}\n";
+
+// Writes a text that belongs to a line.
+fn put_more(text: &mut String, sentence: &str, line: u64, said: &str) -> Result<(), AllocError> {
+    fill(
+        text,
+        sentence,
+        &[("line", Value::Number(line)), ("text", Value::Text(said))],
+    )
+}
+
+// Writes why a trace ends. The moves before it were explained.
+fn put_end(text: &mut String, report: &Report) -> Result<(), AllocError> {
+    let hangs = report.ending == Ending::Hangs;
+    put_more(
+        text,
+        if hangs { BARE } else { ENDS },
+        report.line,
+        report.message.as_str(),
+    )?;
+    if report.ending != Ending::Refused {
+        for note in report.notes.as_slice() {
+            put_more(
+                text,
+                if hangs { MORE_AT } else { MORE },
+                note.line,
+                note.text.as_str(),
+            )?;
+        }
+    }
+    if report.standing.is_empty() {
+        return Ok(());
+    }
+    put_more(text, MORE, 0, report.standing.as_str())
+}
+
+/// Describes each move of a trace that is asked for, and gives the ending of the trace.
 ///
 /// # Errors
 ///
 /// The output failed, or a request for memory was refused. An input that fails is no error: that is
 /// told and answered.
-pub fn explain_input<R: Read + Drop, O: Write>(
+pub fn explain_trace<R: Runtime, O: Write>(
+    rt: &R,
     alloc: Global,
-    input: R,
-    asked: Asked<'_>,
+    job: &ExplainJob,
     output: &mut O,
-) -> Result<Ending, Failure> {
-    let (mut trace, mut text) = (TraceReader::new(), String::new(alloc));
-    let (number, stopped) = take_lines(alloc, input, |number, line| -> Result<_, Failure> {
-        let stopped = explain_line(alloc, &asked, &mut trace, number, line.bytes(), &mut text)?;
+    errors: &mut String,
+) -> Result<Ending, Failure>
+    ensures { IfOk result
+        (λ ending. EndsInput (left_in R.File.remaining R.Reader.remaining) ending) }
+{
+    let (mut text, mut due) = (String::new(alloc), String::new(alloc));
+    let each = |number: u64, trace: &TraceReader, event: Event| -> Result<(), Failure> {
+        put_event(&mut text, job, trace, number, &event)?;
+        put_due_after(&mut due, trace, &event)?;
         write_waiting(&mut text, output)?;
-        Ok(stopped)
-    })?;
-    let ending = match stopped {
-        Ok(None) if trace.checker().is_some() => Ending::Accepted,
-        Ok(None) => {
-            writeln!(text, "{number}: {}", TextFault::NoHeader)?;
-            Ending::Faulty
-        }
-        Ok(Some(ending)) => ending,
-        Err(error) => {
-            writeln!(text, "{number}: {error}")?;
-            Ending::Unread
-        }
+        Ok(())
     };
+    let report = follow_file(rt, alloc, &job.file, &job.names, each)?;
+    match report.ending {
+        Ending::Accepted => {}
+        Ending::Refused | Ending::Faulty | Ending::Hangs => put_end(&mut text, &report)?,
+        Ending::Unread => put_text(errors, &job.file, &report, PLAIN)?,
+    }
+    text.push_str(&due)?;
     output.write_all(text.as_bytes())?;
     output.flush()?;
-    Ok(ending)
+    Ok(report.ending)
 }

@@ -12,16 +12,15 @@ mod logs;
 mod report;
 mod search;
 
-pub use search::{BadLog, Search, Sought, search_logs};
-
 use crate::course::Course;
 use crate::formats::Format;
 use crate::progress::Progress;
 use files::{write_schedules, write_trace};
 use lk_order::{Log, Order};
-use lk_text::{Count, Failure};
+use lk_text::{Failure, STANDARD, Value};
 use logs::take_logs;
 use report::{OrderReport, put_cut, put_hang, put_stuck};
+pub use search::{BadLog, Search, Sought, search_logs};
 use std::alloc::{AllocError, Global};
 use std::fs;
 use std::io::{Eprint, Write};
@@ -38,11 +37,9 @@ pub struct OrderJob {
     pub folder: String,
 }
 
-// The folder that stands for the output.
-const OUTPUT: &str = "-";
-
 // Why moves are in no schedule.
-const TOO_LONG: &str = "A schedule has at most 65536 moves, and after those somebody was in a call";
+const TOO_LONG: &str = "{moves} in no schedule. A schedule has at most 65536 moves, and after \
+    those somebody was in a call";
 
 // Writes the trace and the schedules of an order into a folder.
 fn write_found<R: Files>(
@@ -59,9 +56,8 @@ fn write_found<R: Files>(
     write_trace(alloc, order, hung, &mut file)?;
     let left_out = write_schedules(rt, alloc, order, folder)?;
     if left_out > 0 {
-        let moves = Count(left_out as u64, "move is", "moves are");
-        let said = format_args!("{moves} in no schedule. {TOO_LONG}");
-        report.warnings.put(0, said)?;
+        let moves = Value::Count(left_out as u64, "move is", "moves are");
+        report.warnings.say(0, TOO_LONG, &[("moves", moves)])?;
     }
     Ok(())
 }
@@ -76,7 +72,7 @@ fn write_order<R: Files, O: Write>(
     output: &mut O,
 ) -> Result<(), Failure> {
     let (order, hung) = (&search.found.order, search.hung.as_ref());
-    if folder == OUTPUT {
+    if folder == STANDARD {
         write_trace(alloc, order, hung, output)
     } else {
         write_found(rt, alloc, order, hung, folder, report)
@@ -121,7 +117,7 @@ fn order_into<R: Files + Eprint, O: Write>(
     let taken = match take_logs(rt, alloc, &job.logs, &mut report.messages)? {
         Ok(taken) => taken,
         Err(bad) => {
-            bad.put_fields(&mut report.fields)?;
+            report.details = Some(bad.details());
             return Ok(Sought::Bad(bad));
         }
     };
@@ -130,7 +126,7 @@ fn order_into<R: Files + Eprint, O: Write>(
     let search = match search_logs(alloc, logs, &taken.open)? {
         Some(search) => search,
         None => {
-            report.messages.put(0, "the logs are not of one run")?;
+            report.messages.say(0, "the logs are not of one run", &[])?;
             return Ok(Sought::Bad(BadLog::OtherLock));
         }
     };
@@ -152,7 +148,7 @@ fn put_report<O: Write>(
     let folder = job.folder.as_str();
     let mut text = String::new(alloc);
     report.put(sought.ending(), job.format, folder, &mut text, errors)?;
-    if folder == OUTPUT {
+    if folder == STANDARD {
         errors.push_str(&text)?;
     } else {
         output.write_all(text.as_bytes())?;

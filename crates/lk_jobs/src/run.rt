@@ -4,14 +4,15 @@ ghost use Rattle.std.specs.Prelude.{◌≡◌, ◌++◌, string_bytes, OnOk};
 ghost use Rattle.std.specs.List.{flat_map};
 ghost use Rattle.lk_jobs.specs.Written.{header_line, move_line, schedule_of};
 
-use lk_lines::{lock_text, move_text};
+use crate::texts::put_move;
+use lk_lines::lock_text;
 use lk_locks::Shape;
 use lk_search::Taken;
 use std::alloc::AllocError;
 use std::fmt::Write;
 
-// Writes the header of a schedule.
-fn put_header(text: &mut String, header: Shape) -> Result<(), AllocError>
+/// Writes the header of a schedule or of a trace.
+pub fn put_header(text: &mut String, header: Shape) -> Result<(), AllocError>
     ensures { OnOk result (string_bytes text.new ≡ string_bytes text.old
         ++ header_line header.kind header.threads header.bits) }
 {
@@ -24,22 +25,22 @@ fn put_header(text: &mut String, header: Shape) -> Result<(), AllocError>
 }
 
 // Writes the line of a move.
-fn put_move(text: &mut String, taken: Taken) -> Result<(), AllocError>
+fn put_taken(text: &mut String, taken: Taken) -> Result<(), AllocError>
     ensures { OnOk result
         (string_bytes text.new ≡ string_bytes text.old ++ move_line taken) }
 {
-    let (thread, word) = (taken.thread, move_text(taken.action));
-    writeln!(text, "{thread} {word}")
+    put_move(text, taken.thread, taken.action)?;
+    text.push('\n')
 }
 
 // Writes the lines of a run's moves.
-#[tactic(auto, using(crate::proofs::Texts::one_line_more))]
+#[tactic(auto, using(crate::proofs::Listed::one_line_more))]
 fn put_moves(text: &mut String, run: &[Taken]) -> Result<(), AllocError>
     ensures { OnOk result
         (string_bytes text.new ≡ string_bytes text.old ++ flat_map move_line run.now) }
 {
     for taken in run {
-        put_move(text, *taken)?;
+        put_taken(text, *taken)?;
     }
     Ok(())
 }

@@ -1,22 +1,24 @@
 //! A sketch of a run, read line by line from a file or from the words of a command: a header, and
 //! lines of a trace in which parts are open.
 
-ghost use Rattle.std.specs.Prelude.{◌≡◌, ◌≤◌, vec_len, IfOk};
+ghost use Rattle.std.specs.Prelude.{◌≡◌, ◌≤◌, vec_len, IfOk, OnOk};
+ghost use Rattle.lk_text.specs.Texts.{Grows};
 
+use crate::follow::unread;
+use crate::formats::{PLAIN, put_text};
 use lk_lines::{Status, is_skipped, number_of};
 use lk_locks::Shape;
 use lk_search::{Admitted, SketchFault, admit};
-use lk_text::{put_wrong, take_lines, wrong_in_header};
-use lk_trace::{MOST_OF_A_LINE, TextFault, read_header, unreadable_sketch_line};
+use lk_text::{Value, escaped, fill, open, put_wrong, take_lines, wrong_in_header};
+use lk_trace::{TextFault, read_header, unreadable_sketch_line};
 use std::alloc::{AllocError, Global};
-use std::fmt::Write;
-use std::fs;
+use std::fmt::InlineText;
 use std::io::{Error, Read};
 use std::rt::Runtime;
 
 /// Where a sketch is.
 #[derive(Debug, Drop)]
-pub enum Source {
+pub enum Place {
     /// The name of a file. `-` is standard input.
     File(String),
     /// A header, and lines.
@@ -26,7 +28,10 @@ pub enum Source {
 // The most lines of a sketch.
 const MOST_LINES: usize = 255;
 
-// The comment that says how many rounds a thread has.
+// How a comment begins that says something of the search, and the one that says how many rounds a
+// thread has.
+const REMARK: &str = "#!";
+
 const ROUNDS: &str = "#! rounds ";
 
 /// A sketch of which some lines were read.
@@ -61,10 +66,13 @@ impl Sketch {
         self.lines.len() as u16
     }
 
-    // Reads a comment.
+    // Reads a comment. One that begins as a remark has to be one.
     fn comment(&mut self, line: &[u8]) -> Option<SketchFault> {
-        let rest = line.strip_prefix(ROUNDS.as_bytes())?;
-        match number_of(rest, 1, 255) {
+        if !line.starts_with(REMARK.as_bytes()) {
+            return None;
+        }
+        let rest = line.strip_prefix(ROUNDS.as_bytes());
+        match rest.and_then(|rest| number_of(rest, 1, 255)) {
             Some(rounds) => {
                 self.rounds = Some(rounds);
                 None
@@ -109,31 +117,73 @@ impl Sketch {
 }
 
 /// Writes why the input of this name cannot be read, or not to its end.
-pub fn put_unread(errors: &mut String, name: &str, error: Error) -> Result<Status, AllocError>
+pub fn put_unread(
+    errors: &mut String,
+    alloc: Global,
+    name: &str,
+    error: &Error,
+) -> Result<Status, AllocError>
     ensures { IfOk result (λ status. status ≡ Status.Failed) }
 {
-    writeln!(errors, "{name}: {error}")?;
+    put_text(errors, name, &unread(alloc, error)?, PLAIN)?;
     Ok(Status::Failed)
 }
 
-// Writes what is wrong with a line, after its name: the column, what is there, what could be there,
-// and the nearest word.
+const AT_LINE: &str = "{name}:{line}: {fault}\n";
+
+const AT_WORD: &str = "locktrace: '{name}': {fault}\n";
+
+// Writes what is wrong with a line: the fault, the column, what is there and what could be there.
 fn put_fault(
     text: &mut String,
     alloc: Global,
     line: &[u8],
     fault: SketchFault,
-) -> Result<(), AllocError> {
-    writeln!(text, "{fault}")?;
-    if line.len() > MOST_OF_A_LINE {
-        return writeln!(text, "  no line has more than 96 bytes");
-    }
+) -> Result<(), AllocError>
+    ensures { OnOk result (Grows text.old text.new) }
+{
     let wrong = match fault {
+        SketchFault::Header(TextFault::NoHeader) => return text.push_str(""),
         SketchFault::Header(_) => wrong_in_header(line),
         SketchFault::BadLine => unreadable_sketch_line(line),
-        _ => return Ok(()),
+        _ => return text.push_str(""),
     };
-    put_wrong(text, alloc, line, wrong)
+    text.push_str("  ")?;
+    put_wrong(text, alloc, line, wrong)?;
+    text.push('\n')
+}
+
+// Writes a fault after the place that it is at.
+fn put_front<'a>(
+    text: &mut String,
+    name: &'a str,
+    number: u64,
+    fault: &'a str,
+) -> Result<(), AllocError>
+    ensures { OnOk result (Grows text.old text.new) }
+{
+    let places = [
+        ("name", Value::Text(name)),
+        ("line", Value::Number(number)),
+        ("fault", Value::Text(fault)),
+    ];
+    fill(text, if number > 0 { AT_LINE } else { AT_WORD }, &places)
+}
+
+// Writes what is wrong with the line of this number in an input, or if the number is 0 with this
+// word of the command.
+fn put_named(
+    text: &mut String,
+    alloc: Global,
+    place: (&str, u64),
+    line: &[u8],
+    fault: SketchFault,
+) -> Result<(), AllocError>
+    ensures { OnOk result (Grows text.old text.new) }
+{
+    let (shown, said) = (escaped(alloc, place.0)?, InlineText::<96>::of(fault));
+    put_front(text, shown.as_str(), place.1, said.as_str())?;
+    put_fault(text, alloc, line, fault)
 }
 
 /// A sketch with its lock, or how the job ends without one.
@@ -142,18 +192,16 @@ pub type Taken = Result<(Sketch, Shape), Status>;
 // A sketch that was read to its end.
 fn whole(
     sketch: Sketch,
-    name: &str,
-    number: u64,
+    alloc: Global,
+    place: (&str, u64),
     errors: &mut String,
 ) -> Result<Taken, AllocError> {
-    match sketch.header {
-        Some(header) => Ok(Ok((sketch, header))),
-        None => {
-            let fault = SketchFault::Header(TextFault::NoHeader);
-            writeln!(errors, "{name}:{number}: {fault}")?;
-            Ok(Err(Status::Faulty))
-        }
+    if let Some(header) = sketch.header {
+        return Ok(Ok((sketch, header)));
     }
+    let fault = SketchFault::Header(TextFault::NoHeader);
+    put_named(errors, alloc, place, b"".as_slice(), fault)?;
+    Ok(Err(Status::Faulty))
 }
 
 // Reads the sketch in an input of this name.
@@ -168,14 +216,13 @@ fn read_input<R: Read + Drop>(
         let Some(fault) = sketch.line(alloc, line.bytes())? else {
             return Ok(None);
         };
-        write!(errors, "{name}:{number}: ")?;
-        put_fault(errors, alloc, line.bytes(), fault)?;
+        put_named(errors, alloc, (name, number), line.bytes(), fault)?;
         Ok(Some(Status::Faulty))
     })?;
     match ended {
-        Ok(None) => whole(sketch, name, number, errors),
+        Ok(None) => whole(sketch, alloc, (name, number), errors),
         Ok(Some(status)) => Ok(Err(status)),
-        Err(error) => Ok(Err(put_unread(errors, name, error)?)),
+        Err(error) => Ok(Err(put_unread(errors, alloc, name, &error)?)),
     }
 }
 
@@ -188,12 +235,11 @@ pub fn read_words(
     let mut sketch = Sketch::new(alloc);
     for word in words {
         if let Some(fault) = sketch.line(alloc, word.as_bytes())? {
-            write!(errors, "locktrace: '{word}': ")?;
-            put_fault(errors, alloc, word.as_bytes(), fault)?;
+            put_named(errors, alloc, (word.as_str(), 0), word.as_bytes(), fault)?;
             return Ok(Err(Status::Misused));
         }
     }
-    whole(sketch, "locktrace", 1, errors)
+    whole(sketch, alloc, ("locktrace", 1), errors)
 }
 
 /// Reads a sketch. What is wrong with it is written to `errors`.
@@ -204,17 +250,14 @@ pub fn read_words(
 pub fn read_sketch<R: Runtime>(
     rt: &R,
     alloc: Global,
-    source: &Source,
+    place: &Place,
     errors: &mut String,
 ) -> Result<Taken, AllocError> {
-    match source {
-        Source::Words(words) => read_words(alloc, words.as_slice(), errors),
-        Source::File(name) if name.as_str() == "-" => {
-            read_input(alloc, rt.reader(), name, errors)
-        }
-        Source::File(name) => match fs::open(rt, name.as_str()) {
+    match place {
+        Place::Words(words) => read_words(alloc, words.as_slice(), errors),
+        Place::File(name) => match open(rt, name.as_str()) {
             Ok(input) => read_input(alloc, input, name, errors),
-            Err(error) => Ok(Err(put_unread(errors, name, error)?)),
+            Err(error) => Ok(Err(put_unread(errors, alloc, name, &error)?)),
         },
     }
 }

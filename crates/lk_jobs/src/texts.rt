@@ -1,215 +1,129 @@
-//! What is said of a line that differs from the machine, of who holds and who waits, and beside a
-//! message: notes, each with the line that it is about.
+//! What is said in many places: what a thread is called, a line of a trace, and who holds a lock
+//! and who is in its queue.
 
-use lk_lines::{lock_text, move_text, outcome_text};
-use lk_locks::{Holders, LockKind, Move, Refusal, Tracker};
-use lk_trace::{Difference, Seen, TraceLine, WordName};
+ghost use Rattle.std.specs.Prelude.{◌≡◌, ◌++◌, codes, decimal, string_bytes, OnOk};
+ghost use Rattle.lk_lines.specs.Vocabulary.{move_word};
+ghost use Rattle.lk_text.specs.Texts.{Grows};
+
+use lk_lines::{move_text, outcome_text};
+use lk_locks::{Holders, LockKind, Move, Tracker};
+use lk_text::Value;
+use lk_trace::{Seen, TraceLine, WordName};
 use lk_words::WordArray;
-use std::alloc::{AllocError, Global};
-use std::fmt;
+use std::alloc::AllocError;
+use std::fmt::Write;
 
 /// A lock that is followed along a trace.
 pub type Lock = Tracker<WordArray>;
 
-/// A line of a trace as it is written, without its end.
-#[derive(Clone, Copy)]
-pub struct Shown<'a>(pub &'a TraceLine);
-
-impl Shown<'_> {
-    // Writes the word that a step was on. `of` is left out of the thread's own record.
-    fn put_word<W: fmt::Write>(&self, f: &mut fmt::Formatter<W>, word: WordName) -> fmt::Result {
-        match word {
-            WordName::Next(owner) if owner == self.0.thread => f.write_str(" next"),
-            WordName::Locked(owner) if owner == self.0.thread => f.write_str(" locked"),
-            _ => write!(f, " {word}"),
-        }
-    }
-}
-
-impl fmt::Display for Shown<'_> {
-    fn fmt<W: fmt::Write>(&self, f: &mut fmt::Formatter<W>) -> fmt::Result {
-        let (thread, word) = (self.0.thread, move_text(self.0.action));
-        write!(f, "{thread} {word}")?;
-        match self.0.seen {
-            Seen::Nothing => {}
-            Seen::OnWord {
-                word,
-                found,
-                left,
-                wrote,
-            } => {
-                self.put_word(f, word)?;
-                if let Some(found) = found {
-                    write!(f, " found {found}")?;
-                }
-                if let Some(left) = left {
-                    write!(f, " left {left}")?;
-                }
-                if let Some(wrote) = wrote {
-                    f.write_str(if wrote { " done" } else { " failed" })?;
-                }
-            }
-            Seen::InSection { count, outcome } => {
-                if let Some(count) = count {
-                    write!(f, " {count}")?;
-                }
-                if let Some(outcome) = outcome {
-                    write!(f, " {}", outcome_text(outcome))?;
-                }
-            }
-        }
-        Ok(())
-    }
-}
-
-// A list of threads, or `nobody`.
-#[derive(Clone, Copy)]
-struct Threads<'a>(&'a [u8]);
-
-impl fmt::Display for Threads<'_> {
-    fn fmt<W: fmt::Write>(&self, f: &mut fmt::Formatter<W>) -> fmt::Result {
-        if self.0.is_empty() {
-            return f.write_str("nobody");
-        }
-        for (place, thread) in self.0.iter().enumerate() {
-            f.write_str(if place > 0 { "," } else { "" })?;
-            write!(f, "{thread}")?;
-        }
-        Ok(())
-    }
-}
-
-/// Who holds a lock, and who is in its queue.
-#[derive(Clone, Copy)]
-pub struct Standing<'a>(pub &'a Lock);
-
-impl fmt::Display for Standing<'_> {
-    fn fmt<W: fmt::Write>(&self, f: &mut fmt::Formatter<W>) -> fmt::Result {
-        match self.0.holders() {
-            Holders::Nobody => f.write_str("held by nobody")?,
-            Holders::Holder(thread) => write!(f, "held by {thread}")?,
-            Holders::Readers(threads) => write!(f, "read by {}", Threads(threads.as_slice()))?,
-            Holders::Writer(thread) => write!(f, "written by {thread}")?,
-        }
-        let queue = self.0.queue();
-        let threads = Threads(queue.as_slice());
-        match self.0.kind() {
-            LockKind::RwSimple => Ok(()),
-            LockKind::RwFifo => write!(f, "; announced {threads}"),
-            _ if queue.is_empty() => f.write_str("; queue empty"),
-            LockKind::Ticket | LockKind::Mcs => write!(f, "; queue {threads}"),
-        }
-    }
-}
-
 /// A thread as it is called: by its number if it has no name.
-#[derive(Clone, Copy)]
-pub struct Called<'a>(pub u8, pub &'a [String]);
-
-impl fmt::Display for Called<'_> {
-    fn fmt<W: fmt::Write>(&self, f: &mut fmt::Formatter<W>) -> fmt::Result {
-        let Called(thread, names) = *self;
-        match names.get(thread as usize) {
-            Some(name) => f.write_str(name),
-            None => write!(f, "thread {thread}"),
-        }
+pub fn called(thread: u8, names: &[String]) -> Value<'_> {
+    match names.get(thread as usize) {
+        Some(name) => Value::Text(name.as_str()),
+        None => Value::Numbered("thread", u64::from(thread)),
     }
 }
 
-/// In what a line differs from the machine, for threads of these names.
-#[derive(Clone, Copy)]
-pub struct Wrong<'a>(
-    pub &'a Lock,
-    pub TraceLine,
-    pub Difference,
-    pub &'a [String],
-);
+/// Writes a move as a schedule has it.
+pub fn put_move(text: &mut String, thread: u8, action: Move) -> Result<(), AllocError>
+    ensures { OnOk result (string_bytes text.new
+        ≡ string_bytes text.old ++ (decimal thread ++ codes " " ++ move_word action)) }
+{
+    write!(text, "{thread} ")?;
+    text.push_str(move_text(action))
+}
 
-impl Wrong<'_> {
-    // Writes why the lock refuses the move.
-    fn put_refusal<W: fmt::Write>(
-        &self,
-        f: &mut fmt::Formatter<W>,
-        refusal: Refusal,
-    ) -> fmt::Result {
-        let Wrong(lock, line, _, names) = *self;
-        let (thread, word) = (line.thread, move_text(line.action));
-        let called = Called(thread, names);
-        let lock = lock_text(lock.kind());
-        write!(f, "'{thread} {word}', but ")?;
-        match refusal {
-            Refusal::NoSuchThread => f.write_str("the lock has no such thread")?,
-            Refusal::WrongLock => write!(f, "the {lock} lock has no such move")?,
-            Refusal::Busy => write!(f, "{called}'s last call is pending")?,
-            Refusal::NotHolder => write!(f, "{called} does not hold the lock in that mode")?,
-            Refusal::AlreadyHolds => write!(f, "{called} holds the lock already")?,
-            Refusal::NoCall => write!(f, "{called} has no pending call")?,
-            Refusal::WrongStep { next } => {
-                let next = move_text(Move::Step(next));
-                write!(f, "{called}'s next step is '{next}'")?;
+// Writes a part of a line and its value, if it is given.
+fn put_part(text: &mut String, part: &str, value: Option<u64>) -> Result<(), AllocError>
+    ensures { OnOk result (Grows text.old text.new) }
+{
+    match value {
+        Some(value) => {
+            text.push_str(part)?;
+            write!(text, "{value}")
+        }
+        None => Ok(()),
+    }
+}
+
+// Writes the word that a step of this thread was on. `of` is left out of the thread's own record.
+fn put_word(text: &mut String, thread: u8, word: WordName) -> Result<(), AllocError> {
+    match word {
+        WordName::Next(owner) if owner == thread => text.push_str(" next"),
+        WordName::Locked(owner) if owner == thread => text.push_str(" locked"),
+        _ => write!(text, " {word}"),
+    }
+}
+
+// Writes what a step saw.
+fn put_seen(text: &mut String, thread: u8, seen: Seen) -> Result<(), AllocError> {
+    match seen {
+        Seen::Nothing => Ok(()),
+        Seen::OnWord {
+            word,
+            found,
+            left,
+            wrote,
+        } => {
+            put_word(text, thread, word)?;
+            put_part(text, " found ", found)?;
+            put_part(text, " left ", left)?;
+            text.push_str(match wrote {
+                Some(true) => " done",
+                Some(false) => " failed",
+                None => "",
+            })
+        }
+        Seen::InSection { count, outcome } => {
+            put_part(text, " ", count)?;
+            match outcome {
+                Some(outcome) => {
+                    text.push(' ')?;
+                    text.push_str(outcome_text(outcome))
+                }
+                None => Ok(()),
             }
         }
-        write!(f, " ({})", refusal.name())
     }
 }
 
-impl fmt::Display for Wrong<'_> {
-    fn fmt<W: fmt::Write>(&self, f: &mut fmt::Formatter<W>) -> fmt::Result {
-        let Wrong(_, line, difference, names) = *self;
-        let (called, step) = (Called(line.thread, names), move_text(line.action));
-        match difference {
-            Difference::Refused(refusal) => self.put_refusal(f, refusal),
-            Difference::OtherWord { .. } => write!(f, "{called}'s {step} is {difference}"),
-            _ => write!(f, "{called}'s {step} {difference}"),
-        }
+/// Writes a line of a trace, without its end.
+pub fn put_line(text: &mut String, line: &TraceLine) -> Result<(), AllocError> {
+    put_move(text, line.thread, line.action)?;
+    put_seen(text, line.thread, line.seen)
+}
+
+// Writes a list of threads after these words, or `nobody`.
+fn put_threads(text: &mut String, front: &str, threads: &[u8]) -> Result<(), AllocError> {
+    text.push_str(front)?;
+    if threads.is_empty() {
+        return text.push_str("nobody");
+    }
+    for (place, thread) in threads.iter().enumerate() {
+        text.push_str(if place > 0 { "," } else { "" })?;
+        write!(text, "{thread}")?;
+    }
+    Ok(())
+}
+
+// Writes who is in the queue of a lock.
+fn put_queue(text: &mut String, lock: &Lock) -> Result<(), AllocError> {
+    let queue = lock.queue();
+    match lock.kind() {
+        LockKind::RwSimple => Ok(()),
+        LockKind::RwFifo => put_threads(text, "; announced ", queue.as_slice()),
+        _ if queue.is_empty() => text.push_str("; queue empty"),
+        LockKind::Ticket | LockKind::Mcs => put_threads(text, "; queue ", queue.as_slice()),
     }
 }
 
-/// A text about a line, from 1; 0 if it is about no line of its own.
-#[derive(Debug, Drop)]
-pub struct Note {
-    /// The file that the line is in; empty for the one that the message is about.
-    pub file: String,
-    pub line: u64,
-    pub text: String,
-}
-
-/// Notes, in the order in which they are said.
-#[derive(Debug, Drop)]
-pub struct Notes {
-    alloc: Global,
-    notes: Vec<Note>,
-}
-
-impl Notes {
-    /// Nothing is said.
-    pub fn new(alloc: Global) -> Notes {
-        Notes {
-            alloc,
-            notes: Vec::new(alloc),
-        }
+/// Writes who holds a lock, and who is in its queue.
+pub fn put_standing(text: &mut String, lock: &Lock) -> Result<(), AllocError> {
+    match lock.holders() {
+        Holders::Nobody => put_threads(text, "held by ", &[])?,
+        Holders::Holder(thread) => put_threads(text, "held by ", &[thread])?,
+        Holders::Readers(threads) => put_threads(text, "read by ", threads.as_slice())?,
+        Holders::Writer(thread) => put_threads(text, "written by ", &[thread])?,
     }
-
-    /// Says this of a line of another file.
-    pub fn put_in<T: fmt::Display + Drop>(
-        &mut self,
-        file: &str,
-        line: u64,
-        said: T,
-    ) -> Result<(), AllocError> {
-        let file = String::from_str(self.alloc, file)?;
-        let text = format!(in self.alloc; "{said}")?;
-        self.notes.push(Note { file, line, text })?;
-        Ok(())
-    }
-
-    /// Says this of a line.
-    pub fn put<T: fmt::Display + Drop>(&mut self, line: u64, said: T) -> Result<(), AllocError> {
-        self.put_in("", line, said)
-    }
-
-    /// What is said.
-    pub fn as_slice(&self) -> &[Note] {
-        self.notes.as_slice()
-    }
+    put_queue(text, lock)
 }

@@ -1,2 +1,4 @@
-pub mod Taken
 pub mod Keeping
+pub mod Taken
+pub mod Filling
+pub mod Places

@@ -1,115 +1,186 @@
 //! What a run had of contention: waits, failed compare-and-swaps, polls of a late link, the longest
-//! queue, rounds of a counter.
+//! queue, wraps of the counter.
 
-ghost use Rattle.std.specs.Prelude.{◌≡◌};
+ghost use Rattle.std.specs.Prelude.{◌≡◌, ◌++◌, ◌∷◌, [], codes, decimal, map, string_bytes, OnOk};
+ghost use Rattle.lk_text.specs.Filled.{filled};
+ghost use Rattle.lk_text.specs.Summaries.{counts_of, has_counter, moved_in, new_summary, noted};
+ghost use Rattle.lk_text.specs.Summaries.{numbers_of};
+ghost use Rattle.lk_text.specs.Summaries.{after_lock, after_step, after_wait, is_contended};
 
+use crate::fills::{Value, fill};
 use lk_locks::{LockKind, Move, Outcome, Phase, StepKind, Tracker};
 use lk_trace::{Made, TraceLine};
 use lk_words::WordArray;
 use std::alloc::AllocError;
-use std::fmt;
-use std::fmt::Write;
 
 /// Counts along a trace. They stay at their greatest value.
-#[derive(Clone, Copy, Default)]
+#[derive(Clone, Copy)]
 pub struct Summary {
-    // bit t if thread t moved
-    seen: u64,
+    // whether each thread moved
+    moved: [bool; 256],
     moves: u64,
     waits: u64,
     failed: u64,
     late: u64,
     longest: usize,
-    rounds: u64,
+    wraps: u64,
     counter: u64,
 }
 
+const COUNTS: &str = "{threads}, {moves}, {waits}, {failed}, {late}, longest queue {longest}, \
+    {wraps}";
+
 /// Whether the first word of the lock counts without end: `next_ticket`, or `readAcquires`.
-pub fn has_counter(kind: LockKind) -> bool {
+pub fn has_counter(kind: LockKind) -> bool
+    ensures { result ≡ has_counter kind }
+{
     matches!(kind, LockKind::Ticket | LockKind::RwFifo)
 }
 
-/// How many there are, in the form of one or of several.
-#[derive(Clone, Copy)]
-pub struct Count(pub u64, pub &'static str, pub &'static str);
-
-impl fmt::Display for Count {
-    fn fmt<W: fmt::Write>(&self, f: &mut fmt::Formatter<W>) -> fmt::Result {
-        let Count(count, one, several) = *self;
-        let what = if count == 1 { one } else { several };
-        write!(f, "{count} {what}")
-    }
+// How many of the threads moved.
+fn moved_in(moved: &[bool]) -> usize
+    ensures { result ≡ moved_in moved.now }
+{
+    moved.iter().filter(|moved| **moved).count()
 }
 
 impl Summary {
+    /// Nothing was counted.
+    pub fn new() -> Summary
+        ensures { result ≡ new_summary }
+    {
+        Summary {
+            moved: [false; 256],
+            moves: 0,
+            waits: 0,
+            failed: 0,
+            late: 0,
+            longest: 0,
+            wraps: 0,
+            counter: 0,
+        }
+    }
+
     /// Whether some thread waited.
-    pub fn is_contended(&self) -> bool {
+    pub fn is_contended(&self) -> bool
+        ensures { result ≡ is_contended self.now }
+    {
         self.waits > 0 || self.late > 0 || self.failed > 0
     }
 
     /// How often the lock's counter wrapped around.
-    pub fn rounds(&self) -> u64
-        ensures { result ≡ self.now.rounds }
+    pub fn wraps(&self) -> u64
+        ensures { result ≡ self.now.wraps }
     {
-        self.rounds
+        self.wraps
+    }
+
+    // Counts a failed poll of a thread in this phase.
+    fn note_wait(&mut self, from: Phase)
+        ensures { self.new ≡ after_wait self.old from }
+    {
+        match from {
+            Phase::AwaitLink => self.late = self.late.saturating_add(1),
+            _ => self.waits = self.waits.saturating_add(1),
+        }
     }
 
     // Counts a step that may have changed who is in the queue, and the lock's counter.
-    fn note_lock(&mut self, lock: &Tracker<WordArray>) {
+    fn note_lock(&mut self, lock: &Tracker<WordArray>)
+        ensures { self.new ≡ after_lock self.old lock.now }
+    {
         self.longest = self.longest.max(lock.queue().len());
         if has_counter(lock.kind()) {
             let words = lock.machine().words().as_slice();
             let now = words.first().copied().unwrap_or(0);
             if now < self.counter {
-                self.rounds = self.rounds.saturating_add(1);
+                self.wraps = self.wraps.saturating_add(1);
             }
             self.counter = now;
         }
     }
 
-    /// Counts a move that was made on this lock.
-    pub fn note(&mut self, lock: &Tracker<WordArray>, line: TraceLine, made: Made) {
-        self.moves = self.moves.saturating_add(1);
-        if line.thread < 64 {
-            self.seen |= 1u64 << line.thread;
-        }
-        match (line.action, made.outcome) {
-            (Move::Step(_), Outcome::Waits) if made.from == Phase::AwaitLink => {
-                self.late = self.late.saturating_add(1);
-            }
-            (Move::Step(_), Outcome::Waits) => self.waits = self.waits.saturating_add(1),
-            (Move::Step(StepKind::Cas), Outcome::Moved) => {
-                self.failed = self.failed.saturating_add(1);
-            }
-            (Move::Step(StepKind::Add | StepKind::Swap | StepKind::Section), _) => {
-                self.note_lock(lock);
-            }
+    // Counts a step that was no failed poll.
+    fn note_step(&mut self, lock: &Tracker<WordArray>, step: StepKind, outcome: Outcome)
+        ensures { self.new ≡ after_step self.old lock.now step outcome }
+    {
+        match (step, outcome) {
+            (StepKind::Cas, Outcome::Moved) => self.failed = self.failed.saturating_add(1),
+            (StepKind::Add | StepKind::Swap | StepKind::Section, _) => self.note_lock(lock),
             _ => {}
         }
     }
 
-    /// Writes the counts as further fields of a JSON object.
-    pub fn put_fields(&self, text: &mut String) -> Result<(), AllocError> {
-        let (moves, waits) = (self.moves, self.waits);
-        let (failed, late) = (self.failed, self.late);
-        let (longest, rounds) = (self.longest, self.rounds);
-        write!(text, ",\"threads\":{}", self.seen.count_ones())?;
-        write!(text, ",\"moves\":{moves},\"waits\":{waits}")?;
-        write!(text, ",\"failed_cas\":{failed},\"late_link_polls\":{late}")?;
-        write!(text, ",\"longest_queue\":{longest},\"rounds\":{rounds}")
+    /// Counts a move that was made on this lock.
+    pub fn note(&mut self, lock: &Tracker<WordArray>, line: TraceLine, made: Made)
+        ensures { self.new ≡ noted self.old lock.now line made }
+    {
+        self.moves = self.moves.saturating_add(1);
+        self.moved[line.thread as usize] = true;
+        if let Move::Step(step) = line.action {
+            if made.outcome == Outcome::Waits {
+                self.note_wait(made.from);
+            } else {
+                self.note_step(lock, step, made.outcome);
+            }
+        }
     }
-}
 
-impl fmt::Display for Summary {
-    fn fmt<W: fmt::Write>(&self, f: &mut fmt::Formatter<W>) -> fmt::Result {
-        let threads = Count(u64::from(self.seen.count_ones()), "thread", "threads");
-        let moves = Count(self.moves, "move", "moves");
-        let waits = Count(self.waits, "wait", "waits");
+    /// How many threads moved.
+    pub fn threads(&self) -> usize
+        ensures { result ≡ moved_in self.now.moved }
+    {
+        moved_in(&self.moved)
+    }
+
+    /// The counts, each with its name in JSON.
+    pub fn counts(&self) -> [(&'static str, u64); 7]
+        ensures { map (λ p. p.1) result ≡ numbers_of self.now }
+    {
+        [
+            ("threads", self.threads() as u64),
+            ("moves", self.moves),
+            ("waits", self.waits),
+            ("failed_cas", self.failed),
+            ("late_link_polls", self.late),
+            ("longest_queue", self.longest as u64),
+            ("wraps", self.wraps),
+        ]
+    }
+
+    /// Writes the counts, as a sentence.
+    ///
+    /// # Errors
+    ///
+    /// A request for memory was refused.
+    pub fn put(&self, text: &mut String) -> Result<(), AllocError>
+        ensures { OnOk result (string_bytes text.new
+            ≡ string_bytes text.old ++ filled (counts_of self.now) COUNTS.now) }
+    {
         let cas = "failed compare-and-swap";
-        let failed = Count(self.failed, cas, "failed compare-and-swaps");
-        let late = Count(self.late, "poll of a late link", "polls of a late link");
-        let rounds = Count(self.rounds, "round of the counter", "rounds of the counter");
-        write!(f, "{threads}, {moves}, {waits}, {failed}, {late}, ")?;
-        write!(f, "longest queue {}, {rounds}", self.longest)
+        let late = "poll of a late link";
+        let wrap = "wrap of the counter";
+        let places = [
+            (
+                "threads",
+                Value::Count(self.threads() as u64, "thread", "threads"),
+            ),
+            ("moves", Value::Count(self.moves, "move", "moves")),
+            ("waits", Value::Count(self.waits, "wait", "waits")),
+            (
+                "failed",
+                Value::Count(self.failed, cas, "failed compare-and-swaps"),
+            ),
+            (
+                "late",
+                Value::Count(self.late, late, "polls of a late link"),
+            ),
+            ("longest", Value::Number(self.longest as u64)),
+            (
+                "wraps",
+                Value::Count(self.wraps, wrap, "wraps of the counter"),
+            ),
+        ];
+        fill(text, COUNTS, &places)
     }
 }

@@ -5,7 +5,9 @@ use clap::error::ErrorKind;
 use clap::{Arg, ArgAction, ArgMatches, Command, value_parser};
 use lk_jobs::Format;
 use lk_jobs::check::CheckJob;
+use lk_jobs::explain::ExplainJob;
 use lk_jobs::order::OrderJob;
+use lk_text::{STANDARD, Value, fill};
 use std::alloc::{AllocError, Global};
 use thiserror::Error;
 
@@ -20,12 +22,7 @@ pub enum Job {
     Schedule {
         file: String,
     },
-    Explain {
-        file: String,
-        /// The first and the last move that are explained, from 1.
-        lines: (u64, u64),
-        names: Vec<String>,
-    },
+    Explain(ExplainJob),
     Order(OrderJob),
     Search(SearchJob),
 }
@@ -210,33 +207,70 @@ pub fn usage<T>(alloc: Global, text: &str) -> Result<T, ParseFault> {
 
 // The file that was named, or else standard input.
 fn file_given(alloc: Global, matches: &ArgMatches<'_>) -> Result<String, AllocError> {
-    String::from_str(alloc, matches.get_str("file").unwrap_or("-"))
+    String::from_str(alloc, matches.get_str("file").unwrap_or(STANDARD))
+}
+
+// Says that the word of an option is none of its choices.
+fn no_choice<'a, T>(
+    alloc: Global,
+    option: &'a str,
+    word: &'a str,
+    choices: &[(&'static str, T)],
+) -> Result<ParseFault, AllocError> {
+    let mut text = String::new(alloc);
+    let places = [("option", Value::Text(option)), ("word", Value::Text(word))];
+    fill(&mut text, "error: --{option} '{word}' is none of ", &places)?;
+    for (place, (name, _)) in choices.iter().enumerate() {
+        text.push_str(if place > 0 { ", " } else { "" })?;
+        text.push_str(name)?;
+    }
+    text.push('\n')?;
+    Ok(ParseFault::Usage(text))
+}
+
+/// Which of these an option asks for, by its name, if it is given.
+pub fn choice<T: Copy>(
+    alloc: Global,
+    matches: &ArgMatches<'_>,
+    option: &str,
+    choices: &[(&'static str, T)],
+    default: T,
+) -> Result<T, ParseFault> {
+    let Some(word) = matches.get_str(option) else {
+        return Ok(default);
+    };
+    for (name, value) in choices {
+        if *name == word {
+            return Ok(*value);
+        }
+    }
+    Err(no_choice(alloc, option, word, choices)?)
 }
 
 // The form of reports that was asked for.
 fn format_given(alloc: Global, matches: &ArgMatches<'_>) -> Result<Format, ParseFault> {
-    match matches.get_str("format").unwrap_or("text").as_bytes() {
-        b"text" => Ok(Format::Text),
-        b"tap" => Ok(Format::Tap),
-        b"json" => Ok(Format::Json),
-        _ => usage(alloc, "error: a format is text, tap or json\n"),
-    }
+    let forms = [
+        ("text", Format::Text),
+        ("tap", Format::Tap),
+        ("json", Format::Json),
+    ];
+    choice(alloc, matches, "format", &forms, Format::Text)
 }
 
 fn check_given(alloc: Global, matches: &ArgMatches<'_>) -> Result<Job, ParseFault> {
-    let colored = match matches.get_str("color").unwrap_or("auto").as_bytes() {
-        b"auto" => None,
-        b"always" => Some(true),
-        b"never" => Some(false),
-        _ => return usage(alloc, "error: a color is auto, always or never\n"),
-    };
+    let colors = [
+        ("auto", None),
+        ("always", Some(true)),
+        ("never", Some(false)),
+    ];
+    let colored = choice(alloc, matches, "color", &colors, None)?;
     let job = CheckJob {
         format: format_given(alloc, matches)?,
         summary: matches.get_flag("summary"),
         quiet: matches.get_flag("quiet"),
         colored: false,
         workers: matches.get_one::<u8>("jobs").unwrap_or(1),
-        files: copied(alloc, matches.get_strs("files").unwrap_or(&["-"]))?,
+        files: copied(alloc, matches.get_strs("files").unwrap_or(&[STANDARD]))?,
     };
     Ok(Job::Check { job, colored })
 }
@@ -273,11 +307,11 @@ fn explain_given(alloc: Global, matches: &ArgMatches<'_>) -> Result<Job, ParseFa
         Some(names) => names_in(alloc, names)?,
         None => Vec::new(alloc),
     };
-    Ok(Job::Explain {
+    Ok(Job::Explain(ExplainJob {
         file: file_given(alloc, matches)?,
         lines,
         names,
-    })
+    }))
 }
 
 // What the parser's error is to the program.

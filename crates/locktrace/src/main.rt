@@ -10,23 +10,24 @@ mod searches;
 
 use command_line::{Job, ParseFault, parse_words};
 use folders::files_named;
-use lk_jobs::check::{CheckJob, Ending, check_files, worst};
+use lk_jobs::check::{CheckJob, check_files};
 use lk_jobs::cover::cover_traces;
-use lk_jobs::explain::{Asked, explain_input};
+use lk_jobs::explain::explain_trace;
 use lk_jobs::find::find_run;
-use lk_jobs::order::{OrderJob, order_logs};
+use lk_jobs::order::order_logs;
 use lk_jobs::schedule::write_schedule;
 use lk_jobs::space::count_space;
 use lk_jobs::tour::write_tour;
+use lk_jobs::worst;
 use lk_lines::Status;
 use lk_text::Failure;
 use searches::SearchJob;
 use std::alloc::{AllocError, Global};
+use std::env;
 use std::io::{ErrorKind, IsTerminal, Write};
 use std::process::ExitCode;
 use std::rt::Runtime;
 use std::thread::Threads;
-use std::{env, fs};
 
 /// Of words that are not UTF-8 the parser can read none.
 const FOREIGN_WORDS: &str = "locktrace: the words are not UTF-8 text\n";
@@ -45,81 +46,35 @@ fn job_given(rt: &HostRuntime) -> Result<Job, ParseFault> {
     parse_words(alloc, &words)
 }
 
-// Writes the schedule of a trace.
-fn write_file<R: Runtime, O: Write>(
-    rt: &R,
-    alloc: Global,
-    file: &str,
-    output: &mut O,
-) -> Result<Ending, Failure> {
-    let (number, stopped) = if file == "-" {
-        write_schedule(alloc, rt.reader(), output)?
-    } else {
-        match fs::open(rt, file) {
-            Ok(input) => write_schedule(alloc, input, output)?,
-            Err(error) => (0, Err(error)),
-        }
-    };
-    match stopped {
-        Ok(None) => Ok(Ending::Accepted),
-        Ok(Some(fault)) => {
-            let _ = eprintln!(rt; "{file}:{number}: {fault}");
-            Ok(Ending::Faulty)
-        }
-        Err(error) => {
-            let _ = eprintln!(rt; "{file}: {error}");
-            Ok(Ending::Unread)
-        }
-    }
-}
-
-// Explains a trace.
-fn explain_file<R: Runtime, O: Write>(
-    rt: &R,
-    alloc: Global,
-    file: &str,
-    asked: Asked<'_>,
-    output: &mut O,
-) -> Result<Ending, Failure> {
-    if file == "-" {
-        return explain_input(alloc, rt.reader(), asked, output);
-    }
-    match fs::open(rt, file) {
-        Ok(input) => explain_input(alloc, input, asked, output),
-        Err(error) => {
-            let _ = eprintln!(rt; "{file}: {error}");
-            Ok(Ending::Unread)
-        }
-    }
-}
-
 // Searches a lock's space.
 fn search<R: Runtime, O: Write>(
     rt: &R,
     alloc: Global,
     job: &SearchJob,
     output: &mut O,
+    errors: &mut String,
 ) -> Result<u8, Failure> {
-    let (mut text, mut errors) = (String::new(alloc), String::new(alloc));
-    let (found, told) = (&mut text, &mut errors);
+    let mut text = String::new(alloc);
+    let found = &mut text;
     let status = match job {
-        SearchJob::Find { source, asked } => find_run(rt, alloc, source, *asked, found, told)?,
+        SearchJob::Find { place, asked } => {
+            find_run(rt, alloc, place, *asked, found, errors)? as u8
+        }
         SearchJob::Space {
             header,
             asked,
             format,
-        } => count_space(alloc, header, *asked, *format, found, told)?,
+        } => count_space(alloc, header, *asked, *format, found, errors)? as u8,
         SearchJob::Tour {
             header,
             asked,
             folder,
-        } => write_tour(rt, alloc, header, *asked, folder, found, told)?,
-        SearchJob::Cover(job) => cover_traces(rt, alloc, job, found, told)?,
+        } => write_tour(rt, alloc, header, *asked, folder, found, errors)? as u8,
+        SearchJob::Cover(job) => cover_traces(rt, alloc, job, found, errors)?,
     };
-    let _ = eprint!(rt; "{errors}");
     output.write_all(text.as_bytes())?;
     output.flush()?;
-    Ok(status as u8)
+    Ok(status)
 }
 
 // Checks traces, with colors if the job asks for them or is on a terminal.
@@ -140,20 +95,6 @@ where
     Ok(worst(&check_files(rt, alloc, &job, told, output)?))
 }
 
-// Orders the logs of a run.
-fn order<R: Runtime, O: Write>(
-    rt: &R,
-    alloc: Global,
-    job: &OrderJob,
-    told: bool,
-    output: &mut O,
-) -> Result<u8, Failure> {
-    let mut errors = String::new(alloc);
-    let ended = order_logs(rt, alloc, job, told, output, &mut errors);
-    let _ = eprint!(rt; "{errors}");
-    Ok(ended?.ending().status())
-}
-
 // Does a job, and gives the status that the program ends with. `told` if standard error is a
 // terminal.
 fn perform<R: Runtime + Threads + Sync + Clone + Drop, O: Write + IsTerminal>(
@@ -162,30 +103,32 @@ fn perform<R: Runtime + Threads + Sync + Clone + Drop, O: Write + IsTerminal>(
     job: Job,
     told: bool,
     output: &mut O,
+    errors: &mut String,
 ) -> Result<u8, Failure>
 where
     R::File: Send,
 {
     match job {
         Job::Check { job, colored } => check(rt, alloc, job, colored, told, output),
-        Job::Schedule { file } => Ok(write_file(rt, alloc, &file, output)?.status()),
-        Job::Explain { file, lines, names } => {
-            let asked = Asked {
-                lines,
-                names: &names,
-            };
-            Ok(explain_file(rt, alloc, &file, asked, output)?.status())
+        Job::Schedule { file } => { Ok(write_schedule(rt, alloc, &file, output, errors)?.status()) }
+        Job::Explain(job) => Ok(explain_trace(rt, alloc, &job, output, errors)?.status()),
+        Job::Search(job) => search(rt, alloc, &job, output, errors),
+        Job::Order(job) => {
+            Ok(
+                order_logs(rt, alloc, &job, told, output, errors)?
+                    .ending()
+                    .status(),
+            )
         }
-        Job::Search(job) => search(rt, alloc, &job, output),
-        Job::Order(job) => order(rt, alloc, &job, told, output),
     }
 }
 
 fn main(rt: HostRuntime) -> ExitCode {
+    let mut errors = String::new(rt.alloc());
     let ended = match job_given(&rt) {
         Ok(job) => {
             let told = rt.stderr().is_terminal();
-            perform(&rt, rt.alloc(), job, told, &mut rt.stdout())
+            perform(&rt, rt.alloc(), job, told, &mut rt.stdout(), &mut errors)
         }
         Err(ParseFault::Told(text)) => match rt.stdout().write_all(text.as_bytes()) {
             Ok(()) => Ok(Status::Accepted as u8),
@@ -197,6 +140,7 @@ fn main(rt: HostRuntime) -> ExitCode {
         }
         Err(ParseFault::Memory(error)) => Err(Failure::Memory(error)),
     };
+    let _ = rt.stderr().write_all(errors.as_bytes());
     let status = match ended {
         Ok(status) => status,
         // who reads has read enough

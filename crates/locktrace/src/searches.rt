@@ -1,10 +1,11 @@
 //! The words of the commands that search a lock's space, and the jobs that they ask for.
 
-use crate::command_line::{ParseFault, copied, names_in, option_arg, usage, value_arg};
+use crate::command_line::{ParseFault, choice, copied, names_in, option_arg, usage, value_arg};
 use clap::{ArgAction, ArgMatches, Command, value_parser};
-use lk_jobs::cover::{CoverJob, Format, is_kind};
-use lk_jobs::sketch::Source;
+use lk_jobs::cover::{CoverFormat, CoverJob, is_kind};
+use lk_jobs::sketch::Place;
 use lk_jobs::space::{Asked, SpaceFormat};
+use lk_text::STANDARD;
 use std::alloc::{AllocError, Global};
 
 /// How many states are searched if nothing else is asked for.
@@ -17,7 +18,7 @@ const MOST_STATES: i64 = 4_000_000_000;
 #[derive(Debug, Drop)]
 pub enum SearchJob {
     Find {
-        source: Source,
+        place: Place,
         asked: Asked,
     },
     Space {
@@ -126,12 +127,12 @@ fn header_of(
 /// The job of the command `find`.
 pub fn find_given(alloc: Global, matches: &ArgMatches<'_>) -> Result<SearchJob, ParseFault> {
     let words = matches.get_strs("words").unwrap_or(&[]);
-    let source = match words {
-        [file] => Source::File(String::from_str(alloc, *file)?),
+    let place = match words {
+        [file] => Place::File(String::from_str(alloc, *file)?),
         [lock, threads, parts @ ..] if !parts.is_empty() => {
             let mut lines = vec![in alloc; header_of(alloc, matches, *lock, *threads)?]?;
             lines.extend(copied(alloc, parts)?)?;
-            Source::Words(lines)
+            Place::Words(lines)
         }
         _ => {
             return usage(
@@ -141,7 +142,7 @@ pub fn find_given(alloc: Global, matches: &ArgMatches<'_>) -> Result<SearchJob, 
         }
     };
     let asked = asked_of(matches);
-    Ok(SearchJob::Find { source, asked })
+    Ok(SearchJob::Find { place, asked })
 }
 
 // A sketch of no lines, of the lock that is named.
@@ -153,12 +154,12 @@ fn lock_given(alloc: Global, matches: &ArgMatches<'_>) -> Result<Vec<String>, Al
 
 /// The job of the command `space`.
 pub fn space_given(alloc: Global, matches: &ArgMatches<'_>) -> Result<SearchJob, ParseFault> {
-    let format = match matches.get_str("format").unwrap_or("text").as_bytes() {
-        b"text" => SpaceFormat::Text,
-        b"json" => SpaceFormat::Json,
-        b"dot" => SpaceFormat::Dot,
-        _ => return usage(alloc, "error: a format is text, json or dot\n"),
-    };
+    let forms = [
+        ("text", SpaceFormat::Text),
+        ("json", SpaceFormat::Json),
+        ("dot", SpaceFormat::Dot),
+    ];
+    let format = choice(alloc, matches, "format", &forms, SpaceFormat::Text)?;
     Ok(SearchJob::Space {
         header: lock_given(alloc, matches)?,
         asked: asked_of(matches),
@@ -177,11 +178,8 @@ pub fn tour_given(alloc: Global, matches: &ArgMatches<'_>) -> Result<SearchJob, 
 
 /// The job of the command `cover`.
 pub fn cover_given(alloc: Global, matches: &ArgMatches<'_>) -> Result<SearchJob, ParseFault> {
-    let format = match matches.get_str("format").unwrap_or("text").as_bytes() {
-        b"text" => Format::Text,
-        b"json" => Format::Json,
-        _ => return usage(alloc, "error: a format is text or json\n"),
-    };
+    let forms = [("text", CoverFormat::Text), ("json", CoverFormat::Json)];
+    let format = choice(alloc, matches, "format", &forms, CoverFormat::Text)?;
     let (all, required) = match matches.get_str("require") {
         None => (false, Vec::new(alloc)),
         Some(text) if text == "all" => (true, Vec::new(alloc)),
@@ -197,6 +195,6 @@ pub fn cover_given(alloc: Global, matches: &ArgMatches<'_>) -> Result<SearchJob,
         format,
         all,
         required,
-        files: copied(alloc, matches.get_strs("files").unwrap_or(&["-"]))?,
+        files: copied(alloc, matches.get_strs("files").unwrap_or(&[STANDARD]))?,
     }))
 }

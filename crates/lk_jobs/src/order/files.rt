@@ -2,34 +2,26 @@
 //! holds.
 
 use crate::course::{Course, Fate};
-use crate::texts::Shown;
+use crate::run::put_header;
+use crate::texts::{put_line, put_move};
 use crate::waiting::write_waiting;
-use lk_lines::{lock_text, move_text};
 use lk_order::{Order, Piece, Pieces};
-use lk_text::Failure;
+use lk_text::{Failure, Value, fill};
 use std::alloc::{AllocError, Global};
-use std::fmt::Write as _;
 use std::fs;
 use std::io::{ErrorKind, Write};
 use std::rt::Files;
-
-// Writes the header of a trace or a schedule.
-fn put_header(text: &mut String, order: &Order) -> Result<(), AllocError> {
-    let header = order.header();
-    let (name, threads, bits) = (lock_text(header.kind()), header.threads(), header.bits());
-    write!(text, "lock {name} threads {threads}")?;
-    if bits < 64 {
-        write!(text, " bits {bits}")?;
-    }
-    text.push_str("\n")
-}
 
 // Writes which threads of a run that hangs have ended, as a recorder writes it.
 fn put_ends(text: &mut String, threads: u8, course: &Course) -> Result<(), AllocError> {
     for thread in 0..threads {
         let is_over = course.fate(thread) == Fate::Ended;
         let end = if is_over { "ended" } else { "not ended" };
-        writeln!(text, "# thread {thread} has {end}")?;
+        let places = [
+            ("thread", Value::Number(u64::from(thread))),
+            ("end", Value::Text(end)),
+        ];
+        fill(text, "# thread {thread} has {end}\n", &places)?;
     }
     Ok(())
 }
@@ -42,10 +34,11 @@ pub fn write_trace<O: Write>(
     output: &mut O,
 ) -> Result<(), Failure> {
     let mut text = String::new(alloc);
-    put_header(&mut text, order)?;
+    put_header(&mut text, order.header())?;
     for k in 0..order.len() {
         if let Some(line) = order.line(k) {
-            writeln!(text, "{}", Shown(&line))?;
+            put_line(&mut text, &line)?;
+            text.push('\n')?;
         }
         write_waiting(&mut text, output)?;
     }
@@ -60,10 +53,11 @@ pub fn write_trace<O: Write>(
 // A piece of an order as a schedule.
 fn schedule_of(alloc: Global, order: &Order, piece: Piece) -> Result<String, AllocError> {
     let mut text = String::new(alloc);
-    put_header(&mut text, order)?;
+    put_header(&mut text, order.header())?;
     for k in piece.first..piece.first.saturating_add(piece.moves) {
         if let Some(line) = order.line(k) {
-            writeln!(text, "{} {}", line.thread, move_text(line.action))?;
+            put_move(&mut text, line.thread, line.action)?;
+            text.push('\n')?;
         }
     }
     Ok(text)

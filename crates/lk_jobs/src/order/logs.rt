@@ -8,10 +8,11 @@ ghost use Rattle.lk_jobs.specs.invariants.{IsBadBeside, IsKept, IsOwn};
 
 use super::search::BadLog;
 use crate::course::said_of;
-use crate::texts::Notes;
+use crate::report::Notes;
 use lk_order::{Log, LogFault, LogReader, MOST_THREADS, Shelf, Unfit};
-use lk_text::{Line, Lines};
+use lk_text::{Line, Lines, Value};
 use std::alloc::{AllocError, Global};
+use std::fmt::InlineText;
 use std::io::{Error, ErrorKind, Read};
 use std::rt::Files;
 use std::{fs, str};
@@ -77,6 +78,23 @@ fn read_input<I: Read + Drop>(
     Ok((u64::MAX, Err(Error::from(ErrorKind::FileTooLarge))))
 }
 
+const SECOND: &str = "a second log of thread {thread}, beside {other}";
+
+// Says this text of a line.
+fn put_shown(
+    messages: &mut Notes,
+    name: &str,
+    number: u64,
+    said: InlineText<256>,
+) -> Result<(), AllocError> {
+    messages.say_in(
+        name,
+        number,
+        "{text}",
+        &[("text", Value::Text(said.as_str()))],
+    )
+}
+
 // Reads the log in the file of this name. What is wrong with it is said, and is the answer.
 fn read_log<R: Files>(
     rt: &R,
@@ -95,11 +113,11 @@ fn read_log<R: Files>(
         Ok(Ok(read)) => Ok(Ok(read)),
         Ok(Err(LogFault::OutOfMemory)) => Err(AllocError),
         Ok(Err(fault)) => {
-            messages.put_in(name, number, fault)?;
+            put_shown(messages, name, number, InlineText::of(fault))?;
             Ok(Err(BadLog::Fault(fault)))
         }
         Err(error) => {
-            messages.put_in(name, 0, error)?;
+            put_shown(messages, name, 0, InlineText::of(error))?;
             Ok(Err(BadLog::Unread))
         }
     }
@@ -152,9 +170,13 @@ impl<'a> Taken<'a> {
         };
         if let BadLog::SecondLog(thread) = bad {
             let other = self.names.get(thread as usize).copied().unwrap_or("");
-            messages.put_in(name, 0, format_args!("{bad}, beside {other}"))?;
+            let places = [
+                ("thread", Value::Number(u64::from(thread))),
+                ("other", Value::Text(other)),
+            ];
+            messages.say_in(name, 0, SECOND, &places)?;
         } else {
-            messages.put_in(name, 0, bad)?;
+            put_shown(messages, name, 0, InlineText::of(bad))?;
         }
         Ok(Some(bad))
     }
@@ -193,7 +215,7 @@ pub fn take_logs<'a, R: Files>(
     }
     if let Some(thread) = taken.shelf.missing() {
         let bad = BadLog::Missing(thread);
-        messages.put(0, bad)?;
+        put_shown(messages, "", 0, InlineText::of(bad))?;
         return Ok(Err(bad));
     }
     Ok(Ok(taken))

@@ -2,19 +2,18 @@
 //! written as lines on standard error, or on standard output as TAP or JSON.
 
 use crate::blame::{HANGS, put_waits};
-use crate::check::Ending;
 use crate::course::Course;
+use crate::differences::{details_of, put_refused};
 use crate::formats::{
-    Format, Quoted, put_code, put_comments, put_note_fields, put_noted, put_refused,
+    BARE, Format, NOTE, PLAIN, WARNING, put_comments, put_details, put_note_fields, put_notes,
 };
-use crate::texts::{Called, Notes, Shown, Standing, Wrong};
+use crate::report::{Code, Details, Ending, Notes};
+use crate::texts::{called, put_line, put_standing};
 use lk_locks::{LockKind, Move, StepKind};
 use lk_order::{Log, Order, Stuck};
-use lk_text::Count;
-use lk_trace::{Seen, TraceLine};
+use lk_text::{Value, fill, json, put_plan, put_point};
+use lk_trace::{Difference, Seen, TraceLine};
 use std::alloc::{AllocError, Global};
-use std::fmt;
-use std::fmt::Write;
 
 /// What is said of an order. A text of no file is the program's own.
 #[derive(Drop)]
@@ -23,8 +22,8 @@ pub struct OrderReport {
     pub placed: usize,
     /// What is wrong.
     pub messages: Notes,
-    /// The same for programs: further fields of its JSON object, each after a comma.
-    pub fields: String,
+    /// The same for programs.
+    pub details: Option<Details>,
     pub warnings: Notes,
     pub notes: Notes,
 }
@@ -38,7 +37,7 @@ impl OrderReport {
         OrderReport {
             placed: 0,
             messages: Notes::new(alloc),
-            fields: String::new(alloc),
+            details: None,
             warnings: Notes::new(alloc),
             notes: Notes::new(alloc),
         }
@@ -56,57 +55,60 @@ impl OrderReport {
     ) -> Result<(), AllocError> {
         match format {
             Format::Text => {
-                put_noted(errors, OWN_NAME, &self.messages, "")?;
-                put_noted(errors, OWN_NAME, &self.warnings, "warning: ")?;
-                put_noted(errors, OWN_NAME, &self.notes, "note: ")
+                put_notes(errors, OWN_NAME, &self.messages, PLAIN, BARE)?;
+                put_notes(errors, OWN_NAME, &self.warnings, PLAIN, WARNING)?;
+                put_notes(errors, OWN_NAME, &self.notes, PLAIN, NOTE)
             }
             Format::Tap => {
-                let is_ok = ending == Ending::Accepted;
-                let sign = if is_ok { "ok" } else { "not ok" };
-                writeln!(output, "TAP version 14\n1..1\n{sign} 1 - {folder}")?;
+                put_plan(output, 1)?;
+                put_point(output, 1, ending == Ending::Accepted, folder)?;
                 put_comments(output, &self.messages)?;
                 put_comments(output, &self.warnings)?;
                 put_comments(output, &self.notes)
             }
-            Format::Json => {
-                let (folder, ending, placed) = (Quoted(folder), ending.text(), self.placed);
-                write!(output, "{{\"folder\":{folder},\"ending\":\"{ending}\"")?;
-                write!(output, ",\"moves\":{placed}")?;
-                output.push_str(&self.fields)?;
-                put_note_fields(output, "messages", &self.messages)?;
-                put_note_fields(output, "warnings", &self.warnings)?;
-                put_note_fields(output, "notes", &self.notes)?;
-                output.push_str("}\n")
-            }
+            Format::Json => self.put_json(ending, folder, output),
         }
+    }
+
+    // Writes it as an object of JSON.
+    fn put_json(
+        &self,
+        ending: Ending,
+        folder: &str,
+        output: &mut String,
+    ) -> Result<(), AllocError> {
+        output.push('{')?;
+        json::string(output, "folder", folder)?;
+        json::string(output, "ending", ending.text())?;
+        json::number(output, "moves", self.placed as u64)?;
+        if let Some(details) = &self.details {
+            put_details(output, details)?;
+        }
+        put_note_fields(output, "messages", &self.messages)?;
+        put_note_fields(output, "warnings", &self.warnings)?;
+        put_note_fields(output, "notes", &self.notes)?;
+        output.push_str("}\n")
     }
 }
 
 // Says how far an order came, of a line of a file.
 fn put_placed(notes: &mut Notes, file: &str, line: u64, order: &Order) -> Result<(), AllocError> {
-    let (placed, standing) = (order.len(), Standing(order.checker().lock()));
-    notes.put_in(
-        file,
-        line,
-        format_args!("{placed} steps placed; {standing}"),
-    )
+    let mut said = notes.text();
+    fill(
+        &mut said,
+        "{placed} steps placed; ",
+        &[("placed", Value::Number(order.len() as u64))],
+    )?;
+    put_standing(&mut said, order.checker().lock())?;
+    notes.put_in(file, line, said)
 }
 
-// Why a thread's next step cannot be placed.
-#[derive(Clone, Copy)]
-struct Why<'a>(&'a Order, TraceLine);
-
-impl fmt::Display for Why<'_> {
-    fn fmt<W: fmt::Write>(&self, f: &mut fmt::Formatter<W>) -> fmt::Result {
-        let Why(order, line) = *self;
-        let checker = order.checker();
-        match checker.difference(line) {
-            Some(difference) => {
-                let wrong = Wrong(checker.lock(), line, difference, &[]);
-                write!(f, "{wrong}")
-            }
-            None => f.write_str("a step of another thread has to come before"),
-        }
+// Says why a thread's next step cannot be placed.
+fn put_why(text: &mut String, order: &Order, line: TraceLine) -> Result<(), AllocError> {
+    let checker = order.checker();
+    match checker.difference(line) {
+        Some(difference) => put_refused(text, checker.lock(), &[], line, difference),
+        None => text.push_str("a step of another thread has to come before"),
     }
 }
 
@@ -132,12 +134,17 @@ fn missing_in(kind: LockKind, line: TraceLine) -> Option<&'static str> {
     }
 }
 
+const LACKS: &str = "' has no {part}, which an order needs";
+
 // Says which needed part is missing first in a log, if one is.
 fn put_missing(report: &mut OrderReport, log: &Log, name: &str) -> Result<(), AllocError> {
     for (at, line) in log.moves().iter().enumerate() {
         if let Some(part) = missing_in(log.header().kind(), *line) {
+            let mut said = report.notes.text();
+            said.push('\'')?;
+            put_line(&mut said, line)?;
+            fill(&mut said, LACKS, &[("part", Value::Text(part))])?;
             let number = u64::from(log.line_of(at).unwrap_or(0));
-            let said = format_args!("'{}' has no {part}, which an order needs", Shown(line));
             return report.notes.put_in(name, number, said);
         }
     }
@@ -151,6 +158,47 @@ fn next_number(order: &Order, thread: u8) -> u64 {
         .map_or(0, |number| u64::from(number))
 }
 
+// Says which step cannot be placed, and why, in the line of this number of a file.
+fn put_step(
+    report: &mut OrderReport,
+    order: &Order,
+    (name, number): (&str, u64),
+    line: TraceLine,
+    difference: Option<Difference>,
+) -> Result<(), AllocError> {
+    let mut said = report.messages.text();
+    if let Some(difference) = difference {
+        let lock = order.checker().lock();
+        report.details = Some(details_of(lock, &Course::new(), line, difference));
+    } else {
+        said.push('\'')?;
+        put_line(&mut said, &line)?;
+        said.push_str("' ")?;
+    }
+    said.push_str("cannot be placed: ")?;
+    put_why(&mut said, order, line)?;
+    report.messages.put_in(name, number, said)
+}
+
+// Says what a thread would do next, and why that is not placed.
+fn put_next(
+    notes: &mut Notes,
+    order: &Order,
+    file: &str,
+    line: TraceLine,
+) -> Result<(), AllocError> {
+    let mut said = notes.text();
+    fill(
+        &mut said,
+        "{who}'s next step is '",
+        &[("who", called(line.thread, &[]))],
+    )?;
+    put_line(&mut said, &line)?;
+    said.push_str("': ")?;
+    put_why(&mut said, order, line)?;
+    notes.put_in(file, next_number(order, line.thread), said)
+}
+
 /// Says which step cannot be placed, and why, with the line of the thread's file that it is in; and
 /// what each other thread would do next.
 pub fn put_stuck(
@@ -162,27 +210,13 @@ pub fn put_stuck(
     let name = names.get(stuck.thread as usize).copied().unwrap_or("");
     let number = next_number(order, stuck.thread);
     if let Some(line) = order.next(stuck.thread) {
-        let (shown, why) = (Shown(&line), Why(order, line));
-        let messages = &mut report.messages;
-        if let Some(difference) = stuck.difference {
-            messages.put_in(name, number, format_args!("cannot be placed: {why}"))?;
-            let lock = order.checker().lock();
-            put_refused(&mut report.fields, lock, &Course::new(), line, difference)?;
-        } else {
-            messages.put_in(
-                name,
-                number,
-                format_args!("'{shown}' cannot be placed: {why}"),
-            )?;
-        }
+        put_step(report, order, (name, number), line, stuck.difference)?;
     }
     for thread in 0..order.header().threads() {
         let file = names.get(thread as usize).copied().unwrap_or("");
         match order.next(thread) {
             Some(line) if thread != stuck.thread => {
-                let (called, shown, why) = (Called(thread, &[]), Shown(&line), Why(order, line));
-                let said = format_args!("{called}'s next step is '{shown}': {why}");
-                report.notes.put_in(file, next_number(order, thread), said)?;
+                put_next(&mut report.notes, order, file, line)?;
             }
             _ => {}
         }
@@ -206,19 +240,21 @@ pub fn put_cut(
         match log.dropped() {
             Some(0) => {}
             Some(count) => {
-                let moves = Count(count, "move was", "moves were");
-                warnings.put_in(name, 0, format_args!("{moves} dropped"))?;
+                let moves = Value::Count(count, "move was", "moves were");
+                warnings.say_in(name, 0, "{moves} dropped", &[("moves", moves)])?;
             }
             None if open.get(t) == Some(&true) => {
-                warnings.put_in(name, 0, "its thread has not ended")?;
+                warnings.say_in(name, 0, "its thread has not ended", &[])?;
             }
-            None => warnings.put_in(name, 0, "cut off, without its last line")?,
+            None => warnings.say_in(name, 0, "cut off, without its last line", &[])?,
         }
     }
-    let placed = order.len();
-    report
-        .notes
-        .put(0, format_args!("ordered up to there: {placed} steps"))
+    let placed = Value::Number(order.len() as u64);
+    report.notes.say(
+        0,
+        "ordered up to there: {placed} steps",
+        &[("placed", placed)],
+    )
 }
 
 /// Says that a run hangs, who waits for what, and who holds.
@@ -228,8 +264,8 @@ pub fn put_hang(
     names: &[&str],
     course: &Course,
 ) -> Result<(), AllocError> {
-    put_code(&mut report.fields, "Hangs")?;
-    report.messages.put(0, HANGS)?;
+    report.details = Some(Details::new(Code::Hangs));
+    report.messages.say(0, HANGS, &[])?;
     put_waits(&mut report.notes, order.checker().lock(), course, names)?;
     put_placed(&mut report.notes, "", 0, order)
 }

@@ -10,14 +10,12 @@ ghost use Rattle.lk_order.specs.Runs.{IsOneRun};
 ghost use Rattle.lk_jobs.specs.Orders.{IsHung, IsSearch, ending_of_bad, ending_of_search};
 ghost use Rattle.lk_jobs.specs.Orders.{ending_of_sought};
 
-use crate::blame::Waiting;
-use crate::check::Ending;
+use crate::blame::may_go_on as thread_may_go_on;
 use crate::course::{Course, Fate};
-use crate::formats::put_code;
+use crate::report::{Code, Details, Ending};
 use lk_order::{Found, Log, LogFault, Order, Unfit, find_order};
 use lk_trace::{Checker, Event};
 use std::alloc::{AllocError, Global};
-use std::fmt::Write;
 use thiserror::Error;
 
 /// What is wrong with a log, or with the logs together.
@@ -51,8 +49,8 @@ impl BadLog {
         }
     }
 
-    // Its name for programs: of a fault the one that its sentence has in brackets.
-    fn code(self) -> &'static str {
+    /// Its name for programs: of a fault the one that its sentence has in brackets.
+    pub fn code(self) -> &'static str {
         match self {
             BadLog::Unread => "Unread",
             BadLog::Fault(LogFault::NoHeader) => "NoHeader",
@@ -67,16 +65,16 @@ impl BadLog {
         }
     }
 
-    /// Writes its name, and the thread of the run that it is about, as further fields of a JSON
-    /// object.
-    pub fn put_fields(self, text: &mut String) -> Result<(), AllocError> {
-        put_code(text, self.code())?;
+    /// Its name, and the thread of the run that it is about.
+    pub fn details(self) -> Details {
+        let mut details = Details::new(Code::BadLog(self));
         match self {
             BadLog::OtherRun(thread) | BadLog::SecondLog(thread) | BadLog::Missing(thread) => {
-                write!(text, ",\"thread\":{thread}")
+                details.thread = Some(thread);
             }
-            _ => Ok(()),
+            _ => {}
         }
+        details
     }
 }
 
@@ -171,7 +169,7 @@ fn hung_course(order: &Order, unended: &[bool]) -> Option<Course>
 fn may_go_on(order: &Order, course: &Course) -> bool {
     let lock = order.checker().lock();
     (0..order.header().threads()).any(|thread| {
-        course.fate(thread) == Fate::Hangs && Waiting { lock, thread }.may_go_on()
+        course.fate(thread) == Fate::Hangs && thread_may_go_on(lock, thread)
     })
 }
 

@@ -1,8 +1,0 @@
--- One ending more for each file so far, that of an input.
-use Rattle.lk_jobs.specs.invariants.{Adds}
-use Rattle.lk_jobs.proofs.check.files.check_each.Given as goal
-
-abbrev pub invariant-loop-name : goal.invariant-loop-name
-invariant-loop-name g l =
-    Adds g.R.File.Read.remaining g.R.Reader.Read.remaining l.name-index
-    l.initial.reports.endings.items l.reports.endings.items

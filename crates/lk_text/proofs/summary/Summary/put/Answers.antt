@@ -1,0 +1,5 @@
+-- The sentence is filled with the counts.
+use Rattle.lk_text.proofs.summary.Summary.put.Goals as goal
+
+pub returns : goal.returns
+returns c = rw (← c.threads.ensures) c.fill.ensures
