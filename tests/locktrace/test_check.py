@@ -12,8 +12,8 @@ import threading
 import pytest
 
 from devices import Terminal, closing, left_pipe, little_memory
-from traces import (FAULTY, FAULTY_LINE, GOOD, OTHER, OTHER_LINE, ROUND, SCHEDULE, WRONG,
-                    WRONG_LINE, has)
+from traces import (ACTION, FAULTY, FAULTY_LINE, GOOD, MISSPELT, OTHER, OTHER_LINE, ROUND,
+                    SCHEDULE, WRONG, WRONG_LINE, has)
 from tree import VERSION, cases
 
 CANNOT = "locktrace: cannot write: "
@@ -45,10 +45,11 @@ def test_usage(tracer, words):
     "no header": ("check", "", ("-:1: no header (NoHeader)\n", "", 4)),
     "a long comment": ("check", "#" * 3_000_000 + "\n" + GOOD, ("", "", 0)),
     "a line of 97 bytes": ("check", f"lock mcs threads 2\n{'0 acquire':97}\n",
-                           ("-:2: not a move (BadLine)\n", "", 4)),
+                           ("-:2: not a move (BadLine)\n"
+                            "-:2: note: no header and no move has more than 96 bytes\n", "", 4)),
     "a schedule of a trace": ("schedule good", "", (SCHEDULE, "", 0)),
     "no schedule": ("schedule faulty", "", ("lock ticket threads 2\n",
-                                            FAULTY_LINE.format("faulty"), 4)),
+                                            f"faulty:{SHOWN}", 4)),
     "-j with standard input": ("check -j 4 good - good", FAULTY, (FAULTY_LINE.format("-"), "", 4)),
 })
 def test_text(tracer, words, stdin, due):
@@ -73,7 +74,7 @@ def test_summary(tracer):
         for k in range(9))
     output, *more = tracer.run("check", "--summary", stdin=rounds)
     assert more == ["", 0]
-    assert has(output, "-: 1 thread, 54 moves", " 2 rounds of the counter")
+    assert has(output, "-: 1 thread, 54 moves", " 2 wraps of the counter")
     polls = "lock ticket threads 2\n0 acquire\n0 add\n0 read\n1 acquire\n1 add\n1 read\n1 read\n"
     output, *more = tracer.run("check", "--summary", stdin=polls)
     assert more == ["", 0]
@@ -110,7 +111,7 @@ def test_name_in_json(tracer, name):
 
 def test_tap(tracer):
     tap = tracer.run("check", "--format", "tap", *NAMES)[0].splitlines()
-    assert tap[:2] == ["TAP version 14", "1..4"]
+    assert tap[:2] == ["TAP version 13", "1..4"]
     matches = map(re.compile(r"(not )?ok (\d+) - (\S+)$").match, tap)
     assert [match.groups() for match in matches if match] == [
         (None, "1", "good"), ("not ", "2", "other"), ("not ", "3", "faulty"),
@@ -120,17 +121,84 @@ def test_tap(tracer):
 
 
 @cases("more, due", {
-    "text": ([], f"bad:{SHOWN}" * 3_000),
+    "text": ([], FAULTY_LINE.format("bad") * 3_000),
     "JSON": (["--format", "json"], 3_000 * (
         '{"file":"bad","ending":"faulty","line":2,"message":"not a move (BadLine)",'
-        '"code":"BadLine"}\n')),
-    "TAP": (["--format", "tap"], "TAP version 14\n1..3000\n" + "".join(
-        f"not ok {k} - bad\n# line {SHOWN}" for k in range(1, 3_001))),
+        f'"code":"BadLine","notes":[{{"line":2,"message":"{MISSPELT}"}}]}}\n')),
+    "TAP": (["--format", "tap"], "TAP version 13\n1..3000\n" + "".join(
+        f"not ok {k} - bad\n# line {SHOWN}# line 2: {MISSPELT}\n" for k in range(1, 3_001))),
 })
 def test_long_report(tracer, more, due):
     """Reports are longer than what the program lets wait before it writes, 65,536 bytes."""
     tracer.write(bad="lock mcs threads 1\n0 aquire\n")
     assert tracer.run("check", *more, *["bad"] * 3_000) == (due, "", 4)
+
+
+def test_long_summary(tracer):
+    """A number of four digits, and the last of 64 threads."""
+    longer = "lock ticket threads 64 bits 8\n" + 200 * "".join(f"63 {word}\n" for word in ROUND)
+    assert tracer.run("check", "--summary", stdin=longer) == (
+        "-: 1 thread, 1,200 moves, 0 waits, 0 failed compare-and-swaps, 0 polls of a late link, "
+        "longest queue 1, 0 wraps of the counter\n"
+        "-: warning: no thread ever waited, so the run shows nothing of contention\n", "", 0)
+
+
+CR_LF = "the line ends in CR LF; a line ends in LF alone"
+THREADS = "1: not a number of threads (BadThreads)\n"
+ESCAPE = f"column 3: '\\x1b[31mswap', expected {ACTION}\n"
+
+
+@cases("words, text, due", {
+    "CR LF": ("check", "", (f"-:{THREADS}-:1: note: {CR_LF}\n", "", 4)),
+    "explain CR LF": ("explain", "", (f"{THREADS}  {CR_LF}\n", "", 4)),
+    "find CR LF": ("find -", "", ("", f"-:{THREADS}  {CR_LF}\n", 4)),
+    "an escape": ("check", "\x1b[31mswap", (
+        f"-:2: not a move (BadLine)\n-:2: note: {ESCAPE}", "", 4)),
+    "explain an escape": ("explain", "\x1b[31mswap", (
+        f"2: not a move (BadLine)\n  {ESCAPE}", "", 4)),
+    "bytes that are no text": ("check", "\udcff", (
+        "-:2: not a move (BadLine)\n-:2: note: column 3: bytes that are no text, expected "
+        f"{ACTION}\n", "", 4)),
+})
+def test_odd_text(tracer, words, text, due):
+    """Line ends of another system, and bytes that a terminal would take for orders."""
+    stdin = (f"lock mcs threads 2\n0 {text}\n" if text else "lock mcs threads 2\r\n0 acquire\r\n")
+    assert tracer.run(*words.split(), stdin=stdin, errors="surrogateescape") == due
+
+
+@pytest.mark.parametrize("name, text, tap", [
+    ("a\x1bb", "a\\x1bb", "a\\x1bb"), ("a\nb", "a\\nb", "a\\nb"),
+    ("x # SKIP y\\z", "x # SKIP y\\z", "x \\# SKIP y\\\\z")], ids=ascii)
+def test_odd_name(tracer, name, text, tap):
+    (tracer.folder / name).write_text("# nothing\n")
+    assert tracer.run("check", name) == (f"{text}:2: no header (NoHeader)\n", "", 4)
+    assert tracer.run("check", "--format", "tap", name) == (
+        f"TAP version 13\n1..1\nnot ok 1 - {tap}\n# line 2: no header (NoHeader)\n", "", 4)
+
+
+ABSENT = "absent: No such file or directory (os error 2)\n"
+FOLDER = ".: Is a directory (os error 21)\n"
+
+
+@cases("words, stdin, due", {
+    **{f"{command} {name}": (f"{command} {name}", "", ("", said, 3))
+       for command in ("explain", "schedule", "cover", "find")
+       for name, said in (("absent", ABSENT), (".", FOLDER))},
+    "check absent": ("check absent", "", (ABSENT, "", 3)),
+    "schedule of no header": ("schedule", "# nothing\n",
+                              ("\n", "-:2: no header (NoHeader)\n", 4)),
+    "explain no header": ("explain", "# nothing\n", ("2: no header (NoHeader)\n", "", 4)),
+    "cover no header": ("cover", "# nothing\n", ("", "-:2: no header (NoHeader)\n", 4)),
+})
+def test_input_without_a_trace(tracer, words, stdin, due):
+    """A file that cannot be read is told with its name and the system's reason."""
+    assert tracer.run(*words.split(), stdin=stdin) == due
+
+
+def test_cover_all_the_same(tracer):
+    output, *more = tracer.run("cover", "good", "absent")
+    assert more == [ABSENT, 3]
+    assert output.startswith("mcs: 5 of 16 kinds of transition, in 7 moves\n")
 
 
 def test_long_schedule(tracer):
@@ -196,7 +264,7 @@ def test_folder(tracer, name):
         OTHER_LINE.format("runs/b.trace") + FAULTY_LINE.format("runs/c.trace"), "", 4)
     output, *more = tracer.run("check", "--format", "tap", "good", name, "good")
     assert more == ["", 4]
-    assert has(output, "TAP version 14\n1..5\nok 1 - good\nok 2 - runs/a.schedule\n"
+    assert has(output, "TAP version 13\n1..5\nok 1 - good\nok 2 - runs/a.schedule\n"
                "not ok 3 - runs/b.trace\n", "not ok 4 - runs/c.trace\n", "ok 5 - good\n")
 
 

@@ -54,7 +54,10 @@ def test_rounds(program):
                              f"locktrace: missing: {FAILED}\n", 1),
     "all are required": (["--require", "all", "none"], "mcs: ", ALL_MISSING, 1),
     "another value": (["differs"], "mcs: 2 of 16 kinds of transition, in 2 moves\n",
-                      "differs:4: refused: swap found 1 in tail, and the lock has 0\n", 1),
+                      "differs:4: refused: thread 0's swap found 1 in tail, and the lock has 0\n"
+                      "differs:2: note: before it: 0 acquire\n"
+                      "differs:3: note: before it: 0 write\n"
+                      "differs:4: note: held by nobody; queue empty\n", 1),
 })
 def test_status(program, words, begin, error, status):
     output, *more = program.run("cover", *words)
@@ -71,7 +74,9 @@ def test_refused_move(program):
 
 
 def test_no_trace(program):
-    assert program.run("cover", stdin="\nlock\n") == ("", "-:2: not a header (BadHeader)\n", 4)
+    assert program.run("cover", stdin="\nlock\n") == (
+        "", "-:2: not a header (BadHeader)\n-:2: note: column 6: the end of the line, expected "
+        "ticket, mcs, rw-simple or rw-fifo\n", 4)
 
 
 def counted(program, schedule):

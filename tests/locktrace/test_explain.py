@@ -53,7 +53,7 @@ def test_line_that_is_no_move(tracer, line, column, word, near):
     output, *more = tracer.run("explain", stdin=f"lock mcs threads 2\n{line}\n")
     assert more == ["", 4]
     assert output.startswith(f"2: not a move (BadLine)\n  column {column}: '{word}', expected ")
-    assert re.findall(r"  did you mean (.*)\?\n", output) == [f"'{near}'"] * bool(near)
+    assert re.findall(r"; did you mean (.*)\?\n", output) == [f"'{near}'"] * bool(near)
 
 
 @pytest.mark.parametrize("line, column, word, near", [

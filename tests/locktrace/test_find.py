@@ -40,14 +40,14 @@ STEPS = "a call (acquire, rlock ..) or a step (read, write, swap, cas, add, sect
 
 # A line of a sketch that is none, and what is said of it: column, what is there, what could be.
 FAULTS = [
-    ("* caz failed", f"  column 3: 'caz', expected {STEPS}\n  did you mean 'cas'?\n"),
+    ("* caz failed", f"  column 3: 'caz', expected {STEPS}; did you mean 'cas'?\n"),
     ("x cas", "  column 1: 'x', expected '*', or a thread's number, from 0 to 255\n"),
     ("*", f"  column 3: the end of the line, expected {STEPS}\n"),
     ("* cas tail fund 3", "  column 12: 'fund', expected the end, 'found', 'left', 'done' or "
-                          "'failed'\n  did you mean 'found'?\n"),
+                          "'failed'; did you mean 'found'?\n"),
     ("* read done", f"  column 8: 'done', expected the end, {OPEN} or 'left'\n"),
-    ("* cas fond 3", f"  column 7: 'fond', expected the end, {OPEN}, 'left', 'done' or 'failed'\n"
-                     "  did you mean 'found'?\n"),
+    ("* cas fond 3", f"  column 7: 'fond', expected the end, {OPEN}, 'left', 'done' or 'failed'"
+                     "; did you mean 'found'?\n"),
     ("* cas found x", "  column 13: 'x', expected a number of at most 64 bits\n"),
     ("0 cas found", "  column 13: the end of the line, expected a number of at most 64 bits\n"),
     ("0 write next of", "  column 17: the end of the line, expected a thread's number, "
@@ -60,7 +60,7 @@ FAULTS = [
 # The words after `space`, and what is said of them: they name no lock.
 NO_LOCKS = [
     (["ms", "2"], "'lock ms threads 2': not a header (BadHeader)\n  column 6: 'ms', expected "
-                  "ticket, mcs, rw-simple or rw-fifo\n  did you mean 'mcs'?\n"),
+                  "ticket, mcs, rw-simple or rw-fifo; did you mean 'mcs'?\n"),
     (["mcs", "65"], "'lock mcs threads 65': not a number of threads (BadThreads)\n  column 18: "
                     "'65', expected a number of threads, from 1 to 64\n"),
     (["mcs", "4", "--bits", "2"],
@@ -98,7 +98,7 @@ def test_line_that_is_none(tracer, line, said):
     "no header": ("# none\n", "-:2: no header (NoHeader)\n"),
     "no rounds": ("#! rounds 0\n", "-:1: not a number of rounds, from 1 to 255 (BadRounds)\n"),
     "a long line": (f"lock mcs threads 2\n0 cas{92 * ' '}\n",
-                    f"-:2: {LINE}\n  no line has more than 96 bytes\n"),
+                    f"-:2: {LINE}\n  no header and no move has more than 96 bytes\n"),
 })
 def test_text_that_is_no_sketch(tracer, text, said):
     assert tracer.run("find", "-", stdin=text) == ("", said, 4)

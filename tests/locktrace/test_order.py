@@ -76,7 +76,7 @@ TEXTS = [
     ("a last line without its end", "acquire\ndropped 0", 0, ""),
     ("a move with its thread", "1 acquire\n", 4, BAD_MOVE.format(2)),
     ("dropped moves", "acquire\ndropped 18446744073709551615\n", 0,
-     "1.log: warning: 18446744073709551615 moves were dropped\n"
+     "1.log: warning: 18,446,744,073,709,551,615 moves were dropped\n"
      "locktrace: note: ordered up to there: 4 steps\n"),
     ("too many dropped moves", "acquire\ndropped 18446744073709551616\n", 4, BAD_MOVE.format(3)),
 ]
@@ -146,8 +146,10 @@ def test_long_line(tracer, size, before, line, after, error):
 
 @pytest.mark.parametrize("size", [96, 97, 98, 200, 70_000])
 def test_long_header_of_a_trace(tracer, size):
+    said = ("column 23: nothing after a blank, expected the end, or 'bits'" if size == 96
+            else "no header and no move has more than 96 bytes")
     assert tracer.run("check", stdin="lock ticket threads 2".ljust(size) + "\n") == (
-        "-:1: not a header (BadHeader)\n", "", 4)
+        f"-:1: not a header (BadHeader)\n-:1: note: {said}\n", "", 4)
 
 
 def test_refused_move_without_its_end(tracer):

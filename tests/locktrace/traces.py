@@ -31,7 +31,9 @@ WRONG = GOOD.replace("1 swap tail found 1", "1 write locked left 1")
 WRONG_LINE = ("{0}:9: refused: '1 write', but thread 1's next step is 'swap' (WrongStep)\n" + BEFORE
               + "{0}:9: note: held by 0; queue 0\n")
 FAULTY = "lock ticket threads 2\n0 aquire\n"
-FAULTY_LINE = "{}:2: not a move (BadLine)\n"
+ACTION = "a call (acquire, rlock ..) or a step (read, write, swap, cas, add, section)"
+MISSPELT = f"column 3: 'aquire', expected {ACTION}; did you mean 'acquire'?"
+FAULTY_LINE = f"{{0}}:2: not a move (BadLine)\n{{0}}:2: note: {MISSPELT}\n"
 TEXTS = {"good": GOOD, "other": OTHER, "wrong": WRONG, "faulty": FAULTY}
 LOGS = {
     "thread-0.log": "lock ticket threads 2 thread 0\nacquire\nadd next_ticket found 0\n"

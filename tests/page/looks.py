@@ -192,9 +192,7 @@ def sentences_begin_so(driver, _):
     open_page(driver)
     run(driver, HEADS, f"lock mcs threads 2\n{MOVES}0 release\n0 read\n0 cas\n0 read\n")
     said = run(driver, "return document.querySelector('#now .say').textContent")
-    assert said == (
-        "Thread 0 polls: thread 0’s next is still nil. Thread 0 has to wait for the link."
-    ), said
+    assert said == "Thread 0 polls its own next and waits for the link: it is still nil.", said
 
 
 CHECKS = [
