@@ -15,8 +15,9 @@ REFUSED = ("9: refused: '1 write', but {}'s next step is 'swap' (WrongStep)\n"
 
 @cases("words, due", {
     "two moves by name": ("--moves 6..7 --names left,right good", (
-        "6: 0 swap: entered, tail 0 to 1; left finds nobody in the queue: it holds the lock; "
-        "held by 0; queue 0\n7: 1 acquire: called; right wants the lock; held by 0; queue 0\n",
+        "6: 0 swap: entered, tail 0 to 1; left swaps the tail for its record; the tail was nil: "
+        "it holds the lock; held by 0; queue 0\n"
+        "7: 1 acquire: called; right calls acquire; a call changes no word; held by 0; queue 0\n",
         "", 0)),
     "a refusal": ("--moves 99..99 wrong", (REFUSED.format("thread 1"), "", 1)),
     "a refusal by name": ("--moves 99..99 --names left,right wrong", (

@@ -1,8 +1,8 @@
-//! The transitions of each lock in words: their kinds, a sentence for each, what a thread that
-//! polls waits for, and what helps after a refusal.
+//! The transitions of each lock in words: their kinds, a sentence for each, and the value for which
+//! a thread polls.
 //!
-//! Each lock has a module with its table. Programs, the page and the library for C take all their
-//! words about a lock from these tables, so that a sentence is written once. A sentence has places,
+//! Each lock has a module with its table. `locktrace` and the page take their words about a lock's
+//! transitions from these tables, so that a sentence is written once. A sentence has places,
 //! such as `{who}`, which the values of a transition fill:
 //!
 //! | Place | Its value |
@@ -38,12 +38,10 @@ macro_rules! kinds {
     };
 }
 
-mod helps;
 mod kinds;
 mod mcs;
 mod rw_fifo;
 mod rw_simple;
 mod ticket;
 
-pub use helps::{help_for, help_for_text};
 pub use kinds::{Awaited, Kind, LOCKS, Observed, is_kind, kinds_of, place_of, polled_for};

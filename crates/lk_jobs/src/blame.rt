@@ -6,8 +6,8 @@ ghost use Rattle.std.specs.Prelude.{◌<◌, length};
 
 use crate::course::{Course, Fate, Step};
 use crate::report::Notes;
-use crate::sentences::{Awaited, polled_for};
 use crate::texts::{Lock, put_line};
+use lk_catalogue::{Awaited, polled_for};
 use lk_lines::move_text;
 use lk_locks::{Move, Op, Outcome, Refusal};
 use lk_text::Value;

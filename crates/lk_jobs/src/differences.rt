@@ -7,8 +7,8 @@ ghost use Rattle.lk_text.specs.Texts.{Grows};
 
 use crate::course::Course;
 use crate::report::{Code, Datum, Details};
-use crate::sentences::{Awaited, polled_for};
 use crate::texts::{Lock, called};
+use lk_catalogue::{Awaited, polled_for};
 use lk_lines::{lock_text, move_text};
 use lk_locks::{Move, Outcome, Refusal};
 use lk_text::{Value, fill};

@@ -8,8 +8,8 @@ ghost use Rattle.lk_jobs.specs.Verdicts.{EndsInput};
 use crate::follow::follow_file;
 use crate::formats::{BARE, PLAIN, put_text};
 use crate::report::{Ending, Report};
-use crate::sentences::sentence;
-use crate::texts::{Lock, called, put_standing};
+use crate::texts::{Lock, put_standing};
+use crate::transitions::put_sentence;
 use crate::waiting::write_waiting;
 use lk_lines::{MOVE_WORDS, move_named, move_text, outcome_text};
 use lk_locks::{Machine, Move, Outcome, SectionEffect};
@@ -96,6 +96,7 @@ fn put_outcome(
 // Writes a move that was made in the line of this number.
 fn put_move(
     text: &mut String,
+    alloc: Global,
     names: &[String],
     lock: &Lock,
     number: u64,
@@ -109,8 +110,8 @@ fn put_move(
     if let Some(section) = made.section {
         put_changes(text, lock, section)?;
     }
-    fill(text, "; {who} ", &[("who", called(line.thread, names))])?;
-    text.push_str(sentence(lock.kind(), made.from, line.action, made.outcome))?;
+    text.push_str("; ")?;
+    put_sentence(text, alloc, names, lock, line, made)?;
     text.push_str("; ")?;
     put_standing(text, lock)?;
     text.push('\n')
@@ -158,6 +159,7 @@ fn put_due(text: &mut String, machine: &Machine<WordArray>, thread: u8) -> Resul
 // Describes the move of a line, if it is asked for.
 fn put_event(
     text: &mut String,
+    alloc: Global,
     job: &ExplainJob,
     trace: &TraceReader,
     number: u64,
@@ -169,7 +171,7 @@ fn put_event(
     let (lock, (first, last)) = (checker.lock(), job.lines);
     match event {
         Event::Made(line, made) if first <= number && number <= last => {
-            put_move(text, &job.names, lock, number, *line, *made)
+            put_move(text, alloc, &job.names, lock, number, *line, *made)
         }
         _ => Ok(()),
     }
@@ -243,7 +245,7 @@ pub fn explain_trace<R: Runtime, O: Write>(
 {
     let (mut text, mut due) = (String::new(alloc), String::new(alloc));
     let each = |number: u64, trace: &TraceReader, event: Event| -> Result<(), Failure> {
-        put_event(&mut text, job, trace, number, &event)?;
+        put_event(&mut text, alloc, job, trace, number, &event)?;
         put_due_after(&mut due, trace, &event)?;
         write_waiting(&mut text, output)?;
         Ok(())

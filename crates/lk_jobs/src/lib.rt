@@ -20,11 +20,11 @@ mod progress;
 mod report;
 mod run;
 pub mod schedule;
-mod sentences;
 pub mod sketch;
 pub mod space;
 mod texts;
 pub mod tour;
+mod transitions;
 mod waiting;
 
 pub use formats::Format;
