@@ -49,7 +49,7 @@ def test_usage(tracer, words):
                             "-:2: note: no header and no move has more than 96 bytes\n", "", 4)),
     "a schedule of a trace": ("schedule good", "", (SCHEDULE, "", 0)),
     "no schedule": ("schedule faulty", "", ("lock ticket threads 2\n",
-                                            f"faulty:{SHOWN}", 4)),
+                                            FAULTY_LINE.format("faulty"), 4)),
     "-j with standard input": ("check -j 4 good - good", FAULTY, (FAULTY_LINE.format("-"), "", 4)),
 })
 def test_text(tracer, words, stdin, due):

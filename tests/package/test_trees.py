@@ -65,8 +65,8 @@ def test_lockreplay(run):
     assert run("lockreplay")[2] == 2
 
 
-EXPLAINED = ("6: 0 swap: entered, tail 0 to 1; left swaps the tail for its record; the tail was nil: "
-             "it holds the lock; held by 0; queue 0\n")
+EXPLAINED = ("6: 0 swap: entered, tail 0 to 1; left swaps the tail for its record; the tail was "
+             "nil: it holds the lock; held by 0; queue 0\n")
 
 
 @cases("words, stdin, due", {

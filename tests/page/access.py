@@ -76,7 +76,8 @@ def what_is_read_aloud(browser):
     browser.resize(1440, 900)
     browser.open("#lesson=mcs-late-link&move=10")
     shown = browser.run(SPOKEN)
-    assert shown["spoken"].startswith("Move 10 of 16. Ann, read, waits. Ann polls its own next"), shown
+    begun = "Move 10 of 16. Ann, read, waits. Ann polls its own next"
+    assert shown["spoken"].startswith(begun), shown
     assert shown["current"] == ["await succ := me.next A"], shown
     assert shown["memory"] == "Ann is followed by Bob, and only Bob knows.", shown
     assert shown["slider"] == "Move 10 of 16." and not shown["nameless"], shown
