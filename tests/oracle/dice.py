@@ -1,6 +1,6 @@
 """Random choices for generators that draw from a `random.Random`, as hypothesis makes them.
 
-What hypothesis draws is bytes, and every choice of a generator takes the next of them. Behind the
+What hypothesis draws is bytes, and every choice of a generator takes the next of them. After the
 last byte all are 0, for the first of each choice. So a value that fails shrinks with its bytes.
 """
 import random
@@ -27,7 +27,7 @@ class Dice(random.Random):
         return self.getrandbits(16) / (1 << 16)
 
     def sample(self, population, k):
-        """`Random` would look on for another one, and behind the last byte there is no other."""
+        """`Random` would look on for another one, and after the last byte there is no other."""
         rest = list(population)
         return [rest.pop(self.randrange(len(rest))) for _ in range(k)]
 
