@@ -28,7 +28,8 @@ def test_version_and_help(tracer):
 
 @pytest.mark.parametrize("words", [
     "", "walk", "check --format xml", "check -j 0", "check -j 65", "check --color red",
-    "order --format xml good -o made", "explain --moves 0..3", "explain --moves 4..3",
+    "order --format xml good -o made", "order thread-0.log -o ''", "tour mcs 2 -o ''",
+    "tour mcs 2 -o -", "explain --moves 0..3", "explain --moves 4..3",
     "explain --moves ..3", "explain --moves x", "explain --moves ''", "order thread-0.log",
     "explain a b"])
 def test_usage(tracer, words):

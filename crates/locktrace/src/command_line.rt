@@ -275,12 +275,25 @@ fn check_given(alloc: Global, matches: &ArgMatches<'_>) -> Result<Job, ParseFaul
     Ok(Job::Check { job, colored })
 }
 
+/// The folder that is written to. An empty name would be the root folder, as that of a variable that
+/// is not set.
+pub fn folder_given(alloc: Global, matches: &ArgMatches<'_>) -> Result<String, ParseFault> {
+    let folder = matches.get_str("folder").unwrap_or("");
+    if folder.is_empty() {
+        return usage(
+            alloc,
+            "error: -o takes the name of a folder, and the name is empty\n",
+        );
+    }
+    Ok(String::from_str(alloc, folder)?)
+}
+
 fn order_given(alloc: Global, matches: &ArgMatches<'_>) -> Result<Job, ParseFault> {
     Ok(Job::Order(OrderJob {
         format: format_given(alloc, matches)?,
         quiet: matches.get_flag("quiet"),
         logs: copied(alloc, matches.get_strs("logs").unwrap_or(&[]))?,
-        folder: String::from_str(alloc, matches.get_str("folder").unwrap_or("."))?,
+        folder: folder_given(alloc, matches)?,
     }))
 }
 

@@ -1,6 +1,8 @@
 //! The words of the commands that search a lock's space, and the jobs that they ask for.
 
-use crate::command_line::{ParseFault, choice, copied, names_in, option_arg, usage, value_arg};
+use crate::command_line::{
+    ParseFault, choice, copied, folder_given, names_in, option_arg, usage, value_arg,
+};
 use clap::{ArgAction, ArgMatches, Command, value_parser};
 use lk_jobs::cover::{CoverFormat, CoverJob, is_kind};
 use lk_jobs::sketch::Place;
@@ -168,11 +170,18 @@ pub fn space_given(alloc: Global, matches: &ArgMatches<'_>) -> Result<SearchJob,
 }
 
 /// The job of the command `tour`.
-pub fn tour_given(alloc: Global, matches: &ArgMatches<'_>) -> Result<SearchJob, AllocError> {
+pub fn tour_given(alloc: Global, matches: &ArgMatches<'_>) -> Result<SearchJob, ParseFault> {
+    let folder = folder_given(alloc, matches)?;
+    if folder.as_str() == "-" {
+        return usage(
+            alloc,
+            "error: a tour is several files, so -o takes a folder\n",
+        );
+    }
     Ok(SearchJob::Tour {
         header: lock_given(alloc, matches)?,
         asked: asked_of(matches),
-        folder: String::from_str(alloc, matches.get_str("folder").unwrap_or("."))?,
+        folder,
     })
 }
 
