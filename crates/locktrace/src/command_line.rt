@@ -275,8 +275,8 @@ fn check_given(alloc: Global, matches: &ArgMatches<'_>) -> Result<Job, ParseFaul
     Ok(Job::Check { job, colored })
 }
 
-/// The folder that is written to. An empty name would be the root folder, as that of a variable that
-/// is not set.
+/// The folder that is written to. With an empty name, as of a variable that is not set, that would
+/// be the root folder.
 pub fn folder_given(alloc: Global, matches: &ArgMatches<'_>) -> Result<String, ParseFault> {
     let folder = matches.get_str("folder").unwrap_or("");
     if folder.is_empty() {
