@@ -82,7 +82,7 @@ impl Report {
         self.message.push_str(InlineText::<64>::of(fault).as_str())
     }
 
-    // Says what could stand in the place where a line cannot be read.
+    // Names the words that could be where a line cannot be read.
     fn explain_fault(
         &mut self,
         number: u64,

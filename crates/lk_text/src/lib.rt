@@ -3,9 +3,9 @@
 //!
 //! `open` opens a file or standard input, and `take_lines` gives each line of an input to a
 //! function. `fill` writes a sentence, `put_escaped` text of an input, `json` objects of JSON, and
-//! `put_plan` and `put_point` reports in the form of TAP. `put_wrong` says what could stand in the
-//! place where a line cannot be read, `Summary` counts the moves of a trace, and `Failure` says why
-//! a job was not done.
+//! `put_plan` and `put_point` reports in the form of TAP. `put_wrong` names the words that could
+//! be where a line cannot be read, `Summary` counts the moves of a trace, and `Failure` says why a
+//! job was not done.
 #![tactic(auto)]
 
 mod escapes;
