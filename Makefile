@@ -65,7 +65,7 @@ test-needs: needs-rt
 	@tests/tools/needs.sh
 
 # What `make test` does after the proofs, in this order.
-PARTS := test-programs test-page test-refused
+PARTS := test-programs test-page
 
 ## test | the one test command: proves all from nothing, then tests what is built
 test: test-needs
@@ -108,8 +108,8 @@ packages:
 	@tests/tools/needs.sh release
 
 ## test-refused | the tests of the libraries, with each request for memory refused in turn
-test-refused: $(TESTS_BUILT)
-	tests/refuse/run.sh request $(TESTS_BUILT)
+test-refused: $(TESTS_BUILT) test-needs
+	$(PYTEST) tests/refuse
 
 ## check | the quick check: builds the programs, and tests them without the long runs
 ## check CRATE=NAME | proves one crate; for lk_tests it also runs the tests
@@ -123,12 +123,22 @@ check: $(PROGRAM) $(TRACER) $(LIBRARY) test-needs
 endif
 
 # Nothing is proved here.
-test-programs: $(PROGRAM) $(TRACER) $(LIBRARY) test-needs
+test-programs: $(PROGRAM) $(TRACER) $(LIBRARY) $(TESTS_BUILT) test-needs
 	$(PYTEST) $(SPREAD) -m 'not (root or browser or planted)'
 
 ## generate | fills the marked regions of files that have words and numbers of the crates
 generate:
 	tests/texts/generate.py
+	record/src/join.py
+
+## header | writes record/lockreplay_record.h and record/locktrace.c from their parts in record/src
+header:
+	record/src/join.py
+
+## checker | makes the machine in record/locktrace.c of the page's module. Only root may do this
+checker: by-root $(MODULE)
+	root=$$(mktemp -d) && trap 'rm -rf "$$root"' EXIT && tests/tools/root.sh trixie "$$root" wabt && \
+	    record/src/machine.py "$$root" $(MODULE)
 
 ## page | builds the page's module and page/lockreplay.html
 page: $(MODULE)
@@ -139,11 +149,7 @@ test-page: $(MODULE) $(PROGRAM) test-needs
 	node page/build.mjs $(MODULE) --check
 	@[ "$$(git status --porcelain 2> /dev/null)" != ' M $(PAGE)' ] || \
 	    { echo 'only $(PAGE) differs from what is committed: commit it too' >&2; exit 1; }
-	tests/page/module.mjs $(MODULE)
-	tests/page/bytes.mjs $(MODULE)
-	tests/page/moments.mjs $(MODULE)
-	tests/page/known.mjs $(MODULE)
-	tests/page/run.py $(PROGRAM)
+	$(PYTEST) $(SPREAD) tests/page
 
 ## test-library | tests the static library for traces, from C and from Python
 test-library: $(LIBRARY) test-needs

@@ -9,8 +9,9 @@
  * The queue's text is a window that grows at its end and shrinks at its front. Nothing is proved
  * here, and nothing but schedules without a fault is meant to be replayed: a fault ends with
  * status 2. Different from lockreplay: a move is printed as it is made, so if `replay` cannot
- * write, what follows was not replayed.
+ * write, what follows was not replayed. Tables are laid out by hand.
  */
+/* clang-format off */
 #include <fcntl.h>
 #include <stdint.h>
 #include <stdio.h>

@@ -20,19 +20,26 @@
 
 extern char **environ;
 
-static long long now(void) {
+static long long now(void)
+{
     struct timespec t;
     clock_gettime(CLOCK_MONOTONIC, &t);
     return t.tv_sec * 1000000000ll + t.tv_nsec;
 }
 
-static long long nanoseconds(struct timeval t) {
+static long long nanoseconds(struct timeval t)
+{
     return t.tv_sec * 1000000000ll + t.tv_usec * 1000ll;
 }
 
-static void fail(const char *what) { perror(what); exit(2); }
+static void fail(const char *what)
+{
+    perror(what);
+    exit(2);
+}
 
-int main(int count, char **words) {
+int main(int count, char **words)
+{
     if (count < 4) {
         fprintf(stderr, "usage: measure INPUT OUTPUT PROGRAM [WORD...]\n");
         return 2;

@@ -3,8 +3,7 @@
        recording ROUNDS
 
    Prints three figures: a ticket lock with its 6 notes, an MCS lock with its 7, and a note by
-   itself. Built with LR_OFF it has the locks alone. Only what every version of the header has is
-   used, so that two versions can be compared. */
+   itself. Without a mode it has the locks alone. */
 #include <stdatomic.h>
 #include <stddef.h>
 #include <stdio.h>
@@ -22,54 +21,54 @@ static _Atomic unsigned next_ticket, now_serving;
 static _Atomic(record *) tail;
 static record own;
 
-static void ticket_round(LR_ONLY(lr_log *log))
+static void ticket_round(void)
 {
-    LR_CALL(log, acquire);
+    LR_CALL(acquire);
     unsigned ticket = atomic_fetch_add(&next_ticket, 1), served;
-    LR_ADD(log, next_ticket, ticket);
+    LR_ADD(next_ticket, ticket);
     do {
         served = atomic_load(&now_serving);
-        LR_READ(log, now_serving, served);
+        LR_READ(now_serving, served);
     } while (served != ticket);
-    LR_CALL(log, release);
+    LR_CALL(release);
     served = atomic_load(&now_serving);
-    LR_READ(log, now_serving, served);
+    LR_READ(now_serving, served);
     atomic_store(&now_serving, served + 1);
-    LR_WRITE(log, now_serving, served + 1);
+    LR_WRITE(now_serving, served + 1);
 }
 
-static void mcs_round(LR_ONLY(lr_log *log))
+static void mcs_round(void)
 {
-    LR_CALL(log, acquire);
+    LR_CALL(acquire);
     atomic_store(&own.next, NULL);
-    LR_WRITE(log, next, 0);
+    LR_WRITE(next, 0);
     record *before = atomic_exchange(&tail, &own);
-    LR_SWAP(log, tail, before != NULL);
+    LR_SWAP(tail, before != NULL);
     (void)before;
-    LR_CALL(log, release);
+    LR_CALL(release);
     record *next = atomic_load(&own.next), *last = &own;
-    LR_READ(log, next, next != NULL);
+    LR_READ(next, next != NULL);
     (void)next;
     int wrote = atomic_compare_exchange_strong(&tail, &last, NULL);
-    LR_CAS(log, tail, wrote);
+    LR_CAS(tail, wrote);
     (void)wrote;
 }
 
-static void bare_round(LR_ONLY(lr_log *log)) { LR_CALL(log, acquire); }
+static void bare_round(void) { LR_CALL(acquire); }
 
-typedef void (*one_round)(LR_ONLY(lr_log *));
+typedef void (*one_round)(void);
 
 static double nanoseconds(one_round work, long rounds)
 {
     struct timespec from, to;
-    LR_ONLY(lr_run *run = lr_open("mcs", 1, 64, (size_t)rounds * 8, 1);)
-    LR_ONLY(lr_log *log = lr_log_of(run, 0);)
-    LR_ONLY(lr_begin(log);)
+    lr_run *run = lr_open("mcs", 1, 64, (size_t)rounds * 8, 1, NULL);
+    lr_log *log = lr_log_of(run, 0);
+    lr_begin(log);
     timespec_get(&from, TIME_UTC);
-    for (long round = 0; round < rounds; round++) work(LR_ONLY(log));
+    for (long round = 0; round < rounds; round++) work();
     timespec_get(&to, TIME_UTC);
-    LR_ONLY(lr_end(log);)
-    LR_ONLY(lr_close(run);)
+    lr_end(log);
+    lr_close(run);
     double passed = (double)(to.tv_sec - from.tv_sec) * 1e9 + (double)(to.tv_nsec - from.tv_nsec);
     return passed / (double)rounds;
 }

@@ -1,19 +1,24 @@
 #!/usr/bin/env python3
-"""What recording costs: a note, and 1,000 runs of a search.
+"""What recording costs: a note of the C header, 1,000 runs of a search, followed schedules.
 
-    recording.py LIBRARY [--before COMMIT] [--check]
+    recording.py LOCKTRACE LIBRARY [--before COMMIT] [--check]
 
-Builds `recording.c` without a mode and with LR_VALUES, over the header of this tree and over that
-of a commit, and lets them take turns: figures are nanoseconds for one acquire and release of one
-thread, medians of ROUNDS, and the ratio of the two headers is the median of the ratios of each
-round. Then 1,000 runs that `LR_EXPLORE` makes of two threads of examples/recording/mcs.c with at
-most 5 preemptions, on all cores and on one.
+Builds `recording.c` without a mode and with VALUES, as it is in this tree and as it was at a
+commit, with the header of each, and lets them take turns: figures are nanoseconds for one acquire
+and release of one thread, medians of ROUNDS, and the ratio of the two headers is the median of the
+ratios of each round. Then, for the MCS lock in C and each example of record/rust, 1,000 runs of a
+search of two threads with two rounds each and at most 5 preemptions; and for those in Rust
+LOCKTRACE's tour of three threads with a round each, which `Mode::Follow` follows. All of them are
+checked in the process. Each is done ROUNDS times on the processors that this script may use, and on
+the first of them alone; what is printed are medians, in seconds.
 
 With --check the status is 1 if recording costs more than LIMIT times what it did at the commit,
-or the 1,000 runs take more than SECONDS. The tolerance of LIMIT is what two builds of one source
+or 1,000 runs take more than SECONDS. The tolerance of LIMIT is what two builds of one source
 differ by. A quiet machine is needed.
 """
 import argparse
+import math
+import os
 import statistics
 import subprocess
 import sys
@@ -24,29 +29,31 @@ from pathlib import Path
 TOP = Path(__file__).resolve().parent.parent
 ROUNDS, LOOPS = 15, 300000
 LIMIT, SECONDS, RUNS = 1.05, 2.0, 1000
-ON = ((), ("taskset", "-c", "0"))
 FIGURES = ("ticket", "mcs", "note")
 FLAGS = ("-std=c11", "-O2", "-Wall", "-Wextra", "-pthread")
+EXAMPLES = {"ticket": "ticket", "mcs": "mcs", "rw_simple": "rw-simple", "rw_fifo": "rw-fifo"}
 
 
-def ran(*words):
+def ran(*words, **options):
     return subprocess.run([str(word) for word in words], check=True, capture_output=True,
-                          text=True).stdout
+                          text=True, **options).stdout
 
 
-def header_of(commit, folder):
-    """The header as it was: one file, or one with parts."""
-    for path in ran("git", "-C", TOP, "ls-tree", "-r", "--name-only", commit, "record").split():
+def tree_of(commit, folder):
+    """The header as it was, one file or one with parts, and the program."""
+    for path in ran("git", "-C", TOP, "ls-tree", "-r", "--name-only", commit, "record",
+                    "bench/recording.c").split():
         file = folder / path
         file.parent.mkdir(parents=True, exist_ok=True)
         file.write_text(ran("git", "-C", TOP, "show", f"{commit}:{path}"))
-    return folder / "record"
+    return folder
 
 
-def built(folder, name, include, mode):
-    program = folder / name
-    ran("gcc", *FLAGS, f"-DLR_{mode}", "-I", include, "-o", program,
-        TOP / "bench" / "recording.c")
+def built(folder, name, tree, mode):
+    """In the first version a mode was the name of a macro."""
+    program, source = folder / name, tree / "bench" / "recording.c"
+    flag = f"-DLR_{mode}" if "LR_ONLY" in source.read_text() else f"-DLR_MODE={mode}"
+    ran("gcc", *FLAGS, flag, "-I", tree / "record", "-o", program, source)
     return program
 
 
@@ -56,10 +63,9 @@ def figures(program):
 
 def notes(folder, before):
     """Medians of each build, and the ratios of the two headers."""
-    builds = {"off": built(folder, "off", TOP / "record", "OFF"),
-              "now": built(folder, "now", TOP / "record", "VALUES")}
+    builds = {"off": built(folder, "off", TOP, "OFF"), "now": built(folder, "now", TOP, "VALUES")}
     if before:
-        builds["before"] = built(folder, "before", header_of(before, folder / "old"), "VALUES")
+        builds["before"] = built(folder, "before", tree_of(before, folder / "old"), "VALUES")
     rounds = [{name: figures(program) for name, program in builds.items()} for _ in range(ROUNDS)]
     for place, figure in enumerate(FIGURES):
         medians = {name: statistics.median(it[name][place] for it in rounds) for name in builds}
@@ -72,31 +78,49 @@ def notes(folder, before):
     return ratios
 
 
-def search(folder, library):
-    """Seconds for 1,000 runs."""
-    ran("gcc", *FLAGS, "-DLR_EXPLORE", "-DLR_ATOMICS", "-o", folder / "search",
+def commands(folder, locktrace, library):
+    """Commands, with how what they say begins and how long each may take."""
+    ran("gcc", *FLAGS, "-DLR_MODE=EXPLORE", "-o", folder / "search",
         TOP / "examples" / "recording" / "mcs.c", library)
+    flags = {"RUSTFLAGS": f"-L native={library.parent}", "CARGO_TARGET_DIR": str(folder)}
+    ran("/usr/bin/cargo", "build", "--release", "--examples", "--offline", "--features", "check",
+        cwd=TOP / "record" / "rust", env={**os.environ, **flags, "PATH": "/usr/bin:/bin"})
+    yield [folder / "search", 2, 2, 5, folder, RUNS], f"{RUNS} runs", SECONDS
+    for example, lock in EXAMPLES.items():
+        program, tour = folder / "release" / "examples" / example, folder / lock
+        ran(locktrace, "tour", lock, "3", "-o", tour)
+        count = len(list(tour.glob("*.schedule")))
+        yield [program, "explore", 2, 2, 5, folder / "traces", RUNS], f"{RUNS} runs", SECONDS
+        yield [program, "follow", tour, folder / "traces"], f"{count} schedules", math.inf
+
+
+def seconds(on, words, begin):
+    """The median time of a command on some processors."""
     taken = []
-    for on in ON:
+    for _ in range(ROUNDS):
         begun = time.monotonic()
-        said = ran(*on, folder / "search", 2, 2, 5, folder, RUNS)
+        said = ran("taskset", "-c", on, *words)
         taken.append(time.monotonic() - begun)
-        print(*on, f"{said.strip()}: {taken[-1]:.2f} s")
-        assert said.startswith(f"{RUNS} runs")
-    return max(taken)
+        assert said.startswith(begin), said
+    took = statistics.median(taken)
+    print(f"processors {on}: {words[0].name} {begin} {took:.2f} s", flush=True)
+    return took
 
 
 def main():
     words = argparse.ArgumentParser(usage=__doc__)
+    words.add_argument("locktrace", type=Path)
     words.add_argument("library", type=Path)
     words.add_argument("--before")
     words.add_argument("--check", action="store_true")
     given = words.parse_args()
+    cores = sorted(map(str, os.sched_getaffinity(0)), key=int)
     with tempfile.TemporaryDirectory() as name:
-        folder = Path(name)
-        ratios = notes(folder, given.before)
-        taken = search(folder, given.library.resolve())
-    is_well = max(ratios, default=0) <= LIMIT and taken <= SECONDS
+        is_well = max(notes(Path(name), given.before), default=0) <= LIMIT
+        made = commands(Path(name), given.locktrace.resolve(), given.library.resolve())
+        for command, begin, most in made:
+            for on in (",".join(cores), cores[0]):
+                is_well = seconds(on, command, begin) <= most and is_well
     return 0 if is_well or not given.check else 1
 
 

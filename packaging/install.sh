@@ -5,8 +5,8 @@
 #   packaging/install.sh uninstall FOLDER
 #
 # FOLDER is DESTDIR and PREFIX together. LIB and ZSH are where below it libraries and zsh's
-# completions go. Nothing is installed if a part is missing. The folder of documents and that of the
-# recording header's parts are taken away whole; other folders stay, since others may use them.
+# completions go. Nothing is installed if a part is missing. The folder of documents is taken away
+# whole; other folders stay, since others may use them.
 set -eu
 cd "$(dirname "$0")/.."
 umask 022
@@ -22,78 +22,58 @@ SCRIPTS='examples/limits.sh examples/recording/conform.sh examples/bindings/lock
 DOCUMENTS="README.md CHANGELOG.md CONTRIBUTING.md SECURITY.md CODE_OF_CONDUCT.md CITATION.cff
     VERSION LICENSE-APACHE LICENSE-MIT THIRD-PARTY page/lockreplay.html
     $(find crates/*/specs docs/*.md docs/pictures examples/*.md examples/*.schedule \
-    examples/*.report examples/recording/*.md examples/recording/*.[ch] record/*.h \
-    record/lockreplay_record record/rust/Cargo.* record/rust/src record/rust/examples \
+    examples/*.report examples/*.json examples/recording/*.md examples/recording/*.[ch] \
+    record/*.[ch] \
+    record/rust/Cargo.* record/rust/src record/rust/examples \
     -type f -size +0 | sort)"
 
-# put MODE PLACE FILE...: copies files
+# put MODE PLACE FILE...: copies files to a place, or removes them there
 put() {
     mode=$1 place=$folder/$2
     shift 2
-    mkdir -p "$place"
-    install -m "$mode" -t "$place" "$@"
+    case $do in
+    install) mkdir -p "$place" && install -m "$mode" -t "$place" "$@" ;;
+    *) for file; do rm -f "$place/${file##*/}"; done ;;
+    esac
 }
 
-# fill FILE PLACE: copies a file with the version, and with the way up from PLACE
+# fill FILE PLACE: copies a file with the version, and with the way up from PLACE, or removes it
 fill() {
+    [ "$do" = install ] || { rm -f "$folder/$2" && return; }
     mkdir -p "$(dirname "$folder/$2")"
     up=$(dirname "$2" | sed 's|[^/]*|..|g')
     sed "s|@VERSION@|$(cat VERSION)|g; s|@UP@|$up|g" "$1" > "$folder/$2"
     chmod 644 "$folder/$2"
 }
 
-place_of_page() {
-    echo "share/man/man${1##*.}/$(basename "$1")"
-}
-
-# each_completion DO: does it for the completions of each program, with the file and its place
-each_completion() {
-    for program in lockreplay locktrace; do
-        "$1" $COMPLETIONS/$program.bash share/bash-completion/completions/$program
-        "$1" $COMPLETIONS/$program.zsh "$ZSH/_$program"
-        "$1" $COMPLETIONS/$program.fish share/fish/vendor_completions.d/$program.fish
-    done
-}
-
 # A build that was cut off leaves an empty file, which is none.
 look_at() {
-    for part; do
+    for part in $PROGRAMS $HEADERS $LIBRARY $PAGES $SCRIPTS $DOCUMENTS; do
         [ -s "$part" ] || { echo "install.sh: there is no $part" >&2 && exit 1; }
     done
 }
 
 # shellcheck disable=SC2086 # each of these lists is of words
-place_all() {
-    look_at $PROGRAMS $HEADERS $LIBRARY $PAGES $SCRIPTS $DOCUMENTS
+each_file() {
     put 755 bin $PROGRAMS
     put 644 include $HEADERS
-    put 644 include/lockreplay_record record/lockreplay_record/*.h
     put 644 "$LIB" $LIBRARY
     fill packaging/pkgconfig/locktrace.pc "$LIB/pkgconfig/locktrace.pc"
     fill packaging/pkgconfig/lockreplay-record.pc share/pkgconfig/lockreplay-record.pc
-    for page in $PAGES; do fill "$page" "$(place_of_page "$page")"; done
-    each_completion fill
+    for page in $PAGES; do fill "$page" "share/man/man${page##*.}/${page##*/}"; done
+    for program in lockreplay locktrace; do
+        fill $COMPLETIONS/$program.bash share/bash-completion/completions/$program
+        fill $COMPLETIONS/$program.zsh "$ZSH/_$program"
+        fill $COMPLETIONS/$program.fish share/fish/vendor_completions.d/$program.fish
+    done
     for file in $SCRIPTS; do put 755 "$DOC/$(dirname "$file")" "$file"; done
     for file in $DOCUMENTS; do put 644 "$DOC/$(dirname "$file")" "$file"; done
 }
 
-take_away() {
-    rm -f "$folder/$2"
-}
-
-# shellcheck disable=SC2086
-take_all_away() {
-    for file in $PROGRAMS; do rm -f "$folder/bin/$(basename "$file")"; done
-    for file in $HEADERS; do rm -f "$folder/include/$(basename "$file")"; done
-    for page in $PAGES; do rm -f "$folder/$(place_of_page "$page")"; done
-    each_completion take_away
-    rm -f "$folder/$LIB/$(basename $LIBRARY)" "$folder/$LIB/pkgconfig/locktrace.pc" \
-        "$folder/share/pkgconfig/lockreplay-record.pc"
-    rm -rf "${folder:?}/$DOC" "${folder:?}/include/lockreplay_record"
-}
-
-case "$#${1-}" in
-2install) folder=$2 && place_all ;;
-2uninstall) folder=$2 && take_all_away ;;
+[ $# = 2 ] || set -- usage
+do=$1 folder=${2-}
+case $do in
+install) look_at && each_file ;;
+uninstall) each_file && rm -rf "${folder:?}/$DOC" ;;
 *) sed -n '4,5s/^# *//p' "$0" >&2 && exit 2 ;;
 esac

@@ -24,7 +24,10 @@ unreleased() {
 [ -z "$(git status --porcelain)" ] || refuse "what is here is not what is committed"
 tests/texts/generate.py --check 2> "$STAGE/differs" || refuse "$(cat "$STAGE/differs")"
 
-SOURCE=$(packaging/source.sh)
+SOURCE=lockreplay-$VERSION-source.tar.gz
+git -c tar.umask=022 archive --prefix="lockreplay-$VERSION/" HEAD |
+    gzip --no-name --best > "$STAGE/$SOURCE"
+SOURCE=$(publish "$SOURCE")
 TARBALL=$(packaging/dist.sh)
 PACKAGE=$(packaging/deb.sh)
 (cd dist && sha256sum "${SOURCE#dist/}" "${TARBALL#dist/}" "${PACKAGE#dist/}") > "$STAGE/SHA256SUMS"

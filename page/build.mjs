@@ -1,6 +1,6 @@
 #!/usr/bin/env node
-// Builds page/lockreplay.html, one file, from page/src, docs/LOCKS.md, examples/, VERSION and the
-// proved module:
+// Builds page/lockreplay.html, one file, from page/src, page/fonts, docs/LOCKS.md, docs/GLOSSARY.md
+// and examples/, from VERSION and the proved module:
 //
 //     node page/build.mjs MODULE.wasm            writes the page
 //     node page/build.mjs MODULE.wasm --check    fails if the page is not what this would write
@@ -14,9 +14,12 @@ import { dirname, join } from 'node:path';
 import { fileURLToPath } from 'node:url';
 import { setFlagsFromString } from 'node:v8';
 import { bundle } from './build/bundle.mjs';
+import { facesOf } from './build/fonts.mjs';
 import { kindsOf } from './build/kinds.mjs';
 import { lessonsOf, storedOf } from './build/lessons.mjs';
+import { plansOf } from './build/plans.mjs';
 import { rangesOf } from './build/ranges.mjs';
+import { termsOf } from './build/terms.mjs';
 import { codeOf, linesOf, wordsOf } from './src/locks_code.js';
 
 const HERE = dirname(fileURLToPath(import.meta.url));
@@ -29,14 +32,15 @@ const read = (...path) => readFileSync(join(HERE, ...path), 'utf8');
 const asScript = (data) => JSON.stringify(data).replaceAll('<', '\\u003c');
 
 // Without comments, which a reader finds in the sources.
-const style = () => readdirSync(join(SOURCES, 'style')).sort()
+const style = () => facesOf(join(HERE, 'fonts')) + readdirSync(join(SOURCES, 'style')).sort()
   .map((name) => read('src', 'style', name)).join('').replace(/^ *\/\*[^*]*\*\/\n/gm, '').trimEnd();
 
 // A script runs only if its bytes are these.
 function policy(script) {
   const hash = createHash('sha256').update(script).digest('base64');
   return `default-src 'none'; script-src 'sha256-${hash}' 'wasm-unsafe-eval'; `
-    + "style-src 'unsafe-inline'; img-src data:; base-uri 'none'; form-action 'none'";
+    + "style-src 'unsafe-inline'; font-src data:; img-src data:; base-uri 'none'; "
+    + "form-action 'none'";
 }
 
 function build(module) {
@@ -46,11 +50,15 @@ function build(module) {
   const data = {
     module: module.toString('base64'), code, words: wordsOf(locks), kinds: kindsOf(module), lessons,
     stored: storedOf(module, lessons, ranges, linesOf(code)), ranges,
+    translations: { de: JSON.parse(read('..', 'examples', 'lessons.de.json')) },
+    plans: plansOf(join(HERE, '..', 'examples', 'plans.json'), lessons),
+    terms: termsOf(join(HERE, '..', 'docs', 'GLOSSARY.md')),
   };
   const script = `${bundle(SOURCES, 'main.js')}\nstart(${asScript(data)});`;
   // Functions, so that no `$` of a source is taken for a sign of the replacement.
   return read('src', 'index.html').replace('{{STYLE}}', style)
     .replaceAll('{{VERSION}}', () => read('..', 'VERSION').trim())
+    .replace('{{FONTS}}', () => read('fonts', 'LICENSE').trim())
     .replace('{{POLICY}}', () => policy(`\n${script}\n`)).replace('{{SCRIPT}}', () => script);
 }
 

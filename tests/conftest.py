@@ -69,10 +69,10 @@ def pytest_report_header(config):
 
 
 def pytest_terminal_summary(terminalreporter):
-    """How many random texts, orders and values were tried."""
+    """How many random texts, orders and values were tried, and what was measured."""
     for report in terminalreporter.stats.get("passed", []):
         for name, said in report.user_properties:
-            if name == "tried":
+            if name in ("tried", "measured"):
                 terminalreporter.write_line(f"{report.nodeid}: {said}")
 
 

@@ -5,6 +5,8 @@ import pty
 import resource
 import signal
 
+from tree import TESTS, output
+
 
 def closing(*descriptors):
     """The process begins with these closed."""
@@ -14,6 +16,13 @@ def closing(*descriptors):
 def little_memory(size):
     """The process has so many bytes of address space."""
     return lambda: resource.setrlimit(resource.RLIMIT_AS, (size, size))
+
+
+def refusing_library(folder):
+    """The library of tests/refuse, which refuses a request for memory, made in a folder."""
+    assert output("cc", "-O2", "-Wall", "-Wextra", "-shared", "-fPIC", "-o", folder / "refuse.so",
+                  TESTS / "refuse" / "refuse.c") == ""
+    return folder / "refuse.so"
 
 
 def short_files(size):

@@ -18,8 +18,6 @@ enum { BITS = 64 };
 
 #if LR_RECORDS
 
-static _Thread_local lr_log *own_log;
-
 static void noted_fence(void);
 static void *noted_swap(void *word, void *record);
 static bool noted_cas(void *word, void *old, void *record);
@@ -64,13 +62,13 @@ static unsigned thread_of(const void *field)
 static uint64_t value_of(const void *node) { return LR_RECORD(records, (const record *)node); }
 
 /* The swap that follows orders the stores before it, as the fence would. */
-static void noted_fence(void) { LR_WRITE(own_log, next, 0); }
+static void noted_fence(void) { LR_WRITE(next, 0); }
 
 static void *noted_swap(void *word, void *node)
 {
     void *found = __atomic_exchange_n((void **)word, node, __ATOMIC_SEQ_CST);
-    LR_SWAP(own_log, tail, value_of(found));
-    if (found) LR_WRITE(own_log, locked, 1);
+    LR_SWAP(tail, value_of(found));
+    if (found) LR_WRITE(locked, 1);
     return found;
 }
 
@@ -78,7 +76,7 @@ static bool noted_cas(void *word, void *old, void *node)
 {
     bool wrote = __atomic_compare_exchange_n((void **)word, &old, node, false, __ATOMIC_SEQ_CST,
                                              __ATOMIC_SEQ_CST);
-    LR_CAS(own_log, tail, wrote);
+    LR_CAS(tail, wrote);
     return wrote;
 }
 
@@ -86,31 +84,31 @@ static void *noted_load(void *word)
 {
     void *found = __atomic_load_n((void **)word, __ATOMIC_SEQ_CST);
     if (word != &tail)
-        LR_READ(own_log, next, value_of(found));
-    else if (found != &records[own_log->thread].node)
-        LR_CAS(own_log, tail, false);
+        LR_READ(next, value_of(found));
+    else if (found != &records[lr_thread()].node)
+        LR_CAS(tail, false);
     else
-        LR_SWITCH(own_log);
+        LR_SWITCH();
     return found;
 }
 
 static void noted_link(void *next, void *node)
 {
     __atomic_store_n((void **)next, node, __ATOMIC_SEQ_CST);
-    LR_WRITE_OF(own_log, next, thread_of(next), value_of(node));
+    LR_WRITE_OF(next, thread_of(next), value_of(node));
 }
 
 static unsigned noted_look(unsigned *locked)
 {
     unsigned found = __atomic_load_n(locked, __ATOMIC_SEQ_CST);
-    LR_READ(own_log, locked, found);
+    LR_READ(locked, found);
     return found;
 }
 
 static void noted_grant(unsigned *locked, unsigned value)
 {
     __atomic_store_n(locked, value, __ATOMIC_SEQ_CST);
-    LR_WRITE_OF(own_log, locked, thread_of(locked), value);
+    LR_WRITE_OF(locked, thread_of(locked), value);
 }
 
 #endif /* recorded */
@@ -121,26 +119,22 @@ static void open_lock(void)
     ck_spinlock_mcs_init(&tail);
 }
 
-static void one_round(unsigned thread, unsigned round LR_ONLY(, lr_log *log))
+static void one_round(unsigned thread, unsigned round)
 {
-    LR_ONLY(own_log = log;)
-    LR_CALL(log, acquire);
+    LR_CALL(acquire);
     ck_spinlock_mcs_lock(&tail, &records[thread].node);
-    inside(thread, round LR_ONLY(, log));
-    LR_CALL(log, release);
+    inside(thread, round);
+    LR_CALL(release);
     ck_spinlock_mcs_unlock(&tail, &records[thread].node);
 }
 
-#ifdef LR_FOLLOW
-static void one_call(unsigned thread, int call, lr_log *log)
+static void one_call(unsigned thread, int call)
 {
-    own_log = log;
     if (call == LR_CALL_acquire) {
-        LR_CALL(log, acquire);
+        LR_CALL(acquire);
         ck_spinlock_mcs_lock(&tail, &records[thread].node);
     } else {
-        LR_CALL(log, release);
+        LR_CALL(release);
         ck_spinlock_mcs_unlock(&tail, &records[thread].node);
     }
 }
-#endif

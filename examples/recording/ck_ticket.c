@@ -18,30 +18,28 @@ enum { BITS = 16 };
 
 enum { SHIFT = 16, MASK = 0xFFFF };
 
-static _Thread_local lr_log *own_log;
-
 static uint32_t noted_add(uint32_t *word, uint32_t addend)
 {
     uint32_t found = __atomic_fetch_add(word, addend, __ATOMIC_SEQ_CST);
-    LR_JOIN(own_log);
-    LR_ADD(own_log, next_ticket, found >> SHIFT);
-    LR_READ(own_log, now_serving, found & MASK);
+    LR_JOIN();
+    LR_ADD(next_ticket, found >> SHIFT);
+    LR_READ(now_serving, found & MASK);
     return found;
 }
 
 static uint32_t noted_load(const uint32_t *word)
 {
     uint32_t found = __atomic_load_n(word, __ATOMIC_SEQ_CST);
-    LR_READ(own_log, now_serving, found & MASK);
+    LR_READ(now_serving, found & MASK);
     return found;
 }
 
 static void noted_increment(uint16_t *half)
 {
     uint16_t found = __atomic_fetch_add(half, 1, __ATOMIC_SEQ_CST);
-    LR_JOIN(own_log);
-    LR_READ(own_log, now_serving, found);
-    LR_WRITE(own_log, now_serving, (found + 1u) & MASK);
+    LR_JOIN();
+    LR_READ(now_serving, found);
+    LR_WRITE(now_serving, (found + 1u) & MASK);
 }
 
 #undef ck_pr_load_32
@@ -62,27 +60,23 @@ static ck_spinlock_ticket_t the_lock = CK_SPINLOCK_TICKET_INITIALIZER;
 
 static void open_lock(void) { ck_spinlock_ticket_init(&the_lock); }
 
-static void one_round(unsigned thread, unsigned round LR_ONLY(, lr_log *log))
+static void one_round(unsigned thread, unsigned round)
 {
-    LR_ONLY(own_log = log;)
-    LR_CALL(log, acquire);
+    LR_CALL(acquire);
     ck_spinlock_ticket_lock(&the_lock);
-    inside(thread, round LR_ONLY(, log));
-    LR_CALL(log, release);
+    inside(thread, round);
+    LR_CALL(release);
     ck_spinlock_ticket_unlock(&the_lock);
 }
 
-#ifdef LR_FOLLOW
-static void one_call(unsigned thread, int call, lr_log *log)
+static void one_call(unsigned thread, int call)
 {
     (void)thread;
-    own_log = log;
     if (call == LR_CALL_acquire) {
-        LR_CALL(log, acquire);
+        LR_CALL(acquire);
         ck_spinlock_ticket_lock(&the_lock);
     } else {
-        LR_CALL(log, release);
+        LR_CALL(release);
         ck_spinlock_ticket_unlock(&the_lock);
     }
 }
-#endif

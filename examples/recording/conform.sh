@@ -24,7 +24,7 @@ say() {
 }
 
 follow_in_c() {
-    cc -O2 -pthread -DLR_FOLLOW -DLR_CHECK "$@" "$here/$lock.c" "$checks" -o "$work/follow"
+    cc -O2 -pthread -DLR_MODE=FOLLOW -DLR_CHECK "$@" "$here/$lock.c" "$checks" -o "$work/follow"
     "$work/follow" "$schedules" "$work"
 }
 

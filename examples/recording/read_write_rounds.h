@@ -11,44 +11,42 @@ static void open_lock(void)
     monitor_open(&the_lock.monitor);
 }
 
-static void read_round(unsigned thread, unsigned round LR_ONLY(, lr_log *log))
+static void read_round(unsigned thread, unsigned round)
 {
-    read_lock(&the_lock LR_ONLY(, log));
-    inside(thread, round LR_ONLY(, log));
-    read_unlock(&the_lock LR_ONLY(, log));
+    read_lock(&the_lock);
+    inside(thread, round);
+    read_unlock(&the_lock);
 }
 
-static void write_round(unsigned thread, unsigned round LR_ONLY(, lr_log *log))
+static void write_round(unsigned thread, unsigned round)
 {
-    write_lock(&the_lock LR_ONLY(, log));
-    inside(thread, round LR_ONLY(, log));
+    write_lock(&the_lock);
+    inside(thread, round);
     if (round / 3 % 4 != 3) {
-        write_unlock(&the_lock LR_ONLY(, log));
+        write_unlock(&the_lock);
         return;
     }
-    downgrade(&the_lock LR_ONLY(, log));
-    inside(thread, round LR_ONLY(, log));
-    read_unlock(&the_lock LR_ONLY(, log));
+    downgrade(&the_lock);
+    inside(thread, round);
+    read_unlock(&the_lock);
 }
 
-static void one_round(unsigned thread, unsigned round LR_ONLY(, lr_log *log))
+static void one_round(unsigned thread, unsigned round)
 {
     if ((round + thread) % 3 == 2)
-        write_round(thread, round LR_ONLY(, log));
+        write_round(thread, round);
     else
-        read_round(thread, round LR_ONLY(, log));
+        read_round(thread, round);
 }
 
-#ifdef LR_FOLLOW
-static void one_call(unsigned thread, int call, lr_log *log)
+static void one_call(unsigned thread, int call)
 {
     (void)thread;
     switch (call) {
-    case LR_CALL_rlock: read_lock(&the_lock, log); break;
-    case LR_CALL_wlock: write_lock(&the_lock, log); break;
-    case LR_CALL_runlock: read_unlock(&the_lock, log); break;
-    case LR_CALL_wunlock: write_unlock(&the_lock, log); break;
-    default: downgrade(&the_lock, log); break;
+    case LR_CALL_rlock: read_lock(&the_lock); break;
+    case LR_CALL_wlock: write_lock(&the_lock); break;
+    case LR_CALL_runlock: read_unlock(&the_lock); break;
+    case LR_CALL_wunlock: write_unlock(&the_lock); break;
+    default: downgrade(&the_lock); break;
     }
 }
-#endif

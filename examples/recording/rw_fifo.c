@@ -20,70 +20,70 @@ static int has_readers(const rw_lock *lock) { return lock->read_acquires != lock
 
 static int reader_must_wait(const rw_lock *lock) { return lock->writer; }
 
-static void read_lock(rw_lock *lock LR_ONLY(, lr_log *log))
+static void read_lock(rw_lock *lock)
 {
-    LR_CALL(log, rlock);
-    monitor_enter(&lock->monitor LR_ONLY(, log));
+    LR_CALL(rlock);
+    monitor_enter(&lock->monitor);
     while (reader_must_wait(lock)) {
-        LR_SECTION(log, ++lock->monitor.sections, waits);
-        monitor_wait(&lock->monitor LR_ONLY(, log));
+        LR_SECTION(++lock->monitor.sections, waits);
+        monitor_wait(&lock->monitor);
     }
     lock->read_acquires++;
-    LR_SECTION(log, ++lock->monitor.sections, entered);
-    monitor_leave(&lock->monitor LR_ONLY(, log));
+    LR_SECTION(++lock->monitor.sections, entered);
+    monitor_leave(&lock->monitor);
 }
 
-static void read_unlock(rw_lock *lock LR_ONLY(, lr_log *log))
+static void read_unlock(rw_lock *lock)
 {
-    LR_CALL(log, runlock);
-    monitor_enter(&lock->monitor LR_ONLY(, log));
+    LR_CALL(runlock);
+    monitor_enter(&lock->monitor);
     lock->read_releases++;
-    LR_SECTION(log, ++lock->monitor.sections, left);
-    monitor_leave(&lock->monitor LR_ONLY(, log));
+    LR_SECTION(++lock->monitor.sections, left);
+    monitor_leave(&lock->monitor);
 }
 
 /* The writer's flag is set: no more readers come in, and those inside go. */
-static void wait_for_readers(rw_lock *lock LR_ONLY(, lr_log *log))
+static void wait_for_readers(rw_lock *lock)
 {
-    LR_SECTION(log, ++lock->monitor.sections, moved);
-    monitor_wait(&lock->monitor LR_ONLY(, log));
+    LR_SECTION(++lock->monitor.sections, moved);
+    monitor_wait(&lock->monitor);
     while (has_readers(lock)) {
-        LR_SECTION(log, ++lock->monitor.sections, waits);
-        monitor_wait(&lock->monitor LR_ONLY(, log));
+        LR_SECTION(++lock->monitor.sections, waits);
+        monitor_wait(&lock->monitor);
     }
 }
 
-static void write_lock(rw_lock *lock LR_ONLY(, lr_log *log))
+static void write_lock(rw_lock *lock)
 {
-    LR_CALL(log, wlock);
-    monitor_enter(&lock->monitor LR_ONLY(, log));
+    LR_CALL(wlock);
+    monitor_enter(&lock->monitor);
     while (lock->writer) {
-        LR_SECTION(log, ++lock->monitor.sections, waits);
-        monitor_wait(&lock->monitor LR_ONLY(, log));
+        LR_SECTION(++lock->monitor.sections, waits);
+        monitor_wait(&lock->monitor);
     }
     lock->writer = 1;
-    if (has_readers(lock)) wait_for_readers(lock LR_ONLY(, log));
-    LR_SECTION(log, ++lock->monitor.sections, entered);
-    monitor_leave(&lock->monitor LR_ONLY(, log));
+    if (has_readers(lock)) wait_for_readers(lock);
+    LR_SECTION(++lock->monitor.sections, entered);
+    monitor_leave(&lock->monitor);
 }
 
-static void write_unlock(rw_lock *lock LR_ONLY(, lr_log *log))
+static void write_unlock(rw_lock *lock)
 {
-    LR_CALL(log, wunlock);
-    monitor_enter(&lock->monitor LR_ONLY(, log));
+    LR_CALL(wunlock);
+    monitor_enter(&lock->monitor);
     lock->writer = 0;
-    LR_SECTION(log, ++lock->monitor.sections, left);
-    monitor_leave(&lock->monitor LR_ONLY(, log));
+    LR_SECTION(++lock->monitor.sections, left);
+    monitor_leave(&lock->monitor);
 }
 
-static void downgrade(rw_lock *lock LR_ONLY(, lr_log *log))
+static void downgrade(rw_lock *lock)
 {
-    LR_CALL(log, downgrade);
-    monitor_enter(&lock->monitor LR_ONLY(, log));
+    LR_CALL(downgrade);
+    monitor_enter(&lock->monitor);
     lock->writer = 0;
     lock->read_acquires++;
-    LR_SECTION(log, ++lock->monitor.sections, entered);
-    monitor_leave(&lock->monitor LR_ONLY(, log));
+    LR_SECTION(++lock->monitor.sections, entered);
+    monitor_leave(&lock->monitor);
 }
 
 #include "read_write_rounds.h"

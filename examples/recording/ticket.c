@@ -19,47 +19,45 @@ static int must_wait(unsigned served, unsigned ticket)
     return served != ticket;
 }
 
-static void ticket_acquire(ticket_lock *lock LR_ONLY(, lr_log *log))
+static void ticket_acquire(ticket_lock *lock)
 {
-    LR_CALL(log, acquire);
+    LR_CALL(acquire);
     unsigned ticket = atomic_fetch_add(&lock->next_ticket, 1) & MASK;
-    LR_ADD(log, next_ticket, ticket);
+    LR_ADD(next_ticket, ticket);
     for (;;) {
         unsigned served = atomic_load(&lock->now_serving);
-        LR_READ(log, now_serving, served);
+        LR_READ(now_serving, served);
         if (!must_wait(served, ticket)) return;
         sched_yield();
     }
 }
 
-static void ticket_release(ticket_lock *lock LR_ONLY(, lr_log *log))
+static void ticket_release(ticket_lock *lock)
 {
-    LR_CALL(log, release);
+    LR_CALL(release);
     unsigned served = atomic_load(&lock->now_serving);
-    LR_READ(log, now_serving, served);
+    LR_READ(now_serving, served);
     unsigned next = (served + 1) & MASK;
     atomic_store(&lock->now_serving, next);
-    LR_WRITE(log, now_serving, next);
+    LR_WRITE(now_serving, next);
 }
 
 static ticket_lock the_lock;
 
 static void open_lock(void) { memset(&the_lock, 0, sizeof the_lock); }
 
-static void one_round(unsigned thread, unsigned round LR_ONLY(, lr_log *log))
+static void one_round(unsigned thread, unsigned round)
 {
-    ticket_acquire(&the_lock LR_ONLY(, log));
-    inside(thread, round LR_ONLY(, log));
-    ticket_release(&the_lock LR_ONLY(, log));
+    ticket_acquire(&the_lock);
+    inside(thread, round);
+    ticket_release(&the_lock);
 }
 
-#ifdef LR_FOLLOW
-static void one_call(unsigned thread, int call, lr_log *log)
+static void one_call(unsigned thread, int call)
 {
     (void)thread;
     if (call == LR_CALL_acquire)
-        ticket_acquire(&the_lock, log);
+        ticket_acquire(&the_lock);
     else
-        ticket_release(&the_lock, log);
+        ticket_release(&the_lock);
 }
-#endif

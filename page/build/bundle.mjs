@@ -8,14 +8,15 @@ import { join } from 'node:path';
 const IMPORT = /^import \{([^}]+)\} from '\.\/([\w]+\.js)';\n/gm;
 const EXPORT = /^export (async function|function|class|const) (\w+)/gm;
 
-// Lines of comment and empty ones, which a reader finds in the sources.
+// Lines of comment, empty ones and indents, which a reader finds in the sources.
 const COMMENT = /^(?: *\/\/.*)?\n/gm;
+const INDENT = /^ +/gm;
 
 const variable = (file) => `m_${file.replace('.js', '')}`;
 
 function wrapped(file, source) {
   const names = [...source.matchAll(EXPORT)].map(([, , name]) => name);
-  const body = source.replace(COMMENT, '')
+  const body = source.replace(COMMENT, '').replace(INDENT, '')
     .replace(IMPORT, (_, list, from) => `const {${list} } = ${variable(from)};\n`)
     .replace(EXPORT, '$1 $2');
   const other = body.match(/^(import|export) .*/m);

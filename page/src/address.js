@@ -24,17 +24,20 @@ export class Address {
   }
 
   begin() {
+    this.page.quiz.bringBack(history.state);
     if (this.open()) return;
     this.returning = true;
     this.page.openLesson(FIRST_LESSON);
     this.returning = false;
+    this.page.chooseLesson();
   }
 
   // In another language, which is chosen when the page is loaded.
   inLanguage(name) {
     this.flush();
     const parts = location.hash.replace(/&?lang=[^&]*/, '');
-    history.replaceState(null, '', `${parts || '#'}${parts.length > 1 ? '&' : ''}lang=${name}`);
+    const fragment = `${parts || '#'}${parts.length > 1 ? '&' : ''}lang=${name}`;
+    history.replaceState(this.page.quiz.kept, '', fragment);
     location.reload();
   }
 
@@ -51,7 +54,7 @@ export class Address {
   }
 
   // What is wrong with what was asked for, if anything is.
-  openAsked({ lesson, kept: name, text, move, cut }) {
+  openAsked({ lesson, kept: name, text, move, cut, play, compare }) {
     const { page } = this;
     if (name && page.session.run) this.keep();
     const work = name && kept(name);
@@ -61,6 +64,7 @@ export class Address {
     if (lesson) page.openLesson(lesson, move);
     else page.openOwn(text ?? work.text, move);
     this.work = name ?? this.work;
+    if (play || compare) page.goOnWith(play, compare);
     this.returning = false;
     return cut ? T.cut : '';
   }
@@ -86,7 +90,7 @@ export class Address {
 
   push() {
     try {
-      history.pushState(null, '', location.href);
+      history.pushState(this.page.quiz.kept, '', location.href);
     } catch {
       // Too many entries in a short time.
     }
@@ -148,9 +152,10 @@ export class Address {
   }
 
   write(fragment) {
-    if (this.damaged || fragment === location.hash) return;
+    const { kept: answers } = this.page.quiz;
+    if (this.damaged || (fragment === location.hash && answers === history.state)) return;
     try {
-      history.replaceState(null, '', fragment);
+      history.replaceState(answers, '', fragment);
     } catch {
       // Too many changes in a short time: the next one writes it.
     }

@@ -1,8 +1,9 @@
 // The lock's code, with the line of the move just made and the line that each thread does next.
 
 import { MOVES, PHASES } from './codes.js';
+import { movingThread } from './folding.js';
 import { html } from './markup.js';
-import { standingOf } from './shapes.js';
+import { standingIn } from './shapes.js';
 
 // The phase or the call whose lines of code the move was; of a refused move the phase that is due.
 function madeLine({ run, move, refused }, state) {
@@ -26,9 +27,11 @@ const MOST_MARKS = 5;
 
 function marks(view, threads) {
   const shown = threads.slice(0, MOST_MARKS).map((thread) => {
-    const standing = standingOf(view.run, view.move, thread);
+    const standing = standingIn(view, thread);
     const title = html`title="${view.names.of(thread)}"`;
-    return html`<span class="disc ${standing}" ${title}>${view.names.mark(thread)}</span>`;
+    const moving = thread === movingThread(view) && 'moving';
+    return html`<span class="disc ${standing} ${moving}" ${title}>${
+      view.names.mark(thread)}</span>`;
   });
   const more = threads.length - MOST_MARKS;
   return html`${shown}${more > 0 && html`<span class="more">+${more}</span>`}`;

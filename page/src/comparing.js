@@ -1,9 +1,10 @@
-// Comparing: another schedule above the one that is shown, stepping with it: the one that it was
-// branched off from, or the same calls on the other read-write lock.
+// Comparing: another schedule above the one that is shown, in the same columns, stepping with it:
+// the one that it was branched off from, or the same calls on the other read-write lock. Both
+// memories are beside each other.
 
 import { commonMoves, firstDifference, otherLock } from './compare.js';
-import { lanesPicture, numbersPicture } from './lanes.js';
-import { layOutLanes } from './layout.js';
+import { lanesPicture } from './lanes.js';
+import { layOutBeside } from './layout.js';
 import { LOCKS } from './locks.js';
 import { looks } from './looks.js';
 import { byId, html, show } from './markup.js';
@@ -13,10 +14,17 @@ import { texts } from './texts.js';
 import { onOtherLock } from './turns.js';
 
 const T = texts.compare;
-const SHARE = 0.2;
-const LEAST = 110;
 
 const titleOfLock = (name) => LOCKS.find((lock) => lock.name === name).title;
+
+// The column of each move of the other run, from move 0 on: the move here after which it is made.
+function columnsOf(run, at) {
+  const columns = [0];
+  for (let move = 1; move <= run.count; move += 1) {
+    if (at(move) > at(move - 1)) columns[at(move)] = move;
+  }
+  return columns;
+}
 
 export class Comparing {
   constructor(page) {
@@ -24,6 +32,8 @@ export class Comparing {
     this.kind = null;
     this.made = {};
   }
+
+  get isOn() { return this.kind !== null; }
 
   // What there is to compare with.
   kinds() {
@@ -39,10 +49,17 @@ export class Comparing {
     const kinds = this.kinds();
     if (!kinds.length) tell(T.nothing);
     this.kind = kinds[kinds.indexOf(this.kind) + 1] ?? null;
-    this.page.draw();
+    this.page.fit();
   }
 
-  // {session, at, first, title} of what is compared, made once for a run.
+  begin() { [this.kind = null] = this.kinds(); }
+
+  // Ends if there is nothing to compare with any more.
+  settle() {
+    if (this.isOn && !this.kinds().includes(this.kind)) this.kind = null;
+  }
+
+  // {session, at, columns, first, title} of what is compared, made once for a run.
   other() {
     const { run, origin } = this.page.session;
     if (this.made.run === run && this.made.kind === this.kind) return this.made;
@@ -57,38 +74,47 @@ export class Comparing {
       title = titleOfLock(otherLock(run));
     }
     const first = firstDifference(run, session.run, at);
-    this.made = { run, kind: this.kind, session, at, first, title: title || texts.untitled };
+    const columns = columnsOf(run, at);
+    title ||= texts.untitled;
+    this.made = { run, kind: this.kind, session, at, columns, first, title };
     return this.made;
   }
 
   // The first difference in the schedule that is shown; 0 for none.
-  get first() { return this.kind ? this.other().first : 0; }
+  get first() { return this.isOn ? this.other().first : 0; }
 
-  draw(width) {
-    if (this.kind && !this.kinds().includes(this.kind)) this.kind = null;
-    byId('other').hidden = !this.kind;
-    document.body.classList.toggle('compares', Boolean(this.kind));
-    byId('compare').setAttribute('aria-pressed', Boolean(this.kind));
-    if (this.kind) show(byId('other'), this.view(width));
+  // How many columns both need.
+  get columns() {
+    if (this.kind !== 'origin') return 0;
+    return Math.max(this.page.session.run.last, this.other().session.run.last);
   }
 
-  view(width) {
+  // The other run at the move that is shown: {view, state, run}.
+  there() {
     const { page } = this;
-    const { session, at, first, title } = this.other();
-    const { place } = page.session;
-    session.go(at(place));
-    const { future } = looks;
-    const wanted = { hidden: page.hides, future, different: first && at(first) };
-    const view = session.view(wanted);
-    const room = { width, height: Math.max(LEAST, innerHeight * SHARE) };
-    const layout = layOutLanes(view, false, room, page.zoomed);
+    const { session, at, first } = this.other();
+    session.go(at(page.session.place));
+    const view = session.view({
+      hidden: page.hides, future: looks.future, different: first, compares: true,
+    });
+    return { view, state: session.run.state(view.move), run: session.run };
+  }
+
+  // The move here beside which a move of the other run is.
+  beside(move) { return this.other().columns[move] ?? move; }
+
+  // In the columns of the layout of what is shown, and as tall.
+  draw(layout, room) {
+    const { columns, first, title, session } = this.other();
+    const { view } = this.there();
+    const beside = layOutBeside(layout, view, columns, room);
+    const { place } = this.page.session;
     const differs = first && place >= first;
-    return html`<h2>${T.title(title)} ${first ? html`<button type="button" data-move="${first}"
-        >${T.first(first)}</button>` : html`<span>${T.same}</span>`}</h2>
-      ${numbersPicture(view, layout)}
-      <div class="other-lanes">${lanesPicture(view, layout, 0, layout.lanes.length - 1)}</div>
+    show(byId('other'), html`<h2>${T.title(title)} ${first ? html`<button type="button"
+        data-first="${first}">${T.first(first)}</button>` : html`<span>${T.same}</span>`}</h2>
+      <div class="other-lanes">${lanesPicture(view, beside, 0, beside.lanes.length - 1)}</div>
       <p class="compared ${differs && 'differs'}"><code>${T.there} ${lineAt(session)}</code>
-      <code>${T.here} ${lineAt(page.session)}</code></p>`;
+      <code>${T.here} ${lineAt(this.page.session)}</code></p>`);
   }
 }
 

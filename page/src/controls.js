@@ -4,12 +4,29 @@ import { listenForKeys } from './keys.js';
 import { byId, show } from './markup.js';
 import { lockOptions } from './play.js';
 import { drawPaper, toggleTheme } from './screen.js';
+import { listenForSwipes } from './swipes.js';
+import { listenForTerms } from './terms.js';
 import { texts } from './texts.js';
 
 // The tools that have no room otherwise.
-function toggleMenu() {
-  const open = document.body.classList.toggle('menu');
-  byId('menu').setAttribute('aria-expanded', open);
+function showMenu(isOpen) {
+  document.body.classList.toggle('menu', isOpen);
+  byId('menu').setAttribute('aria-expanded', isOpen);
+}
+
+// It closes with the tool that is chosen, with a click elsewhere, and with Escape.
+function menu(page) {
+  const isOpen = () => document.body.classList.contains('menu');
+  addEventListener('click', ({ target }) => {
+    showMenu(target.id === 'menu' && !isOpen());
+    page.hall.blank(false);
+  });
+  addEventListener('keydown', ({ key }) => {
+    if (key === 'Escape' && isOpen()) {
+      showMenu(false);
+      byId('menu').focus();
+    }
+  });
 }
 
 function clicks(page) {
@@ -20,10 +37,12 @@ function clicks(page) {
     'mode-lessons': () => page.chooseLesson(), 'mode-own': () => modes.toggle('own'),
     'mode-play': () => modes.toggle('play'), 'mode-quiz': () => modes.toggleQuiz(),
     compare: () => comparing.toggle(), 'mode-hall': () => page.toggleHall(),
-    leave: () => page.toggleHall(), 'show-view': () => page.showView(), menu: () => toggleMenu(),
+    leave: () => page.toggleHall(), 'show-view': () => page.showView(),
     link: () => address.copy(), print: () => page.showSheets(), theme: () => toggleTheme(page),
-    'show-keys': () => page.showKeys(), 'show-about': () => page.showAbout(),
+    plan: () => page.lecture.choose(), 'show-keys': () => page.showKeys(),
+    'show-about': () => page.showAbout(),
     'show-take': () => page.showTake(), 'show-find': () => page.showFind(),
+    'close-banner': () => { byId('banner').hidden = true; page.fit(); },
     undo: () => playing.undo(), 'undo-own': () => playing.undo(), save: () => editing.save(),
     copy: () => editing.copy(), open: () => byId('file').click(),
     clear: () => page.openOwn(new TextEncoder().encode(texts.own.template)),
@@ -32,12 +51,15 @@ function clicks(page) {
 }
 
 function partsThatAreDrawn(page) {
-  for (const id of ['time', 'other']) {
-    byId(id).addEventListener('click', (event) => {
-      const move = event.target.closest('[data-move]')?.dataset.move;
-      if (move) page.go(Number(move));
-    });
-  }
+  byId('time').addEventListener('click', (event) => {
+    const move = event.target.closest('[data-move]')?.dataset.move;
+    if (move) page.go(Number(move));
+  });
+  byId('other').addEventListener('click', (event) => {
+    const { first, move } = event.target.closest('[data-move], [data-first]')?.dataset ?? {};
+    if (first) page.go(Number(first));
+    if (move) page.go(page.comparing.beside(Number(move)));
+  });
   byId('choices').addEventListener('click', (event) => {
     const { thread, word } = event.target.closest('[data-word]')?.dataset ?? {};
     if (word) page.playing.choose(Number(thread), word);
@@ -55,25 +77,43 @@ function partsThatAreDrawn(page) {
       if (returns) page.editing.removeReturns();
     });
   }
+}
+
+// The bar of a lecture, and the lesson after the one that ended.
+function further(page) {
+  byId('lecture').addEventListener('click', (event) => {
+    const { lecture: way } = event.target.dataset;
+    if (way) page.lecture[way]();
+  });
   byId('now').addEventListener('click', (event) => {
-    if (event.target.dataset.saveQuiz) page.modes.saveQuiz();
+    const { next } = event.target.closest('[data-next]')?.dataset ?? {};
+    if (next) page.openLesson(next);
   });
-  byId('now').addEventListener('submit', (event) => {
-    event.preventDefault();
-    page.modes.checkQuiz(event.target);
-  });
+}
+
+// The quiz is beside the move, or above the parts that are shown instead.
+function quiz(page) {
+  for (const id of ['now', 'current']) {
+    byId(id).addEventListener('click', (event) => {
+      if (event.target.dataset.saveQuiz) page.modes.saveQuiz();
+    });
+    byId(id).addEventListener('submit', (event) => {
+      event.preventDefault();
+      page.modes.checkQuiz(event.target);
+    });
+  }
 }
 
 function files(page) {
   byId('file').addEventListener('change', (event) => {
-    if (event.target.files[0]) page.editing.openFile(event.target.files[0]);
+    if (event.target.files.length) page.editing.openFiles(event.target.files);
     event.target.value = '';
   });
   addEventListener('dragover', (event) => event.preventDefault());
   addEventListener('drop', (event) => {
     event.preventDefault();
-    const [file] = event.dataTransfer.files;
-    if (file) page.editing.openFile(file);
+    const { files } = event.dataTransfer;
+    if (files.length) page.editing.openFiles(files);
     else page.editing.paste(event.dataTransfer.getData('text/plain'));
   });
   addEventListener('paste', (event) => {
@@ -94,7 +134,12 @@ function limitNumbers({ threads, bits }) {
 
 export function listen(page) {
   clicks(page);
+  menu(page);
   partsThatAreDrawn(page);
+  quiz(page);
+  further(page);
+  listenForTerms();
+  listenForSwipes(page);
   files(page);
   listenForKeys(page);
   show(byId('new-lock'), lockOptions());

@@ -5,6 +5,7 @@ import { Editor } from './editor.js';
 import { bytesOfFile, saveAs } from './own.js';
 import { tell, toClipboard } from './telling.js';
 import { texts } from './texts.js';
+import { withoutValues } from './trace.js';
 
 export class Editing {
   constructor(page) {
@@ -12,12 +13,21 @@ export class Editing {
     this.editor = new Editor((text, line) => this.edited(text, line), (line) => this.caretAt(line));
   }
 
-  async openFile(file) {
+  // Of several files the first is shown. The others are kept, and listed with the lessons.
+  async openFiles([first, ...others]) {
     try {
-      this.page.openOwn(await bytesOfFile(file));
+      for (const file of [...others.reverse(), first]) this.openText(await bytesOfFile(file));
+      if (others.length) tell(texts.own.several(first.name, others.length));
     } catch {
       tell(texts.couldNotRead);
     }
+  }
+
+  // A trace is shown without its values.
+  openText(text, run) {
+    const without = run?.hasLock && !run.fault ? text : withoutValues(text);
+    this.page.openOwn(without, 0, without === text ? run : undefined);
+    if (without !== text) tell(texts.own.trace);
   }
 
   // A text that is no schedule does not take the place of what is shown.
@@ -25,7 +35,7 @@ export class Editing {
     const text = new TextEncoder().encode(letters);
     const { page } = this;
     const run = page.session.runOf(text);
-    if (run.hasLock || (letters && page.mode === 'own')) page.openOwn(text, 0, run);
+    if (run.hasLock || (letters && page.mode === 'own')) this.openText(text, run);
     else tell(texts.noSchedule);
   }
 

@@ -39,6 +39,8 @@ export class Editor {
     this.area.value = this.returns ? letters.replaceAll('\r', RETURN_SIGN) : letters;
     this.area.disabled = large;
     this.area.placeholder = large ? texts.own.large(text.length.toLocaleString('en')) : '';
+    // A long line of text is scrolled to; what is said in its place is seen whole.
+    this.area.wrap = large ? 'soft' : 'off';
     this.caretAt = 0;
   }
 

@@ -2,7 +2,7 @@
 // The schedule that the module finds is opened at the move that was looked for: of lines the last.
 
 import { bytesOf } from './bytes.js';
-import { ANSWER } from './codes.js';
+import { ANSWER, OUTCOMES } from './codes.js';
 import { firstOf, kindsOf } from './kinds.js';
 import { language } from './language.js';
 import { LOCK_NAMES } from './locks.js';
@@ -16,13 +16,16 @@ const T = texts.find;
 const withCommas = (number) => number.toLocaleString(language);
 
 // Why there is no run to show.
-function refusal({ answer, count }, { threads, rounds }) {
+function refusal({ answer, count }, { threads, rounds, sketch }) {
   const states = withCommas(count);
   return {
     [FOUND.nowhere]: () => T.nowhere(texts.threads(threads), T.rounds(rounds), states),
     [FOUND.tooLarge]: () => T.tooLarge(states),
     [FOUND.longRun]: () => T.longRun,
-    [FOUND.badLine]: () => T.badLine(count),
+    [FOUND.badLine]: () => {
+      const word = sketch.split('\n')[count - 1].split(' ').find((one) => OUTCOMES.includes(one));
+      return word ? T.outcome(count, word) : T.badLine(count);
+    },
     [FOUND.manyLines]: () => T.manyLines(count),
     [FOUND.noRoom]: () => T.noRoom(count),
     [FOUND.notAsked]: () => T.notAsked,
@@ -76,6 +79,8 @@ class Finding {
     show(this.fields.kind, html`<option value="">${T.own}</option>${options}`);
     this.fields.kind.value = '';
     this.fields.sketch.value = '';
+    // An example, which an empty field stands for.
+    this.fields.sketch.placeholder = this.kinds[this.kinds.length >> 1].sketch;
   }
 
   chooseKind() {
@@ -88,7 +93,7 @@ class Finding {
     const header = newHeader(this.form);
     const { state } = this.machine.play(bytesOf(header), 0, false);
     if (state.answer === ANSWER.fault) return null;
-    const sketch = this.fields.sketch.value;
+    const sketch = this.fields.sketch.value || this.fields.sketch.placeholder;
     const chosen = this.kinds[this.fields.kind.value];
     const kind = chosen?.sketch === sketch ? chosen : null;
     const title = kind?.name ?? sketch.trim().split(/\s*\n\s*/).join('; ');

@@ -1,6 +1,7 @@
 // The sentences of the page in German, by the names of the English ones. The words of schedules
 // and reports stay as they are.
 
+import { germanKeys } from './german_keys.js';
 import { germanKinds } from './german_kinds.js';
 import { germanLocks } from './german_locks.js';
 
@@ -19,15 +20,15 @@ export const german = {
     compare: {
       label: 'Der Ablauf, mit dem verglichen wird', title: (title) => `Verglichen mit: ${title}`,
       first: (move) => `Erster Unterschied: Zug ${move}`, same: 'Kein Unterschied',
-      here: 'hier:', there: 'dort:',
+      here: 'hier:', there: 'dort:', hereMemory: 'Speicher hier', thereMemory: 'Speicher dort',
       nothing: 'Es gibt nichts zu vergleichen. Zweige zuerst ab, beim Spielen oder im Text.',
     },
     tools: {
       copyLink: 'Link', print: 'Drucken', dark: 'Dunkel', light: 'Hell', keys: 'Tasten',
       first: 'Erster Zug', back: 'Ein Zug zurück', forward: 'Ein Zug vor', last: 'Letzter Zug',
       run: 'Die Züge nacheinander abspielen', pause: 'Anhalten', slider: 'Zug',
-      close: 'Schließen', wider: 'Breitere Spalten', narrower: 'Schmalere Spalten',
-      take: 'Exportieren', find: 'Suchen', more: 'Mehr', leave: 'Saalmodus verlassen',
+      close: 'Schließen', take: 'Exportieren', find: 'Suchen', plans: 'Lehren', more: 'Mehr',
+      leave: 'Saalmodus verlassen',
       speed: 'Tempo, in dem die Züge abgespielt werden',
     },
     view: {
@@ -43,9 +44,26 @@ export const german = {
       key: 'Zeichen', read: 'von diesem Zug gelesen', changed: 'von diesem Zug geschrieben',
       own: 'eigene Variable eines Threads, kein Wort des Speichers',
       link: 'ein Link', missing: 'in der Schlange, aber ohne Link',
-      ask: 'eine Frage bei diesem Zug', enters: 'auf dem Regler: ein Thread tritt ein',
+      found: 'unter einem Schritt: was er fand', ask: 'eine Frage bei diesem Zug',
+      enters: 'auf dem Regler: ein Thread tritt ein',
       fails: 'auf dem Regler: ein cas scheitert, oder ein Zug ist abgelehnt',
       fold: 'Threads, die nicht gezeichnet sind, und wie viele',
+    },
+    hall: { noFullScreen: 'Der Browser hat den ganzen Bildschirm nicht erlaubt.' },
+    plans: {
+      title: 'Unterrichtspläne',
+      hint: 'Zehn Minuten je Sperre, im Saalmodus. N geht zum nächsten Schritt, A zeigt die '
+        + 'Antwort.',
+      minutes: (from, to) => `${from} bis ${to} min`,
+      place: (title, move) => `${title}, ${move}`,
+      step: (at, count) => `Schritt ${at} von ${count}`,
+      homework: 'Hausaufgabe:', sheet: 'Übungsblatt', next: 'Weiter N', last: 'Letzter Schritt',
+      back: 'Der Schritt davor', left: 'Übrige Minuten',
+    },
+    presenter: {
+      title: 'lockreplay: für den Vortrag', now: 'Dieser Zug', next: 'Der nächste Zug',
+      following: (title, move) => `Nächster Schritt: ${title}, ${move}`,
+      blocked: 'Der Browser hat kein zweites Fenster erlaubt.',
     },
     find: {
       title: 'Einen Moment suchen',
@@ -64,6 +82,9 @@ export const german = {
       tooLarge: (states) => `Nicht entschieden: ${states} Zustände gefunden, mehr als diese Seite `
         + 'durchsucht. Nimm weniger Threads oder Runden.',
       longRun: 'Der kürzeste Lauf ist zu lang für diese Seite.',
+      outcome: (line, word) => `Zeile ${line}: „${word}“ ist ein Ergebnis des Berichts. Eine `
+        + 'Skizze nennt, was ein Schritt fand, wie „* read locked found 1“ oder „* cas failed“. '
+        + 'Beispiele sind unter „Welcher Zug“.',
       badLine: (line) => `Zeile ${line} ist keine Zeile einer Skizze. Eine Zeile ist die Nummer `
         + 'eines Threads oder *, und ein Aufruf oder Schritt, wie „* cas failed“.',
       manyLines: (line) => `Zeile ${line} ist eine zu viel: Eine Skizze hat höchstens 255 Zeilen.`,
@@ -72,6 +93,11 @@ export const german = {
         + 'brauchen breitere Wörter.',
     },
     take: {
+      heading: 'mit Titel', legend: 'mit Zeichen', code: 'mit Code',
+      answer: 'mit dem, wonach die offene Frage fragt',
+      tikz: 'Dieser Zustand für LaTeX (TikZ)', from: 'Von Zug', to: 'bis Zug',
+      strip: 'Der Speicher nach jedem dieser Züge (SVG)',
+      animated: 'Diese Züge als bewegtes Bild (APNG)',
       title: 'Exportieren', svg: 'Dieser Zustand als Bild (SVG)',
       png: 'Dieser Zustand als Bild (PNG)', report: 'Der ganze Bericht', schedule: 'Der Ablauf',
       frame: 'Rahmen für eine Folie kopieren', frameCopied: 'Der Rahmen ist kopiert.',
@@ -83,10 +109,9 @@ export const german = {
         + 'übersetzt. Von jeder ihrer Funktionen ist bewiesen, dass sie tut, was ihr Vertrag sagt: '
         + 'Was angenommen und abgelehnt wird, und was jeder Zug tut, folgt aus den Definitionen '
         + 'der vier Sperren. Bilder, Sätze und der Text des Berichts sind nur getestet.',
-      documents: {
-        PROOF: 'Was bewiesen ist', LOCKS: 'Die Sperren als Code', GUIDE: 'Für den Unterricht',
-      },
-      source: 'Der Quelltext ist im Repository von lockreplay: page/src, crates/lk_page.',
+      documents: { LOCKS: 'Die Sperren als Code', GUIDE: 'Unterrichtspläne' },
+      source: 'Der Quelltext ist im Repository von lockreplay: page/src, crates/lk_page. Dort sagt '
+        + 'docs/PROOF.md, was bewiesen ist, und docs/GUIDE.md ist für den Unterricht.',
       licence: 'Lizenz: Apache-2.0 OR MIT.',
       browsers: 'Sie braucht WebAssembly-Speicher mit 64 Bit: Chromium ab 133 oder Firefox ab 134. '
         + 'Ein anderer Browser zeigt die Lektionen, wie sie vorher gespielt wurden.',
@@ -107,15 +132,16 @@ export const german = {
     },
     noSchedule: 'In der Zwischenablage ist kein Ablauf. Füge ihn in den Text ein (Taste E).',
     time: 'Threads im Lauf der Zeit',
-    noMoves: 'Noch kein Zug. Wähle einen Schritt eines Threads.',
     resting: (threads) => `${threads} nicht gezeichnet: ohne Zug in dieser Zeit`,
     away: (count) => `${count} Zeilen darüber oder darunter`,
     folded: (count) => `${count} weitere`,
-    covered: 'Die Bildunterschrift kommt mit der Antwort (A).',
+    covered: 'Pfeile und Bildunterschrift kommen mit der Antwort (A).',
+    coveredSentence: 'Was dieser Zug tat, kommt mit der Antwort (A).',
     showStory: 'Worum es geht',
     wrote: (word, left, found) => `${word} = ${left} (war ${found})`,
     legend: {
-      call: 'called', vain: 'waits: vergebliche Abfrage', enters: 'entered', leaves: 'left',
+      call: 'ruft auf', vain: 'wartet: vergebliche Abfrage', enters: 'tritt ein',
+      leaves: 'hat verlassen', moves: 'der Aufruf geht weiter', blank: 'auszufüllen',
       fails: 'cas scheitert', inCall: 'in einem Aufruf', line: 'in der Schlange', holds: 'hält',
       reads: 'liest', writes: 'schreibt', unlinked: 'in der Schlange, nicht verknüpft',
       ended: 'der Schreibzugriff, der ein Warten beendet hat',
@@ -124,10 +150,9 @@ export const german = {
       fails: 'scheitert', done: 'getan', unlinked: 'in der Schlange, nicht verknüpft',
       holds: 'hält', reads: 'liest', writes: 'schreibt', line: 'Schlange',
     },
-    memory: 'Speicher',
     standing: {
-      holds: 'hält', reads: 'liest', writes: 'schreibt', line: 'wartet', call: 'ruft',
-      rest: 'ruht',
+      holds: 'hält', reads: 'liest', writes: 'schreibt', line: 'Schlange', call: 'ruft',
+      rest: 'ruht', asked: '?',
     },
     variable: 'eigene Variable',
     ownVariable: (name) => `eigene Variable von ${name}`,
@@ -138,7 +163,7 @@ export const german = {
     now: 'Dieser Zug',
     position: (move, count) => `${move} von ${count}`,
     start: 'Alle Wörter sind 0, und die Schlange ist leer.',
-    startHint: 'Mit → kommt der erste Zug.',
+    startHint: 'Mit → kommt der erste Zug.', startTouch: 'Nach links wischen: der erste Zug.',
     before: 'vor dem ersten Zug',
     plain: {
       called: 'ein Aufruf beginnt', moved: 'der Aufruf geht weiter',
@@ -159,10 +184,31 @@ export const german = {
     },
     lessons: {
       title: 'Lektionen',
-      hint: 'Die meisten sind Abläufe mit Fragen. Die Pfeiltasten gehen Zug um Zug.',
+      what: [
+        'Diese Seite spielt vier Sperren der Lehrbücher, einen atomaren Schritt nach dem anderen: '
+          + 'wer die Sperre hält, wer wartet und was im Speicher steht.',
+        'Wähle eine Lektion und drücke →; über jeden Zug entscheidet eine bewiesene Maschine.',
+      ],
+      teaches: {
+        ticket: 'Wer zuerst ein Ticket zieht, tritt zuerst ein. Die leichteste: fang hier an.',
+        mcs: 'Jeder Thread fragt ein eigenes Wort ab; eine Schlange hängt hinter dem Ende.',
+        'rw-simple': 'Leser teilen sich die Sperre, ein Schreiber hat sie allein und kann '
+          + 'verhungern.',
+        'rw-fifo': 'Ein Schreiber kündigt sich an, und spätere Leser warten hinter ihm.',
+      },
+      ways: {
+        own: ['Eigener', 'Einen Ablauf schreiben, öffnen oder fallen lassen.'],
+        play: ['Spielen', 'Wählen, wer als nächster zieht.'],
+        find: ['Einen Moment suchen', 'Einen kürzesten Lauf mit einem Zug suchen.'],
+        plans: ['Lehren', 'Vier Unterrichtspläne von zehn Minuten.'],
+      },
+      size: (moves, minutes) => `${moves} Züge, etwa ${minutes} min`,
+      done: 'fertig',
+      refusals: 'Was abgelehnt wird: falsche Züge, und Texte, die keine Abläufe sind',
+      ended: 'Ende. Du hast gesehen:', next: (title) => `Weiter: ${title}`,
+      noMore: 'Das war der letzte Zug.',
       groups: { refused: 'Abgelehnte Züge', fault: 'Texte, die keine Abläufe sind' },
       kept: 'In diesem Browser aufgehoben', keptMove: (place) => `bei Zug ${place}`,
-      moves: (count) => (count === 1 ? '1 Zug' : `${count} Züge`),
     },
     own: {
       title: 'Der Ablauf',
@@ -170,6 +216,9 @@ export const german = {
         + 'fallen.',
       open: 'Öffnen', save: 'Speichern', copy: 'Kopieren', clear: 'Neu',
       copied: 'Der Ablauf ist kopiert.',
+      several: (name, others) => `${name} ist zu sehen. ${others === 1 ? 'Die andere Datei ist'
+        : `Die ${others} anderen Dateien sind`} aufgehoben und steht bei den Lektionen.`,
+      trace: 'Das ist eine Spur. Sie ist als Ablauf zu sehen, ohne Wörter und Werte.',
       notCopied: 'Der Browser hat es nicht erlaubt. Wähle den Text aus und kopiere ihn.',
       label: 'Text des Ablaufs',
       ends: (count) => (count === 1
@@ -212,18 +261,18 @@ export const german = {
       outcome: 'Was ist sein Ergebnis?', holders: 'Wer hält dann?',
       queue: 'Wer ist dann in der Schlange?',
       hint: {
-        holders: 'Wie im Bericht: - für niemand, 0 für einen, r0,2 für Leser, w1 für einen '
+        holders: 'Nummern oder Namen: - für niemand, 0 für einen, r0,2 für Leser, w1 für einen '
           + 'Schreiber.',
-        queue: 'Wie im Bericht: - für niemand, 0,2 für Thread 0 und nach ihm Thread 2.',
+        queue: 'Nummern oder Namen der Reihe nach: - für niemand, 0,2 für Thread 0, dann 2.',
       },
       check: 'Prüfen',
       score: ({ right, wrong, points }) => `Punkte: ${points} (${right} richtig, ${wrong} falsch)`,
-      rule: 'Eine falsche Antwort kostet einen Punkt, aber nie unter 0.',
       save: 'Für die Lehrkraft speichern',
       fileHead: '# lockreplay: Antworten eines Quiz. Eine falsche Antwort kostet einen Punkt.',
       wrong: (given) => `nicht ${given || 'nichts'}`,
       checked: ({ right, truth }) => (right ? 'Richtig.' : `Falsch: ${truth}.`),
-      last: 'Das war der letzte Zug.',
+      last: 'Das war der letzte Zug.', nameLabel: 'Name',
+      lastWrong: 'Das war der letzte Zug. Falsch waren:',
       outcomes: {
         moved: 'moved: der Aufruf geht weiter', waits: 'waits: vergebliche Abfrage',
         entered: 'entered: der Thread hält', left: 'left: er hält nicht mehr',
@@ -245,6 +294,11 @@ export const german = {
       questions: 'Fragen', table: 'Züge', move: 'Zug', thread: 'Thread',
       what: 'Aufruf oder Schritt', outcome: 'Ergebnis', says: 'Was er tat', holds: 'Hält',
       line: 'Schlange', part: (from, to, count) => `Züge ${from} bis ${to} von ${count}`,
+      name: 'Name:', date: 'Datum:', blankMemory: 'Speicher zum Ausfüllen',
+      memoryAfter: (move) => `Speicher nach Zug ${move}`,
+      task: 'Zeichne jedes Zeichen nach seinem Ergebnis, und fülle die Tabelle aus: das Ergebnis '
+        + '(called, moved, waits, entered oder left), wer hält, und wer in der Schlange ist, der '
+        + 'Älteste zuerst.',
     },
     refused: {
       NoSuchThread: 'Es gibt keinen {thread}: Die Sperre hat {threads}, von 0 bis {last}.',
@@ -263,39 +317,7 @@ export const german = {
       could: 'Hier könnte {thread} {moves}.', step: 'den Schritt „{word}“ tun',
       call: '„{word}“ aufrufen', or: ' oder ',
     },
-    keys: {
-      title: 'Tasten',
-      list: [
-        ['→ ←', 'ein Zug vor, ein Zug zurück'],
-        ['Pos1 Ende', 'der erste, der letzte Zug'],
-        ['Bild ab, Bild auf', 'zehn Züge vor, zehn zurück'],
-        ['] [', 'desselben Threads nächster, voriger Zug'],
-        ['N', 'die nächste Frage'],
-        ['A', 'die Antwort zeigen; vor dem ersten Zug, worum es geht'],
-        ['Leertaste', 'abspielen, anhalten'],
-        ['↑ ↓ Enter', 'auf den Threads: einen wählen, zu seinem nächsten Zug'],
-        ['O', 'Lektionen'],
-        ['E', 'eigener Ablauf; Escape verlässt den Text'],
-        ['G', 'spielen: wählen, wer zieht'],
-        ['0 bis 9', 'beim Spielen: der Schritt dieses Threads; bei mehreren der erste, dann Tab'],
-        ['W', 'beim Spielen: jeder Zug, auch die, die abgelehnt werden'],
-        ['U, Strg Z', 'rückgängig: eine Wahl, eine Änderung, ein anderer Ablauf'],
-        ['Q', 'Quiz'],
-        ['C', 'vergleichen: mit dem Original, oder mit der anderen Schreib-Lese-Sperre'],
-        ['L', 'Link zu diesem Zug kopieren'],
-        ['P', 'drucken: mit Antworten, oder ein Übungsblatt'],
-        ['H', 'Saalmodus: große Schrift, zwei Teile'],
-        ['M', 'einen Moment suchen: einen kürzesten Lauf mit einem Zug oder mit eigenen Zeilen'],
-        ['V', 'Ansicht: welche Teile gezeigt werden'],
-        ['F', 'spätere Züge blass zeichnen'],
-        ['T', 'exportieren: Bild, Bericht, Ablauf, ein Rahmen für eine Folie'],
-        [', .', 'langsamer, schneller'],
-        ['D', 'dunkel oder hell'],
-        ['+ −', 'breitere, schmalere Spalten'],
-        ['?', 'diese Tasten'],
-        ['Tab', 'von einem Bedienelement zum nächsten'],
-      ],
-    },
+    keys: germanKeys,
     faults: {
       found: 'Gefunden: „{found}“.', could: 'Erwartet: {could}.',
       meant: 'War „{meant}“ gemeint?',

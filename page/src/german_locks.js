@@ -23,7 +23,7 @@ export const germanLocks = {
     },
   },
   readWrite: {
-    memory: 'Speicher: wer wo ist', inside: 'drinnen', nobody: 'niemand',
+    memory: 'Speicher, und daneben die Threads', inside: 'drinnen', nobody: 'niemand',
     atMonitor: 'am Monitor', pollFailed: 'vergebliche Abfrage',
     wants: {
       TryRead: 'möchte lesen', LeaveRead: 'möchte aufhören zu lesen', TryWrite: 'möchte schreiben',

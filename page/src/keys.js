@@ -2,6 +2,7 @@
 
 import { signList } from './legend.js';
 import { byId, html, show } from './markup.js';
+import { looks } from './looks.js';
 import { toggleTheme, zoom } from './screen.js';
 import { texts } from './texts.js';
 
@@ -11,21 +12,24 @@ const FAR = 10;
 const WIDER = 1.25;
 
 function actions(page) {
-  const { address, comparing, modes, playing, stepping } = page;
+  const { address, comparing, hall, lecture, modes, playing, presenter, stepping } = page;
   return {
     ArrowRight: () => stepping.step(1), ArrowLeft: () => stepping.step(-1),
-    PageDown: () => stepping.step(FAR), PageUp: () => stepping.step(-FAR),
+    PageDown: () => stepping.step(looks.hall ? 1 : FAR),
+    PageUp: () => stepping.step(looks.hall ? -1 : -FAR),
     Home: () => page.go(0), End: () => stepping.end(), ' ': () => stepping.toggleRunning(),
     ']': () => stepping.sameThread(1), '[': () => stepping.sameThread(-1),
-    n: () => stepping.nextQuestion(), a: () => stepping.toggleAnswer(),
+    n: () => lecture.next(), j: () => stepping.nextQuestion(), a: () => stepping.toggleAnswer(),
     o: () => page.chooseLesson(), e: () => modes.toggle('own'), g: () => modes.toggle('play'),
     q: () => modes.toggleQuiz(),
     w: () => page.mode === 'play' && playing.toggleEvery(),
     c: () => comparing.toggle(), u: () => playing.undo(), l: () => address.copy(),
     t: () => page.showTake(), m: () => page.showFind(),
-    h: () => page.toggleHall(), v: () => page.showView(), f: () => page.toggleFuture(),
+    h: () => page.toggleHall(), s: () => hall.fillScreen(), Escape: () => hall.leave(),
+    v: () => page.showView(), f: () => page.toggleFuture(),
     p: () => page.showSheets(), d: () => toggleTheme(page), '?': () => page.showKeys(),
-    '.': () => stepping.faster(1), ',': () => stepping.faster(-1),
+    '.': () => (looks.hall ? hall.blank(true) : stepping.faster(1)), ',': () => stepping.faster(-1),
+    2: () => presenter.open(),
     '+': () => zoom(page, WIDER), '=': () => zoom(page, WIDER), '-': () => zoom(page, 1 / WIDER),
   };
 }
@@ -48,6 +52,11 @@ export function listenForKeys(page) {
   const does = actions(page);
   const lanes = onLanes(page);
   addEventListener('keydown', (event) => {
+    if (page.hall.isBlank) {
+      event.preventDefault();
+      page.hall.blank(false);
+      return;
+    }
     const undoes = (event.ctrlKey || event.metaKey) && event.key === 'z'
       && !event.target.closest(IN_FIELDS);
     if (undoes) page.playing.undo();
@@ -56,7 +65,8 @@ export function listenForKeys(page) {
     if (document.querySelector('dialog[open]') || isTheirs(event.key, event.target)) return;
     const key = event.key.length === 1 ? event.key.toLowerCase() : event.key;
     const onLane = event.target.id === 'lanes' && lanes[key];
-    const digit = /^[0-9]$/.test(key) && (() => page.playing.chooseFor(Number(key)));
+    const thread = page.mode === 'play' && /^[0-9]$/.test(key);
+    const digit = thread && (() => page.playing.chooseFor(Number(key)));
     const act = onLane || digit || does[key];
     if (!act) return;
     event.preventDefault();

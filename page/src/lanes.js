@@ -3,10 +3,11 @@
 import { MOVES, OUTCOME, OUTCOMES } from './codes.js';
 import { arrowsBetween } from './arrows.js';
 import { fitted } from './fitting.js';
-import { columnX, laneMiddle, LOW_LANE, NAME_EDGES } from './layout.js';
+import { columnX, laneMiddle, LOW_LANE, NAME_EDGES, placeOf, placeX } from './layout.js';
 import { lockOf } from './locks.js';
 import { html } from './markup.js';
-import { fillOf, standingOf } from './shapes.js';
+import { covers } from './remarks.js';
+import { fillOf, standingIn } from './shapes.js';
 import { spansOf, unlinkedSpans } from './spans.js';
 import { placeAfter } from './ascending.js';
 import { texts } from './texts.js';
@@ -27,13 +28,14 @@ const future = (layout, move) => (move > layout.now ? 'future' : '');
 
 // A stretch in two parts: up to the current move, and the rest, which is drawn faint.
 function parts(layout, span) {
-  const edge = layout.now + 0.4;
-  const from = Math.max(span.from, layout.first - 0.6);
-  const to = Math.min(span.to, layout.last + 0.4);
+  const edge = (layout.here ?? layout.now) + (layout.asked ? 0 : 0.4);
+  const from = Math.max(placeOf(layout, span.from), layout.origin - 0.6);
+  const to = Math.min(placeOf(layout, span.to), placeOf(layout, layout.last + 0.4));
   const past = { from, to: Math.min(to, edge), style: '' };
   const rest = { from: Math.max(from, edge), to, style: 'future' };
-  return [past, rest].filter((part) => part.to > part.from).map((part) => ({
-    x: rounded(columnX(layout, part.from)),
+  const drawn = layout.asked ? [past] : [past, rest];
+  return drawn.filter((part) => part.to > part.from).map((part) => ({
+    x: rounded(placeX(layout, part.from)),
     width: rounded((part.to - part.from) * layout.column),
     style: part.style,
   }));
@@ -126,7 +128,7 @@ function label(view, layout, move, at, tall) {
 
 function found(view, layout, move, at) {
   const fails = casFails(view.run.records, move);
-  const text = foundText(view, move);
+  const text = move === layout.now && covers(view, 'facts') ? '?' : foundText(view, move);
   return html`<text class="found ${fails && 'fails'} ${move === layout.now && 'here'}" x="${at.x}"
     y="${at.y + 27}" text-anchor="middle"><title>${text}</title>${
   fitted(text, layout.column * FOUND_ROOM, 'small')}</text>`;
@@ -137,8 +139,8 @@ function moveMark(view, layout, move, middle) {
   const tall = layout.laneHeight >= LOW_LANE && layout.column > NARROW;
   const word = label(view, layout, move, at, tall);
   if (view.blank) {
-    return html`<g data-move="${move}" class="move"><circle class="step waits" cx="${at.x}"
-      cy="${middle}" r="7.5"/>${word}</g>`;
+    return html`<g data-move="${move}" class="move"><rect class="step blank" x="${at.x - 10}"
+      y="${middle - 9}" width="20" height="18" rx="3"/>${word}</g>`;
   }
   if (view.hidden && move > layout.now) {
     return html`<g data-move="${move}" class="move"><text class="asked" x="${at.x}"
@@ -186,7 +188,7 @@ function refusedMark(view, layout, thread, middle) {
 function lane(view, layout, index) {
   const thread = layout.lanes[index];
   const middle = rounded(laneMiddle(layout, index));
-  const shown = { ...layout, last: lastDrawn(view, layout) };
+  const shown = { ...layout, last: lastDrawn(view, layout), asked: covers(view, 'standing') };
   const missing = thread >= view.run.threads;
   const two = (missing || view.names.has(thread)) && layout.laneHeight >= LOW_LANE;
   const whole = view.names.of(thread);
@@ -210,7 +212,7 @@ function laneOption(view, layout, index, drawn) {
     .map((move) => `${move} ${MOVES[records.action(move)]} ${
       texts.outcomes[OUTCOMES[records.outcome(move)]]}`);
   const chosen = thread === layout.chosen;
-  const standing = texts.standing[standingOf(view.run, view.move, thread)];
+  const standing = texts.standing[standingIn(view, thread)];
   const label = `${view.names.of(thread)}, ${standing}. ${moves.join(', ')}`;
   return html`<g role="option" id="lane-${thread}" aria-selected="${chosen}"
     aria-label="${label}">${chosen && html`<rect class="chosen" x="3"
@@ -240,25 +242,27 @@ function arrows(view, layout) {
     const path = arrowPath(layout, arrow, threadOf);
     const style = future(layout, arrow.to);
     return html`<path class="arrow halo ${style}" d="${path}"/>
-      <path class="arrow ${style}" d="${path}"/>`;
+      <path class="arrow ${style} ${arrow.to === layout.now && 'drawn'}" pathLength="1"
+        d="${path}"/>`;
   });
 }
 
 // A band behind the current move.
 function hereColumn(layout, y, height) {
-  if (layout.now < layout.first || layout.now > layout.last) return null;
-  const x = rounded(columnX(layout, layout.now) - layout.column / 2);
+  const here = layout.here ?? layout.now;
+  if (here < layout.origin || here > (layout.end ?? layout.last)) return null;
+  const x = rounded(placeX(layout, here) - layout.column / 2);
   return html`<rect class="here-column" x="${x}" y="${y}" width="${rounded(layout.column)}"
     height="${height}" rx="7"/>`;
 }
 
-// A line before the first move that differs from what is compared.
+// A line before the column of the first move that differs from what is compared.
 function differentColumn(view, layout) {
   const { different } = view;
-  if (!different || different < layout.first || different > layout.last) return null;
-  const x = rounded(columnX(layout, different - 0.5));
-  return html`<path class="different" data-different="${different}" d="M${x} 0V${layout.height}"/>
-    <text class="different-sign" x="${x}" y="12" text-anchor="middle">≠</text>`;
+  if (!different || different < layout.origin || different > layout.end) return null;
+  const x = rounded(placeX(layout, different - 0.5));
+  return html`<path class="different" data-different="${different}" d="M${x} 20V${layout.height}"/>
+    <text class="different-sign" x="${x}" y="14" text-anchor="middle">≠</text>`;
 }
 
 const sized = (width, height) => html`width="${width}" height="${height}"
@@ -269,8 +273,9 @@ export function lanesPicture(view, layout, top, bottom) {
   const indexes = Array.from({ length: bottom - top + 1 }, (_, i) => top + i);
   const role = layout.chosen === undefined ? 'img' : 'group';
   return html`<svg ${sized(layout.width, layout.height)} role="${role}" aria-label="${texts.time}">
-    ${hereColumn(layout, -20, layout.height + 20)}${differentColumn(view, layout)}
-    ${indexes.map((index) => lane(view, layout, index))}${arrows(view, layout)}</svg>`;
+    ${hereColumn(layout, -20, layout.height + 20)}
+    ${indexes.map((index) => lane(view, layout, index))}${arrows(view, layout)}
+    ${differentColumn(view, layout)}</svg>`;
 }
 
 // The moves' numbers, above the lanes. In narrow columns only some are written.

@@ -3,8 +3,10 @@
 // language is one file.
 
 import { german } from './german.js';
+import { germanTerms } from './german_terms.js';
 
 export const LANGUAGES = { de: german };
+const TERMS = { de: germanTerms };
 export const LANGUAGE_NAMES = { en: 'English', de: 'Deutsch' };
 
 // What an address asks for, or null.
@@ -36,6 +38,23 @@ export const sources = {};
 export function translated(name, english) {
   sources[name] = english;
   return merged(english, LANGUAGES[language]?.[name]);
+}
+
+const lessons = {};
+
+// {English: text} of lessons and plans in the language that is shown, before anything is drawn.
+export function learnLessons(inLanguages) { Object.assign(lessons, inLanguages[language]); }
+
+// A lesson's text, a plan and the glossary in the language, as far as it has them.
+export const translatedText = (text) => lessons[text] ?? text;
+export const translatedTerms = (terms) => TERMS[language] ?? terms;
+
+export function translatedPlan(plan) {
+  const textsOf = (given) => Object.fromEntries(Object.entries(given)
+    .map(([name, text]) => [name, typeof text === 'string' ? translatedText(text) : text]));
+  return {
+    ...textsOf(plan), steps: plan.steps.map(textsOf), homework: textsOf(plan.homework),
+  };
 }
 
 // For tests: the names that one of the two has and the other has not, or of another kind.

@@ -22,14 +22,17 @@ export function fragmentOf(session) {
   return held.length > MOST_IN_LINK ? null : `#schedule=${toLink(held)}${endOf(place)}`;
 }
 
-// {lesson, kept or text, move}, or {wrong: what is wrong with it}; null for no fragment.
+// {lesson, kept or text, move}, with moves to go on with and whether the run is compared then, if
+// that was asked for; or {wrong: what is wrong with it}; null for no fragment.
 export function readFragment(fragment) {
   const parts = new URLSearchParams(fragment.replace(/^#/, ''));
   const move = Number(parts.get('move') ?? 0);
   // A language or a look alone names no schedule, and needs none.
   if (fragment.length < 2 || isLooksAlone([...parts.keys()])) return null;
   for (const what of ['lesson', 'kept']) {
-    if (parts.has(what)) return { [what]: parts.get(what), move };
+    if (!parts.has(what)) continue;
+    const further = { play: parts.get('play'), compare: parts.has('compare') };
+    return { [what]: parts.get(what), move, ...further };
   }
   if (!parts.has('schedule')) return { wrong: texts.links.nothing };
   try {

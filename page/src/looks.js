@@ -17,7 +17,7 @@ export const looks = {
 const oneOf = (all, asked) => (all.includes(asked) ? asked : null);
 
 // Parts in the order of the page; null if none is named.
-function partsOf(text) {
+export function partsOf(text) {
   const asked = text?.split(',') ?? [];
   const known = PARTS.filter((part) => asked.includes(part));
   return known.length ? known : null;

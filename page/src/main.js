@@ -3,18 +3,17 @@
 import { fromBase64 } from './bytes.js';
 import { listen } from './controls.js';
 import { learnKinds } from './kinds.js';
-import { differences, language, LANGUAGES, sources } from './language.js';
+import { language, learnLessons, translatedTerms } from './language.js';
 import { linesOf } from './locks_code.js';
 import { looks } from './looks.js';
 import { Machine } from './machine.js';
 import { byId } from './markup.js';
 import { Page } from './page.js';
-import { reportOf } from './report.js';
-import { Run } from './run.js';
-import { drawPaper, drawTheme } from './screen.js';
+import { drawTheme } from './screen.js';
 import { Session } from './session.js';
 import { StoredMachine } from './stored.js';
-import { frameOf, pictureOf, pngOf } from './take.js';
+import { learnTerms } from './terms.js';
+import { testPort } from './test_port.js';
 import { texts } from './texts.js';
 import { learnWords } from './words.js';
 
@@ -44,24 +43,28 @@ function writeTexts() {
   for (const node of all('[data-title]')) node.title = named(node.dataset.title);
 }
 
-export function start(data) {
+// Pictures are laid out by the widths of letters, so these come first. A browser that blocks the
+// page's own letters shows it in the system's.
+export async function start(data) {
+  await Promise.allSettled([...document.fonts].map((face) => face.load()));
+  begin(data);
+}
+
+function begin(data) {
   learnWords(data.words);
   learnKinds(data.kinds);
+  learnLessons(data.translations);
+  learnTerms(translatedTerms(data.terms));
   const machine = machineOf(data);
   const lessons = data.lessons.map((lesson) => ({ ...lesson, text: fromBase64(lesson.text) }));
   writeTexts();
-  const page = new Page(new Session(machine, linesOf(data.code)), lessons);
+  const page = new Page(new Session(machine, linesOf(data.code)), lessons, data.plans);
   listen(page);
   drawTheme();
   page.stepping.draw();
   byId('banner').hidden = !machine.stored;
-  document.body.classList.toggle('stored', Boolean(machine.stored));
+  for (const id of ['mode-own', 'mode-play', 'show-find']) byId(id).disabled = machine.stored;
   page.address.begin();
   if (looks.sheet) page.showSheets(looks.sheet);
-  // For tests: the report that the page would show of a text, and what it would print.
-  window.lockreplay = {
-    page, report: (text) => reportOf(new Run(machine, text)), fromBase64,
-    drawPaper: (sheet) => drawPaper(page, sheet), pictureOf, pngOf, frameOf,
-    untranslated: () => differences(sources, LANGUAGES.de),
-  };
+  window.lockreplay = { test: testPort(page) };
 }

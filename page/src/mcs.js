@@ -9,7 +9,9 @@ import { translated } from './language.js';
 import { looks } from './looks.js';
 import { html } from './markup.js';
 import { covers } from './remarks.js';
-import { BOX_EDGES, movingMark, picture, standingOf, useOf, wordBox } from './shapes.js';
+import {
+  BOX_EDGES, enteredNow, movingMark, picture, standingIn, standingOf, useOf, wordBox,
+} from './shapes.js';
 import { unlinkedAfter } from './spans.js';
 import { say, texts } from './texts.js';
 
@@ -30,8 +32,8 @@ const NAMES_ANOTHER = ['LinkTo', 'Grant'];
 
 const OWN_VARIABLE = { SetLocked: 'pred', LinkTo: 'pred', Grant: 'succ' };
 const RECORD = {
-  narrowest: 123, widest: 156, height: 108, gap: 52, wideGap: 60, top: 86, row: 184, left: 19,
-  edge: 14,
+  narrowest: 123, widest: 156, height: 108, gap: 52, wideGap: 60, top: 86, row: 170, last: 172,
+  left: 19, edge: 14,
 };
 // Up to so many records stay in one row, even if a picture of two rows would be larger.
 const BESIDE = 4;
@@ -76,10 +78,13 @@ const STANDINGS = ['holds', 'line', 'call', 'rest'];
 const valueWidth = (names) => Math.max(0,
   ...[...names.given.keys()].map((thread) => widthOf(names.short(thread), 'word') + BOX_EDGES));
 
+// As wide as a record's head is with this name.
+const headWidth = (name) => HEAD.left + widthOf(name, 'name') + HEAD.between
+  + Math.max(...STANDINGS.map(standingWidth)) + HEAD.right;
+
 // A record as wide as the names need in its head and in its `next`.
 function widestRecord(names) {
-  const beside = HEAD.left + HEAD.between + HEAD.right + Math.max(...STANDINGS.map(standingWidth));
-  const heads = [...names.given.values()].map((name) => widthOf(name, 'name') + beside);
+  const heads = [...names.given.values()].map(headWidth);
   const wanted = Math.max(...heads, valueWidth(names) + FIELD.left + FIELD.right);
   return Math.min(WIDEST, Math.max(RECORD.widest, wanted));
 }
@@ -114,6 +119,9 @@ function recordField(view, y, label, word, state, width) {
     ${wordBox(FIELD.left, y, width - FIELD.left - FIELD.right, value, use)}`;
 }
 
+// A label below a record may be wider than it, up to its neighbours and the edges of the picture.
+const roomOfLabel = (width) => width + Math.min(gapNow() - BOX_EDGES, 2 * RECORD.left - 2);
+
 function ownVariable(view, state, thread, width) {
   const name = OWN_VARIABLE[PHASES[state.phase(thread)]];
   if (!name) return null;
@@ -126,7 +134,7 @@ function ownVariable(view, state, thread, width) {
       text-anchor="middle">${fitted(held, width - BOX_EDGES, 'word')}</text>
     <text class="note" x="${width / 2}" y="45"
       text-anchor="middle">${
-  firstFitting([whose, texts.variable], width + gapNow() - BOX_EDGES, 'small')}</text>
+  firstFitting([whose, texts.variable], roomOfLabel(width), 'small')}</text>
   </g>`;
 }
 
@@ -138,10 +146,11 @@ function headName(names, thread, standing, width) {
 
 function record(view, state, thread, place, width) {
   const { begun } = view.run;
-  const standing = standingOf(view.run, view.move, thread);
+  const standing = standingIn(view, thread);
   const label = texts.standing[standing];
   const name = headName(view.names, thread, standing, width);
-  return html`<g class="record ${standing}" ${movingMark(view, thread)} data-record="${thread}"
+  return html`<g class="record ${standing} ${enteredNow(view, thread)}"
+    ${movingMark(view, thread)} data-record="${thread}"
     transform="translate(${place.x},${place.y})">
     <title>${view.names.of(thread)}</title>
     <rect class="frame" width="${width}" height="${RECORD.height}" rx="10"/>
@@ -156,14 +165,18 @@ function record(view, state, thread, place, width) {
 }
 
 // From a record's next to the record that follows it in the queue.
-function link(from, to, width, linked) {
+function link(from, to, width, linked, moved) {
   const y = from.y + 54;
   if (from.row !== to.row) {
     const low = from.y + RECORD.row - 18;
     const path = `M${from.x + width - 12} ${y}h26V${low}H${to.x + 30}V${to.y - 4}`;
-    return html`<path class="link ${linked ? '' : 'missing'}" d="${path}"/>`;
+    return html`<path class="link ${linked ? moved : 'missing'}" ${
+      linked && html`pathLength="1"`} d="${path}"/>`;
   }
-  if (linked) return html`<path class="link" d="M${from.x + width - 12} ${y}H${to.x - 4}"/>`;
+  if (linked) {
+    return html`<path class="link ${moved}" pathLength="1" d="M${from.x + width - 12} ${y}H${
+      to.x - 4}"/>`;
+  }
   const middle = (from.x + width + to.x) / 2 - 2;
   return html`<path class="link missing" d="M${from.x + width + 3} ${y}H${to.x - 4}"/>
     <text class="missing-text" x="${middle}" y="${y - 9}"
@@ -173,11 +186,16 @@ function link(from, to, width, linked) {
 // Whether the record before a thread's names it.
 const isLinked = ({ run, move }, thread) => !unlinkedAfter(run, run.lastMoveOf(thread, move));
 
+// Whether the move that is shown wrote the word that an arrow is drawn for.
+const redirected = (view, word) => useOf(view.run, view.marked, word) === 'changed'
+  && 'redirected';
+
 function links(view, state, layout) {
   return state.queue.slice(1).map((after, i) => {
     const before = state.queue[i];
     const [from, to] = [before, after].map((thread) => layout.places.get(thread));
-    return from !== to && link(from, to, layout.width, isLinked(view, after));
+    const moved = redirected(view, view.run.begun.nextWord(before));
+    return from !== to && link(from, to, layout.width, isLinked(view, after), moved);
   });
 }
 
@@ -204,7 +222,8 @@ function tail(view, state, layout) {
   const path = place && tailPath(left + wide, place.x + layout.width / 2, place.y - 4);
   return html`<text class="mono word-name strong" x="24" y="43">tail</text>
     ${wordBox(left, 24, wide, value, useOf(view.run, view.marked, owned.tail))}
-    ${path && !covers(view) && html`<path class="link" d="${path}"/>`}`;
+    ${path && !covers(view, 'memory') && html`<path
+      class="link ${redirected(view, owned.tail)}" pathLength="1" d="${path}"/>`}`;
 }
 
 function caption(view, state) {
@@ -222,20 +241,21 @@ function caption(view, state) {
 function draw(view, state) {
   const layout = layOut(view, state);
   const { width } = layout;
-  const height = RECORD.top + layout.rows * RECORD.row - RECORD.edge;
-  const text = covers(view) ? T.memory : caption(view, state).text;
+  const height = RECORD.top + (layout.rows - 1) * RECORD.row + RECORD.last;
+  const text = covers(view, 'memory') ? T.memory : caption(view, state).text;
   const drawn = picture(view, height, text, html`${tail(view, state, layout)}
     ${layout.entries.map((entry) => (entry.folded ? foldedRecords(view, entry, width)
     : record(view, state, entry.one, entry.place, width)))}
-    ${!covers(view) && links(view, state, layout)}`);
+    ${!covers(view, 'memory') && links(view, state, layout)}`);
   return Object.assign(drawn, { note: restingNote(view, layout.hidden) });
 }
 
 function leastWidth(view, state) {
   const busy = Math.max(state.queue.length, Math.min(view.run.threads, BESIDE));
   const beside = Math.min(BESIDE, busy);
-  const { names } = view;
-  const record = names.given.size ? widestRecord(names) : RECORD.narrowest;
+  const { names, run } = view;
+  const record = names.given.size ? widestRecord(names)
+    : Math.max(RECORD.narrowest, headWidth(names.short(run.threads - 1)));
   return 2 * RECORD.left + beside * record + (beside - 1) * gapNow();
 }
 
@@ -263,7 +283,7 @@ function mark(view, move) {
 }
 
 export const mcs = {
-  name: 'mcs', title: T.title, lesson: 'mcs', memory: T.memory,
+  name: 'mcs', title: T.title, lesson: 'mcs', memory: T.memory, hasRecords: true,
   signs: ['fails', 'inCall', 'line', 'holds', 'unlinked', 'ended'],
   mark, values,
   wordName, valueText, draw, caption, leastWidth,

@@ -3,6 +3,7 @@
 import { byId } from './markup.js';
 import { saveAs } from './own.js';
 import { givenOf } from './quiz.js';
+import { tell } from './telling.js';
 import { texts } from './texts.js';
 
 export class Modes {
@@ -11,7 +12,10 @@ export class Modes {
     this.mode = 'lessons';
   }
 
-  toggle(mode) { this.set(this.mode === mode ? 'lessons' : mode); }
+  toggle(mode) {
+    if (this.page.session.machine.stored) tell(texts.play.noMachine);
+    else this.set(this.mode === mode ? 'lessons' : mode);
+  }
 
   set(mode) {
     this.mode = mode;
@@ -27,8 +31,7 @@ export class Modes {
 
   toggleQuiz() {
     const { quiz, session, stepping } = this.page;
-    quiz.on = !quiz.on;
-    quiz.clear();
+    quiz.toggle(session);
     stepping.pause();
     this.page.go(session.place);
     if (quiz.asks(session)) this.askFocus();
@@ -37,7 +40,9 @@ export class Modes {
   askFocus() { byId('quiz-form')?.querySelector('input')?.focus(); }
 
   saveQuiz() {
-    saveAs(texts.quiz.fileName, new TextEncoder().encode(this.page.quiz.report()));
+    const { quiz } = this.page;
+    quiz.name = byId('quiz-name').value.trim();
+    saveAs(texts.quiz.fileName, new TextEncoder().encode(quiz.report(location.href)));
   }
 
   checkQuiz(form) {

@@ -7,12 +7,14 @@ import { casFails } from './lanes.js';
 import { html } from './markup.js';
 import { reportLine } from './report.js';
 import { sentence, writtenWords } from './sentences.js';
-import { standingOf, useOf } from './shapes.js';
+import { covers } from './remarks.js';
+import { standingIn, useOf } from './shapes.js';
 import { unlinkedAfter } from './spans.js';
+import { withTerms } from './terms.js';
 import { texts } from './texts.js';
 
 function pill(view, thread) {
-  const standing = standingOf(view.run, view.move, thread);
+  const standing = standingIn(view, thread);
   return html`<span class="pill ${standing}"
     data-thread="${thread}">${view.names.of(thread)}</span>`;
 }
@@ -55,13 +57,13 @@ function outcomePill(records, move) {
   const fails = casFails(records, move);
   return html`<span class="outcome ${fails ? 'fails' : name}"
     data-outcome="${name}" title="${texts.plain[fails ? 'fails' : name]}">${
-  texts.outcomes[name]}</span>`;
+  fails ? texts.legend.fails : texts.outcomes[name]}</span>`;
 }
 
 // The outcome in plain words.
 function plainWords(records, move) {
   const name = OUTCOMES[records.outcome(move)];
-  return texts.plain[casFails(records, move) ? 'fails' : name];
+  return withTerms(texts.plain[casFails(records, move) ? 'fails' : name]);
 }
 
 export function questionView(view) {
@@ -73,14 +75,15 @@ export function questionView(view) {
       <summary>${texts.showAnswer}<kbd>A</kbd></summary><p>${answer}</p></details>`}</div>`;
 }
 
-function factList(view, state, rows) {
-  return html`<dl class="facts">${rows}${whoRows(view, state)}</dl>`;
+function factList(view, state, rows, hidden) {
+  return html`<dl class="facts" ${hidden}>${rows}${whoRows(view, state)}</dl>`;
 }
 
 // Who holds, and who is in the queue.
 export function whoRows(view, state) {
-  return html`<dt>${texts.facts.holds}</dt><dd data-holders>${holdersList(view, state)}</dd>
-    <dt>${texts.facts.line}</dt><dd data-queue>${queueList(view, state)}</dd>`;
+  return html`<dt>${withTerms(texts.facts.holds)}</dt>
+    <dd data-holders>${holdersList(view, state)}</dd>
+    <dt>${withTerms(texts.facts.line)}</dt><dd data-queue>${queueList(view, state)}</dd>`;
 }
 
 // Words between backticks are code.
@@ -95,10 +98,30 @@ function storyView({ remarks: { about }, answered }) {
 }
 
 function startView(view, state) {
-  return html`<div class="head"><b>0</b><span>${texts.before}</span></div>
-    <p class="say">${texts.start}</p>${storyView(view)}
-    <p class="hint">${texts.startHint}</p>
+  const { learn } = view.remarks;
+  const isTouched = matchMedia('(pointer: coarse)').matches;
+  return html`<h2 class="spoken">${texts.now}</h2>
+    <div class="head"><b>0</b><span>${texts.before}</span></div>
+    ${learn && html`<p class="say own-say">${learn}</p>`}
+    <p class="${learn ? 'aside' : 'say'}">${withTerms(texts.start)}</p>${storyView(view)}
+    <p class="hint">${isTouched ? texts.startTouch : texts.startHint}</p>
     ${questionView(view)}${factList(view, state, '')}`;
+}
+
+function wroteRow(view) {
+  const wrote = writtenWords(view, view.move, useOf).join(', ');
+  return html`<dt class="wrote">${texts.facts.wrote}</dt>
+    <dd class="mono wrote">${wrote || html`<span class="soft">${texts.noWord}</span>`}</dd>`;
+}
+
+// The lesson's own sentence, if it has one, and that of the machine.
+function sentences(view) {
+  const { remarks: { say }, move } = view;
+  const own = say.get(move);
+  const hidden = covers(view, 'sentence') && 'hidden';
+  return html`${hidden && html`<p class="plain">${texts.coveredSentence}</p>`}
+    ${own && html`<p class="say own-say" ${hidden}>${withTerms(own)}</p>`}
+    <p class="${own ? 'aside' : 'say'}" ${hidden}>${sentence(view, move)}</p>`;
 }
 
 export function nowView(view, state) {
@@ -106,14 +129,23 @@ export function nowView(view, state) {
   if (!move) return startView(view, state);
   const { records } = run;
   const word = MOVES[records.action(move)];
-  const wrote = writtenWords(view, move, useOf).join(', ');
-  const rows = html`<dt class="wrote">${texts.facts.wrote}</dt>
-    <dd class="mono wrote">${wrote || html`<span class="soft">${texts.noWord}</span>`}</dd>`;
-  return html`<div class="head"><b>${move}</b><span>${names.of(records.thread(move))},
+  const hidden = covers(view, 'facts') && 'hidden';
+  return html`<h2 class="spoken">${texts.now}</h2>
+    <div class="head"><b>${move}</b><span>${names.of(records.thread(move))},
       <span class="mono">${word}</span></span>${outcomePill(records, move)}</div>
     <p class="plain">${plainWords(records, move)}</p>
-    <p class="say">${sentence(view, move)}</p>${questionView(view)}${factList(view, state, rows)}
-    <p class="report-line" title="${texts.facts.report}"><code>${reportLine(run, move)}</code></p>`;
+    ${sentences(view)}${questionView(view)}${factList(view, state, wroteRow(view), hidden)}
+    <p class="report-line" title="${texts.facts.report}" ${hidden}><code>${
+  reportLine(run, move)}</code></p>${lastView(view)}`;
+}
+
+// After the last move of a lesson: what was shown, and which one is next.
+function lastView({ remarks: { learn }, place, run, next, answered, move, remarks }) {
+  const due = remarks.ask.has(move) && remarks.answer.has(move) && !answered;
+  if (place < run.last || !learn || due) return null;
+  return html`<div class="last"><p><b>${texts.lessons.ended}</b> ${learn}</p>
+    ${next && html`<button type="button" class="strong" data-next="${next.name}">${
+  texts.lessons.next(next.title)}<kbd>→</kbd></button>`}</div>`;
 }
 
 function spokenMove({ run: { records }, names }, move) {
@@ -128,9 +160,11 @@ export function spokenText(view, state) {
   const holds = state.holders.length ? names.few(state.holders) : texts.nobody;
   const line = state.queue.length ? names.few(state.queue) : texts.nobody;
   const question = view.remarks.ask.get(move);
+  const own = view.remarks.say.get(move);
   const parts = [move ? texts.spoken.move(move, run.count) : texts.spoken.start(run.count)];
-  if (move) parts.push(spokenMove(view, move), sentence(view, move));
-  parts.push(texts.spoken.holds(holds), texts.spoken.line(line));
+  if (move) parts.push(spokenMove(view, move));
+  if (move && !covers(view, 'sentence')) parts.push(...[own].filter(Boolean), sentence(view, move));
+  if (!covers(view, 'facts')) parts.push(texts.spoken.holds(holds), texts.spoken.line(line));
   if (question) parts.push(texts.spoken.ask(question));
   if (view.hidden) parts.push(texts.spoken.hidden);
   return parts.join(' ');

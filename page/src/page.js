@@ -4,12 +4,18 @@
 import { aboutDialog } from './about.js';
 import { Address } from './address.js';
 import { Comparing } from './comparing.js';
+import { noteDone } from './done.js';
+import { titleOf } from './drawing.js';
 import { Editing } from './editing.js';
 import { findDialog } from './find.js';
+import { Hall } from './hall.js';
 import { keysDialog } from './keys.js';
-import { lessonsDialog } from './lessons.js';
+import { Lecture } from './lecture.js';
+import { closeLessons, lessonsDialog } from './lessons.js';
 import { Modes } from './modes.js';
+import { plansWith } from './plans.js';
 import { Playing } from './playing.js';
+import { Presenter } from './presenter.js';
 import { Quiz } from './quiz.js';
 import { looks, toggleHall } from './looks.js';
 import { drawPage } from './screen.js';
@@ -18,7 +24,7 @@ import { takeDialog } from './take.js';
 import { sheetsDialog, viewDialog } from './view.js';
 
 export class Page {
-  constructor(session, lessons) {
+  constructor(session, lessons, plans) {
     this.session = session;
     this.lessons = lessons;
     this.quiz = new Quiz();
@@ -28,14 +34,15 @@ export class Page {
     this.address = new Address(this);
     this.comparing = new Comparing(this);
     this.editing = new Editing(this);
+    this.hall = new Hall(this);
     this.modes = new Modes(this);
     this.playing = new Playing(this);
     this.stepping = new Stepping(this);
-    this.openLessons = lessonsDialog(lessons, {
-      lesson: (name) => this.openLesson(name), kept: (name) => this.address.openKept(name),
-    });
+    this.presenter = new Presenter(this);
+    this.lecture = new Lecture(this, plansWith(plans, lessons));
+    this.openLessons = lessonsDialog(lessons, session.twin(), this.choices());
     this.showKeys = keysDialog();
-    this.showAbout = aboutDialog((name) => this.address.inLanguage(name));
+    this.showAbout = aboutDialog(this);
     this.showTake = takeDialog(this);
     this.showView = viewDialog(this);
     this.showFind = findDialog(this);
@@ -43,7 +50,26 @@ export class Page {
     this.showSheets = sheetsDialog((sheet) => this.print(sheet));
   }
 
+  // What is chosen at the start.
+  choices() {
+    const ways = {
+      own: () => this.modes.set('own'), play: () => this.modes.set('play'),
+      find: () => this.showFind(), plans: () => this.lecture.choose(),
+    };
+    return {
+      lesson: (name) => this.openLesson(name), kept: (name) => this.address.openKept(name),
+      way: (name) => ways[name](), lang: (name) => this.address.inLanguage(name),
+    };
+  }
+
   get mode() { return this.modes.mode; }
+  get title() { return titleOf(this.session); }
+
+  // The lesson after this one, of the same lock or of the next.
+  get nextLesson() {
+    const at = this.lessons.findIndex(({ name }) => name === this.session.lesson);
+    return at < 0 ? null : this.lessons[at + 1] ?? null;
+  }
 
   // Whether the moves to come are hidden, since they are asked for.
   get hides() { return this.quiz.hides(this.session); }
@@ -72,6 +98,13 @@ export class Page {
     this.modes.fitLesson();
   }
 
+  // From the move that is shown on with others, and beside what this is compared with then.
+  goOnWith(moves, isCompared) {
+    if (moves) this.playing.branch(moves.split(','));
+    if (moves || isCompared) this.comparing.begin();
+    this.show();
+  }
+
   openOwn(text, move = 0, run) {
     this.open(text, null, move, run);
     this.modes.set('own');
@@ -79,6 +112,7 @@ export class Page {
 
   // Another schedule in place of this one, which Undo and Back bring back.
   open(text, lesson, move, run) {
+    closeLessons();
     this.stepping.pause();
     this.playing.remember('open');
     this.address.leave(lesson);
@@ -112,6 +146,7 @@ export class Page {
   // Another move, or another text: its answer is not shown yet.
   show() {
     this.answered = false;
+    noteDone(this.session);
     this.fit();
   }
 
@@ -122,7 +157,10 @@ export class Page {
   }
 
   draw() {
+    this.comparing.settle();
     drawPage(this);
+    this.lecture.draw();
+    this.presenter.draw();
     this.address.writeSoon();
   }
 }

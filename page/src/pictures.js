@@ -21,16 +21,21 @@ export function measured() {
   };
   return {
     lanes: { width: size('lanes').width, height: lanesHeight() },
-    memory: size('memory-picture'), slider: size('slider-picture'),
+    memory: size('memory-picture'), slider: size('slider-picture'), there: size('there-picture'),
   };
 }
 
 const DRAWS = {
   lanes: (page, view, state, size) => {
-    page.comparing.draw(size.width);
     if (view.run.hasLock) drawTime(page, view, size);
+    if (page.comparing.isOn) page.comparing.draw(page.layout, size);
   },
-  memory: (page, view, state, size) => { if (state) drawMemory(view, state, size); },
+  memory: (page, view, state, size) => { if (state) drawMemory('memory', view, state, size); },
+  there: ({ comparing }, view, state, size) => {
+    if (!comparing.isOn) return;
+    const there = comparing.there();
+    drawMemory('there', there.view, there.state, size);
+  },
   slider: (page, view, state, size) => drawSlider(view, size.width),
 };
 
@@ -69,7 +74,7 @@ function fitNow() {
   }
 }
 
-// As many lines of code as have room whole.
+// As many lines of code as have room, each of them whole.
 function fitCode() {
   const box = byId('code-lines');
   const line = box.firstElementChild?.offsetHeight;
@@ -77,6 +82,7 @@ function fitCode() {
   const room = byId('code').clientHeight - box.offsetTop - EDGE;
   const most = `${Math.floor(room / line) * line}px`;
   if (box.style.maxHeight !== most) box.style.maxHeight = most;
+  if (box.scrollTop % line) box.scrollTop = Math.round(box.scrollTop / line) * line;
 }
 
 function drawTime(page, view, room) {
@@ -120,16 +126,20 @@ function laneInView(from, height, view, { lanes, laneHeight }) {
 
 // The picture as large as fits; one that fits at no scale is folded or scrolled.
 const SCALES = [1.3, 1.2, 1.1, 1, 0.9, 0.8, 0.7, 0.65];
+// In a window that is very low also these.
+const LOW = [0.55, 0.5];
 const NARROWEST = 300;
 // Of more threads than these the picture is folded at once, at one scale.
 const MANY_THREADS = 12;
 const SCALE_OF_MANY = 0.8;
 
-function scaledPicture(size, lock, view, state) {
-  const width = Math.max(NARROWEST, size.width);
+export function pictureIn(size, lock, view, state) {
+  const isLow = document.body.dataset.layout === 'low';
+  const width = Math.max(isLow ? 0 : NARROWEST, size.width);
   const many = view.run.threads > MANY_THREADS;
-  const scales = looks.hall ? SCALES.filter((scale) => scale >= 1) : SCALES;
-  const last = many && !looks.hall ? SCALE_OF_MANY : scales[scales.length - 1];
+  const isLarge = looks.hall && !view.compares;
+  const scales = [...SCALES, ...(isLow ? LOW : [])].filter((scale) => !isLarge || scale >= 1);
+  const last = many && !isLarge ? SCALE_OF_MANY : scales[scales.length - 1];
   const room = (scale) => ({ width: width / scale, height: size.height / scale, scale });
   for (const scale of many ? [] : scales) {
     const given = { ...view, ...room(scale) };
@@ -140,10 +150,20 @@ function scaledPicture(size, lock, view, state) {
   return lock.draw({ ...view, ...room(last), tight: true }, state);
 }
 
-function drawMemory(view, state, size) {
-  const picture = scaledPicture(size, lockOf(view.run), view, state);
-  show(byId('memory-picture'), picture);
-  write(byId('memory-note'), picture.note ?? '');
+// So many words are read out; a lock of many threads has more.
+const MOST_READ = 33;
+
+const wordsRead = (view, state) => Array.from(
+  { length: Math.min(MOST_READ, view.run.end.wordCount) },
+  (_, word) => texts.wordBecomes(lockOf(view.run).wordName(word, view),
+    lockOf(view.run).valueText(word, state.word(word), view))).join(', ');
+
+function drawMemory(part, view, state, size) {
+  const picture = pictureIn(size, lockOf(view.run), view, state);
+  show(byId(`${part}-picture`), picture);
+  const svg = byId(`${part}-picture`).firstElementChild;
+  svg.setAttribute('aria-label', `${picture.label} ${wordsRead(view, state)}`);
+  write(byId(`${part}-note`), picture.note ?? '');
 }
 
 function drawSlider(view, width) {

@@ -27,9 +27,11 @@ export class Playing {
   // Goes on with the moves to a transition that can happen next.
   chooseSoon(at) { this.goOn(this.soon.now().ways[at][1]); }
 
-  goOn(moves) {
+  goOn(moves) { if (this.possible) this.branch(moves); }
+
+  branch(moves) {
     const { session } = this.page;
-    if (!this.possible || !hasRoom(session)) return;
+    if (!hasRoom(session)) return;
     this.remember('play');
     const { letters, plain } = session.textWith(moves.join('\n'));
     this.page.derive(bytesOf(letters, plain), session.move + moves.length);

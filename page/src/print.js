@@ -3,6 +3,7 @@
 
 import { codeView } from './code_view.js';
 import { MOVES, OUTCOMES } from './codes.js';
+import { exercise } from './exercise.js';
 import { lanesPicture, numbersPicture } from './lanes.js';
 import { legend } from './legend.js';
 import { lockOf } from './locks.js';
@@ -19,7 +20,8 @@ const LONGEST = 24;
 
 function stripPicture(view, { strip, lanes }, first, last) {
   const layout = {
-    ...strip, height: strip.laneHeight * lanes.length, now: Infinity, first, last, lanes,
+    ...strip, height: strip.laneHeight * lanes.length, now: Infinity, first, last, origin: first,
+    end: last, lanes,
   };
   const drawn = lanesPicture(view, layout, 0, lanes.length - 1);
   return html`<div class="strip ${strip.name}">${numbersPicture(view, layout)}${drawn}</div>`;
@@ -37,10 +39,11 @@ function strips(view, plan) {
   return found;
 }
 
-// Memory and code; on an exercise sheet as they are before the first move that is printed.
-function figure(view, lines, move) {
+// Memory and code at the move that is shown.
+function figure(view, lines) {
   const lock = lockOf(view.run);
-  const at = { ...view, ...MEMORY, move, marked: view.blank ? 0 : view.marked, whole: true };
+  const { move } = view;
+  const at = { ...view, ...MEMORY, whole: true };
   const state = view.run.state(move);
   const picture = lock.draw(at, state);
   const drawn = picture.height > MEMORY.height ? lock.draw({ ...at, tight: true }, state) : picture;
@@ -62,31 +65,29 @@ function answers(view, move) {
 }
 
 function row(view, move) {
-  const { run: { records }, names, blank } = view;
+  const { run: { records }, names } = view;
   const cells = [
     move, threadName(names, records.thread(move)),
-    html`<code>${MOVES[records.action(move)]}</code>`,
-    ...(blank ? ['', '', '', ''] : answers(view, move)),
+    html`<code>${MOVES[records.action(move)]}</code>`, ...answers(view, move),
   ];
   return html`<tr>${cells.map((cell) => html`<td>${cell}</td>`)}</tr>`;
 }
 
-// The questions, for the class to answer on the sheet, or with their answers.
+// The questions with their answers.
 function questions(view) {
-  const { remarks: { ask, answer }, run, blank } = view;
+  const { remarks: { ask, answer }, run } = view;
   const asked = [...ask].filter(([move]) => move <= run.count)
     .sort(([one], [other]) => one - other);
   if (!asked.length) return null;
-  const line = blank ? html`<p class="blank"></p>` : null;
   return html`<div class="asked"><h3>${T.questions}</h3>
-    <dl>${asked.map(([move, text]) => html`<dt>${move}</dt><dd>${text}${line}${!blank
-    && answer.has(move) && html`<p class="answer">${answer.get(move)}</p>`}</dd>`)}</dl></div>`;
+    <dl>${asked.map(([move, text]) => html`<dt>${move}</dt><dd>${text}${answer.has(move)
+    && html`<p class="answer">${answer.get(move)}</p>`}</dd>`)}</dl></div>`;
 }
 
 function table(view, from, to) {
   const heads = [T.move, T.thread, T.what, T.outcome, T.says, T.holds, T.line];
   const rows = Array.from({ length: to - from + 1 }, (_, i) => row(view, from + i));
-  return html`<table class="${view.blank && 'blanks'}"><caption>${T.table}</caption>
+  return html`<table><caption>${T.table}</caption>
     <thead><tr>${heads.map((head) => html`<th>${head}</th>`)}</tr></thead>
     <tbody>${rows}</tbody></table>`;
 }
@@ -98,8 +99,8 @@ export function paper(whole, lines, sheet) {
   const plan = sheetPlan(view);
   const { from, to } = plan;
   const part = to - from + 1 < run.count && html`<p>${T.part(from, to, run.count)}</p>`;
+  if (view.blank) return html`${part}${exercise(view, lines, plan, strips(view, plan))}`;
   return html`${part}${strips(view, plan)}
     <div class="legend"><span>${legend(run)}</span></div>
-    ${figure(view, lines, view.blank ? from - 1 : view.move)}
-    ${questions(view)}${run.count > 0 && table(view, from, to)}`;
+    ${figure(view, lines)}${questions(view)}${run.count > 0 && table(view, from, to)}`;
 }

@@ -12,9 +12,34 @@ export class Quiz {
   constructor() {
     this.on = false;
     this.result = null;
-    // By the letters of a schedule: what was answered, by move.
+    // By the letters of a schedule: what was answered, by move, and from which move on is asked.
     this.sheets = new Map();
     this.run = null;
+    this.name = '';
+  }
+
+  // What a reload brings back, as a text; empty if there is nothing.
+  get kept() {
+    const { on, name, sheets } = this;
+    if (!on && ![...sheets.values()].some(({ answers }) => answers.size)) return null;
+    const all = [...sheets].map(([key, sheet]) => [key, { ...sheet, answers: [...sheet.answers] }]);
+    return JSON.stringify({ on, name, sheets: all });
+  }
+
+  bringBack(kept) {
+    if (!kept) return;
+    const { on, name, sheets } = JSON.parse(kept);
+    this.sheets = new Map(sheets.map(([key, sheet]) => (
+      [key, { ...sheet, answers: new Map(sheet.answers) }])));
+    Object.assign(this, { on, name });
+  }
+
+  // From the move that is shown on it is asked: what came before was seen.
+  toggle(session) {
+    this.on = !this.on;
+    this.clear();
+    this.meet(session);
+    if (this.on) this.sheet.since = session.place;
   }
 
   clear() { this.result = null; }
@@ -26,7 +51,7 @@ export class Quiz {
     this.questions = questionsOf(session.run);
     const title = session.remarks.title || session.lesson || texts.untitled;
     const key = String.fromCharCode(...session.held.subarray(0, 60000));
-    if (!this.sheets.has(key)) this.sheets.set(key, { title, answers: new Map() });
+    if (!this.sheets.has(key)) this.sheets.set(key, { title, since: 0, answers: new Map() });
     this.sheet = this.sheets.get(key);
   }
 
@@ -34,8 +59,10 @@ export class Quiz {
   question(session) {
     this.meet(session);
     const move = session.place + 1;
-    return (!this.sheet.answers.has(move) && this.questions.get(move)) || null;
+    return (this.isOpen(move) && this.questions.get(move)) || null;
   }
+
+  isOpen(move) { return move > this.sheet.since && !this.sheet.answers.has(move); }
 
   asks(session) { return this.on && !this.result && this.question(session) !== null; }
 
@@ -43,8 +70,7 @@ export class Quiz {
   limit(session) {
     if (!this.on) return Infinity;
     this.meet(session);
-    const open = [...this.questions.keys()].filter((move) => !this.sheet.answers.has(move));
-    return Math.min(...open) - 1;
+    return Math.min(...[...this.questions.keys()].filter((move) => this.isOpen(move))) - 1;
   }
 
   // Whether what comes is hidden.
@@ -54,7 +80,7 @@ export class Quiz {
 
   check(session, given) {
     const { kind, move, truth } = this.question(session);
-    const right = given === truth;
+    const right = normalised(given, session.names) === truth;
     const said = moveText(session.run, move);
     this.result = { kind, move, truth, given, right, said };
     this.sheet.answers.set(move, this.result);
@@ -68,25 +94,37 @@ export class Quiz {
     return { right, wrong, points: Math.max(0, right - wrong) };
   }
 
-  // For the teacher: every answer, as a text.
-  report() {
+  // What was answered wrongly of the schedule that is shown.
+  get wrong() { return [...this.sheet.answers.values()].filter(({ right }) => !right); }
+
+  // For the teacher: who, when and where, and every answer, as a text.
+  report(link) {
     const sheets = [...this.sheets.values()].filter(({ answers }) => answers.size);
+    const head = [T.fileHead, `# ${T.nameLabel}: ${this.name || '-'}`,
+      `# ${new Date().toISOString().slice(0, 16)} ${link}`, `# ${T.score(this.score())}`, ''];
     const lines = sheets.flatMap((sheet) => [
       `# ${sheet.title}`, `# ${T.score(this.score([sheet]))}`,
-      ...[...sheet.answers.values()].map(({ move, said, kind, given, truth, right }) => (
-        `${right ? '+' : '-'} ${move} ${said} ${kind}: ${given}${right ? '' : ` (${truth})`}`)), '',
+      ...[...sheet.answers.values()]
+        .map((one) => `${one.right ? '+' : '-'} ${answerText(one)}`), '',
     ]);
-    return `${T.fileHead}\n# ${T.score(this.score())}\n\n${lines.join('\n')}`;
+    return [...head, ...lines].join('\n');
   }
 }
 
-// An answer as the report would write it.
-export const normalised = (text) => text.toLowerCase().replace(/\s+/g, '') || '-';
+const answerText = ({ move, said, kind, given, truth, right }) => (
+  `${move} ${said} ${kind}: ${given}${right ? '' : ` (${truth})`}`);
+
+// An answer as the report would write it: with a thread's number for its name.
+function normalised(text, names) {
+  const given = [...names.given].reduce((left, [thread, name]) => (
+    left.replaceAll(name.toLowerCase(), thread)), text.toLowerCase());
+  return given.replace(/\s+/g, '') || '-';
+}
 
 // What the form says; nothing if nothing was chosen or typed.
 export function givenOf(form) {
   const { outcome, answer } = Object.fromEntries(new FormData(form));
-  return outcome ?? (answer.trim() && normalised(answer));
+  return outcome ?? answer.trim();
 }
 
 // The outcomes that a step can have.
@@ -120,6 +158,12 @@ export function resultView({ kind, truth, given, right }, outcome) {
 export function scoreView(quiz) {
   const score = quiz.score();
   const some = score.right + score.wrong > 0;
-  return html`<p class="score">${T.score(score)} ${some && html`<button type="button"
-    data-save-quiz="true">${T.save}</button>`}</p>`;
+  return html`<p class="score">${T.score(score)} ${some && html`<input id="quiz-name"
+    placeholder="${T.nameLabel}" aria-label="${T.nameLabel}" value="${quiz.name}">
+    <button type="button" data-save-quiz="true">${T.save}</button>`}</p>`;
 }
+
+// After the last move: what was wrong.
+export const endView = ({ wrong }) => html`<div class="quiz-end"><p class="hint">${
+  wrong.length ? T.lastWrong : T.last}</p>
+  <ul class="mono">${wrong.map((one) => html`<li>${answerText(one)}</li>`)}</ul></div>`;

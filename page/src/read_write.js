@@ -6,12 +6,13 @@ import { translated } from './language.js';
 import { html } from './markup.js';
 import { fitted } from './fitting.js';
 import { folding, movingThread } from './folding.js';
-import { foldedToken, standingOf, token, tokensAt } from './shapes.js';
+import { covers } from './remarks.js';
+import { foldedToken, standingIn, token, tokensAt } from './shapes.js';
 import { say, texts } from './texts.js';
 import { wordNames } from './words.js';
 
 const T = translated('readWrite', {
-  memory: 'Memory: who is where', inside: 'inside', nobody: 'nobody',
+  memory: 'Memory, and the threads beside it', inside: 'inside', nobody: 'nobody',
   atMonitor: 'at the monitor', pollFailed: 'failed poll',
   wants: {
     TryRead: 'wants to read', LeaveRead: 'wants to stop reading', TryWrite: 'wants to write',
@@ -43,13 +44,15 @@ export function room(view, state, x, y, width) {
   const most = view.tight ? ROOM_ROWS * inRow : Infinity;
   const tokens = tokensAt(view, state.holders, most, (i) => (
     { x: x + 24 + SPACE * (i % inRow), y: y + 50 + SPACE * Math.floor(i / inRow) }));
-  const standing = state.holders.length ? standingOf(view.run, view.move, state.holders[0]) : '';
+  const asked = covers(view, 'standing');
+  const standing = state.holders.length && !asked ? standingIn(view, state.holders[0]) : '';
   const label = standing ? `${T.inside}: ${texts.standing[standing]}` : T.inside;
-  const nobody = html`<text class="note" x="${x + 14}" y="${y + 54}">${T.nobody}</text>`;
+  const nobody = html`<text class="note" x="${x + 14}" y="${y + 54}">${
+    asked ? '?' : T.nobody}</text>`;
   return html`<rect class="room" x="${x}" y="${y}" width="${width}"
       height="${roomHeight(view, state, width)}" rx="12"/>
     <text class="room-name" x="${x + 14}" y="${y + 23}">${label}</text>
-    ${tokens.length ? tokens : nobody}`;
+    ${tokens.length && !asked ? tokens : nobody}`;
 }
 
 // The threads that have a section due.
@@ -80,7 +83,9 @@ function callersShown(view, state, y) {
   return folding(callers(view, state), (one) => one === moving, view.tight ? most : Infinity);
 }
 
+// Beside another run's memory there is no room for it, and the lanes say who waits.
 export function monitor(view, state, x, y) {
+  if (view.compares) return null;
   const rows = callersShown(view, state, y).map(({ one, folded }, i) => {
     const at = y + 40 + MONITOR_ROW * i;
     if (!folded) return callerRow(view, state, one, x, at);
@@ -94,6 +99,7 @@ export function monitor(view, state, x, y) {
 
 // How far down a monitor goes that begins at `y`.
 export function monitorEnd(view, state, y) {
+  if (view.compares) return 0;
   return y + 28 + MONITOR_ROW * Math.max(1, callersShown(view, state, y).length);
 }
 

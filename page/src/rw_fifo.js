@@ -23,11 +23,12 @@ const RELEASES = 'readReleases';
 const FLAG = 'flag';
 const held = (state, name) => state.word(wordNamed(NAME, name));
 
-// What the hands are: beside the words, or below the wheel if the picture is narrow.
-const LEGEND_BESIDE = 640;
-const legendAt = ({ width }) => (width >= LEGEND_BESIDE ? [400, 46] : [36, 250]);
+// What the hands are: beside the words, so that a picture on a phone is low, or below the wheel if
+// the picture is narrow.
+const LEGEND_BESIDE = 504;
+const legendAt = ({ width }) => (width >= LEGEND_BESIDE ? [366, 46] : [36, 244]);
 
-const wheelHeight = ({ width }) => (width >= LEGEND_BESIDE ? 246 : 280);
+const wheelHeight = ({ width }) => (width >= LEGEND_BESIDE ? 246 : 272);
 
 function counts(view, state) {
   const [x, y] = legendAt(view);
@@ -39,23 +40,34 @@ function counts(view, state) {
     ${handLegend(x, y + 20, 'inner', RELEASES)}`;
 }
 
-// The widths of the room, and of the callers, which are beside it or below it.
+// The widths of the words, of the room, and of the callers, which are beside both, beside the room
+// or below it.
+const WORDS = 382;
 const ROOM = 250;
 const CALLERS = 280;
 const GAP = 24;
+
+function callersAt({ width }, left, below, wheelEnd) {
+  if (width < left + ROOM) return [24, Math.max(below, wheelEnd)];
+  if (width >= Math.max(WORDS, left + ROOM + GAP) + CALLERS) {
+    return [Math.max(WORDS, left + ROOM + GAP), 24];
+  }
+  return width >= left + ROOM + GAP + CALLERS ? [left + ROOM + GAP, 92] : [left + 4, below];
+}
 
 function draw(view, state) {
   const box = (name, x, width) => wordBox(x, 40, width, String(held(state, name)),
     useOf(view.run, view.marked, wordNamed(NAME, name)), name);
   const wheel = hasWheel(view.run.bits);
   const left = wheel ? 214 : 24;
-  const below = 104 + roomHeight(view, state, ROOM);
-  const beside = view.width >= left + ROOM + GAP + CALLERS;
-  const [x, y] = beside ? [left + ROOM + GAP, 92] : [left + 4, below];
-  const height = Math.max(wheel ? wheelHeight(view) : 180, below, monitorEnd(view, state, y));
+  const roomWidth = Math.min(ROOM, view.width - left - 12);
+  const below = 104 + roomHeight(view, state, roomWidth);
+  const wheelEnd = wheel ? wheelHeight(view) : 0;
+  const [x, y] = callersAt(view, left, below, wheelEnd);
+  const height = Math.max(wheelEnd || 180, below, monitorEnd(view, state, y));
   return picture(view, height, caption(view, state).text,
     html`${box(ACQUIRES, 24, 116)}${box(RELEASES, 156, 116)}${box(FLAG, 288, 70)}
-      ${wheel && counts(view, state)}${room(view, state, left, 92, ROOM)}
+      ${wheel && counts(view, state)}${room(view, state, left, 92, roomWidth)}
       ${monitor(view, state, x, y)}`);
 }
 

@@ -23,9 +23,12 @@ export function drawPage(page) {
   const sizes = measured();
   drawHead(session);
   const { hides, answered } = page;
-  const different = page.comparing.first;
+  const { first: different, columns } = page.comparing;
   const { future } = looks;
-  const view = session.view({ answered, hidden: hides, future, different });
+  const next = page.nextLesson;
+  const compares = page.comparing.isOn;
+  const wanted = { answered, hidden: hides, future, different, columns, next, compares };
+  const view = session.view(wanted);
   const state = run.hasLock && run.state(view.move);
   if (run.hasLock) drawTexts(page, view, state);
   if (run.hasLock && page.mode === 'play') {
@@ -44,6 +47,7 @@ function drawSide(page) {
   byId('mode-play').setAttribute('aria-pressed', mode === 'play');
   byId('mode-quiz').setAttribute('aria-pressed', page.quiz.on);
   byId('mode-hall').setAttribute('aria-pressed', looks.hall);
+  byId('compare').setAttribute('aria-pressed', page.comparing.isOn);
   if (!session.run.hasLock) show(byId('choices'), playView(session, null));
   for (const id of ['undo', 'undo-own']) byId(id).disabled = !page.playing.undone.length;
   const advice = adviceOf(session);

@@ -6,7 +6,7 @@ import { lettersOf, throughLine, withoutLines } from './bytes.js';
 import { awaitedLines } from './locks_code.js';
 import { lockOf } from './locks.js';
 import { Names } from './names.js';
-import { remarksOf } from './remarks.js';
+import { covers, remarksOf } from './remarks.js';
 import { runOf } from './run.js';
 
 const NO_ARROWS = { arrows: [], arrowEnds: [] };
@@ -98,7 +98,9 @@ export class Session {
     const { run, move, names, remarks, place, refused } = this;
     // The move whose words are marked: of a refused one its thread's last, which decided it.
     const marked = refused ? run.lastMoveOf(run.refusal.thread, move) : move;
-    return { run, move, names, remarks, place, refused, marked, ...this.arrows, ...extra };
+    const view = { run, move, names, remarks, place, refused, marked, ...this.arrows, ...extra };
+    // What the move did is not marked if a question asks for it.
+    return covers(view, 'facts') ? { ...view, marked: 0 } : view;
   }
 
   // The line of the text of the current move; before the first move the header's.
@@ -122,7 +124,6 @@ export class Session {
   }
 }
 
-// The code of each lock, line by line.
 // The first line that is neither empty nor a comment.
 export function headerLine(text) {
   const { letters } = lettersOf(text);

@@ -1,14 +1,18 @@
 // Shapes that more than one picture uses.
 
-import { MOVES } from './codes.js';
+import { MOVES, OUTCOME } from './codes.js';
 import { fitted } from './fitting.js';
 import { folding, movingThread } from './folding.js';
 import { html } from './markup.js';
-import { texts } from './texts.js';
+import { covers } from './remarks.js';
 import { standingAfter } from './spans.js';
 
 // How a picture shows a thread's standing: by a class, and always also by a word or a pattern.
 export const standingOf = (run, move, thread) => standingAfter(run, run.lastMoveOf(thread, move));
+
+// The same, unless a question asks for it.
+export const standingIn = (view, thread) => (covers(view, 'standing') ? 'asked'
+  : standingOf(view.run, view.move, thread));
 
 const HATCHED = { line: 'hatch', reads: 'ruled' };
 export const fillOf = (standing) => (HATCHED[standing] ? `url(#${HATCHED[standing]})` : '');
@@ -16,10 +20,14 @@ export const fillOf = (standing) => (HATCHED[standing] ? `url(#${HATCHED[standin
 // A sign for what has to be in view: the thread of the move that is shown.
 export const movingMark = (view, thread) => thread === movingThread(view) && 'data-moving';
 
+// Whether the thread entered with the move that is shown.
+export const enteredNow = ({ run: { records }, move, refused }, thread) => move > 0 && !refused
+  && records.thread(move) === thread && records.outcome(move) === OUTCOME.entered && 'entered';
+
 // A thread as a disc with its mark.
 export function token(x, y, view, thread, radius = 13) {
-  const standing = standingOf(view.run, view.move, thread);
-  return html`<g class="token ${standing}"
+  const standing = standingIn(view, thread);
+  return html`<g class="token ${standing} ${enteredNow(view, thread)}"
       ${movingMark(view, thread)}><title>${view.names.of(thread)}</title>
     <circle cx="${x}" cy="${y}" r="${radius}"/>
     <text x="${x}" y="${y + 4.5}" text-anchor="middle">${view.names.mark(thread)}</text></g>`;
@@ -70,5 +78,5 @@ export function picture(view, height, label, body) {
   const { width, scale } = view;
   const drawn = html`<svg viewBox="0 0 ${width} ${height}" width="${width * scale}"
     height="${height * scale}" role="img" aria-label="${label}">${body}</svg>`;
-  return Object.assign(drawn, { height: height * scale });
+  return Object.assign(drawn, { height: height * scale, label });
 }

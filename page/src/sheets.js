@@ -7,6 +7,8 @@ const MOST_SHEETS = 12;
 // a strip is drawn smaller.
 const FEW = { threads: 5, width: 1040, column: 56, lane: 78, name: 'few' };
 const MANY = { width: 1600, column: 35, lane: 78, lowest: 12, name: 'many' };
+// On an exercise sheet a strip has all moves if it can, so that memory has room below it.
+const BLANK = { width: 1240, least: 34, most: 70, lane: 50, name: 'few' };
 const SHAPE = 188 / 275;
 const HEAD = 30;
 // What a sheet has beside strips, the first one the title.
@@ -17,8 +19,19 @@ const ROWS = 19;
 const OTHER_SHEETS = 2;
 const MOST_MOVES = 400;
 
+function blankStrip({ names, run }) {
+  const { width, least, most, lane, name } = BLANK;
+  const fitting = Math.floor((width - gutterOf(names, width) - 20) / Math.max(1, run.last));
+  return { width, column: Math.min(most, Math.max(least, fitting)), lane, name };
+}
+
+function kindOfStrip(view, lanes) {
+  if (lanes.length > FEW.threads) return MANY;
+  return view.blank ? blankStrip(view) : FEW;
+}
+
 function stripOf(view, lanes) {
-  const { width, column, lane, lowest, name } = lanes.length > FEW.threads ? MANY : FEW;
+  const { width, column, lane, lowest, name } = kindOfStrip(view, lanes);
   const gutter = gutterOf(view.names, width);
   const room = width * SHAPE - HEAD - BETWEEN - TITLE;
   const laneHeight = Math.min(lane, Math.max(lowest ?? 0, room / lanes.length));

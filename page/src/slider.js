@@ -6,6 +6,8 @@ import { casFails } from './lanes.js';
 import { html } from './markup.js';
 
 const EDGE = 12;
+// Closer together the ticks of a kind are a bar, which says nothing.
+const CLOSEST = 10;
 
 const TICKS = {
   ask: (x) => html`<path class="tick ask" d="M${x - 4.5} 2h9l-4.5 8z"/>`,
@@ -34,7 +36,8 @@ function ticks(view, width) {
     if (kind) put(kind, move);
   }
   if (run.refusal && !view.hidden) put('fails', run.last);
-  return [...seen.values()];
+  return Object.keys(TICKS).map((kind) => [...seen.values()].filter((one) => one.kind === kind))
+    .filter((ofKind) => ofKind.length <= width / CLOSEST).flat();
 }
 
 let drawn = { run: null };

@@ -1,6 +1,7 @@
 // Stepping: from move to move by hand, and by itself at a pace.
 
 import { byId } from './markup.js';
+import { tell } from './telling.js';
 import { texts } from './texts.js';
 
 // Milliseconds for a move, by the speed that is chosen.
@@ -15,8 +16,17 @@ export class Stepping {
   step(by) {
     const { page } = this;
     if (page.quiz.on && by > 0 && this.askNext()) return;
-    page.go(page.session.place + by);
+    const { place, run: { last } } = page.session;
+    if (place === last && by > 0) return void this.atEnd();
+    page.go(place + by);
     if (page.quiz.asks(page.session)) page.modes.askFocus();
+  }
+
+  // There is no further move, but perhaps another lesson.
+  atEnd() {
+    const next = document.querySelector('[data-next]');
+    if (next?.checkVisibility()) next.focus();
+    else tell(texts.lessons.noMore);
   }
 
   // To the end, or in the quiz to the next question.

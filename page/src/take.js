@@ -1,61 +1,81 @@
 // To take away: the state as a picture, the report, the schedule, and a frame for a slide.
 
+import { animated } from './animated.js';
 import { withoutLooks } from './looks.js';
 import { byId } from './markup.js';
+import { isAsked } from './remarks.js';
+import { statePicture, stripPicture } from './state_picture.js';
 import { saveAs } from './own.js';
 import { reportOf } from './report.js';
 import { tell, toClipboard } from './telling.js';
 import { texts } from './texts.js';
+import { tikzOf } from './tikz.js';
 
 const T = texts.take;
-const XMLNS = 'http://www.w3.org/2000/svg';
-const GAP = 16;
 const SHARPER = 2;
+// Of several moves: at most so many, each so long on the screen, and the last one longer.
+const MOST = 40;
+const SHOWN = { each: 1200, last: 3000 };
 const FRAME = { width: 960, height: 480 };
 
 const nameOf = (session, ending) => `${session.lesson ?? 'schedule'}-${session.place}.${ending}`;
 
-// A picture of its own: numbers, lanes and memory one below the other, with the page's styles.
-export function pictureOf() {
-  const parts = ['#numbers', '#lanes', '#memory-picture']
-    .map((part) => document.querySelector(`${part} svg`)).filter(Boolean);
-  let height = GAP;
-  const drawn = parts.map((part) => {
-    const one = part.cloneNode(true);
-    one.setAttribute('y', height);
-    one.setAttribute('x', GAP);
-    height += Number(part.getAttribute('height')) + GAP;
-    return one.outerHTML;
-  });
-  const width = Math.max(...parts.map((part) => Number(part.getAttribute('width')))) + 2 * GAP;
-  const style = document.querySelector('style').textContent.replaceAll('<', '\\3c ');
-  const theme = document.documentElement.dataset.theme ?? '';
-  const svg = `<svg xmlns="${XMLNS}" width="${width}" height="${height}" data-theme="${theme}">
-    <style>${style}</style>${document.querySelector('svg.defs defs').outerHTML}
-    <rect width="100%" height="100%" style="fill:var(--card)"/>${drawn.join('')}</svg>`;
-  // A picture by itself has to be well formed.
-  const page = new DOMParser().parseFromString(svg, 'text/html');
-  return { width, height, text: new XMLSerializer().serializeToString(page.querySelector('svg')) };
-}
-
 const encoded = (text) => new TextEncoder().encode(text);
 
-async function png({ width, height, text }) {
+// A picture with room below, so that all of an animation have one size.
+async function png({ width, height, text }, [wide, tall] = [width, height]) {
   const image = new Image();
   image.src = `data:image/svg+xml;charset=utf-8,${encodeURIComponent(text)}`;
   await image.decode();
   const canvas = document.createElement('canvas');
-  canvas.width = width * SHARPER;
-  canvas.height = height * SHARPER;
+  canvas.width = wide * SHARPER;
+  canvas.height = tall * SHARPER;
   const context = canvas.getContext('2d');
   context.scale(SHARPER, SHARPER);
+  context.fillStyle = getComputedStyle(document.documentElement).getPropertyValue('--card');
+  context.fillRect(0, 0, wide, tall);
   context.drawImage(image, 0, 0);
   const blob = await new Promise((done) => { canvas.toBlob(done, 'image/png'); });
   return new Uint8Array(await blob.arrayBuffer());
 }
 
+// What is in the picture, as the dialog says it.
+const wantedNow = () => Object.fromEntries([...byId('take').querySelectorAll('[type=checkbox]')]
+  .map(({ name, checked }) => [name, checked]));
+
+// From which move to which one, as the dialog says it.
+function stretchNow({ session: { run: { count } } }) {
+  const [from, to] = ['take-from', 'take-to'].map((id) => (
+    Math.min(count, Math.max(0, Math.trunc(byId(id).value) || 0))));
+  return from <= to ? [from, Math.min(to, from + MOST - 1)] : [to, Math.min(from, to + MOST - 1)];
+}
+
+// The state for a paper: drawn for a moment where it is not seen.
+export function tikzPicture(page) {
+  const box = document.createElement('div');
+  box.className = 'unseen';
+  box.innerHTML = pictureOf(page).text;
+  document.body.append(box);
+  const text = tikzOf(box.querySelector('svg'));
+  box.remove();
+  return text;
+}
+
+export const stripOf = (page) => stripPicture(page, ...stretchNow(page));
+
+export async function animatedOf(page) {
+  const [from, to] = stretchNow(page);
+  const pictures = Array.from({ length: to - from + 1 }, (_, at) => (
+    statePicture(page, wantedNow(), from + at)));
+  const size = ['width', 'height'].map((what) => Math.max(...pictures.map((one) => one[what])));
+  const frames = [];
+  for (const picture of pictures) frames.push(await png(picture, size));
+  return animated(frames, SHOWN.each, SHOWN.last);
+}
+
+export const pictureOf = (page) => statePicture(page, wantedNow());
 // The state as the bytes of a picture.
-export const pngOf = () => png(pictureOf());
+export const pngOf = (page) => png(pictureOf(page));
 
 export function frameOf(address) {
   const source = withoutLooks(address).replaceAll('&', '&amp;').replaceAll('"', '&quot;');
@@ -66,8 +86,13 @@ export function frameOf(address) {
 export function takeAway(page) {
   const { session, address } = page;
   return {
-    svg: () => saveAs(nameOf(session, 'svg'), encoded(pictureOf().text), 'image/svg+xml'),
-    png: () => pngOf().then((bytes) => saveAs(nameOf(session, 'png'), bytes, 'image/png'))
+    svg: () => saveAs(nameOf(session, 'svg'), encoded(pictureOf(page).text), 'image/svg+xml'),
+    png: () => pngOf(page).then((bytes) => saveAs(nameOf(session, 'png'), bytes, 'image/png'))
+      .catch(() => tell(T.noPicture)),
+    tikz: () => saveAs(nameOf(session, 'tex'), encoded(tikzPicture(page))),
+    strip: () => saveAs(nameOf(session, 'strip.svg'), encoded(stripOf(page).text), 'image/svg+xml'),
+    animated: () => animatedOf(page)
+      .then((bytes) => saveAs(nameOf(session, 'moves.png'), bytes, 'image/png'))
       .catch(() => tell(T.noPicture)),
     report: () => saveAs(nameOf(session, 'report'), encoded(reportOf(session.run))),
     schedule: () => page.editing.save(),
@@ -87,5 +112,12 @@ export function takeDialog(page) {
     if (event.target === dialog || take) dialog.close();
     if (take) does[take]();
   });
-  return () => dialog.showModal();
+  return () => {
+    const { move, run: { count } } = page.session;
+    byId('take-from').value = Math.max(0, move - 3);
+    byId('take-to').value = Math.min(count, Math.max(3, move));
+    byId('take-answer').hidden = !isAsked(page.session.view({ answered: page.answered }));
+    dialog.showModal();
+    dialog.querySelector('[data-take]').focus();
+  };
 }

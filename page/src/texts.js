@@ -2,6 +2,8 @@
 // file. {..} is what the machine or the schedule gave.
 
 import { translated } from './language.js';
+import { hall, lessons, plans, presenter } from './texts_lessons.js';
+import { keys } from './texts_keys.js';
 
 const english = {
   product: 'lockreplay',
@@ -30,23 +32,25 @@ const english = {
     key: 'Marks', read: 'read by this move', changed: 'written by this move',
     own: 'a thread’s own variable, not a word of memory',
     link: 'a link', missing: 'in the queue, but not linked',
-    ask: 'a question at this move', enters: 'on the slider: a thread enters',
+    found: 'below a step: what it found', ask: 'a question at this move',
+    enters: 'on the slider: a thread enters',
     fails: 'on the slider: a cas fails, or a move is refused',
     fold: 'threads that are not drawn, and how many',
   },
   compare: {
     label: 'The schedule that is compared', title: (title) => `Compared with: ${title}`,
     first: (move) => `First difference: move ${move}`, same: 'No difference',
-    here: 'here:', there: 'there:',
+    here: 'here:', there: 'there:', hereMemory: 'Memory here', thereMemory: 'Memory there',
     nothing: 'There is nothing to compare with. Branch off first, in Play or by an edit.',
   },
   tools: {
     copyLink: 'Link', print: 'Print', dark: 'Dark', light: 'Light', keys: 'Keys',
     first: 'First move', back: 'One move back', forward: 'One move forward', last: 'Last move',
     run: 'Play the moves one after another', pause: 'Pause', slider: 'Move', close: 'Close',
-    wider: 'Wider columns', narrower: 'Narrower columns', take: 'Export', find: 'Find',
-    more: 'More', leave: 'Leave hall mode', speed: 'Speed at which the moves are played',
+    take: 'Export', find: 'Find', plans: 'Teach', more: 'More', leave: 'Leave hall mode',
+    speed: 'Speed at which the moves are played',
   },
+  hall, plans, presenter,
   find: {
     title: 'Find a moment',
     hint: 'The proved search looks through all runs of a new lock for a shortest one that has what '
@@ -64,6 +68,9 @@ const english = {
     tooLarge: (states) => `Not decided: ${states} states were found, more than this page searches. `
       + 'Take fewer threads or rounds.',
     longRun: 'The shortest run is too long for this page.',
+    outcome: (line, word) => `Line ${line}: “${word}” is an outcome of the report. A sketch names `
+      + 'what a step found, as in “* read locked found 1” or “* cas failed”. “Which move” has '
+      + 'examples.',
     badLine: (line) => `Line ${line} is not a line of a sketch. A line is a thread’s number or *, `
       + 'and a call or a step, as in “* cas failed”.',
     manyLines: (line) => `Line ${line} is one too many: a sketch has at most 255 lines.`,
@@ -71,6 +78,11 @@ const english = {
     notAsked: 'There is no such lock, the text is too long, or many threads need wider words.',
   },
   take: {
+    heading: 'with title', legend: 'with marks', code: 'with code',
+    answer: 'with what the open question asks for',
+    tikz: 'This state for LaTeX (TikZ)',
+    from: 'From move', to: 'to move', strip: 'Memory after each of these moves (SVG)',
+    animated: 'These moves as an animated picture (APNG)',
     title: 'Export', svg: 'This state as a picture (SVG)',
     png: 'This state as a picture (PNG)', report: 'The whole report', schedule: 'The schedule',
     frame: 'Copy a frame for a slide', frameCopied: 'The frame is copied.',
@@ -82,10 +94,9 @@ const english = {
       + 'functions is proved to do what its contract says: what is accepted and refused, and what '
       + 'each move does, follows from the definitions of the four locks. Pictures, sentences and '
       + 'the text of the report are tested, not proved.',
-    documents: {
-      PROOF: 'What is proved', LOCKS: 'The locks as code', GUIDE: 'Guide for teachers',
-    },
-    source: 'The source is in the repository of lockreplay: page/src, crates/lk_page.',
+    documents: { LOCKS: 'The locks as code', GUIDE: 'Lesson plans for teachers' },
+    source: 'The source is in the repository of lockreplay: page/src, crates/lk_page. There '
+      + 'docs/PROOF.md says what is proved, and docs/GUIDE.md has the guide for teachers.',
     licence: 'Licence: Apache-2.0 OR MIT.',
     browsers: 'It needs 64-bit WebAssembly memory: Chromium from 133 or Firefox from 134 on. '
       + 'Another browser shows the lessons as they were played before.',
@@ -105,17 +116,18 @@ const english = {
   noSchedule: 'The clipboard has no schedule. Paste into the text (key E).',
 
   time: 'Threads over time',
-  noMoves: 'No move has been made. Choose a step of a thread.',
   resting: (threads) => `${threads} not drawn: no move at this time`,
   away: (count) => `${count} lanes above or below`,
   folded: (count) => `${count} more`,
-  covered: 'The caption comes with the answer (A).',
+  covered: 'Arrows and caption come with the answer (A).',
+  coveredSentence: 'What this move did comes with the answer (A).',
   showStory: 'What this is about',
   wrote: (word, left, found) => `${word} = ${left} (was ${found})`,
   legend: {
     call: 'called', vain: 'waits: failed poll', enters: 'entered', leaves: 'left',
     fails: 'cas fails', inCall: 'in a call', line: 'in the queue', holds: 'holds',
     reads: 'reads', writes: 'writes', unlinked: 'in the queue, not linked',
+    moves: 'the call goes on', blank: 'to fill in',
     ended: 'the write that ended a wait',
   },
   marks: {
@@ -123,10 +135,9 @@ const english = {
     holds: 'holds', reads: 'reads', writes: 'writes', line: 'queue',
   },
 
-  memory: 'Memory',
   standing: {
     holds: 'holds', reads: 'reads', writes: 'writes', line: 'queue', call: 'in a call',
-    rest: 'idle',
+    rest: 'idle', asked: '?',
   },
   ownVariable: (name) => `${name}’s own variable`,
   variable: 'own variable',
@@ -138,7 +149,7 @@ const english = {
   now: 'This move',
   position: (move, count) => `${move} of ${count}`,
   start: 'All words are 0, and the queue is empty.',
-  startHint: 'Press → for the first move.',
+  startHint: 'Press → for the first move.', startTouch: 'Swipe to the left for the first move.',
   before: 'before the first move',
   outcomes: {
     called: 'called', moved: 'moved', waits: 'waits', entered: 'entered', left: 'left',
@@ -168,21 +179,16 @@ const english = {
     hidden: 'What comes of the next move is asked before it is shown.',
   },
 
-  lessons: {
-    title: 'Lessons',
-    hint: 'Most are schedules with questions. Arrow keys step through them.',
-    groups: {
-      refused: 'Refused moves', fault: 'Texts that are not schedules',
-    },
-    kept: 'Kept in this browser', keptMove: (place) => `at move ${place}`,
-    moves: (count) => (count === 1 ? '1 move' : `${count} moves`),
-  },
+  lessons,
 
   own: {
     title: 'The schedule',
     hint: 'Type or paste a schedule, open a file, or drop one anywhere on the page.',
     open: 'Open', save: 'Save', copy: 'Copy', clear: 'New',
     copied: 'The schedule is copied.',
+    several: (name, others) => `${name} is shown. ${others === 1 ? 'The other file is'
+      : `The ${others} other files are`} kept, and listed with the lessons.`,
+    trace: 'This is a trace. It is shown as a schedule, without its words and values.',
     notCopied: 'The browser did not allow it. Select the text and copy it.',
     label: 'Text of the schedule',
     fileName: 'schedule.txt',
@@ -213,7 +219,6 @@ const english = {
     branch: (move) => `A choice here is the next move after move ${move}.`,
     every: 'Every move, also those that are refused',
     undo: 'Undo',
-    step: (word) => word,
     next: 'next',
     may: 'may call',
     newLock: 'New schedule',
@@ -234,17 +239,17 @@ const english = {
     queue: 'Who is in the queue then?',
     short: { outcome: 'outcome', holders: 'hold', queue: 'queue' },
     hint: {
-      holders: 'As in the report: - for nobody, 0 for a holder, r0,2 for readers, w1 for a writer.',
-      queue: 'As in the report: - for nobody, 0,2 for thread 0 and after it thread 2.',
+      holders: 'Numbers or names: - for nobody, 0 for a holder, r0,2 for readers, w1 for a writer.',
+      queue: 'Numbers or names in order: - for nobody, 0,2 for thread 0 and after it thread 2.',
     },
     check: 'Check',
     score: ({ right, wrong, points }) => `Points: ${points} (${right} right, ${wrong} wrong)`,
-    rule: 'A wrong answer takes a point away, but never below 0.',
     save: 'Save for the teacher', fileName: 'quiz.txt',
     fileHead: '# lockreplay: answers of a quiz. A wrong answer takes a point away.',
     wrong: (given) => `not ${given || 'nothing'}`,
     checked: ({ right, truth }) => (right ? 'Right.' : `Wrong: ${truth}.`),
-    last: 'That was the last move.',
+    last: 'That was the last move.', nameLabel: 'Name',
+    lastWrong: 'That was the last move. Wrong were:',
     outcomes: {
       moved: 'moved: the call goes on', waits: 'waits: a failed poll',
       entered: 'entered: the thread holds', left: 'left: it no longer holds',
@@ -258,39 +263,7 @@ const english = {
     },
   },
 
-  keys: {
-    title: 'Keys',
-    list: [
-      ['→ ←', 'one move forward, one move back'],
-      ['Home End', 'the first, the last move'],
-      ['Page Down, Page Up', 'ten moves forward, ten back'],
-      ['] [', 'the same thread’s next, its previous move'],
-      ['N', 'the next question'],
-      ['A', 'show the answer; before the first move what this is about'],
-      ['Space', 'play the moves, pause'],
-      ['↑ ↓ Enter', 'on the threads: choose one, go to its next move'],
-      ['O', 'lessons'],
-      ['E', 'your own schedule; Escape leaves the text'],
-      ['G', 'play: choose who moves'],
-      ['0 to 9', 'in Play: this thread’s step; of several choices the first, Tab to the others'],
-      ['W', 'in Play: every move, also those that are refused'],
-      ['U, Ctrl Z', 'undo: a choice, an edit, another schedule'],
-      ['Q', 'quiz'],
-      ['C', 'compare with what this was branched off from, or with the other read-write lock'],
-      ['L', 'copy a link to this move'],
-      ['P', 'print: with answers, or an exercise sheet'],
-      ['H', 'hall mode: large letters, two parts'],
-      ['M', 'find a moment: a shortest run with a move, or with lines that you write'],
-      ['V', 'view: which parts are shown'],
-      ['F', 'draw later moves too, faintly'],
-      ['T', 'export: picture, report, schedule, a frame for a slide'],
-      [', .', 'slower, faster'],
-      ['D', 'dark or light'],
-      ['+ −', 'wider, narrower columns'],
-      ['?', 'these keys'],
-      ['Tab', 'from one control to the next'],
-    ],
-  },
+  keys,
 
   noMachine: 'This browser has no 64-bit WebAssembly memory, so it cannot run the machine here. '
     + 'The lessons are shown as the machine played them; a schedule of your own needs a newer '
@@ -305,6 +278,10 @@ const english = {
     what: 'Call or step', outcome: 'Outcome', says: 'What it did', holds: 'Holds',
     line: 'Queue',
     part: (from, to, count) => `Moves ${from} to ${to} of ${count}`,
+    name: 'Name:', date: 'Date:', blankMemory: 'Memory to be filled in',
+    memoryAfter: (move) => `Memory after move ${move}`,
+    task: 'Draw each mark as its outcome is, and fill in the table: the outcome (called, moved, '
+      + 'waits, entered or left), who holds, and who is in the queue, the oldest first.',
   },
 
   refused: {
@@ -326,7 +303,6 @@ const english = {
     step: 'make the step “{word}”',
     call: 'call “{word}”',
     or: ' or ',
-    none: 'Here only threads {threads} can move.',
   },
 
   faults: {
@@ -363,8 +339,6 @@ const english = {
     zero: 'A number has no leading zero.',
     unknownMove: 'Unknown move “{found}”.',
     moveShape: 'This is not a move. A move is a thread’s number, one blank, and a word.',
-    moves: 'acquire, release, rlock, runlock, wlock, wunlock, downgrade, read, write, swap, cas, '
-      + 'add, section',
     ownMoves: 'The moves of this lock are {moves}.',
   },
 };

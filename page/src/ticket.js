@@ -43,10 +43,11 @@ const holdersOfTickets = (state) => state.queue.map((thread) => ({
 }));
 
 // Both words, beside each other or one below the other.
-function words(view, state, x, beside) {
+function words(view, state, x, beside, y) {
   const box = (name, at, y) => wordBox(at, y, 112, String(held(state, name)),
     useOf(view.run, view.marked, wordNamed(NAME, name)), name);
-  return html`${box(NEXT_TICKET, x, 40)}${box(NOW_SERVING, ...(beside ? [x + 128, 40] : [x, 96]))}`;
+  const second = beside ? [x + 128, y] : [x, y + 56];
+  return html`${box(NEXT_TICKET, x, y)}${box(NOW_SERVING, ...second)}`;
 }
 
 // The tickets, of which those between are folded if there are more than have room.
@@ -61,10 +62,13 @@ const ownBox = (x, y, width, text) => html`<rect class="own" x="${x}" y="${y}" w
   <text class="mono value" x="${x + width / 2}" y="${y + 19}" text-anchor="middle">${text}</text>`;
 
 const OWN_ROW = 34;
+const OWN_COLUMN = 176;
 
-function ownVariables(view, all, x, top) {
+// In rows of one or of two.
+function ownVariables(view, all, left, top, inRow) {
   return all.map(({ one, folded }, i) => {
-    const y = top + OWN_ROW * i;
+    const x = left + OWN_COLUMN * (i % inRow);
+    const y = top + OWN_ROW * Math.floor(i / inRow);
     if (folded) return foldedToken(x + 13, y + 14, view, folded.map(({ thread }) => thread));
     return html`${token(x + 13, y + 14, view, one.thread)}
       ${ownBox(x + 36, y, 112, `${one.name} = ${one.number}`)}`;
@@ -79,29 +83,36 @@ function legend(x, y) {
 // From which widths on the words are beside each other, and what the hands are beside the tickets.
 const BESIDE = 576;
 const LEGEND_BESIDE = 640;
+// Narrower than this, words and variables are below the wheel.
+const SLIM = 460;
 
 function narrow(view, state) {
-  const middle = 150;
+  const isSlim = view.width < SLIM;
+  const middle = isSlim ? 122 : 150;
   const wheel = wheelPlaced(view.run.bits, middle, 132, 76);
   const hands = [{ value: held(state, NOW_SERVING), style: HANDS.inner },
     { value: held(state, NEXT_TICKET), style: HANDS.outer }];
   const beside = view.width >= BESIDE;
-  const top = beside ? 116 : 156;
-  const most = view.tight ? Math.max(3, Math.floor((view.height - top) / OWN_ROW)) : Infinity;
+  const top = isSlim ? 268 : beside ? 116 : 156;
+  const inRow = isSlim ? 2 : 1;
+  const most = view.tight
+    ? Math.max(3, inRow * Math.floor((view.height - top) / OWN_ROW)) : Infinity;
   const all = tickets(view, state, most);
   const tokens = all.filter(({ one }) => one).map(({ one: { thread, number } }) => ({
     place: Number(number), draw: (x, y) => token(x, y, view, thread),
   }));
-  const x = 2 * middle + 10;
+  const x = isSlim ? 256 : 2 * middle + 10;
   const legendBeside = view.width >= LEGEND_BESIDE;
-  const height = Math.max(legendBeside ? 258 : 292, top + 14 + OWN_ROW * all.length);
+  const height = Math.max(legendBeside ? 258 : 292,
+    top + 14 + OWN_ROW * Math.ceil(all.length / inRow));
   return picture(view, height, caption(view, state).text, html`${wheelOf(wheel, hands, tokens)}
-    ${legendBeside ? legend(x + 172, top + 14) : legend(middle - 62, 258)}
-    ${words(view, state, x, beside)}
-    <text class="note" x="${x}" y="${top - 14}">${
+    ${isSlim ? legend(x, 158) : legendBeside ? legend(x + 172, top + 14)
+    : legend(middle - 62, 258)}
+    ${words(view, state, x, beside, 40)}
+    <text class="note" x="${x}" y="${isSlim ? 216 : top - 14}">${
   firstFitting([texts.wheel(view.run.bits, wheel.places), texts.bits(view.run.bits)],
     view.width - x - 8, 'small')}</text>
-    ${ownVariables(view, all, x, top)}`);
+    ${ownVariables(view, all, isSlim ? 24 : x, top, inRow)}`);
 }
 
 // Wide words: the tickets that are out, one cell each, up to the next one.

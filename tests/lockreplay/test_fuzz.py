@@ -42,15 +42,15 @@ def is_right(replayer, text):
     return replayer.run("replay", stdin=text) == (report, *due([report])[1:])
 
 
-@pytest.mark.parametrize("name", corpus.names())
+@pytest.mark.parametrize("name", corpus.TEXTS)
 def test_stored_text(replayer, name):
-    text = corpus.text_of(name)
+    text = corpus.TEXTS[name]
     report = oracle.report_of(text)
     assert replayer.run("replay", stdin=text) == (report, *due([report])[1:])
 
 
 def test_stored_texts_as_a_batch(replayer):
-    texts = list(map(corpus.text_of, corpus.names()))
+    texts = list(corpus.TEXTS.values())
     assert batch(replayer, texts) == due(list(map(oracle.report_of, texts)))
 
 

@@ -6,18 +6,15 @@ import subprocess
 
 import pytest
 
-from devices import little_memory
-from tree import PATIENCE, TESTS, Program, cases
+from devices import little_memory, refusing_library
+from oracle import batch_of
+from tree import PATIENCE, Program, cases
 from worked_rows import most_moves, rows
 
 MEMORY = (b"", b"lockreplay: out of memory\n", 3)
 EMPTY, EMPTY_REPORT = b"lock ticket threads 1\n", b"end 0\n"
 SPINS = most_moves()
 LIMITS = (3, 4, 5, 6, 8, 12, 16, 24, 32, 48, 64, 80, 96, 128, 160, 256, 512)  # in MB
-
-
-def batch_of(reports):
-    return b"".join(b"file %d\n" % k + report for k, report in enumerate(reports, 1))
 
 
 # A batch is not tried within 3 MB, which are too few to start with 65,536 names.
@@ -85,9 +82,8 @@ class Refusing:
     """Runs the program in a folder under refuse.c, which refuses one request for memory."""
 
     def __init__(self, program, folder):
-        self.program, self.folder, self.library = program, folder, folder / "refuse.so"
-        subprocess.run(["cc", "-O2", "-Wall", "-Wextra", "-shared", "-fPIC", "-o", self.library,
-                        TESTS / "refuse" / "refuse.c"], check=True)
+        self.program, self.folder = program, folder
+        self.library = refusing_library(folder)
 
     def run(self, number, words, text):
         """The answer, whether the request of this number was refused, and how many were made."""

@@ -14,6 +14,7 @@ import time
 import pytest
 
 from devices import closing, left_pipe, short_files
+from oracle import batch_of
 from tree import PATIENCE, PIPE, Program, cases
 from worked_rows import crowd, hand_over, most_moves
 
@@ -39,10 +40,6 @@ NOTHING = (b"", b"", 2)
 
 def cannot_read(number):
     return b"", b"lockreplay: cannot read file %d\n" % number, 3
-
-
-def batch_of(*reports):
-    return b"".join(b"file %d\n" % k + report for k, report in enumerate(reports, 1))
 
 
 @pytest.fixture(scope="module")
@@ -87,14 +84,14 @@ def test_input_from_a_device(program, path, flags, due):
 def test_closed_input(program):
     closed = {"stdin": subprocess.DEVNULL, "preexec_fn": closing(0)}
     assert program.run("replay", **closed) == (b"", INPUT, 3)
-    due = batch_of(EMPTY_REPORT, HANDED_ON_REPORT)
+    due = batch_of([EMPTY_REPORT, HANDED_ON_REPORT])
     assert program.run(*BATCH, "empty", "handed_on", **closed) == (due, b"", 0)
 
 
 # Words, input and report, of which writing fails.
 WRITES = {
     "replay": (["replay"], SPINS.text, SPINS.report),
-    "batch": ([*BATCH, "spinning", "empty"], b"", batch_of(SPINS.report, EMPTY_REPORT)),
+    "batch": ([*BATCH, "spinning", "empty"], b"", batch_of([SPINS.report, EMPTY_REPORT])),
     "help": (["--help"], b"", b""),
 }
 
@@ -185,7 +182,7 @@ def test_words_that_the_parser_refuses(program, words):
                              [EMPTY_REPORT, HANDED_ON_REPORT, EMPTY_REPORT]),
 })
 def test_words_of_a_batch(program, words, reports):
-    assert program.run("batch", *words.split()) == (batch_of(*reports), b"", 0)
+    assert program.run("batch", *words.split()) == (batch_of(reports), b"", 0)
 
 
 @pytest.mark.parametrize("words, part", [
@@ -209,7 +206,7 @@ def test_error_that_nobody_reads(program):
 @pytest.mark.parametrize("workers", range(1, 9))
 def test_batch_by_workers(program, workers):
     files = ["empty", "handed_on", "refused", "none", "empty"]
-    due = batch_of(EMPTY_REPORT, HANDED_ON_REPORT, REFUSED_REPORT, NO_HEADER, EMPTY_REPORT)
+    due = batch_of([EMPTY_REPORT, HANDED_ON_REPORT, REFUSED_REPORT, NO_HEADER, EMPTY_REPORT])
     assert program.run("batch", "--workers", workers, *files) == (due, b"", 1)
 
 
@@ -221,7 +218,7 @@ def test_batch_by_workers(program, workers):
     "65,536 files": (["empty"] * 65_536, [EMPTY_REPORT] * 65_536, 0),
 })
 def test_status_of_a_batch(program, files, reports, status):
-    assert program.run(*BATCH, *files) == (batch_of(*reports), b"", status)
+    assert program.run(*BATCH, *files) == (batch_of(reports), b"", status)
 
 
 @pytest.mark.parametrize("name", ["missing", "folder", "dangling", "circle", "socket", "empty/x",

@@ -10,6 +10,7 @@ import threading
 import pytest
 
 from devices import short_files
+from oracle import batch_of
 from tree import PATIENCE, cases
 from worked_rows import crowd
 
@@ -61,7 +62,7 @@ def test_batch_in_few_writes(replayer, texts, most_writes):
     far.close()
     reader.join()
     near.close()
-    due = b"".join(b"file %d\n" % k + report for k, (_, report) in enumerate(texts, 1))
+    due = batch_of([report for _, report in texts])
     assert (b"".join(writes), *done) == (due, b"", b"", 0)
     assert len(writes) <= most_writes
 

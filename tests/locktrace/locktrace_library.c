@@ -14,11 +14,10 @@ static void expect(int holds, const char *what)
     printf("FAILED %s\n", what);
 }
 
-static const char late_link[] =
-    "lock mcs threads 2\n"
-    "0 acquire\n0 write next left 0\n0 swap tail found 0 left 1\n"
-    "1 acquire\n1 write next left 0\n1 swap tail found 1\n"
-    "0 release\n0 read next found 0\n0 cas tail failed\n";
+static const char late_link[] = "lock mcs threads 2\n"
+                                "0 acquire\n0 write next left 0\n0 swap tail found 0 left 1\n"
+                                "1 acquire\n1 write next left 0\n1 swap tail found 1\n"
+                                "0 release\n0 read next found 0\n0 cas tail failed\n";
 
 static uint32_t fault_of(const char *text)
 {
@@ -49,8 +48,8 @@ int main(void)
     expect(run.answer.threads == 2, "two threads");
 
     expect(fault_of("lock ticket threads 1\n0 add\n") == LT_NO_CALL, "no call");
-    expect(fault_of("lock mcs threads 1\n0 acquire\n0 write next\n0 swap tail found 1\n")
-               == LT_FOUND_OTHER,
+    expect(fault_of("lock mcs threads 1\n0 acquire\n0 write next\n0 swap tail found 1\n") ==
+               LT_FOUND_OTHER,
            "found another");
     expect(fault_of("lock mcs threads 1\n0 acquire\n0 write locked left 0\n") == LT_OTHER_WORD,
            "another word");

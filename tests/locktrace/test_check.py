@@ -18,6 +18,7 @@ from tree import VERSION, cases
 
 CANNOT = "locktrace: cannot write: "
 SHOWN = "2: not a move (BadLine)\n"
+BEGIN = "help: begin with a header, as in: lock mcs threads 2"
 
 
 def test_version_and_help(tracer):
@@ -43,7 +44,7 @@ def test_usage(tracer, words):
     "a schedule": ("check -", SCHEDULE, ("", "", 0)),
     "another step": ("check wrong", "", (WRONG_LINE.format("wrong"), "", 1)),
     "no trace": ("check faulty", "", (FAULTY_LINE.format("faulty"), "", 4)),
-    "no header": ("check", "", ("-:1: no header (NoHeader)\n", "", 4)),
+    "no header": ("check", "", (f"-:1: no header (NoHeader)\n-:1: {BEGIN}\n", "", 4)),
     "a long comment": ("check", "#" * 3_000_000 + "\n" + GOOD, ("", "", 0)),
     "a line of 97 bytes": ("check", f"lock mcs threads 2\n{'0 acquire':97}\n",
                            ("-:2: not a move (BadLine)\n"
@@ -83,6 +84,35 @@ def test_summary(tracer):
     output, *more = tracer.run("check", "--summary", "absent")
     assert more == ["", 3]
     assert output.startswith("absent: ") and output.count("\n") == 1
+
+
+END, BLANK = "the end of the line", "nothing after a blank"
+NUMBER, THREAD = "a number of at most 64 bits", "a thread's number, from 0 to 255"
+OUTCOME = "the end, the section's count, or moved, waits, entered or left"
+
+
+@pytest.mark.parametrize("line, column, there, due", [
+    ("2", 3, END, ACTION), ("2 ", 3, BLANK, ACTION),
+    ("02 read", 1, "'02'", f"{THREAD}, without leading zeros"),
+    ("256 read", 1, "'256'", f"{THREAD}, without leading zeros"),
+    ("0 acquire ", 11, BLANK, "the end"), ("2 acquire tail", 11, "'tail'", "the end"),
+    ("2 swap tail ", 13, BLANK, "the end, 'found' or 'left'"),
+    ("2 swap tail found", 19, END, NUMBER), ("2 swap tail found 01", 19, "'01'", NUMBER),
+    ("2 swap tail found 18446744073709551616", 19, "'18446744073709551616'", NUMBER),
+    ("2 swap tail left 1 found 1", 20, "'found'", "the end"),
+    ("2 swap tail done", 13, "'done'", "the end, 'found' or 'left'"),
+    ("2 swap found 1", 8, "'found'",
+     "the end, or a word: next_ticket, now_serving, tail, next or locked"),
+    ("2 write next of 256 left 1", 17, "'256'", THREAD), ("2 write next of", 17, END, THREAD),
+    ("2 write tail of 1", 14, "'of'", "the end, 'found' or 'left'"),
+    ("2 cas tail failed left 1", 19, "'left'", "the end"),
+    ("2 section tail", 11, "'tail'", OUTCOME), ("2 section called", 11, "'called'", OUTCOME),
+    ("2 section entered 17", 19, "'17'", "the end"),
+    ("2 section 17 entered 1", 22, "'1'", "the end")])
+def test_line_that_is_no_move(tracer, line, column, there, due):
+    assert tracer.run("check", stdin=f"lock mcs threads 3\n{line}\n") == (
+        "-:2: not a move (BadLine)\n"
+        f"-:2: note: column {column}: {there}, expected {due}\n", "", 4)
 
 
 NAMES = ["good", "other", "faulty", "absent"]
@@ -172,9 +202,11 @@ def test_odd_text(tracer, words, text, due):
     ("x # SKIP y\\z", "x # SKIP y\\z", "x \\# SKIP y\\\\z")], ids=ascii)
 def test_odd_name(tracer, name, text, tap):
     (tracer.folder / name).write_text("# nothing\n")
-    assert tracer.run("check", name) == (f"{text}:2: no header (NoHeader)\n", "", 4)
+    assert tracer.run("check", name) == (
+        f"{text}:2: no header (NoHeader)\n{text}:2: {BEGIN}\n", "", 4)
     assert tracer.run("check", "--format", "tap", name) == (
-        f"TAP version 13\n1..1\nnot ok 1 - {tap}\n# line 2: no header (NoHeader)\n", "", 4)
+        f"TAP version 13\n1..1\nnot ok 1 - {tap}\n# line 2: no header (NoHeader)\n# {BEGIN}\n",
+        "", 4)
 
 
 ABSENT = "absent: No such file or directory (os error 2)\n"
@@ -187,9 +219,11 @@ FOLDER = ".: Is a directory (os error 21)\n"
        for name, said in (("absent", ABSENT), (".", FOLDER))},
     "check absent": ("check absent", "", (ABSENT, "", 3)),
     "schedule of no header": ("schedule", "# nothing\n",
-                              ("\n", "-:2: no header (NoHeader)\n", 4)),
-    "explain no header": ("explain", "# nothing\n", ("2: no header (NoHeader)\n", "", 4)),
-    "cover no header": ("cover", "# nothing\n", ("", "-:2: no header (NoHeader)\n", 4)),
+                              ("\n", f"-:2: no header (NoHeader)\n-:2: {BEGIN}\n", 4)),
+    "explain no header": ("explain", "# nothing\n", (
+        f"2: no header (NoHeader)\n  {BEGIN}\n", "", 4)),
+    "cover no header": ("cover", "# nothing\n", (
+        "", f"-:2: no header (NoHeader)\n-:2: {BEGIN}\n", 4)),
 })
 def test_input_without_a_trace(tracer, words, stdin, due):
     """A file that cannot be read is told with its name and the system's reason."""
@@ -245,14 +279,19 @@ def test_input_without_end(tracer):
     assert tracer.run("check", "endless") == (WRONG_LINE.format("endless"), "", 1)
 
 
-@pytest.mark.parametrize("words", [["explain", "many"], ["schedule", "many"],
-                                   ["check", *["wrong"] * 2_000]], ids=lambda words: words[0])
-def test_reader_that_left(tracer, words):
-    """Who reads a part of the output has read enough."""
+@cases("words, status", {
+    "explain": (["explain", "many"], 0),
+    "schedule": (["schedule", "many"], 0),
+    "check": (["check", *["wrong"] * 2_000], 1),
+    "the last of many files": (["check", "--summary", *["good"] * 2_000, "wrong"], 1),
+    "no trace": (["check", "--format", "tap", "wrong", "faulty"], 4),
+})
+def test_reader_that_left(tracer, words, status):
+    """The status says how the job ended, whoever reads."""
     moves = "0 acquire\n0 add\n0 read\n0 release\n0 read\n0 write\n" * 40_000
     tracer.write(many="lock ticket threads 1\n" + moves)
     with left_pipe() as pipe:
-        assert tracer.run(*words, stdout=pipe) == ("", "", 0)
+        assert tracer.run(*words, stdout=pipe) == ("", "", status)
 
 
 @pytest.mark.parametrize("name", ["runs", "runs/"])

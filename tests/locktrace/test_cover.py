@@ -1,6 +1,6 @@
 """`locktrace cover`: how often schedules take each kind of transition, and those that are missing.
 
-The names of kinds are those of tests/rows/names.txt, and the second replayer says which kinds a
+The names of kinds are those of tests/rows/kinds.txt, and the second replayer says which kinds a
 schedule has. What is said is written by hand from packaging/man/locktrace.1.
 """
 import json
@@ -54,10 +54,13 @@ def test_rounds(program):
                              f"locktrace: missing: {FAILED}\n", 1),
     "all are required": (["--require", "all", "none"], "mcs: ", ALL_MISSING, 1),
     "another value": (["differs"], "mcs: 2 of 16 kinds of transition, in 2 moves\n",
-                      "differs:4: refused: thread 0's swap found 1 in tail, and the lock has 0\n"
+                      "differs:4: refused: thread 0's swap found 1 in tail; "
+                      "the published algorithm has 0\n"
                       "differs:2: note: before it: 0 acquire\n"
                       "differs:3: note: before it: 0 write\n"
-                      "differs:4: note: held by nobody; queue empty\n", 1),
+                      "differs:4: note: held by nobody; queue empty\n"
+                      "differs:4: help: swap the tail by one atomic operation: a load and a "
+                      "store let two threads find one value\n", 1),
 })
 def test_status(program, words, begin, error, status):
     output, *more = program.run("cover", *words)
@@ -92,7 +95,6 @@ def counted(program, schedule):
 def test_command_for_each_kind(tracer, lock):
     """Of each kind that is missing, the command gives a schedule that has it."""
     named = search_rows.names()[lock]
-    assert set(named) == set(search_rows.kinds(lock))
     counts, commands = counted(tracer, f"lock {lock} threads 2\n")
     assert counts == dict.fromkeys(named.values(), 0)
     space = searched(search_rows.Space(lock, 2, 1, 64))

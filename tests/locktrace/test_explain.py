@@ -9,8 +9,10 @@ import pytest
 
 from tree import cases
 
-REFUSED = ("9: refused: '1 write', but {}'s next step is 'swap' (WrongStep)\n"
-           "  held by 0; queue 0\n  due: 1 swap\n")
+REFUSED = ("9: refused: '1 write', but in the published algorithm {}'s next step is 'swap' "
+           "(WrongStep)\n  held by 0; queue 0\n"
+           "  help: swap the tail once next is nil, and set locked after the swap\n"
+           "  due: 1 swap\n")
 
 
 @cases("words, due", {
@@ -41,8 +43,9 @@ def test_refused_call(tracer, thread, name, names):
     """A name if the thread has one."""
     assert tracer.run("explain", *names, stdin=f"lock mcs threads 2\n{thread} release\n") == (
         f"2: refused: '{thread} release', but {name} does not hold the lock in that mode "
-        f"(NotHolder)\n  held by nobody; queue empty\n  accepted would be: {thread} acquire\n",
-        "", 1)
+        "(NotHolder)\n  held by nobody; queue empty\n"
+        "  help: release a lock once, by the thread that took it, in the mode in which it did\n"
+        f"  accepted would be: {thread} acquire\n", "", 1)
 
 
 @pytest.mark.parametrize("line, column, word, near", [

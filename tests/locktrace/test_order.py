@@ -30,23 +30,26 @@ RETURNED = ["release", "read next found 0", "cas tail done", *SWAPPED[:2], "swap
 ENDINGS = [
     ("a wrong step beside a cut log", "mcs", SWAPPED,
      ["acquire", "write next left 0", "swap tail found 1 left 1", *WHOLE], 1,
-     STUCK.format("1.log:4", "thread 1's swap left 1 in tail, and the lock leaves 2", 5,
+     STUCK.format("1.log:4", "thread 1's swap left 1 in tail; the published algorithm leaves 2", 5,
                   "held by 0; queue 0", "")),
     ("a value that a cut log may explain", "mcs", SWAPPED, [*AWAITED, *WHOLE], 0,
      MORE.format("0.log", 9)),
     ("a value that no log explains", "mcs", [*SWAPPED, *WHOLE], [*AWAITED, *WHOLE], 1,
-     STUCK.format("1.log:8", "thread 1's read found 0 in locked of 1, and the lock has 1", 9,
+     STUCK.format("1.log:8",
+                  "thread 1's read found 0 in locked of 1; the published algorithm has 1", 9,
                   "held by 0; queue 0,1", "")),
     ("an outcome that a cut log may explain", "rw-simple", ["wlock", "section 1 entered"],
      ["rlock", "section 3 entered", *WHOLE], 0, MORE.format("0.log", 3)),
     ("an outcome that no log explains", "rw-simple", ["wlock", "section 1 entered", *WHOLE],
      ["rlock", "section 3 entered", *WHOLE], 1,
-     STUCK.format("1.log:3", "thread 1's section came to 'entered', and the lock's to 'waits'", 3,
+     STUCK.format("1.log:3",
+                  "thread 1's section came to 'entered'; the published algorithm's to 'waits'", 3,
                   "written by 0", "")),
     ("a value is less certain than a step that waits", "mcs",
      [*SWAPPED, "release", "read next found 2", *WHOLE],
      ["acquire", "write next found 5 left 0", SWAPPED[2], *RETURNED, *WHOLE], 1,
-     STUCK.format("1.log:3", "thread 1's write found 5 in next of 1, and the lock has 0", 3,
+     STUCK.format("1.log:3",
+                  "thread 1's write found 5 in next of 1; the published algorithm has 0", 3,
                   "held by nobody; queue empty", NEXT.format(0, 4, "0 swap tail found 0", WAITS))),
 ]
 # Of two wrong steps the second is named, whichever thread makes it. `{t}` is its thread, and `{o}`
@@ -54,18 +57,20 @@ ENDINGS = [
 SUSPECTS = [
     ("a refused step and a value", "ticket", ["acquire", "add next_ticket found 5"],
      ["acquire", "read now_serving found 0"],
-     "'{t} read', but thread {t}'s next step is 'add' (WrongStep)", 2,
+     "'{t} read', but in the published algorithm thread {t}'s next step is 'add' (WrongStep)", 2,
      "held by nobody; queue empty",
      (3, "{o} add next_ticket found 5",
-      "thread {o}'s add found 5 in next_ticket, and the lock has 0")),
+      "thread {o}'s add found 5 in next_ticket; the published algorithm has 0")),
     ("an outcome and a count", "rw-simple",
      ["rlock", "section 1 entered", "runlock", "section 1 left"], ["wlock", "section 2 entered"],
-     "thread {t}'s section came to 'entered', and the lock's to 'waits'", 4, "read by {o}",
+     "thread {t}'s section came to 'entered'; the published algorithm's to 'waits'", 4,
+     "read by {o}",
      (5, "{o} section 1 left", "thread {o}'s section has the count 1, after the count 1")),
     ("two outcomes", "rw-simple", ["wlock", "section 2 waits"], ["rlock", "section 1 waits"],
-     "thread {t}'s section came to 'waits', and the lock's to 'entered'", 2, "held by nobody",
+     "thread {t}'s section came to 'waits'; the published algorithm's to 'entered'", 2,
+     "held by nobody",
      (3, "{o} section 2 waits",
-      "thread {o}'s section came to 'waits', and the lock's to 'entered'")),
+      "thread {o}'s section came to 'waits'; the published algorithm's to 'entered'")),
 ]
 TAKEN = "acquire\nadd next_ticket found 0\nread now_serving found 0\ndropped 0\n"
 # What follows the header of thread 1's log, its bytes as they are; the status, and what is said.
@@ -155,7 +160,9 @@ def test_long_header_of_a_trace(tracer, size):
 def test_refused_move_without_its_end(tracer):
     assert tracer.run("check", stdin="lock mcs threads 2\n0 release") == (
         "-:2: refused: '0 release', but thread 0 does not hold the lock in that mode (NotHolder)\n"
-        "-:2: note: held by nobody; queue empty\n", "", 1)
+        "-:2: note: held by nobody; queue empty\n"
+        "-:2: help: release a lock once, by the thread that took it, in the mode in which it did\n",
+        "", 1)
 
 
 def test_order(tracer):
@@ -172,18 +179,11 @@ SPOILT = LOGS["thread-1.log"].replace("found 1", "found 7", 1)
 
 
 @cases("files, names, status, error", {
-    "a log is missing": ({}, "thread-0.log", 4, "locktrace: no log of thread 1\n"),
-    "a second log": ({}, "thread-0.log thread-0.log", 4,
-                     "thread-0.log: a second log of thread 0, beside thread-0.log\n"),
     "stuck": ({"thread-1.log": SPOILT}, "thread-0.log thread-1.log", 1,
-              "thread-1.log:3: cannot be placed: thread 1's add found 7 in next_ticket, and the "
-              "lock has 1\n"
+              "thread-1.log:3: cannot be placed: thread 1's add found 7 in next_ticket; the "
+              "published algorithm has 1\n"
               "thread-1.log:3: note: 7 steps placed; held by nobody; queue empty\n"),
     "an empty log": ({"empty.log": ""}, "empty.log", 4, "empty.log:1: no header (NoHeader)\n"),
-    "of another lock": ({"own.log": HEADER.format("", 0) + "dropped 0\n",
-                         "other.log": "lock mcs threads 2 thread 1\ndropped 0\n"},
-                        "own.log other.log", 4,
-                        "other.log: of another lock than the first log's\n"),
 })
 def test_bad_logs(tracer, files, names, status, error):
     tracer.write(**files)

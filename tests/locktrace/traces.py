@@ -24,12 +24,17 @@ lock mcs threads 2
 """
 OTHER = GOOD.replace("1 swap tail found 1", "1 swap tail found 2")
 BEFORE = "{0}:7: note: before it: 1 acquire\n{0}:8: note: before it: 1 write next left 0\n"
-OTHER_LINE = ("{0}:9: refused: thread 1's swap found 2 in tail, and the lock has 1\n" + BEFORE
+OTHER_LINE = ("{0}:9: refused: thread 1's swap found 2 in tail; "
+              "the published algorithm has 1\n" + BEFORE
               + "{0}:6: note: tail was last written here: thread 0's swap left 1\n"
-              "{0}:9: note: held by 0; queue 0\n")
+              "{0}:9: note: held by 0; queue 0\n"
+              "{0}:9: help: swap the tail by one atomic operation: a load and a store let two "
+              "threads find one value\n")
 WRONG = GOOD.replace("1 swap tail found 1", "1 write locked left 1")
-WRONG_LINE = ("{0}:9: refused: '1 write', but thread 1's next step is 'swap' (WrongStep)\n" + BEFORE
-              + "{0}:9: note: held by 0; queue 0\n")
+WRONG_LINE = ("{0}:9: refused: '1 write', but in the published algorithm thread 1's next step "
+              "is 'swap' (WrongStep)\n" + BEFORE
+              + "{0}:9: note: held by 0; queue 0\n"
+              "{0}:9: help: swap the tail once next is nil, and set locked after the swap\n")
 FAULTY = "lock ticket threads 2\n0 aquire\n"
 ACTION = "a call (acquire, rlock ..) or a step (read, write, swap, cas, add, section)"
 MISSPELT = f"column 3: 'aquire', expected {ACTION}; did you mean 'acquire'?"

@@ -2,11 +2,10 @@
 
 A file of rows has lines that begin with `@`, and the lines after them:
 
-    @row NAME           a row begins, with no files
-    @file NAME          a file of the row, with these lines
-    @run WORDS          the program is run with these words
-    @out, @err          what it writes to standard output and standard error: nothing if left out
-    @status N           the status, and the end of the run
+    @row NAME              a row begins, with no files
+    @file NAME LINE        a file of the row: this line and those after it, where `; ` ends one too
+    @run WORDS => STATUS   the program is run with these words, and ends with this status
+    @out, @err             what it writes to standard output and standard error: nothing if left out
 
 A line that begins with `//` before the first file or run of a row is a comment. `\\e` is the byte
 27. A file is there until the row ends, and what a run writes into a folder too.
@@ -17,10 +16,12 @@ from tree import ROWS
 
 
 class Run:
-    """The words of a run, the lines of its outputs, and its status."""
+    """The words of a run, its status, and the lines of its outputs."""
 
-    def __init__(self, words):
-        self.words, self.lines, self.status = shlex.split(words), {"@out": [], "@err": []}, None
+    def __init__(self, rest):
+        words, _, status = rest.rpartition(" => ")
+        self.words, self.status = shlex.split(words), int(status)
+        self.lines = {"@out": [], "@err": []}
 
     @property
     def due(self):
@@ -33,7 +34,7 @@ class Row:
 
     def write_files(self, folder):
         for file, lines in self.files.items():
-            (folder / file).write_text(text_of(lines))
+            (folder / file).write_text(text_of(lines).replace("; ", "\n"))
 
 
 def text_of(lines):
@@ -41,26 +42,25 @@ def text_of(lines):
 
 
 def rows_in(path):
-    """The rows of a file."""
+    """The rows of a file, which have an empty line between them."""
     rows, lines = [], None
-    for number, line in enumerate(path.read_text().splitlines(), 1):
+    for line in path.read_text().replace("\n\n@row", "\n@row").splitlines():
         word, _, rest = line.partition(" ")
-        if not line.startswith("@"):
-            if lines is not None:
-                lines.append(line)
-            elif line and not line.startswith("//"):
-                raise ValueError(f"{path.name}:{number}: a line of nothing")
-            continue
         if word == "@row":
             rows.append(Row(rest))
+            lines = None
+        elif word == "@file":
+            name, _, first = rest.partition(" ")
+            lines = rows[-1].files[name] = [first]
         elif word == "@run":
             rows[-1].runs.append(Run(rest))
-        elif word == "@status":
-            rows[-1].runs[-1].status = int(rest)
-        elif word not in ("@file", "@out", "@err"):
-            raise ValueError(f"{path.name}:{number}: {word}")
-        lines = (rows[-1].files.setdefault(rest, []) if word == "@file" else
-                 rows[-1].runs[-1].lines[word] if word in ("@out", "@err") else None)
+            lines = None
+        elif word in ("@out", "@err"):
+            lines = rows[-1].runs[-1].lines[word]
+        elif lines is not None:
+            lines.append(line)
+        elif not line.startswith("//"):
+            raise ValueError(f"{path.name}: a line of nothing: {line}")
     return rows
 
 

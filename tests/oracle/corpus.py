@@ -1,21 +1,11 @@
-"""The stored texts, which the fuzzer replays before any random one.
-
-`corpus/` has small texts that reach every fault of a text and every refusal of a move, on each
-lock and in each phase of its calls, and accepted schedules that reach far into each lock. A text
-that the fuzzer once found to be replayed wrongly is put there too. The name says what the last
-line of the report has to be, and then what is special about the text:
-
-    refused-KIND-..    fault-KIND-..    end-..
-
-The two faults of size are reached by the texts that examples/limits.sh prints.
+"""The stored texts, which the fuzzer replays before any random one: those of corpus.txt, 64 readers
+of each read-write lock, in the narrowest words, and the two texts that examples/limits.sh prints.
 """
-import pathlib
-import subprocess
+from pathlib import Path
 
 from locks import LOCKS
+from worked_rows import lines_of, pieces_of, too_large
 
-HERE = pathlib.Path(__file__).resolve().parent
-LIMITS = HERE.parents[1] / "examples" / "limits.sh"
 FAULTS = ["TooLong", "NoHeader", "BadHeader", "BadThreads", "WordsTooNarrow", "BadLine",
           "TooManyMoves"]
 REFUSALS = ["NoSuchThread", "WrongLock", "Busy", "NotHolder", "AlreadyHolds", "NoCall"]
@@ -24,17 +14,20 @@ DUE = [*(f"fault-{fault}" for fault in FAULTS),
        *(f"refused-{refusal}-{lock}" for refusal in REFUSALS for lock in LOCKS),
        *(f"refused-WrongStep-{lock}" for lock in LOCKS if len(LOCKS[lock].steps) > 1),
        *(f"end-{lock}" for lock in LOCKS)]
-TOO_LARGE = {"fault-TooLong": "fault-too-long", "fault-TooManyMoves": "fault-too-many-moves"}
 
 
-def names():
-    return sorted([*(file.stem for file in HERE.glob("corpus/*.schedule")), *TOO_LARGE])
+def stored():
+    """Each text by its name."""
+    texts = {name: b"".join(piece * times for piece, times in pieces_of(text))
+             for _, name, text in lines_of(Path(__file__).with_suffix(".txt"))}
+    for lock in ("rw-simple", "rw-fifo"):
+        texts[f"end-{lock}-64-readers"] = f"lock {lock} threads 64 bits 7\n".encode() + b"".join(
+            b"%d rlock\n%d section\n" % (thread, thread) for thread in reversed(range(64)))
+    return {**texts, "fault-TooLong": too_large("fault-too-long"),
+            "fault-TooManyMoves": too_large("fault-too-many-moves")}
 
 
-def text_of(name):
-    if name in TOO_LARGE:
-        return subprocess.check_output([LIMITS, TOO_LARGE[name]])
-    return (HERE / "corpus" / f"{name}.schedule").read_bytes()
+TEXTS = stored()
 
 
 def is_named_rightly(name, report):

@@ -68,7 +68,7 @@ def spaces():
 
 def kinds(lock):
     """The kinds of a lock's transitions, each with its length."""
-    return {tuple(kind.split()): int(length) for name, kind, length in rows("kinds")
+    return {tuple(kind.split()): int(length) for name, kind, _, length, *_ in rows("kinds")
             if name == lock}
 
 
@@ -85,7 +85,7 @@ def sketches():
 def names():
     """By the lock, the name of each kind."""
     named = {}
-    for lock, kind, name in rows("names"):
+    for lock, kind, name, *_ in rows("kinds"):
         named.setdefault(lock, {})[tuple(kind.split())] = name
     return named
 

@@ -14,12 +14,12 @@ def test_row(row):
     assert oracle.is_accepted(report) == (row.status() == 0)
 
 
-@pytest.mark.parametrize("name", corpus.names())
+@pytest.mark.parametrize("name", corpus.TEXTS)
 def test_stored_text_is_what_its_name_says(name):
-    report = oracle.report_of(corpus.text_of(name))
+    report = oracle.report_of(corpus.TEXTS[name])
     assert corpus.is_named_rightly(name, report), report[-300:]
 
 
 @pytest.mark.parametrize("due", corpus.DUE)
 def test_answer_is_reached_by_a_stored_text(due):
-    assert any(f"{name}-".startswith(f"{due}-") for name in corpus.names())
+    assert any(f"{name}-".startswith(f"{due}-") for name in corpus.TEXTS)

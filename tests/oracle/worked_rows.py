@@ -9,8 +9,6 @@ They are in three kinds of files:
 
 The two texts of examples/ that are too large to lie there are printed by examples/limits.sh. Rows
 that a rule makes are in no file: `mcs_queue_of_64`, `most_moves`, and the many of `short_rows`.
-`rows.py` replays all of them, and `refusals.py` all but the short ones, with each request for
-memory refused.
 """
 import pathlib
 import re
@@ -62,20 +60,31 @@ def too_large(name):
 
 def plain(written):
     """The bytes that a table writes with escapes."""
-    return re.sub(r"\||\\[r0]", lambda found: ESCAPES[found[0]], written).encode()
+    return re.sub(r"\||\\(?:[r0]|x([0-9a-f]{2}))", lambda found: ESCAPES.get(found[0]) or chr(
+        int(found[1], 16)), written).encode("latin-1")
+
+
+def pieces_of(written):
+    return [(plain(piece or once), int(times or 1)) for piece, times, once
+            in re.findall(r"\(([^()]+)\)\*(\d+)|([^()]+)", written)]
+
+
+def lines_of(path):
+    """The place and the two parts of each line of a table. What begins with `//` is a remark."""
+    for number, line in enumerate(path.read_text().splitlines(), 1):
+        if line and not line.startswith("//"):
+            first, arrow, second = line.partition(" => ")
+            if not arrow:
+                raise ValueError(f"{path.name}:{number}: no ` => `")
+            yield f"{path.name}:{number}: {line[:80]}", first, second
 
 
 def table(name):
-    """The rows of tests/rows/NAME.txt. What begins with `//` is a remark."""
-    for number, line in enumerate((ROWS / f"{name}.txt").read_text().splitlines(), 1):
-        if line == "" or line.startswith("//"):
-            continue
-        text, arrow, report = line.partition(" => ")
-        if not arrow or not report.endswith("|"):
-            raise ValueError(f"{name}.txt:{number}: no `TEXT => REPORT|`")
-        pieces = [(plain(piece or once), int(times or 1)) for piece, times, once
-                  in re.findall(r"\(([^()]+)\)\*(\d+)|([^()]+)", text)]
-        yield Row(f"{name}.txt:{number}: {line[:80]}", pieces, plain(report))
+    """The rows of tests/rows/NAME.txt."""
+    for place, text, report in lines_of(ROWS / f"{name}.txt"):
+        if not report.endswith("|"):
+            raise ValueError(f"{place}: the report's last line does not end")
+        yield Row(place, pieces_of(text), plain(report))
 
 
 def narrowest(row):

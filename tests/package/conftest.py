@@ -63,3 +63,8 @@ def trees(shared, made):
 @pytest.fixture(params=["installed", "tarball", "deb"])
 def tree(request, trees):
     return trees[request.param]
+
+
+@pytest.fixture
+def installed(trees):
+    return trees["installed"].tree

@@ -6,6 +6,7 @@ from tree import TOP, environment, output, ran
 # Where folders of gigabytes are made: in Debian 13 /tmp is memory.
 LARGE = os.environ.get("TMPDIR") or "/var/tmp"
 TOOLS = TOP / "tests" / "tools"
+MANUALS = ["lockreplay.1", "locktrace.1", "lockreplay-schedule.5", "locktrace-trace.5"]
 
 
 def make(*words, **how):

@@ -1,35 +1,26 @@
 """What `make install` puts into a folder, and that `make uninstall` takes all of it away again.
 
-Manual pages have no fault that mandoc finds, show the version, and name each word of the command
-line. Without a part of what is installed nothing is.
+Without a part of what is installed nothing is.
 """
-import os
 import re
 import shutil
 from pathlib import Path
 
 import pytest
 
-from installs import make
-from tree import BUILT, TOP, VERSION, cases, output
+from installs import MANUALS, make
+from tree import BUILT, TOP, VERSION, output
 
-HELP_LINE = r"^ +(?:-\w, )?(?:--)?([a-z]+)(?: <[^>]*>)?(?:  |$)"  # `  -j, --jobs <N>  How many`
 LICENCE = "SPDX-License-Identifier: Apache-2.0 OR MIT"
-PAGES = ["lockreplay.1", "locktrace.1", "lockreplay-schedule.5", "locktrace-trace.5"]
 # What builds each part that is built.
 BUILDS = {BUILT["lockreplay"][0]: "cd crates/lockreplay && rt run",
           BUILT["locktrace"][0]: "cd crates/locktrace && rt run",
           BUILT["library"][0]: "cd crates/lk_trace_c && rt lib",
           "page/lockreplay.html": "node page/build.mjs"}
 DOCUMENTS = """*.md CITATION.cff VERSION LICENSE-* THIRD-PARTY docs/*.md docs/pictures/*
-    page/lockreplay.html examples/*.* examples/recording/* examples/bindings/*.py record/*.h
-    record/lockreplay_record/*.h record/rust/Cargo.* record/rust/src/*.rs
-    record/rust/examples/**/*.rs crates/*/specs/**/*.antt"""
-
-
-@pytest.fixture
-def installed(trees):
-    return trees["installed"].tree
+    page/lockreplay.html examples/*.* examples/recording/* examples/bindings/*.py record/*.[ch]
+    record/rust/Cargo.* record/rust/src/*.rs record/rust/examples/**/*.rs
+    crates/*/specs/**/*.antt"""
 
 
 def files(folder):
@@ -42,9 +33,7 @@ def due_files():
     return {"bin/lockreplay", "bin/locktrace", "lib/liblk_trace_c.a", "lib/pkgconfig/locktrace.pc",
             "share/pkgconfig/lockreplay-record.pc", "include/locktrace.h",
             "include/lockreplay_record.h",
-            *(f"include/lockreplay_record/{path.name}"
-              for path in TOP.glob("record/lockreplay_record/*.h")),
-            *(f"share/man/man{page[-1]}/{page}" for page in PAGES),
+            *(f"share/man/man{page[-1]}/{page}" for page in MANUALS),
             *(place.format(name) for name in ("lockreplay", "locktrace") for place in (
                 "share/bash-completion/completions/{}", "share/zsh/site-functions/_{}",
                 "share/fish/vendor_completions.d/{}.fish")),
@@ -69,36 +58,6 @@ def test_uninstall(tmp_path):
     assert files(tmp_path) == {"usr/local/bin/other"}
 
 
-@pytest.mark.parametrize("page", PAGES)
-def test_manual_page(installed, tmp_path, page):
-    """No message of mandoc, found by man, with the version, and no warning of groff."""
-    manual = shutil.copytree(installed / "share" / "man", tmp_path / "man")
-    name, section = page.rsplit(".", 1)
-    assert output("makewhatis", manual) == ""
-    # all of `mandoc -Tlint` but the conventions of OpenBSD's and NetBSD's base systems
-    assert output("mandoc", "-Tlint", "-Wstyle", "-M", manual,
-                  manual / f"man{section}" / page) == ""
-    shown = output("man", "-M", manual, "--warnings", section, name, env={
-        "PATH": os.environ["PATH"], "LANG": "C.UTF-8", "MANWIDTH": "80"})
-    assert f"version {VERSION}." in shown and ": warning: " not in shown
-
-
-@cases("name, commands, due", {
-    "lockreplay": ("lockreplay", "replay batch", "replay batch help workers"),
-    "locktrace": ("locktrace", "check explain order schedule find tour space cover",
-                  "check explain order schedule find tour space cover help version format color "
-                  "summary quiet jobs moves names rounds bits limit require"),
-})
-def test_words(installed, name, commands, due):
-    """What a program's help offers is what is due, and each word of it is in the program's page."""
-    page = (installed / f"share/man/man1/{name}.1").read_text()
-    helps = "".join(output(installed / "bin" / name, *command, "--help")
-                    for command in ([], *([it] for it in commands.split())))
-    words = set(re.findall(HELP_LINE, helps, re.MULTILINE))
-    assert words == set(due.split())
-    assert {word for word in words if re.search(rf"(Cm|Fl) {word}\b", page)} == words
-
-
 @pytest.mark.parametrize("word", ["--version", "-V"])
 def test_version(installed, word):
     assert output(installed / "bin" / "locktrace", word) == f"locktrace {VERSION}\n"
@@ -110,7 +69,7 @@ def test_licences(installed):
     alone = [*installed.glob("include/**/*.h"), *documents.glob("examples/recording/*.[ch]"),
              *documents.glob("examples/**/*.sh"), *documents.glob("examples/bindings/*"),
              *documents.glob("record/**/*.[hr]*"), *documents.glob("page/*")]
-    assert len(alone) >= 80
+    assert len(alone) >= 50
     assert [file.name for file in alone if LICENCE not in file.read_text()] == []
     assert (documents / "LICENSE-APACHE").read_text() == Path(
         "/usr/share/common-licenses/Apache-2.0").read_text()

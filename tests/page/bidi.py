@@ -1,166 +1,138 @@
-"""Debian's Firefox, headless, spoken to by WebDriver BiDi over its own web socket."""
+"""Debian's Chromium and Firefox, headless, spoken to by WebDriver BiDi over a web socket.
+
+What a browser sees of the machine is one family of letters (fonts.conf), and neither a user's
+settings nor the place and the language of the machine.
+"""
 import contextlib
 import json
-import pathlib
 import re
 import subprocess
 import tempfile
 import threading
-import time
+from pathlib import Path
 
 import websocket
 
-from surroundings import surroundings
-
-PATIENCE = 120
-# Few pictures a second are drawn, since nobody looks at them. A check asks for the layout, which is
+FONTS = Path(__file__).with_name("fonts.conf")
+PATIENCE = 120  # seconds
+# What each of the two says where it listens.
+LISTENS = re.compile(rb"(?:listening on ws://[\w.]+:|successfully on port )(\d+)")
+EVENTS = ["network.beforeRequestSent", "log.entryAdded"]
+ARGUMENTS = [
+    "--headless=new", "--no-sandbox", "--disable-gpu", "--disable-dev-shm-usage", "--no-first-run",
+    "--disable-background-networking", "--disable-sync", "--disable-component-update",
+    "--hide-scrollbars", "--window-size=1440,900",
+]
+# Few pictures a second are drawn, since nobody looks at them. A test asks for the layout, which is
 # made anew for each answer. At 60 a second a fifth of the work would go into pictures.
 UNSEEN = {"layout.frame_rate": 10}
-# How long one question waits for its answer while a page is being opened.
-ASKED_AGAIN = 3
-LISTENS = re.compile(rb"WebDriver BiDi listening on (ws://\S+)")
+# A page is told of fingers, also where there is no screen to touch.
+TOUCHED = {"dom.w3c_touch_events.enabled": 1}
+# What Firefox calls what a system asks for.
+IN_PREFERENCES = {
+    ("forced-colors", "active"): ("browser.display.document_color_use", 2),
+    ("prefers-reduced-motion", "reduce"): ("ui.prefersReducedMotion", 1),
+    ("prefers-color-scheme", "dark"): ("layout.css.prefers-color-scheme.content-override", 0),
+}
 
 
-class Firefox:
-    """One browsing context, and what was asked of the net while it was open."""
+class Browser:
+    """A browser, and what it told besides answers. `media` are features that it is told in each tab
+    that the system asks for."""
 
-    def __init__(self, address):
+    def __init__(self, port, home, media, capabilities):
+        self.home, self.media, self.number, self.told = Path(home), media, 0, []
+        self.kept, self.keeps = None, bool(capabilities)
         self.socket = websocket.create_connection(
-            f"{address}/session", timeout=PATIENCE, suppress_origin=True
-        )
-        self.number = 0
-        self.requests = []
-        self.ask("session.new", {"capabilities": {}})
-        self.ask("session.subscribe", {"events": ["network.beforeRequestSent"]})
-        # A tab of its own: the first one may still be busy with what the browser opens by itself.
-        self.context = self.ask("browsingContext.create", {"type": "tab"})["context"]
+            f"ws://127.0.0.1:{port}/session", timeout=PATIENCE, suppress_origin=True)
+        self.ask("session.new", capabilities=capabilities)
+        self.ask("session.subscribe", events=EVENTS)
 
-    @contextlib.contextmanager
-    def container(self):
-        """This browser with a tab that finds no storage of another one, and leaves none."""
-        place = self.ask("browser.createUserContext", {})
-        self.context = self.ask("browsingContext.create", {"type": "tab", **place})["context"]
-        yield self
-        self.ask("browser.removeUserContext", place)
-
-    def ask(self, method, params):
+    def ask(self, command, /, **params):
         self.number += 1
-        self.socket.send(json.dumps({"id": self.number, "method": method, "params": params}))
+        self.socket.send(json.dumps({"id": self.number, "method": command, "params": params}))
         while True:
             answer = json.loads(self.socket.recv())
-            if answer.get("method") == "network.beforeRequestSent":
-                self.requests.append(answer["params"]["request"]["url"])
             if answer.get("id") == self.number:
-                assert answer["type"] == "success", answer
+                assert answer["type"] == "success", (command, answer)
                 return answer["result"]
+            self.told.append(answer)
 
-    def open(self, url):
-        """Loads the page again, and does not just go to another fragment of it."""
-        self.go("about:blank")
-        self.go(url)
+    def tab(self):
+        """A tab, in Firefox a new one. In Chromium that would take a window, and so most of the
+        work of a test."""
+        if self.kept is None or not self.keeps:
+            self.kept = self.ask("browsingContext.create", type="tab")["context"]
+            if self.media:
+                self.emulate(self.kept)
+        return self.kept
 
-    def go(self, url):
-        """Goes to a page and waits for it. The browser's own word that it is there can be lost
-        where another process takes the tab over, so the page itself is asked."""
-        self.ask(
-            "browsingContext.navigate", {"context": self.context, "url": url, "wait": "none"}
-        )
-        self.socket.settimeout(ASKED_AGAIN)
-        late = time.monotonic() + PATIENCE
-        while not self.is_at(url.partition("#")[0]):
-            assert time.monotonic() < late, f"{url} did not load"
-            time.sleep(0.02)
-        self.socket.settimeout(PATIENCE)
+    def end_tab(self):
+        if not self.keeps:
+            self.ask("browsingContext.close", context=self.kept)
 
-    def is_at(self, url):
-        """Whether the tab shows this page, loaded. While it is on its way nobody may answer."""
-        try:
-            place, state = self.run("return [document.location.href, document.readyState]")
-        except (AssertionError, websocket.WebSocketTimeoutException):
-            return False
-        return place.partition("#")[0] == url and state == "complete"
+    def emulate(self, tab):
+        features = [{"name": name, "value": value} for name, value in self.media.items()]
+        session = self.ask("goog:cdp.getSession", context=tab)["session"]
+        self.ask("goog:cdp.sendCommand", session=session, method="Emulation.setEmulatedMedia",
+                 params={"features": features})
 
-    def run(self, script, value=None):
-        """What the script gives, as JSON; `value` is its first argument."""
-        function = (
-            "(text) => { const value = JSON.parse(text);"
-            f"return JSON.stringify((() => {{ {script} }})() ?? null); }}"
-        )
-        answer = self.ask(
-            "script.callFunction",
-            {
-                "functionDeclaration": function,
-                "awaitPromise": False,
-                "target": {"context": self.context},
-                "arguments": [{"type": "string", "value": json.dumps(value)}],
-            },
-        )
-        assert answer["type"] == "success", answer
-        return json.loads(answer["result"]["value"])
 
-    def until(self, script, value=None):
-        """Waits until the script gives something true, and gives that."""
-        late = time.monotonic() + PATIENCE
-        while not (given := self.run(script, value)):
-            assert time.monotonic() < late, f"never true: {script}"
-            time.sleep(0.02)
-        return given
-
-    def press(self, key, held=None):
-        """A key, as the browser would have it from a keyboard, perhaps with another one held."""
-        keys = [held, key] if held else [key]
-        actions = [{"type": "keyDown", "value": one} for one in keys]
-        actions += [{"type": "keyUp", "value": one} for one in reversed(keys)]
-        self.perform({"type": "key", "id": "keyboard", "actions": actions})
-
-    def click(self, x, y):
-        """A click, as the browser would have it from a mouse."""
-        actions = [
-            {"type": "pointerMove", "x": x, "y": y},
-            {"type": "pointerDown", "button": 0},
-            {"type": "pointerUp", "button": 0},
-        ]
-        self.perform({"type": "pointer", "id": "mouse", "actions": actions})
-
-    def perform(self, source):
-        self.ask("input.performActions", {"context": self.context, "actions": [source]})
+def surroundings(home):
+    """The environment of a browser, whose files are in this folder."""
+    return {"PATH": "/usr/bin:/bin", "HOME": home, "TMPDIR": home, "LC_ALL": "C.UTF-8",
+            "TZ": "UTC", "FONTCONFIG_FILE": str(FONTS)}
 
 
 @contextlib.contextmanager
-def firefox(preferences=None):
-    """A browser of its own profile, with these preferences, closed at the end."""
-    with tempfile.TemporaryDirectory(ignore_cleanup_errors=True) as profile:
+def listening(words, home):
+    """The port on which a process listens, as it says, until the end. Its output is read on."""
+    process = subprocess.Popen(words, stdout=subprocess.PIPE, stderr=subprocess.STDOUT,
+                               stdin=subprocess.DEVNULL, env=surroundings(home))
+    try:
+        found = next(filter(None, map(LISTENS.search, process.stdout)), None)
+        assert found, f"{words[0]} ended before it listened"
+        threading.Thread(target=process.stdout.read, daemon=True).start()
+        yield int(found[1])
+    finally:
+        process.terminate()
+        process.wait(PATIENCE)
+
+
+@contextlib.contextmanager
+def folder():
+    with tempfile.TemporaryDirectory(ignore_cleanup_errors=True) as home:
+        yield home
+
+
+@contextlib.contextmanager
+def chromium(media):
+    """A Chromium with a profile of its own, by way of its driver."""
+    with folder() as home, listening(["chromedriver", "--port=0"], home) as port:
+        options = {"binary": "/usr/bin/chromium", "args": [*ARGUMENTS, f"--user-data-dir={home}"]}
+        wanted = {"browserName": "chrome", "webSocketUrl": True, "goog:chromeOptions": options}
+        browser = Browser(port, home, media, {"alwaysMatch": wanted})
+        browser.ask("browser.setDownloadBehavior", downloadBehavior={
+            "type": "allowed", "destinationFolder": str(browser.home / "Downloads")})
+        yield browser
+        browser.ask("session.end")
+
+
+@contextlib.contextmanager
+def firefox(media):
+    """A Firefox with a profile of its own, in which preferences say what the system asks for."""
+    with folder() as home:
+        asked = dict(IN_PREFERENCES[one] for one in media.items())
+        preferences = {**UNSEEN, **TOUCHED, **asked}
         lines = [f'user_pref("{name}", {json.dumps(value)});\n'
-                 for name, value in {**UNSEEN, **(preferences or {})}.items()]
-        pathlib.Path(profile, "user.js").write_text("".join(lines))
-        process = subprocess.Popen(
-            [
-                "firefox-esr",
-                "--headless",
-                "--no-remote",
-                "--profile",
-                profile,
-                "--remote-debugging-port",
-                "0",
-            ],
-            stdout=subprocess.DEVNULL,
-            stderr=subprocess.PIPE,
-            env=surroundings(profile),
-        )
-        try:
-            browser = Firefox(address_of(process))
+                 for name, value in preferences.items()]
+        Path(home, "user.js").write_text("".join(lines))
+        words = ["firefox-esr", "--headless", "--no-remote", "--profile", home,
+                 "--remote-debugging-port", "0"]
+        with listening(words, home) as port:
+            browser = Browser(port, home, {}, {})
             yield browser
             browser.socket.close()
-        finally:
-            process.terminate()
-            process.wait(PATIENCE)
 
 
-def address_of(process):
-    """Where the browser listens, as it says on its standard error, which is read on to its end."""
-    for line in process.stderr:
-        found = LISTENS.search(line)
-        if found:
-            threading.Thread(target=process.stderr.read, daemon=True).start()
-            return found[1].decode()
-    raise AssertionError("Firefox ended before it listened")
+BROWSERS = {"chromium": chromium, "firefox": firefox}

@@ -1,4 +1,3 @@
-#!/usr/bin/env node
 // What the page's module writes into the memory that it is lent, byte by byte:
 //
 //     node tests/page/bytes.mjs MODULE.wasm
@@ -8,9 +7,8 @@
 // transition whose text has no room, and a number that is no lock's.
 
 import assert from 'node:assert/strict';
-import { readFileSync } from 'node:fs';
-import { setFlagsFromString } from 'node:v8';
-import { Machine, RECORD_BYTES, STATE_BYTES } from '../../page/src/machine.js';
+import { RECORD_BYTES, STATE_BYTES } from '../../page/src/machine.js';
+import { bytesOf, machineOf } from './node.mjs';
 
 // What is in the lent memory before a call.
 const OLD = 0x99;
@@ -146,7 +144,7 @@ const ROWS = [
 
 // The text, the state and the records, in this order, in the lent memory.
 function play(machine, { text, most, records, state }) {
-  const bytes = new TextEncoder().encode(text);
+  const bytes = bytesOf(text);
   const stateAt = (bytes.length + 7) & ~7;
   const recordsAt = stateAt + STATE_BYTES;
   machine.text = null;
@@ -188,10 +186,6 @@ function checkKinds(machine) {
   assert.equal(written(text.length - 1), 0);
 }
 
-if (Number(process.versions.node.split('.')[0]) < 24) {
-  setFlagsFromString('--experimental-wasm-memory64');
-}
-const machine = new Machine(readFileSync(process.argv[2]));
+const machine = machineOf();
 for (const row of ROWS) checkRow(machine, row);
 checkKinds(machine);
-console.log(`bytes: ${ROWS.length} calls as written by hand`);

@@ -1,31 +1,24 @@
-#!/usr/bin/env node
 // What the page reads off records in the place of replays, against replays by the page's module:
 //
 //     node tests/page/known.mjs MODULE.wasm
 //
 // Of each example, what is said of its first lines, and of the text without its comments. Of the
 // examples of read-write locks, and of random schedules, the same turns on the other lock, against
-// those found move by move, each by a replay. Prints how many replays both ways took.
+// those found move by move, each by a replay; and how many replays both ways took.
 
 import assert from 'node:assert/strict';
-import { readFileSync, readdirSync } from 'node:fs';
-import { dirname, join } from 'node:path';
-import { fileURLToPath } from 'node:url';
-import { setFlagsFromString } from 'node:v8';
 import { withoutLines } from '../../page/src/bytes.js';
 import { CALLS, MOVES } from '../../page/src/codes.js';
 import { otherLock } from '../../page/src/compare.js';
-import { Machine } from '../../page/src/machine.js';
 import { lastLine, reportOf } from '../../page/src/report.js';
 import { Run, runOf } from '../../page/src/run.js';
 import { onOtherLock } from '../../page/src/turns.js';
+import { bytesOf, examples, machineOf } from './node.mjs';
 
-const EXAMPLES = join(dirname(fileURLToPath(import.meta.url)), '..', '..', 'examples');
 const RANDOM = { schedules: 40, moves: 120 };
 // In a random schedule a wrong guess may come once in so many moves.
 const FEWEST_BETWEEN = 3;
 
-const bytesOf = (text) => new TextEncoder().encode(text);
 const lettersOf = (bytes) => new TextDecoder('latin1').decode(bytes);
 
 // Counts what the machine plays.
@@ -139,30 +132,18 @@ function drawn(machine, lock, threads, seed) {
   return bytesOf(text);
 }
 
-const module = readFileSync(process.argv[2]);
-if (Number(process.versions.node.split('.')[0]) < 24) {
-  setFlagsFromString('--experimental-wasm-memory64');
-}
-const machine = counted(new Machine(module));
-const files = readdirSync(EXAMPLES).filter((name) => name.endsWith('.schedule'));
-const all = files.map((file) => new Uint8Array(readFileSync(join(EXAMPLES, file))));
-for (const text of all) {
+const machine = counted(machineOf());
+for (const { text } of examples()) {
   checkBeginnings(machine, text);
   checkWithout(machine, text);
 }
-const ofReadWrite = files.map((file, i) => ({ file, text: all[i] }))
-  .filter(({ file }) => /^(simple|fifo)-/.test(file));
-for (const { file, text } of ofReadWrite) {
-  const { plays, slow } = checkTurns(machine, text);
-  assert.ok(plays <= 3, `${file}: ${plays} replays`);
-  console.log(`  ${file}: ${plays} replays, move by move ${slow}`);
+for (const { name, text } of examples().filter((one) => /^(simple|fifo)-/.test(one.name))) {
+  const { plays } = checkTurns(machine, text);
+  assert.ok(plays <= 3, `${name}: ${plays} replays`);
 }
 const tried = Array.from({ length: RANDOM.schedules }, (_, seed) => {
   const lock = ['rw-simple', 'rw-fifo'][seed % 2];
   return checkTurns(machine, drawn(machine, lock, 2 + seed % 4, seed));
 });
 const total = (name) => tried.reduce((sum, one) => sum + one[name], 0);
-console.log(`  ${tried.length} random schedules of ${RANDOM.moves} moves: `
-  + `${total('plays')} replays, move by move ${total('slow')}`);
 assert.ok(FEWEST_BETWEEN * total('plays') <= total('slow'));
-console.log(`known: ${files.length} examples and ${tried.length} random schedules`);

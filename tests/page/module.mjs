@@ -1,35 +1,30 @@
-#!/usr/bin/env node
 // Plays the examples by the page's module, in Node and without the page:
 //
-//     node tests/page/module.mjs MODULE.wasm
+//     node tests/page/module.mjs MODULE.wasm [SCHEDULE...]
 //
 // Of each example: the whole report, as it was written by hand; the words that a record names,
 // against the states before and after it; the states that the page reads off the records, with
 // allowed calls, against those that the machine writes; who waits, against what is answered to the
 // same moves with the due step after them, and so each thread's allowed calls and due step at the
-// end. Then where words and names of an MCS lock are, from which to which number a header goes,
-// where a line stops being a header or a move, and what `play` answers to a text that is too long,
-// to a state that is too short, and where there is room for one record of two.
+// end. The states are compared of the schedules that are named, too. Then where words and names of
+// an MCS lock are, from which to which number a header goes, where a line stops being a header or a
+// move, and what `play` answers to a text that is too long, to a state that is too short, and where
+// there is room for one record of two.
 
 import assert from 'node:assert/strict';
-import { readFileSync, readdirSync } from 'node:fs';
-import { dirname, join } from 'node:path';
-import { fileURLToPath } from 'node:url';
-import { setFlagsFromString } from 'node:v8';
+import { readFileSync } from 'node:fs';
 import { rangesOf } from '../../page/build/ranges.mjs';
 import {
   ANSWER, AS_WRITER, CALLS, HOLDS, IN_LINE, isStep, MOVES, OUTCOME, UNLINKED, WAITS,
 } from '../../page/src/codes.js';
-import { Machine, Records, RECORD_BYTES, STATE_BYTES } from '../../page/src/machine.js';
+import { Records, RECORD_BYTES, STATE_BYTES } from '../../page/src/machine.js';
 import { reportOf } from '../../page/src/report.js';
 import { Run } from '../../page/src/run.js';
+import { bytesOf, examples, machineOf, module } from './node.mjs';
 
-const EXAMPLES = join(dirname(fileURLToPath(import.meta.url)), '..', '..', 'examples');
 const MOST_WORDS = 129;
 const A_WRITER = 3;
 const MCS = 1;
-
-const bytesOf = (text) => new TextEncoder().encode(text);
 
 // What the lent memory holds after `play` was handed room for so many bytes.
 function playRaw(machine, text, recordBytes, stateBytes) {
@@ -125,10 +120,14 @@ function checkNext(machine, text, moves, state) {
   }
 }
 
+function checkStates(run) {
+  for (let move = 0; run.hasLock && move <= run.count; move += 1) checkMoment(run, move);
+}
+
 function checkExample(machine, text, report) {
   const run = new Run(machine, text);
   assert.equal(reportOf(run), report);
-  for (let move = 0; run.hasLock && move <= run.count; move += 1) checkMoment(run, move);
+  checkStates(run);
   for (let move = 1; !run.fault && move <= run.count; move += 1) {
     const [before, after] = [run.replayed(move - 1), run.replayed(move)];
     checkWords(run.records, move, before, after);
@@ -207,17 +206,11 @@ function checkRoom(machine) {
     'a record was written that does not fit wholly');
 }
 
-const module = readFileSync(process.argv[2]);
-if (Number(process.versions.node.split('.')[0]) < 24) {
-  setFlagsFromString('--experimental-wasm-memory64');
-}
+const machine = machineOf();
 assert.deepEqual(WebAssembly.Module.imports(new WebAssembly.Module(module)), []);
-const machine = new Machine(module);
-const files = readdirSync(EXAMPLES).filter((name) => name.endsWith('.schedule'));
-for (const file of files) {
-  const text = new Uint8Array(readFileSync(join(EXAMPLES, file)));
-  const report = readFileSync(join(EXAMPLES, file.replace(/schedule$/, 'report')), 'utf8');
-  checkExample(machine, text, report);
+for (const { text, report } of examples()) checkExample(machine, text, report);
+for (const path of process.argv.slice(3)) {
+  checkStates(new Run(machine, new Uint8Array(readFileSync(path))));
 }
 const threads = Array.from({ length: 64 }, (_, thread) => thread);
 checkOwned(machine, threads);
@@ -225,4 +218,3 @@ checkOwned(machine, [...threads].reverse());
 checkNumbers(machine, module);
 checkStops(machine);
 checkRoom(machine);
-console.log(`module: ${files.length} examples as their reports say`);

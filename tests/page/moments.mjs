@@ -1,31 +1,24 @@
-#!/usr/bin/env node
 // Looks for moments by the page's module, in Node and without the page:
 //
 //     node tests/page/moments.mjs MODULE.wasm
 //
 // Of each row of tests/rows/sketches.txt: the length of the run that is found, or the number of
 // states if there is none; the run is accepted by `play`, and has the lines. Of each kind of
-// transition: its name, as in tests/rows/names.txt, and after how many moves the run that its
-// sketch finds takes it, and the run from a new lock to this kind, as in tests/rows/kinds.txt. Of
+// transition: its name, as in tests/rows/kinds.txt, and after how many moves the run that its
+// sketch finds takes it, and the run from a new lock to this kind, as it says too. Of
 // each row of tests/rows/soon.txt: the same of a run from a state. Then what is answered if memory,
 // moves or a line are at fault.
 
 import assert from 'node:assert/strict';
-import { readFileSync } from 'node:fs';
-import { dirname, join } from 'node:path';
-import { fileURLToPath } from 'node:url';
-import { setFlagsFromString } from 'node:v8';
 import { ANSWER, MOVES, OUTCOMES, PHASES } from '../../page/src/codes.js';
-import { Machine, Records } from '../../page/src/machine.js';
+import { Records } from '../../page/src/machine.js';
 import { FOUND } from '../../page/src/search.js';
+import { bytesOf, machineOf, rowsOf } from './node.mjs';
 
-const ROWS = join(dirname(fileURLToPath(import.meta.url)), '..', 'rows');
 const LOCKS = ['ticket', 'mcs', 'rw-simple', 'rw-fifo'];
 const CELLS = 200000;
 const SLOTS = 1 << 15;
 const MOST_FOUND = 64;
-
-const bytesOf = (text) => new TextEncoder().encode(text);
 
 // The move that a code names.
 function moveOf(code) {
@@ -85,10 +78,6 @@ function transitionsOf(machine, asked, run) {
   });
 }
 
-const rowsOf = (file) => readFileSync(join(ROWS, file), 'utf8').split('\n')
-  .filter((line) => line && !line.startsWith('//') && !line.startsWith(' '))
-  .map((line) => line.split('|').map((part) => part.trim()));
-
 // The moves that meet the lines are by their threads, and of their words.
 function checkMet(run, lines) {
   const met = run.filter((move) => move.meets);
@@ -100,19 +89,22 @@ function checkMet(run, lines) {
   });
 }
 
+// The run that was found, of as many moves as a row says; or null, after as many states.
+function foundAs(expected, { answer, number, run }, what) {
+  const [word, states] = expected.split(' ');
+  const due = word === 'nowhere' ? [FOUND.nowhere, Number(states)] : [FOUND.run, Number(word)];
+  assert.deepEqual([answer, number], due, what);
+  return run;
+}
+
 function checkSketch(machine, [space, sketch, expected]) {
   const [lock, ...numbers] = space.split(' ');
   const [threads, rounds, bits] = numbers.map(Number);
   const lines = sketch.split(';').map((line) => line.trim());
   const asked = { lock, threads, bits, rounds };
-  const { answer, number, run } = find(machine, asked, lines);
-  const [word, states] = expected.split(' ');
-  if (word === 'nowhere') {
-    assert.deepEqual([answer, number], [FOUND.nowhere, Number(states)], sketch);
-    return;
-  }
-  assert.deepEqual([answer, number], [FOUND.run, Number(word)], sketch);
-  assert.equal(transitionsOf(machine, asked, run).length, number);
+  const run = foundAs(expected, find(machine, asked, lines), sketch);
+  if (!run) return;
+  assert.equal(transitionsOf(machine, asked, run).length, run.length);
   checkMet(run, lines);
 }
 
@@ -147,13 +139,8 @@ function checkSoon(machine, names, [space, moves, rounds, kind, expected]) {
   const asked = { lock, threads: Number(threads), bits: 64, rounds: Number(rounds) };
   const lines = moves.split(';').map((line) => line.trim());
   const place = names.filter((row) => row[0] === lock).findIndex((row) => row[1] === kind);
-  const { answer, number, run } = findSoon(machine, asked, lines, place);
-  const [word, states] = expected.split(' ');
-  if (word === 'nowhere') {
-    assert.deepEqual([answer, number], [FOUND.nowhere, Number(states)], `${moves}: ${kind}`);
-    return;
-  }
-  assert.deepEqual([answer, number], [FOUND.run, Number(word)], `${moves}: ${kind}`);
+  const run = foundAs(expected, findSoon(machine, asked, lines, place), `${moves}: ${kind}`);
+  if (!run) return;
   assert.deepEqual(run.map(({ meets }) => meets), run.map((_, at) => at === run.length - 1));
   const { records } = machine.play(bytesOf(headerOf(asked) + lines.join('\n')), lines.length, true);
   const made = lines.slice(0, new Records(records).count)
@@ -195,20 +182,14 @@ function checkFaults(machine) {
   }
 }
 
-if (Number(process.versions.node.split('.')[0]) < 24) {
-  setFlagsFromString('--experimental-wasm-memory64');
-}
-const machine = new Machine(readFileSync(process.argv[2]));
-const sketches = rowsOf('sketches.txt');
-for (const row of sketches) checkSketch(machine, row);
-const [names, lengths] = ['names.txt', 'kinds.txt'].map(rowsOf);
+const machine = machineOf();
+for (const row of rowsOf('sketches.txt')) checkSketch(machine, row);
+const names = rowsOf('kinds.txt');
+const lengths = names.map(([lock, kind, , length]) => [lock, kind, length]);
 for (const lock of LOCKS) {
   const ofLock = (rows) => rows.filter(([name]) => name === lock);
   checkKinds(machine, lock, ofLock(names), ofLock(lengths));
 }
 checkFaults(machine);
-const soon = rowsOf('soon.txt');
-for (const row of soon) checkSoon(machine, names, row);
+for (const row of rowsOf('soon.txt')) checkSoon(machine, names, row);
 checkSoonFaults(machine);
-console.log(`moments: ${sketches.length} sketches, ${names.length} kinds and ${soon.length} runs`
-  + ' from a state as their rows say');

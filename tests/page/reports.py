@@ -1,40 +1,37 @@
 """Reports of the program, which the page's are compared with."""
-import pathlib
 import re
-import subprocess
-import tempfile
+
+from tree import EXAMPLES, ran
 
 LINE = re.compile(r"(\d+) (\d+) (\w+) (\w+) hold (\S+) queue (\S+)")
+# The lessons, with their reports.
+LESSONS = {path.stem: path.with_suffix(".report").read_text("ascii")
+           for path in sorted(EXAMPLES.glob("*.schedule"))}
 
 
-def reports_of(program, texts):
-    """The program's report of each text, from one batch."""
-    with tempfile.TemporaryDirectory() as folder:
-        names = []
-        for number, text in enumerate(texts):
-            path = pathlib.Path(folder, str(number))
-            path.write_bytes(text)
-            names.append(str(path))
-        command = [program, "batch", "--workers", "4", *names]
-        answer = subprocess.run(command, stdout=subprocess.PIPE, check=False, timeout=120)
-    assert answer.returncode in (0, 1), answer.returncode
-    pieces = re.split(r"^file \d+\n", answer.stdout.decode("ascii"), flags=re.M)
-    assert pieces[0] == "" and len(pieces) == len(texts) + 1
-    return pieces[1:]
-
-
-def replay(program, text):
-    """The program's report of one text, and its status."""
-    answer = subprocess.run(
-        [program, "replay"], input=text, stdout=subprocess.PIPE, check=False, timeout=60
-    )
-    return answer.stdout.decode("ascii"), answer.returncode
+def reports_of(program, texts, folder):
+    """The program's report of each text, from one batch. The texts are put into a folder."""
+    paths = [folder / str(number) for number in range(len(texts))]
+    for path, text in zip(paths, texts):
+        path.write_bytes(text)
+    done = ran(program, "batch", "--workers", "4", *paths)
+    assert done.returncode in (0, 1), done
+    first, *reports = re.split(r"^file \d+\n", done.stdout, flags=re.MULTILINE)
+    assert first == "" and len(reports) == len(texts)
+    return reports
 
 
 def moves_of(report):
     """(thread, word, outcome, hold, queue) of each accepted move."""
     found = [LINE.fullmatch(line) for line in report.splitlines()]
     return [(int(one[2]), one[3], one[4], one[5], one[6]) for one in found if one]
+
+
+def moves_replayed(program, text):
+    """The same of a text that the program accepts."""
+    done = ran(program, "replay", input=text)
+    assert done.returncode == 0, done
+    return moves_of(done.stdout)
 
 
 def numbers_of(text):

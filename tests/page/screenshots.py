@@ -3,71 +3,52 @@
 import shutil
 import subprocess
 import sys
+from pathlib import Path
 
-from browser import TOP, chromium, open_page, run
+sys.path.insert(0, str(Path(__file__).resolve().parents[1]))
+from bidi import chromium  # noqa: E402
+from tab import Tab  # noqa: E402
+from tree import TOP  # noqa: E402
 
 PICTURES = TOP / "docs" / "pictures"
 MOST_BYTES = 200_000
-ANSWER = "window.lockreplay.page.stepping.toggleAnswer()"
-PLAY = "window.lockreplay.page.modes.set('play')"
-QUIZ = "window.lockreplay.page.modes.toggleQuiz()"
-FAULT = """
-const text = 'lock mcs threads 2\\n0 acquire\\n0 write\\n0 swap\\n0 realease\\n';
-window.lockreplay.page.openOwn(new TextEncoder().encode(text));
-window.lockreplay.page.go(3);
-"""
-
-# Name of the picture, fragment of the page, dark or light, and what else is done before.
+# Fewer colours: flat pictures lose nothing by it.
+SHRINK = ["pngquant", "--force", "--strip", "--speed", "1", "--output"]
+LATE_LINK = "#lesson=mcs-late-link&move=9"
+MISTAKE = "lock mcs threads 2\n0 acquire\n0 write\n0 swap\n0 realease\n"
+# Name of the picture, fragment of the page, and the keys that are pressed before.
 SHOTS = [
-    ("late-link", "#lesson=mcs-late-link&move=9", False, ANSWER),
-    ("out-of-order-dark", "#lesson=mcs-third-linked-before-second&move=12", True, ANSWER),
-    ("tickets-wrap-around", "#lesson=ticket-wraps-at-2-bits&move=23", False, ""),
-    ("announced-writer", "#lesson=fifo-counts-wrap-at-2-bits&move=16", False, ""),
-    ("hall", "#lesson=mcs-late-link&move=9&hall", False, ANSWER),
-    ("play", "#lesson=mcs-late-link&move=9", False, PLAY),
-    ("quiz", "#lesson=fifo-reader-waits-behind-writer&move=9", False, QUIZ),
-    ("your-own", "#lesson=mcs-late-link&move=0", False, FAULT),
+    ("late-link", LATE_LINK, "a"),
+    ("out-of-order-dark", "#lesson=mcs-third-linked-before-second&move=12&theme=dark", "a"),
+    ("tickets-wrap-around", "#lesson=ticket-wraps-at-2-bits&move=23", ""),
+    ("announced-writer", "#lesson=fifo-counts-wrap-at-2-bits&move=16", ""),
+    ("hall", f"{LATE_LINK}&hall", "a"),
+    ("play", LATE_LINK, "g"),
+    ("quiz", "#lesson=fifo-reader-waits-behind-writer&move=9", "q"),
+    ("your-own", "#lesson=mcs-late-link&move=0", ""),
 ]
 
 
-def shrink(path):
-    """Fewer colours, if the tool for it is there: flat pictures lose nothing by it."""
-    if not shutil.which("pngquant"):
-        return
-    subprocess.run(
-        [
-            "pngquant",
-            "--force",
-            "--strip",
-            "--speed",
-            "1",
-            "--output",
-            str(path),
-            "128",
-            str(path),
-        ],
-        check=False,
-    )
-
-
-def take(name, fragment, dark, before):
+def take(page, name, fragment, keys):
     path = PICTURES / f"{name}.png"
-    with chromium(dark=dark) as driver:
-        open_page(driver, fragment)
-        if before:
-            run(driver, before)
-        run(driver, "document.activeElement.blur()")
-        driver.save_screenshot(str(path))
-    shrink(path)
+    page.open(fragment)
+    page.press(*keys)
+    if name == "your-own":
+        page.show(MISTAKE, 3)
+    page.js("blur")
+    path.write_bytes(page.picture())
+    if shutil.which("pngquant"):
+        subprocess.run([*SHRINK, path, "128", path], check=False)
     assert path.stat().st_size < MOST_BYTES, (name, path.stat().st_size)
 
 
 def main():
     PICTURES.mkdir(exist_ok=True)
-    for shot in SHOTS:
-        take(*shot)
-    return 0
+    with chromium({}) as browser:
+        page = Tab(browser, "")
+        for shot in SHOTS:
+            take(page, *shot)
 
 
 if __name__ == "__main__":
-    sys.exit(main())
+    main()

@@ -1,11 +1,10 @@
-/* LR_ATOMICS: each atomic operation of C, of GCC and of Clang has one point before it. C11.
+/* Each atomic operation of C, of GCC and of Clang has one point before it. C11.
 
    Prints each operation that has none or more, and ends with 1 if one did. */
 #include <stdatomic.h>
 #include <stddef.h>
 
-#define LR_SEED
-#define LR_ATOMICS
+#define LR_MODE SEED
 #include "../../record/lockreplay_record.h"
 
 static lr_run *run;
@@ -115,7 +114,7 @@ static void older_operations(void)
 
 int main(void)
 {
-    run = lr_open("ticket", 1, 64, 10, 1);
+    run = lr_open("ticket", 1, 64, 10, 1, NULL);
     if (!run) return 3;
     lr_begin(lr_log_of(run, 0));
     c11_operations();
@@ -123,7 +122,7 @@ int main(void)
     older_operations();
     HAS_POINTS(2, __atomic_exchange_n(&plain, __atomic_load_n(&other, __ATOMIC_SEQ_CST) + 1,
                                       __ATOMIC_SEQ_CST));
-    LR_READ(lr_log_of(run, 0), now_serving, 1);
+    LR_READ(now_serving, 1);
     size_t noted = run->turns;
     (void)atomic_load(&word);
     if (run->turns != noted) failed = printf("a point right after a note\n");

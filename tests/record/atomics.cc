@@ -1,10 +1,9 @@
-/* lr::atomic<T>: each operation has one point before it, and does what std::atomic<T> does. C++17.
+/* lr::atomic<T>: each operation has one point before it, and does what std::atomic<T> does. C++14.
 
    Prints each operation that does not, and ends with 1 if one did. */
 #include <cstdint>
 
-#define LR_SEED
-#define LR_ATOMICS
+#define LR_MODE SEED
 #include "../../record/lockreplay_record.h"
 
 static lr_run *run;
@@ -64,7 +63,7 @@ static void pointers()
 
 int main()
 {
-    run = lr_open("ticket", 1, 64, 10, 1);
+    run = lr_open("ticket", 1, 64, 10, 1, NULL);
     if (!run) return 3;
     lr_begin(lr_log_of(run, 0));
     numbers();

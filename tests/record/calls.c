@@ -1,5 +1,5 @@
 /* Threads that use the recording header wrongly, or wait for one another: BODY says which of them
-   are tried. recording_modes.py has the bodies, and what is due. */
+   are tried. test_modes.py has the bodies, and what is due. */
 #include "../../record/lockreplay_record.h"
 
 static lr_run *run;
@@ -29,7 +29,7 @@ static void *keeps_its_turn(void *log)
 static void *waits_for_ever(void *log)
 {
     lr_begin((lr_log *)log);
-    LR_WAIT((lr_log *)log, &condition, (void)0, (void)0, (void)0);
+    LR_WAIT(&condition, (void)0, (void)0, (void)0);
     lr_end((lr_log *)log);
     return NULL;
 }
@@ -37,7 +37,7 @@ static void *waits_for_ever(void *log)
 static void *polls_for_ever(void *log)
 {
     lr_begin((lr_log *)log);
-    for (;;) LR_READ((lr_log *)log, now_serving, 1);
+    for (;;) LR_READ(now_serving, 1);
     return NULL;
 }
 
@@ -46,13 +46,13 @@ static void *wakes_one(void *of)
     lr_log *log = (lr_log *)of;
     lr_begin(log);
     if (log->thread == 0) {
-        while (!run->parked) LR_SWITCH(log);
+        while (!run->parked) LR_SWITCH();
         woken = 1;
-        LR_SIGNAL(log, &woken, (void)0);
-        LR_SWITCH(log);
-        LR_SIGNAL(log, &condition, (void)0);
+        LR_SIGNAL(&woken, (void)0);
+        LR_SWITCH();
+        LR_SIGNAL(&condition, (void)0);
     } else {
-        LR_WAIT(log, &condition, (void)0, (void)0, (void)0);
+        LR_WAIT(&condition, (void)0, (void)0, (void)0);
         if (!woken) _Exit(9);
     }
     lr_end(log);
@@ -69,7 +69,7 @@ int main(void)
 {
     (void)twice, (void)start, (void)keeps_its_turn, (void)waits_for_ever, (void)polls_for_ever;
     (void)wakes_one;
-    run = lr_open("mcs", 2, 64, 100, 1);
+    run = lr_open("mcs", 2, 64, 100, 1, NULL);
     BODY
     return 0;
 }

@@ -1,17 +1,13 @@
 /* Takes the place of examples/recording/driver.h for planted mistakes.
 
-       LOCK THREADS ROUNDS SEEDS             LR_SEED: prints how many of the runs by the seeds from
-                                             1 on are refused or hang
-       LOCK THREADS ROUNDS SEED DIRECTORY    LR_VALUES: status 1 if threads are left, and each of
+       LOCK THREADS ROUNDS SEEDS             SEED: prints how many of the runs by the seeds from 1
+                                             on are refused or hang
+       LOCK THREADS ROUNDS SEED DIRECTORY    VALUES: status 1 if threads are left, and each of
                                              them is stuck (stuck.h)
 
-   The other modes are those of the examples' own driver.
+   The other modes are those of the header's own main function.
 
    SPDX-License-Identifier: Apache-2.0 OR MIT */
-#if !defined LR_SEED && !defined LR_VALUES
-#include "driver_of_one_run.h"
-#else
-
 #include <pthread.h>
 #include <sched.h>
 #include <stdint.h>
@@ -21,47 +17,36 @@
 
 #include "../../record/lockreplay_record.h"
 
-enum { MOST_MOVES = 128, MOST_THREADS = 64 };
+enum { MOST_THREADS = 64 };
 
 static void open_lock(void);
-static void one_round(unsigned thread, unsigned round, lr_log *log);
-static unsigned rounds_of_each;
+static void one_round(unsigned thread, unsigned round);
+static void one_call(unsigned thread, int call);
 
-static void inside(unsigned thread, unsigned round, lr_log *log)
+static void inside(unsigned thread, unsigned round)
 {
     if (!LR_TURNS && (round * 7 + thread) % 3 == 0) sched_yield();
-    LR_SWITCH(log);
+    LR_SWITCH();
 }
 
-static void some_rounds(unsigned thread, lr_log *log)
+#if LR_SEEDED
+static int try_runs(const lr_driver *driver, int count, char **words)
 {
-    for (unsigned round = 0; round < rounds_of_each; round++) one_round(thread, round, log);
-}
-
-static const char *words_of_call[] = {"LOCK", "THREADS", "ROUNDS", "SEEDS or SEED", "DIRECTORY"};
-
-#ifdef LR_SEED
-static unsigned refused_of(const lr_driver *driver, unsigned seeds)
-{
-    unsigned refused = 0;
+    unsigned refused = 0, rounds = (unsigned)atoi(words[2]), seeds = (unsigned)atoi(words[3]);
+    (void)count;
     for (unsigned seed = 1; seed <= seeds; seed++) {
-        size_t room = (size_t)rounds_of_each * MOST_MOVES;
-        lr_run *run = lr_open(LOCK, driver->threads, BITS, room, seed);
+        lr_run *run = lr_open(LOCK, (unsigned)atoi(words[1]), BITS, (size_t)rounds * LR_ROUND,
+                              seed, NULL);
         if (!run) _Exit(3);
-        unsigned missing = lr_go(run, driver, 10);
-        refused += run->said[0] || lr_check(run);
+        unsigned missing = lr_go(run, driver, rounds, 10);
+        refused += lr_check(run) || run->said[0];
         if (!missing) lr_close(run);
     }
-    return refused;
-}
-
-static int try_runs(const lr_driver *driver, char **words)
-{
-    printf("%u\n", refused_of(driver, (unsigned)atoi(words[3])));
+    printf("%u\n", refused);
     fflush(stdout);
     return 0;
 }
-#else
+#elif LR_FREE
 #include "stuck.h"
 
 static size_t noted(lr_run *run)
@@ -84,31 +69,28 @@ static int all_end(lr_run *run)
     return !lr_missing(run);
 }
 
-static int try_runs(const lr_driver *driver, char **words)
+/* A log that is full is no fault here: some mistakes never come to an end. */
+static int try_runs(const lr_driver *driver, int count, char **words)
 {
-    size_t room = (size_t)rounds_of_each * MOST_MOVES;
-    lr_run *run = lr_open(LOCK, driver->threads, BITS, room, strtoul(words[3], NULL, 10));
+    unsigned rounds = (unsigned)atoi(words[2]);
+    lr_run *run = count == 5 ? lr_open(LOCK, (unsigned)atoi(words[1]), BITS,
+                                       (size_t)rounds * LR_ROUND, strtoul(words[3], NULL, 10),
+                                       words[4]) : NULL;
     if (!run) return 3;
     run->driver = driver;
+    run->rounds = rounds;
     open_lock();
-    for (unsigned t = 0; t < driver->threads; t++)
+    for (unsigned t = 0; t < run->threads; t++)
         if (pthread_create(&run->logs[t].id, NULL, lr_work, &run->logs[t])) return 3;
-    int is_well = all_end(run);
-    return lr_save(run, words[4]) ? 3 : !is_well;
+    int is_well = all_end(run), fault = lr_save(run);
+    return fault && fault != ENOBUFS ? 3 : !is_well;
 }
+#else
+#define try_runs lr_main
 #endif
 
 int main(int count, char **words)
 {
-    lr_driver driver = {LOCK, 0, BITS, open_lock, some_rounds};
-    int due = LR_TURNS ? 4 : 5;
-    if (count != due) {
-        for (int i = 0; i < due; i++) fprintf(stderr, "%s ", words_of_call[i]);
-        return 2;
-    }
-    driver.threads = (unsigned)atoi(words[1]);
-    rounds_of_each = (unsigned)atoi(words[2]);
-    _Exit(try_runs(&driver, words));
+    const lr_driver driver = {LOCK, BITS, open_lock, one_round, one_call};
+    _Exit(try_runs(&driver, count, words));
 }
-
-#endif

@@ -15,6 +15,8 @@ SOURCES = EXAMPLES / "recording"
 WARNINGS = ["-Wall", "-Wextra", "-Wpedantic", "-Werror"]
 COMPILERS = ["gcc", "g++", "clang", "clang++"]
 IN_C_PLUS_PLUS = ["rw_simple", "rw_fifo"]
+STANDARDS = ["14", "17", "20"]  # of C++
+CHECKED = ["FOLLOW", "EXPLORE"]  # modes in which a program checks its runs
 
 
 def once(path, make):
@@ -89,12 +91,12 @@ class InC(Recorder):
 
     def command(self, example, mode, mistake=None):
         """A program for each mode. Traces of searches are checked with all their values."""
-        flags = {"EXPLORE": ["-DLR_ATOMICS"], "FOLLOW": ["-DLR_CHECK"]}.get(mode, [])
+        flags = {"FOLLOW": ["-DLR_CHECK"]}.get(mode, [])
         program = self.folder / f"{mistake or example}-{mode}"
 
         def build():
-            said = compile_c("gcc", self.source(example, mistake), program, f"-DLR_{mode}", *flags,
-                             library=self.library if flags else None)
+            said = compile_c("gcc", self.source(example, mistake), program, f"-DLR_MODE={mode}",
+                             *flags, library=self.library if mode in CHECKED else None)
             assert said == ""
         return [once(program, build)]
 
@@ -123,7 +125,7 @@ class InRust(Recorder):
         once(self.folder / "copied", copy)
         return self.folder / "crate"
 
-    def cargo(self, *words, tool="cargo", crate=None):
+    def cargo(self, *words, tool="cargo", crate=None, level="3"):
         """What Debian's cargo says: nothing if all is well. It is as old as any that the crate is
         for, it is offline, and a warning is an error."""
         flags = f"-D warnings -L native={self.library.parent}"
@@ -131,16 +133,19 @@ class InRust(Recorder):
         done = ran(f"/usr/bin/{tool}", *words, "--offline", "--locked", cwd=crate, timeout=600,
                    env=environment(PATH="/usr/bin:/bin", RUSTC="/usr/bin/rustc", RUSTFLAGS=flags,
                                    RUSTDOCFLAGS=flags, CARGO_HOME=str(self.folder / "cargo"),
+                                   CARGO_INCREMENTAL="0", CARGO_PROFILE_DEV_DEBUG="0",
+                                   CARGO_PROFILE_RELEASE_OPT_LEVEL=level,
                                    CARGO_TARGET_DIR=str(self.folder / f"{crate.name}-target")))
         return "" if done.returncode == 0 else (done.stdout + done.stderr)[-2000:]
 
     def built(self, *more):
-        """The folder of the built examples."""
+        """The folder of the built examples. Those with a feature make few runs, which take less
+        time than optimizations would."""
         target = self.folder / "-".join(["built", *more])
 
         def build():
             said = self.cargo("build", "--release", "--examples", *more, "--target-dir", target,
-                              crate=self.crate.with_name("planted"))
+                              crate=self.crate.with_name("planted"), level="0" if more else "3")
             assert said == ""
         once(self.folder / "-".join(["done", *more]), build)
         return target / "release" / "examples"

@@ -1,4 +1,5 @@
-"""The recorders as compilers see them: no warning, nothing left of LR_OFF, nothing for a sanitizer.
+"""The recorders as compilers see them: no warning, nothing left without a mode, no fault for a
+sanitizer.
 
 Also what the header writes, by a program that knows every line; the lock of docs/GUIDE.md; and the
 Rust crate's own tests, its documentation and clippy.
@@ -8,7 +9,8 @@ from pathlib import Path
 
 import pytest
 
-from recorders import COMPILERS, IN_C_PLUS_PLUS, RECORDERS, SOURCES, WARNINGS, compile_c, language
+from recorders import (COMPILERS, IN_C_PLUS_PLUS, RECORDERS, SOURCES, STANDARDS, WARNINGS,
+                       compile_c, language)
 from tree import TOP, output, ran
 
 pytestmark = pytest.mark.slow
@@ -17,9 +19,9 @@ HERE = Path(__file__).parent
 GUIDE = (TOP / "docs" / "GUIDE.md").read_text()
 SANITIZERS = ["address,undefined", "thread"]
 # Which of a macro's arguments is done without the header.
-MONITOR = {"LR_LOCK": 1, "LR_UNLOCK": 1, "LR_WAIT": 3, "LR_SIGNAL": 2, "LR_BROADCAST": 2}
+MONITOR = {"LR_LOCK": 0, "LR_UNLOCK": 0, "LR_WAIT": 2, "LR_SIGNAL": 1, "LR_BROADCAST": 1}
 OPTIONS = {"OFF": [], "VALUES": ["-DLR_NOISE"], "SEED": ["-DLR_PCT=3", "-DLR_SPURIOUS=9"],
-           "FOLLOW": ["-DLR_CHECK"], "EXPLORE": []}
+           "FOLLOW": ["-DLR_CHECK"], "EXPLORE": ["-DLR_MOVES=9"]}
 IN_C = RECORDERS["c"].examples
 # Every compiler with the examples that it builds
 BUILDS = [(compiler, example) for compiler in COMPILERS
@@ -30,24 +32,26 @@ BUILDS = [(compiler, example) for compiler in COMPILERS
 @pytest.mark.parametrize("compiler, example", BUILDS)
 def test_build(tmp_path, compiler, example, mode):
     source = SOURCES / f"{example}.c"
-    assert compile_c(compiler, source, tmp_path / "program", f"-DLR_{mode}") == ""
+    assert compile_c(compiler, source, tmp_path / "program", f"-DLR_MODE={mode}") == ""
 
 
 @pytest.mark.parametrize("mode", OPTIONS)
 @pytest.mark.parametrize("compiler, example, standard", [
     (*build, standard) for build in BUILDS
-    for standard in (["17", "20"] if "++" in build[0] else ["11"])])
+    for standard in (STANDARDS if "++" in build[0] else ["11"])])
 def test_compiles(compiler, example, standard, mode):
-    assert compile_c(compiler, SOURCES / f"{example}.c", "/dev/null", "-c", f"-DLR_{mode}",
-                     "-DLR_ATOMICS", *OPTIONS[mode], standard=standard) == ""
+    assert compile_c(compiler, SOURCES / f"{example}.c", "/dev/null", "-c",
+                     f"-DLR_MODE={mode}", *OPTIONS[mode], standard=standard) == ""
 
 
 @pytest.mark.parametrize("sanitizer", SANITIZERS)
 @pytest.mark.parametrize("mode", ["VALUES", "SEED"])
 @pytest.mark.parametrize("compiler, example", [it for it in BUILDS if it[0] in ("gcc", "g++")])
 def test_sanitizer(tmp_path, compiler, example, mode, sanitizer):
+    """Without optimizations, which leave out what a sanitizer could see, and take ten times as
+    long to compile."""
     program = tmp_path / "program"
-    assert compile_c(compiler, SOURCES / f"{example}.c", program, f"-DLR_{mode}", "-g",
+    assert compile_c(compiler, SOURCES / f"{example}.c", program, f"-DLR_MODE={mode}", "-g", "-O0",
                      f"-fsanitize={sanitizer}") == ""
     assert output(program, 3, 200, 1, tmp_path, 60) == ""
 
@@ -64,7 +68,7 @@ def end_of_call(text, start):
 
 def without_notes(text):
     """A source with no trace of the header: no note, no inclusion, of a monitor what it does."""
-    text = re.sub(r'#include ".*lockreplay_record\.h"\n', "", text)
+    text = re.sub(r'#include ".*lockreplay_record\.h"', NUMBERS, text)
     while found := re.search(r"LR_[A-Z_]+(?=\()", text):
         end = end_of_call(text, found.end())
         kept = ""
@@ -82,20 +86,54 @@ def object_code(compiler, source, target, *flags):
             + output("size", "-A", target))
 
 
+# What calls the lock of an example, in the place of driver.h.
+CALLER = """#include <pthread.h>
+#include <sched.h>
+#include <stdint.h>
+#include <stdlib.h>
+#include <string.h>
+#include "../../record/lockreplay_record.h"
+enum { MOST_THREADS = 64 };
+static void open_lock(void);
+static void one_round(unsigned thread, unsigned round);
+static void one_call(unsigned thread, int call);
+static void inside(unsigned thread, unsigned round)
+{
+    (void)thread, (void)round;
+    LR_SWITCH();
+}
+int main(int count, char **words)
+{
+    (void)words;
+    open_lock();
+    one_round(0, 0);
+    one_call(0, count);
+    return 0;
+}
+"""
+# A number of a call, which the header has in each mode.
+NUMBERS = ("enum { LR_CALL_acquire, LR_CALL_rlock = 2, LR_CALL_runlock, LR_CALL_wlock, "
+           "LR_CALL_wunlock };")
+
+
 @pytest.mark.parametrize("level", ["-O0", "-O2"])
 @pytest.mark.parametrize("compiler, example", [it for it in BUILDS if "++" not in it[0]])
 def test_nothing_is_left_of_the_header(tmp_path, compiler, example, level):
-    """LR_OFF gives the object code of the same source without notes and header, and LR_VALUES
-    another one."""
-    bare = tmp_path / "bare" / "examples" / "recording"
-    bare.mkdir(parents=True)
-    for source in SOURCES.glob("*.[ch]"):
-        (bare / source.name).write_text(without_notes(source.read_text()))
-    target, source = tmp_path / "it.o", SOURCES / f"{example}.c"
-    off = object_code(compiler, source, target, level, "-DLR_OFF")
-    assert off == object_code(compiler, source, target, level)
-    assert off == object_code(compiler, bare / f"{example}.c", target, level)
-    assert off != object_code(compiler, source, target, level, "-DLR_VALUES")
+    """Without a mode a lock gives the object code of the same source without notes and header, and
+    with VALUES another one."""
+    for name, change in (("noted", str), ("bare", without_notes)):
+        folder = tmp_path / name / "examples" / "recording"
+        folder.mkdir(parents=True)
+        for source in SOURCES.glob("*.[ch]"):
+            text = CALLER if source.name == "driver.h" else source.read_text()
+            (folder / source.name).write_text(change(text))
+    (tmp_path / "noted" / "record").symlink_to(TOP / "record")
+    target, noted, bare = (tmp_path / name for name in ("it.o", "noted", "bare"))
+    source = f"examples/recording/{example}.c"
+    off = object_code(compiler, noted / source, target, level, "-DLR_MODE=OFF")
+    assert off == object_code(compiler, noted / source, target, level)
+    assert off == object_code(compiler, bare / source, target, level)
+    assert off != object_code(compiler, noted / source, target, level, "-DLR_MODE=VALUES")
     assert "main" in off and "lr_" not in off
 
 
@@ -108,48 +146,51 @@ def test_header(tmp_path, compiler):
                   tmp_path / "header", HERE / "header.c") == ""
     done = ran(tmp_path / "header", tmp_path)
     assert done.stdout == ""
-    assert done.stderr.splitlines() == [f"lockreplay_record: {said}" for said in (
-        "1 of 1 threads have not ended",
+    said = re.sub(r"\.c:\d+", ".c:LINE", done.stderr).splitlines()
+    assert said == [f"lockreplay_record: {due}" for due in (
+        "the log of thread 0 was full: it has room for 2 moves, and dropped 3",
+        "1 of 1 threads have not ended, and made no move for 0 s: thread 0 "
+        "('acquire' at header.c:LINE)",
         "0 threads: a run has 1 to 64",
         "65 threads: a run has 1 to 64",
         "1 bits: a counter has 2 to 64",
         "65 bits: a counter has 2 to 64",
         "4 threads and counters of 2 bits: there have to be fewer threads than values",
         "there is no lock 'clh': ticket, mcs, rw-simple or rw-fifo",
-        "18446744073709551615 moves for each thread are more than memory can have")]
+        "18446744073709551615 moves for each thread are more than memory can have",
+        "/no/such/directory: No such file or directory", "/dev/null: Not a directory")]
 
 
 @pytest.fixture
 def guide(tmp_path):
     """Builds the guide's lock in a mode: right, or with the mistake that the guide plants."""
-    (tmp_path / "logs").mkdir()
 
     def build(mode, old="", new=""):
         text = re.search(r"```c\n(.*?)```", GUIDE, re.DOTALL).group(1).replace(old, new)
         (tmp_path / "try.c").write_text(text)
-        assert output("gcc", "-O2", *WARNINGS, "-pthread", f"-DLR_{mode}", "-I", TOP / "record",
-                      "-o", "try", "try.c", cwd=tmp_path) == ""
+        assert output("gcc", "-O2", *WARNINGS, "-pthread", f"-DLR_MODE={mode}", "-I",
+                      TOP / "record", "-o", "try", "try.c", cwd=tmp_path) == ""
         return tmp_path
     return build
 
 
 def test_guide_by_seed(guide, judge):
     folder = guide("SEED")
-    assert ran("./try", 17, cwd=folder).stderr == ""
+    assert ran("./try", 3, 1000, 17, "logs", cwd=folder).stderr == ""
     assert judge.accepts([folder / "logs" / "run.trace"])
 
 
 def test_guide_by_threads(guide, judge):
     """Of free threads one may come after the other: these are tried again."""
     folder = guide("VALUES")
-    assert any(ran("./try", cwd=folder).stderr == "" and judge.waits_in_order(folder / "logs")
-               for _ in range(20))
+    assert any(ran("./try", 3, 1000, 1, "logs", cwd=folder).stderr == ""
+               and judge.waits_in_order(folder / "logs") for _ in range(20))
 
 
 def test_guide_with_its_mistake(guide, judge):
     """The run hangs, and the guide says at which line its trace is refused."""
     folder = guide("SEED", "served != ticket", "served < ticket")
-    assert "the run hangs" in ran("./try", 17, cwd=folder).stderr
+    assert "the run hangs" in ran("./try", 3, 1000, 17, "logs", cwd=folder).stderr
     assert f"logs/run.trace:{judge.refused_line(folder / 'logs' / 'run.trace')}: " in GUIDE
 
 

@@ -64,7 +64,7 @@ def test_mistake_that_checks_itself(recorder, judge, tmp_path, mistake):
                tmp_path)
     [trace] = tmp_path.glob("*.trace")
     assert done.returncode == 1
-    said = re.match(r"refused at line (\d+) of the trace: ", done.stderr)
+    said = re.match(r"refused at line (\d+) of the trace, ", done.stderr)
     if said:
         assert int(said[1]) == judge.refused_line(trace)
     else:

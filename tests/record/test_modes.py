@@ -1,6 +1,6 @@
 """What the header in C says of wrong words and calls, and where a lock leaves a schedule.
 
-Rows of this file say what is due. LR_ATOMICS is tried on each operation, in C and in C++.
+Rows of this file say what is due. Points are tried at each atomic operation, in C and in C++.
 """
 import re
 import shutil
@@ -9,7 +9,8 @@ from pathlib import Path
 import pytest
 
 from mistakes import PATCHES
-from recorders import COMPILERS, SOURCES, WARNINGS, compile_c, language, plant, words_of
+from recorders import (COMPILERS, SOURCES, STANDARDS, WARNINGS, compile_c, language, plant,
+                       words_of)
 from tree import EXAMPLES, TOP, ran
 
 pytestmark = pytest.mark.slow
@@ -17,18 +18,39 @@ pytestmark = pytest.mark.slow
 HERE = Path(__file__).parent
 
 # What the command line defines, and what the compiler then says.
+OLD = "a mode is a value of LR_MODE, as in -DLR_MODE=SEED"
+NONE = "LR_MODE is not one of OFF, VALUES, SEED, FOLLOW and EXPLORE"
 WORDS = [
-    ("-DLR_VALUE", "there is no such mode: LR_VALUES is the one for threads that run as they like"),
-    ("-DLR_SEEDS", "there is no such mode: LR_SEED is the one in which a seed draws the turns"),
-    ("-DLR_FOLLOWS", "there is no such mode: LR_FOLLOW is the one in which a schedule gives the"),
-    ("-DLR_EXPLOER", "there is no such mode: LR_EXPLORE is the one that makes all runs of a small"),
-    ("-DLR_ATOMIC", "there is no such option: LR_OFF, LR_ATOMICS, LR_NOISE, LR_CHECK, LR_SPURIOUS"),
-    ("-DLR_SEED -DLR_VALUES", "define one of LR_OFF, LR_VALUES, LR_SEED, LR_FOLLOW and LR_EXPLORE"),
-    ("-DLR_SEED -DLR_NOISE", "LR_NOISE is for LR_VALUES: in the other modes one thread runs at a"),
-    ("-DLR_VALUES -DLR_PCT=3", "LR_PCT is a way to draw the turns of LR_SEED"),
-    ("-DLR_SEED -DLR_PCT=0", "LR_PCT is the depth of a mistake: LR_PCT=1 and so on"),
-    ("-DLR_FOLLOW -DLR_SPURIOUS=9", "LR_SPURIOUS is for LR_SEED: one turn in LR_SPURIOUS wakes a"),
-    ("-DLR_VALUES -DLR_CHECK", "LR_CHECK needs one thread at a time"),
+    *((f"-DLR_{mode}", OLD) for mode in ("OFF", "VALUES", "SEED", "SEED=17", "FOLLOW", "EXPLORE")),
+    *((f"-DLR_MODE{value}", NONE) for value in (
+        "", "=", "=SEEDD", "=SED", "=VALEUES", "=seed", "=17", "=0", "=EXPLOER", "=NONE")),
+    *((f"{mode}{option}", said) for option, modes, said in (
+        ("-DLR_NOISE", "OFF SEED FOLLOW EXPLORE", "LR_NOISE is for LR_MODE=VALUES"),
+        ("-DLR_PCT=3", "OFF VALUES FOLLOW EXPLORE", "LR_PCT is for LR_MODE=SEED"),
+        ("-DLR_PCT=0", "SEED", "LR_PCT is the depth of a mistake: LR_PCT=1 and so on"),
+        ("-DLR_STEPS=9", "OFF VALUES SEED FOLLOW EXPLORE", "LR_STEPS is for LR_PCT"),
+        ("-DLR_SPURIOUS=9", "OFF VALUES FOLLOW EXPLORE", "LR_SPURIOUS is for LR_MODE=SEED"),
+        ("-DLR_CHECK", "OFF VALUES", "LR_CHECK is for SEED, FOLLOW and EXPLORE"),
+        ("-DLR_PATIENCE=9", "OFF VALUES FOLLOW", "LR_PATIENCE is for SEED and EXPLORE"),
+        ("-DLR_MOVES=9", "OFF VALUES SEED FOLLOW", "LR_MOVES is for LR_MODE=EXPLORE"),
+        ("-DLR_ATOMICS=0", "OFF VALUES FOLLOW", "LR_ATOMICS is for SEED, EXPLORE, and VALUES"),
+    ) for mode in ("", *(f"-DLR_MODE={mode} " for mode in modes.split()))
+      if mode or "OFF" in modes),
+]
+# A note, and the word of the compiler's error; nothing if it is a step of some lock.
+EACH = ("next_ticket", "now_serving", "tail", "next", "locked")
+NOTES = [
+    *((f"LR_{step}({word}, 1)", "") for step in ("READ", "WRITE") for word in EACH),
+    *((f"LR_SWAP({word}, 1)", "" if word == "tail" else f"LR_WORD_TO_SWAP_{word}")
+      for word in EACH),
+    *((f"LR_CAS({word}, 1)", "" if word == "tail" else f"LR_WORD_TO_COMPARE_AND_SWAP_{word}")
+      for word in EACH),
+    *((f"LR_ADD({word}, 1)", "" if word == "next_ticket" else f"LR_WORD_TO_ADD_TO_{word}")
+      for word in EACH),
+    *((f"LR_{step}_OF({word}, 1, 1)",
+       "" if word in ("next", "locked") else f"LR_WORD_OF_A_RECORD_{word}")
+      for step in ("READ", "WRITE") for word in EACH),
+    ("LR_CALL(aquire)", "LR_CALL_aquire"), ("LR_SECTION(1, enters)", "LR_OUTCOME_enters"),
 ]
 
 # The body of a program with a run of two threads, the modes, its status and what it says.
@@ -39,8 +61,9 @@ CALLS = [
      "there is no thread 4294967295: the run has the threads 0 to 1"),
     ("twice(lr_log_of(run, 0));", "VALUES SEED", 2,
      "thread 0 begins twice: each thread has a log of its own"),
-    ("LR_CALL(lr_log_of(run, 1), acquire);", "SEED", 2,
-     "thread 1 notes a step before lr_begin, or after lr_end"),
+    ("LR_CALL(acquire);", "VALUES SEED", 2,
+     "a step is noted before lr_begin, or after lr_end, at calls.c:LINE"),
+    ("LR_SWITCH();", "SEED", 2, "a hook is called before lr_begin, or after lr_end"),
     ("lr_end(lr_log_of(run, 1));", "VALUES SEED", 2,
      "thread 1 ends, and has not begun or has ended before"),
     ("return (int)lr_await(run, 0);", "VALUES SEED", 2, "0 of 2 threads have called lr_begin"),
@@ -50,10 +73,11 @@ CALLS = [
     ("start(waits_for_ever, 2); return (int)lr_await(run, 20);", "SEED", 2,
      "the run hangs: thread 0 waits for a signal, thread 1 waits for a signal"),
     ("start(polls_for_ever, 2); return (int)lr_await(run, 20);", "SEED", 2,
-     "the run hangs: thread 0 polls, thread 1 polls"),
+     "the run hangs: thread 0 polls ('read now_serving found 1' at calls.c:LINE), thread 1 polls "
+     "('read now_serving found 1' at calls.c:LINE)"),
     ("start(wakes_one, 2); return (int)lr_await(run, 20);", "SEED", 0, ""),
     ("start(waits_for_ever, 2); return (int)lr_await(run, 20);", "SEED -DLR_SPURIOUS=1", 0, ""),
-    ("return lr_open(\"MCS\", 1, 64, 1, 1) ? 0 : 1;", "VALUES SEED", 1,
+    ("return lr_open(\"MCS\", 1, 64, 1, 1, NULL) ? 0 : 1;", "VALUES SEED", 1,
      "there is no lock 'MCS': ticket, mcs, rw-simple or rw-fifo"),
 ]
 # An example, a schedule of it, and what is said; nothing if it is followed.
@@ -86,10 +110,23 @@ FOLLOWED = [
 
 
 @pytest.mark.parametrize("words, said", WORDS)
-def test_misspelt_mode(words, said):
+def test_wrong_mode(words, said):
     done = ran("gcc", "-std=c11", "-fsyntax-only", *words.split(),
                TOP / "record" / "lockreplay_record.h")
-    assert done.returncode != 0 and said in done.stderr
+    assert done.returncode != 0 and f'#error "{said}' in done.stderr
+
+
+@pytest.mark.parametrize("compiler", ["gcc", "clang++"])
+def test_wrong_note(tmp_path, compiler):
+    """A step on a word that no lock has it on is not compiled, with the line at which it stands."""
+    for note, word in NOTES:
+        (tmp_path / "notes.c").write_text(f'#include "{TOP}/record/lockreplay_record.h"\n'
+                                          f"void it(void);\nvoid it(void) {{ {note}; }}\n")
+        done = ran(compiler, *language(compiler), *WARNINGS, "-DLR_MODE=VALUES", "-fsyntax-only",
+                   tmp_path / "notes.c")
+        found = re.findall(r"error: [^'‘]*['‘](LR_\w+)", done.stderr)
+        assert found == ([word] if word else [])
+        assert ("notes.c:3:" in done.stderr) == bool(word), done.stderr
 
 
 # Each body in each of its modes
@@ -99,11 +136,12 @@ def test_misspelt_mode(words, said):
 def test_wrong_call(tmp_path, body, mode, status, said):
     """Which of two threads has its turn depends on the system."""
     built = ran("gcc", "-std=c11", "-O1", *WARNINGS, "-Wno-unused", "-pthread",
-                *f"-DLR_{mode}".split(), f"-DBODY={body}", "-o", tmp_path / "call",
+                *f"-DLR_MODE={mode}".split(), f"-DBODY={body}", "-o", tmp_path / "call",
                 HERE / "calls.c")
     assert built.stderr == ""
     done = ran("timeout", "30", tmp_path / "call")
     heard = re.sub(r"thread \d has its", "thread T has its", done.stderr)
+    heard = re.sub(r"calls\.c:\d+", "calls.c:LINE", heard)
     assert (heard, done.returncode) == (f"lockreplay_record: {said}\n" if said else "", status)
 
 
@@ -122,7 +160,7 @@ def test_schedule(recorder, tmp_path, example, text, said):
 def test_trace_of_a_schedule(tmp_path, lesson):
     """Without LR_CHECK each trace is saved: its moves are those of the lesson."""
     program, text = tmp_path / "saves", (EXAMPLES / f"{lesson}.schedule").read_text()
-    assert compile_c("gcc", SOURCES / "mcs.c", program, "-DLR_FOLLOW") == ""
+    assert compile_c("gcc", SOURCES / "mcs.c", program, "-DLR_MODE=FOLLOW") == ""
     (tmp_path / "it.schedule").write_text(text)
     done = ran(program, tmp_path, tmp_path)
     assert (done.stderr, done.returncode) == ("", 0)
@@ -137,14 +175,14 @@ def test_data_race(tmp_path, mode, has_race):
     (tmp_path / "record").symlink_to(TOP / "record")
     plant(PATCHES / "c" / "rw_fifo" / "counted-outside-before.patch", tmp_path)
     assert ran("gcc", "-std=c11", "-O1", "-w", "-g", "-fsanitize=thread", "-pthread",
-               f"-DLR_{mode}", "-o", tmp_path / "it", folder / "rw_fifo.c").stderr == ""
+               f"-DLR_MODE={mode}", "-o", tmp_path / "it", folder / "rw_fifo.c").stderr == ""
     said = ran(tmp_path / "it", 4, 200, 1, tmp_path, 5).stderr
     assert ("ThreadSanitizer: data race" in said) == has_race
 
 
 @pytest.mark.parametrize("compiler, standard", [
     (compiler, standard) for compiler in COMPILERS
-    for standard in (["17", "20"] if "++" in compiler else ["11"])])
+    for standard in (STANDARDS if "++" in compiler else ["11"])])
 def test_atomics(tmp_path, compiler, standard):
     source = HERE / f"atomics.{'cc' if '++' in compiler else 'c'}"
     built = ran(compiler, *language(compiler, standard), *WARNINGS, "-O2", "-pthread", "-o",

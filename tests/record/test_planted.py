@@ -21,19 +21,20 @@ LOCKS = ("mcs", "ticket", "rw_fifo")
 RUNS = planted_table.RUNS
 REAL = ("4", "100")  # threads and rounds
 SEEDED = ("3", "30")
-SHORT = ("3", "4")  # what LR_PCT is for
+SHORT = ("3", "4")  # what PCT is for
 EXPLORED = ("3", "1", "2")  # threads, rounds and preemptions
 MOST = "3000"  # runs that are explored
 ENOUGH = 38  # mistakes that have to be noticed in all runs of one mode
-CHECKED = ["-DLR_SEED", "-DLR_CHECK"]
+CHECKED = ["-DLR_MODE=SEED", "-DLR_CHECK"]
 MODES = {
-    "VALUES": ["-DLR_VALUES"],
-    "NOISE": ["-DLR_VALUES", "-DLR_NOISE", "-DLR_ATOMICS"],
-    "SEED": CHECKED,
-    "ATOMICS": [*CHECKED, "-DLR_ATOMICS"],
-    "PCT": [*CHECKED, "-DLR_ATOMICS", "-DLR_PCT=3", "-DLR_STEPS=150"],
-    "EXPLORE": ["-DLR_EXPLORE", "-DLR_ATOMICS"],
-    "FOLLOW": ["-DLR_FOLLOW", "-DLR_CHECK"],
+    "VALUES": ["-DLR_MODE=VALUES"],
+    "NOISE": ["-DLR_MODE=VALUES", "-DLR_NOISE"],
+    "SEED": [*CHECKED, "-DLR_ATOMICS=0", "-DLR_SPURIOUS=0"],
+    "ATOMICS": [*CHECKED, "-DLR_SPURIOUS=0"],
+    "SPURIOUS": [*CHECKED, "-DLR_SPURIOUS=8"],
+    "PCT": [*CHECKED, "-DLR_SPURIOUS=0", "-DLR_PCT=3", "-DLR_STEPS=150"],
+    "EXPLORE": ["-DLR_MODE=EXPLORE"],
+    "FOLLOW": ["-DLR_MODE=FOLLOW", "-DLR_CHECK"],
 }
 REAL_MODES = ("VALUES", "NOISE")
 
@@ -68,7 +69,6 @@ def build(lock, name, mode, library, folder):
     (folder / "record").symlink_to(TOP / "record")
     if name != "none":
         plant(PATCHES / "c" / lock / f"{name}.patch", folder)
-    (copy / "driver.h").rename(copy / "driver_of_one_run.h")
     shutil.copy(HERE / "planted_driver.h", copy / "driver.h")
     shutil.copy(HERE / "stuck.h", copy)
     subprocess.run(["gcc", "-std=c11", "-O1", "-w", "-pthread", *MODES[mode], "-o",

@@ -8,35 +8,39 @@ enum { HERE = 99999998, ASK = 99999999, ARM = 100000000 };
 
 static int failed;
 
-#define EXPECT(fact)                                   \
-    do {                                               \
-        if (!(fact)) {                                 \
-            failed = 1;                                \
-            printf("line %d: %s\n", __LINE__, #fact);  \
-        }                                              \
+#define EXPECT(fact)                                                                               \
+    do {                                                                                           \
+        if (!(fact)) {                                                                             \
+            failed = 1;                                                                            \
+            printf("probe.c:%d: %s\n", __LINE__, #fact);                                           \
+        }                                                                                          \
     } while (0)
 
 /* Whether a request is granted; the block is given back at once. */
-static int is_granted(size_t size) {
+static int is_granted(size_t size)
+{
     void *volatile block = malloc(size);
     free(block);
     return block != NULL;
 }
 
-static void *ten_requests(void *count) {
+static void *ten_requests(void *count)
+{
     for (int k = 0; k < 10; k++)
         if (!is_granted(8)) __atomic_add_fetch((int *)count, 1, __ATOMIC_SEQ_CST);
     return NULL;
 }
 
-static void without_library(void) {
+static void without_library(void)
+{
     EXPECT(is_granted(HERE));
     EXPECT(is_granted(ARM + 1));
     EXPECT(is_granted(8));
     EXPECT(is_granted(ASK));
 }
 
-static void second_of_three(void) {
+static void second_of_three(void)
+{
     EXPECT(is_granted(ARM + 2));
     EXPECT(is_granted(8));
     EXPECT(!is_granted(8));
@@ -45,14 +49,16 @@ static void second_of_three(void) {
     EXPECT(is_granted(8));
 }
 
-static void not_reached(void) {
+static void not_reached(void)
+{
     EXPECT(is_granted(ARM + 2));
     EXPECT(is_granted(8));
     EXPECT(is_granted(ASK));
     EXPECT(is_granted(8));
 }
 
-static void grown_and_aligned(void) {
+static void grown_and_aligned(void)
+{
     void *block = malloc(8), *aligned = NULL;
     EXPECT(is_granted(ARM + 1));
     void *grown = realloc(block, 800);
@@ -70,7 +76,8 @@ static void grown_and_aligned(void) {
     EXPECT(is_granted(ASK));
 }
 
-static void one_of_two_threads(void) {
+static void one_of_two_threads(void)
+{
     pthread_t one, two;
     int count = 0;
     EXPECT(is_granted(ARM + 15));
@@ -82,7 +89,8 @@ static void one_of_two_threads(void) {
     EXPECT(count == 1);
 }
 
-int main(int words, char **word) {
+int main(int words, char **word)
+{
     if (words > 1 && !strcmp(word[1], "plain")) {
         without_library();
         return failed;

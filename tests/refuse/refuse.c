@@ -34,11 +34,11 @@
  *
  * At each ASK a line `request N refused` or `request N not reached` is appended to the file that
  * REFUSE_LOG names. A library that could not be preloaded leaves no line, and the loader only
- * warns: so whoever runs the tests looks for the lines (run.sh does).
+ * warns: so whoever runs the tests looks for the lines.
  *
  * A program that does not speak to it is armed by REFUSE_NTH=N: of all requests since its start the
  * Nth is refused. When the program ends, the line of that round is appended, and a line
- * `requests K` with how many it made. refusals.py runs the built program so.
+ * `requests K` with how many it made. test_memory.py runs the built program so.
  *
  * Not held to: a product that asks for exactly one of these sizes. No test here leads to such a
  * request.
@@ -59,22 +59,24 @@ void *__libc_malloc(size_t);
 void *__libc_realloc(void *, size_t);
 void *__libc_memalign(size_t, size_t);
 
-static long left;    /* requests up to the one that is refused, 0 where disarmed or past it */
-static long armed;   /* the N of the last arming */
-static int refused;  /* since then */
-static long count;   /* of requests since the start, where one of those is to be refused */
+static long left;   /* requests up to the one that is refused, 0 where disarmed or past it */
+static long armed;  /* the N of the last arming */
+static int refused; /* since then */
+static long count;  /* of requests since the start, where one of those is to be refused */
 static int is_armed_at_start;
 static const char *log_name;
 
-static _Noreturn void leave(int status) {
+static _Noreturn void leave(int status)
+{
     for (;;) syscall(SYS_exit_group, status);
 }
 
 /* Appends to the log without asking for memory. */
-static void note(void) {
+static void note(void)
+{
     char line[64];
-    int size = snprintf(line, sizeof line, "request %ld %s\n", armed,
-                        refused ? "refused" : "not reached");
+    int size =
+        snprintf(line, sizeof line, "request %ld %s\n", armed, refused ? "refused" : "not reached");
     if (count > 0) size += snprintf(line + size, sizeof line - size, "requests %ld\n", count);
     int log = log_name ? open(log_name, O_WRONLY | O_CREAT | O_APPEND | O_CLOEXEC, 0600) : -1;
     if (log < 0) return;
@@ -82,12 +84,14 @@ static void note(void) {
     close(log);
 }
 
-static int is_telling(size_t size) {
+static int is_telling(size_t size)
+{
     return size == HERE || size == ASK || (size > ARM && size <= (size_t)ARM + MOST);
 }
 
 /* Whether a request of a telling size is granted. */
-static int answer(size_t size) {
+static int answer(size_t size)
+{
     if (size == HERE) return 0;
     if (size == ASK) {
         __atomic_store_n(&left, 0, __ATOMIC_SEQ_CST);
@@ -101,7 +105,8 @@ static int answer(size_t size) {
 }
 
 /* Whether a request of any other size is granted: each is one of those left, in one atomic step. */
-static int is_granted(void) {
+static int is_granted(void)
+{
     if (is_armed_at_start) __atomic_add_fetch(&count, 1, __ATOMIC_SEQ_CST);
     long now = __atomic_load_n(&left, __ATOMIC_SEQ_CST);
     while (now > 0)
@@ -115,30 +120,35 @@ static int is_granted(void) {
     return 1;
 }
 
-void *malloc(size_t size) {
+void *malloc(size_t size)
+{
     if (is_telling(size)) return answer(size) ? __libc_malloc(1) : NULL;
     return is_granted() ? __libc_malloc(size) : NULL;
 }
 
-void *realloc(void *block, size_t size) {
+void *realloc(void *block, size_t size)
+{
     if (!block) return malloc(size);
     return size == 0 || is_granted() ? __libc_realloc(block, size) : NULL;
 }
 
-void *memalign(size_t alignment, size_t size) {
+void *memalign(size_t alignment, size_t size)
+{
     return is_granted() ? __libc_memalign(alignment, size) : NULL;
 }
 
 void *aligned_alloc(size_t alignment, size_t size) { return memalign(alignment, size); }
 
-int posix_memalign(void **block, size_t alignment, size_t size) {
+int posix_memalign(void **block, size_t alignment, size_t size)
+{
     void *got = memalign(alignment, size);
     if (!got) return ENOMEM;
     *block = got;
     return 0;
 }
 
-__attribute__((constructor)) static void start(void) {
+__attribute__((constructor)) static void start(void)
+{
     const char *number = getenv("REFUSE_NTH");
     log_name = getenv("REFUSE_LOG");
     if (!number) return;
@@ -147,7 +157,8 @@ __attribute__((constructor)) static void start(void) {
 }
 
 /* How a program in Rattle ends. */
-void _exit(int status) {
+void _exit(int status)
+{
     if (is_armed_at_start) {
         is_armed_at_start = 0;
         __atomic_store_n(&left, 0, __ATOMIC_SEQ_CST);

@@ -16,7 +16,7 @@ def either(words):
 
 # What files say, wherever their lines break.
 SAID = {
-    "record/lockreplay_record.h": [f"call) {either(CALLS)}", f"The lock is {either(LOCKS)};"],
+    "record/src/lockreplay_record.h": [f"call) {either(CALLS)}", f"The lock is {either(LOCKS)};"],
     "record/rust/Cargo.lock": [f'name = "lockreplay-record" version = "{VERSION}"'],
     "crates/locktrace/src/*.rt": [f'VERSION: &str = "{VERSION}";', f'"{either(LOCKS)}"'],
     "crates/lk_lines/src/unreadable.rt": [f'"{either(LOCKS)}"', f"({', '.join(STEPS.values())})"],

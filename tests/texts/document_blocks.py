@@ -2,7 +2,7 @@
 import re
 from dataclasses import dataclass, field
 
-MARK = re.compile(r"<!-- (not run|file|with): (.+?) -->")
+MARK = re.compile(r"<!-- (not run|file|with|quoted): (.+?) -->")
 FENCE = re.compile(r"\s*(```+)(\S*)\s*")
 
 

@@ -8,6 +8,7 @@ that a later block finds what an earlier one wrote. A comment above the fence sa
     <!-- not run: REASON -->    the block cannot be run in a test
     <!-- with: PART -->         it is run if PART is built
     <!-- file: NAME -->         the block is the file NAME, and is saved before the next one is run
+    <!-- quoted: FILE -->       the block is lines of the file, one after another
 
 A shell's block of another language is a fault, and so is a command that is indented and not fenced,
 and one that leaves the reader in another folder: `(cd FOLDER && ..)` does not. document_names.py
@@ -98,11 +99,17 @@ def run_script(block, room):
         yield f"the script ended with {status}: {lines[-5:]}"
 
 
+def is_quote(block):
+    return "\n".join(["", *block.lines, ""]) in f"\n{(TOP / block.marks['quoted']).read_text()}"
+
+
 def faults_of_block(block, room):
     """Runs a block, or saves it."""
     is_run = block.language in ("sh", "console")
     if is_run and any(map(LEAVES.match, block.lines)):
         yield "it leaves the reader in another folder"
+    if "quoted" in block.marks and not is_quote(block):
+        yield f"it is not in {block.marks['quoted']}"
     if "file" in block.marks:
         (room.path / block.marks["file"]).write_text("\n".join(block.lines) + "\n")
     elif block.language in SHELLS:

@@ -12,9 +12,10 @@ import sys
 from textwrap import fill, indent
 
 import by_hand
+import plans
 from catalogue import (BITS, CALLS, DAY, DIFFERS, EXPECTED, FAULTS, LIMITS, LOCK_CODES, LOCKS,
                        MOVES, NO_WORD, OF_TEXTS, OUTCOMES, PARTS, PHASES, PLACES, REFUSED,
-                       RESULTS, STEPS, TOP, TRANSITIONS, VERSION, calls_of)
+                       RESULTS, STEPS, TOP, TRANSITIONS, VERSION, calls_of, found, read)
 
 REGION = re.compile(
     r'^(?P<head>( *)(/\*|//|#|<!--|\.\\") generated: (?P<lists>[\w ,-]+?)(?: \*/| -->)?\n)'
@@ -39,6 +40,11 @@ def indexed(numbers):
     return [words.get(number, "") for number in range(max(words) + 1)]
 
 
+# The text of each fault in C, by its number.
+TEXTS = {text: int(number) for number, text in found(
+    r'(\d+) => "(.*)"', read("crates/lk_trace_c/src/numbers.rt"))}
+TEXTS.update((f"{name}: {message}", REFUSED[name]) for name, message in found(
+    r'=> "(\w+)" "(.*)"', read("crates/lk_locks/src/refusals.rt")))
 # What the page calls the bits of a record's thread.
 BIT_NAMES = {"holds": "HOLDS", "is_queued": "IN_LINE", "writes": "AS_WRITER",
              "is_unlinked": "UNLINKED", "waits": "WAITS"}
@@ -57,11 +63,15 @@ LISTS = {
     **{name: [word(text) for text in words] for name, words in {
         "parts": PARTS, "differences": DIFFERS, "kinds": TRANSITIONS,
         "calls of ticket": calls_of("ticket"), "calls of rw-fifo": calls_of("rw-fifo"),
+        "moves by number": indexed(MOVES), "texts of faults": indexed(TEXTS),
         "outcomes by number": indexed(RESULTS), "phases by number": indexed(PHASES),
         "refusals by number": indexed(REFUSED), "expected by number": indexed(EXPECTED),
         "modules by number": [re.sub("-(.)", lambda it: it[1].upper(), lock)
                               for lock in indexed(LOCK_CODES)],
     }.items()},
+    **{f"plan of {plan['lock']}": [word(minutes, link=link, said=said)
+                                   for minutes, link, said in plans.rows(plan)]
+       for plan in plans.PLANS},
     "version": [word(VERSION, day=DAY)],
     "codes": [word("Of", codes="Codes"), word("---", codes="---"), *(
         word(kind, codes=", ".join(f"{number} {text}" for text, number in numbers.items()))
@@ -71,20 +81,23 @@ LISTS = {
 }
 # The regions of each file in their order: which lists, and the form of a word. As many words as fit
 # are on a line, or one if the form ends with it. A form of all words is filled once.
+PLAN = "| {word} | {link} | {said} |\n"
 ARM, NUMBER = '::{variant} => "{word}",\n', "LT_{WORD} = {number},"
 MANUAL, ALL = ".Li {others: , }\nor\n.Li {last} .", ".Li {all: , }"
 REGIONS = {
     "record/locktrace.h": (
         ("version", '#define LT_VERSION "{word}"'), ("numbers of moves", NUMBER),
         ("numbers of outcomes", NUMBER), ("numbers of faults", NUMBER)),
-    "record/lockreplay_record.h": (("version", '#define LR_VERSION "{word}"'),),
-    "record/lockreplay_record/run.h": (
+    "record/src/checker.c": (
+        ("moves by number", '"{word}",'), ("places", '"{word}",'),
+        ("outcomes by number", '"{word}",'), ("texts of faults", '"{word}",')),
+    "record/src/lockreplay_record.h": (("version", '#define LR_VERSION "{word}"'),),
+    "record/src/moves.h": (
         ("calls", "LR_CALL_{word},"), ("steps", "LR_STEP_{word},"), ("places", "LR_PLACE_{word},"),
-        ("parts", "LR_PART_{word},"), ("outcomes", "LR_OUTCOME_{word},"),
-        ("calls, steps", '"{word}",')),
-    "record/lockreplay_record/save.h": (
-        ("places", '" {word}",'), ("parts, outcomes", '" {word}",')),
-    "record/lockreplay_record/open.h": (
+        ("parts", "LR_PART_{word},"), ("outcomes", "LR_OUTCOME_{word},")),
+    "record/src/run.h": (("calls, steps", '"{word}",'),),
+    "record/src/texts.h": (("places", '" {word}",'), ("parts, outcomes", '" {word}",')),
+    "record/src/open.h": (
         ("locks", '"{word}",'), ("locks", 'static const char locks[] = "{others:, } or {last}";')),
     "record/rust/src/moves.rs": (
         ("calls", "Call::{variant},\n"), ("calls", "Call" + ARM), ("places", "Word" + ARM),
@@ -100,6 +113,7 @@ REGIONS = {
         ("refusals by number", "'{word}',"), ("expected by number", "'{word}',"),
         ("constants", "export const {word} = {number};\n")),
     "page/src/locks.js": (("modules by number", "export const LOCKS = [{all:, }];"),),
+    "docs/GUIDE.md": tuple((f"plan of {plan['lock']}", PLAN) for plan in plans.PLANS),
     "page/MODULE.md": (("codes", "| {word} | {codes} |\n"),),
     "packaging/man/locktrace-trace.5": (
         ("calls", MANUAL), ("steps", MANUAL), ("places", ALL + " ,"), ("outcomes", MANUAL)),

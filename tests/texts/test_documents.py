@@ -6,7 +6,7 @@ import pytest
 
 from document_names import Names
 from documents import Room, faults_of
-from tree import TOP, cases
+from tree import TOP, VERSION, cases
 
 DOCUMENTS = sorted({path for pattern in ("*.md", "docs/*.md", "[a-z]*/README.md", "page/MODULE.md",
                                          "examples/recording/README.md")
@@ -22,6 +22,7 @@ RIGHT = {
     "marked": "<!-- not run: it is a test -->\n```sh\nfalse\n```",
     "program that is not built": "<!-- with: no-such-program -->\n```sh\nfalse\n```",
     "names": "`make demo`, `crates/NAME/mutants.txt`, `Keeper::play`, `every_run_is_as_promised`",
+    "a quote": f"<!-- quoted: VERSION -->\n```text\n{VERSION}\n```",
     "web link": "[a](https://example.org/b)",
 }
 FAULTY = {
@@ -36,6 +37,7 @@ FAULTY = {
     "an indented command": "    $ true",
     "an indented program": "    lockreplay replay < a",
     "a fence that is not closed": "```sh\ntrue",
+    "a quote that is not there": "<!-- quoted: VERSION -->\n```text\n0.0\n```",
     "a link to nothing": "[a](no-such-file.md)",
     "a link to no heading": f"[a]({TOP}/README.md#no-such-heading)",
     "no such file": "`crates/no_such_crate/src`",

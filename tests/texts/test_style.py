@@ -1,6 +1,7 @@
 """The rules of layout: a tool that Debian has finds what breaks them, if there is one.
 
-flake8 reads Python (tox.ini has its rules), shellcheck shell, rustfmt Rust. For the rest:
+flake8 reads Python (tox.ini has its rules), shellcheck shell, rustfmt Rust, clang-format C
+(.clang-format), tsc the scripts for Node. For the rest:
 
 - A line has at most 100 columns. Rows of tables and lines of links in documents may be longer, and
   in a proof the path of a module.
@@ -21,6 +22,8 @@ FILES = [TOP / name for name in output("git", "ls-files", "-co", "--exclude-stan
                                        cwd=TOP).splitlines() if (TOP / name).is_file()]
 KINDS = (".rt", ".rs", ".antt", ".py", ".js", ".mjs", ".c", ".h", ".pml", ".sh", ".md")
 COLUMNS, LINES, BODY = 100, 400, 40
+# What is made of other files, which are looked at instead.
+MADE = {TOP / "record" / name for name in ("lockreplay_record.h", "locktrace.c")}
 
 # What a file of each kind opens with, after a line `#!`.
 HEADS = {
@@ -50,10 +53,10 @@ UNBROKEN = {
 
 
 def long_lines(path, lines):
-    """Lines of too many columns. Those of Python are flake8's."""
+    """Lines of too many columns, where no tool finds them."""
     unbroken = UNBROKEN.get(path.suffix)
     for number, line in enumerate(lines, 1):
-        if path.suffix != ".py" and len(line) > COLUMNS and not (
+        if path.suffix not in (".py", ".c", ".h") and len(line) > COLUMNS and not (
                 unbroken and unbroken.match(line)):
             yield number, f"{len(line)} columns"
 
@@ -130,16 +133,27 @@ RULES = (long_lines, long_file, long_bodies, missing_head, too_new)
 
 @pytest.mark.parametrize("kind", KINDS)
 def test_layout(kind):
-    files = [path for path in FILES if path.suffix == kind]
+    files = [path for path in FILES if path.suffix == kind and path not in MADE]
     assert files and "\n".join(
         f"{path.relative_to(TOP)}:{number}: {said}" for path in files for rule in RULES
         for number, said in rule(path, path.read_text().splitlines())) == ""
 
 
-@pytest.mark.parametrize("kind, words", [
-    (".py", ["/usr/bin/flake8", "--config", TOP / "tox.ini"]),
+@pytest.mark.parametrize("kinds, words", [
+    (".py", ["/usr/bin/flake8"]),
     (".sh", ["shellcheck", "--external-sources"]),
+    (".c .h .cc", ["clang-format", "--dry-run", "--Werror"]),
     (".rs", ["/usr/bin/rustfmt", "--check", "--edition", "2021", "--config-path",
-             TOP / "record" / "rust"])], ids=lambda it: it if isinstance(it, str) else "")
-def test_tool(kind, words):
-    assert output(*words, *(path for path in FILES if path.suffix == kind)) == ""
+             "record/rust"])], ids=lambda it: it if isinstance(it, str) else "")
+def test_tool(kinds, words):
+    files = (path.relative_to(TOP) for path in FILES if path.suffix in kinds.split() and not (
+        kinds[:2] == ".c" and re.search("record", str(path.parent.relative_to(TOP)))))
+    assert output(*words, *files, cwd=TOP) == ""
+
+
+def test_types():
+    """What tsc says of the page's own modules, which name no types, is left out."""
+    files = (path.relative_to(TOP) for path in FILES if path.name.endswith((".mjs", ".d.ts")))
+    said = output("tsc", "--noEmit", "--allowJs", "--checkJs", "--target", "es2022",
+                  "--module", "es2022", "--moduleResolution", "node", *files, cwd=TOP)
+    assert re.findall(r"(?m)^(?!status|page/src/)\S.*", said) == []

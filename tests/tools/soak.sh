@@ -11,7 +11,7 @@ begun=$SECONDS
 # Read as a whole before it runs, so that an edit of this file does not reach a run.
 soak() {
     make --no-print-directory test-programs
-    PAGE_SEED=$RANDOM tests/page/run.py crates/lockreplay/out/lockreplay random_texts
+    /usr/bin/python3 -m pytest tests/page/test_random_texts.py
     left=$((seconds - (SECONDS - begun)))
     left=$((left > 60 ? left : 60))
     /usr/bin/python3 -m pytest tests/lockreplay/test_fuzz.py --fuzz-seconds $left

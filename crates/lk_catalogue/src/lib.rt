@@ -1,5 +1,5 @@
-//! The transitions of each lock in words: their kinds, a sentence for each, and the value for which
-//! a thread polls.
+//! The transitions of each lock in words: their kinds, a sentence for each, the value for which a
+//! thread polls, and advice after a step that the algorithm does not have.
 //!
 //! Each lock has a module with its table. `locktrace` and the page take their words about a lock's
 //! transitions from these tables, so that a sentence is written once. A sentence has places,
@@ -38,10 +38,12 @@ macro_rules! kinds {
     };
 }
 
+mod helps;
 mod kinds;
 mod mcs;
 mod rw_fifo;
 mod rw_simple;
 mod ticket;
 
+pub use helps::{Wrong, help_for_refusal, help_for_step_with};
 pub use kinds::{Awaited, Kind, LOCKS, Observed, is_kind, kinds_of, place_of, polled_for};

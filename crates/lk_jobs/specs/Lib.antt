@@ -1,12 +1,7 @@
-pub mod Accepted
 pub mod Answered
 pub mod Counted
-pub mod Differences
 pub mod Drawn
-pub mod Fates
-pub mod Notes
 pub mod Orders
 pub mod TourFiles
-pub mod Verdicts
 pub mod Written
 pub mod invariants

@@ -10,11 +10,11 @@ use Rattle.lk_order.specs.declared.find.Ending.{Ending as SearchEnding}
 use Rattle.lk_order.specs.declared.find.Ending.TheVariants as search
 use Rattle.lk_text.specs.Lines.{IsFirstLine, kept}
 use Rattle.lk_text.specs.declared.lines.Line.{Line}
-use Rattle.lk_jobs.specs.Fates.{hangs}
-use Rattle.lk_jobs.specs.declared.report.Ending.{Ending}
-use Rattle.lk_jobs.specs.declared.report.Ending.TheVariants.{Accepted, Refused, Unread}
-use Rattle.lk_jobs.specs.declared.report.Ending.TheVariants.{Faulty, Hangs}
-use Rattle.lk_jobs.specs.declared.course.Fate.{Fate}
+use Rattle.lk_text.specs.Fates.{hangs}
+use Rattle.lk_text.specs.declared.report.Ending.{Ending}
+use Rattle.lk_text.specs.declared.report.Ending.TheVariants.{Accepted, Refused, Unread}
+use Rattle.lk_text.specs.declared.report.Ending.TheVariants.{Faulty, Hangs}
+use Rattle.lk_text.specs.declared.course.Fate.{Fate}
 use Rattle.lk_jobs.specs.declared.order.search.BadLog.{BadLog}
 use Rattle.lk_jobs.specs.declared.order.search.BadLog.TheVariants as bad
 use Rattle.lk_jobs.specs.declared.order.search.Search.{Search}

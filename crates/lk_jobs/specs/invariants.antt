@@ -12,37 +12,16 @@ use Rattle.lk_order.specs.Logs.{Reading, ThreadLog}
 use Rattle.lk_order.specs.Shelves.{IsUnfit, Shelved, log_at}
 use Rattle.lk_order.specs.declared.shelf.Unfit.TheVariants as unfit
 use Rattle.lk_text.specs.declared.summary.Summary.{Summary}
-use Rattle.lk_jobs.specs.Fates.{hangs_after}
-use Rattle.lk_jobs.specs.Verdicts.{EndsInput, counts_after, counts_in, if_hangs, verdict}
-use Rattle.lk_jobs.specs.Verdicts.{verdict_from, verdict_in, verdict_of}
-use Rattle.lk_jobs.specs.declared.course.Fate.{Fate}
-use Rattle.lk_jobs.specs.declared.report.Ending.{Ending}
-use Rattle.lk_jobs.specs.declared.report.Ending.TheVariants.{Refused, Faulty}
-use Rattle.lk_jobs.specs.declared.report.Report.{Report}
+use Rattle.lk_text.specs.Fates.{hangs_after}
+use Rattle.lk_text.specs.Verdicts.{EndsInput, counts_after, counts_in, if_hangs, verdict}
+use Rattle.lk_text.specs.Verdicts.{verdict_from, verdict_in, verdict_of}
+use Rattle.lk_text.specs.declared.course.Fate.{Fate}
+use Rattle.lk_text.specs.declared.report.Ending.{Ending}
+use Rattle.lk_text.specs.declared.report.Ending.TheVariants.{Refused, Faulty}
+use Rattle.lk_text.specs.declared.report.Report.{Report}
 use Rattle.lk_jobs.specs.Orders.{IsInFile, Reads}
 use Rattle.lk_jobs.specs.declared.order.search.BadLog.{BadLog}
 use Rattle.lk_jobs.specs.declared.order.search.BadLog.TheVariants as bad
-
--- a line that ends the text is reported, and no other line ends it
-abbrev pub Follows : ℕ → Event → Bool → Report → Type 0
-Follows number (Differs line difference) on report =
-    (on ≡ false) × (verdict_in report ≡ verdict Refused number)
-Follows number (Fault fault) on report = (on ≡ false) × (verdict_in report ≡ verdict Faulty number)
-Follows number event on report = on ≡ true
-
--- what is left of a text ends as the text does
-pub record EndsAs (text rest : List ℕ) (number : ℕ) (reading : Option Checked) (fates : List Fate)
-    (counts : Summary) : Type 0 where
-  pub verdict_is :
-      verdict_of text
-      ≡ if_hangs (hangs_after reading fates (lines_of rest))
-      (verdict_from number reading (lines_of rest))
-  pub counts_are : counts_in text ≡ counts_after reading counts (lines_of rest)
-
-abbrev pub ReadsText : Option (List ℕ) → Option (List ℕ) → ℕ → Option Checked → List Fate
-    → Summary → Type 0
-ReadsText all left number reading fates counts =
-    IfSome all (λ text. IsSomeAnd left (λ rest. EndsAs text rest number reading fates counts))
 
 -- so many endings more, which are those of inputs if the others are
 pub record Adds {I : Type 0} (remaining : I → Option (List ℕ)) (count : ℕ) (old new : List Ending)

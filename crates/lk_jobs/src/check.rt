@@ -1,17 +1,17 @@
 //! The job of checking files, by several threads if that is asked for. The reports come in the
 //! order of the files.
 
-ghost use Rattle.lk_jobs.specs.Verdicts.{AreChecked, EndsInput};
+ghost use Rattle.lk_text.specs.Verdicts.{AreChecked, EndsInput};
 ghost use Rattle.lk_jobs.specs.invariants.{Adds};
 ghost use Rattle.lk_text.specs.Sources.{left_in};
 ghost use Rattle.std.specs.List.{All};
 ghost use Rattle.std.specs.Prelude.{◌≡◌, ◌++◌, ◌∷◌, [], IfOk, OnOk, length, vec_len};
 
-use crate::follow::{follow_file, follow_input, unread};
-use crate::formats::{COLORED, Format, PLAIN, put_counts, put_json, put_tap, put_text};
 use crate::progress::Progress;
-use crate::report::{Ending, Report};
-use lk_text::{Failure, STANDARD, put_plan};
+use lk_text::follow::{follow_file, follow_input, unread};
+use lk_text::formats::{COLORED, Format, PLAIN, put_counts, put_json, put_tap, put_text};
+use lk_text::report::{Ending, Report};
+use lk_text::{Failure, STANDARD, Text, put_plan};
 use std::alloc::{AllocError, Global};
 use std::io::{Read, Write};
 use std::rt::Runtime;
@@ -34,23 +34,16 @@ pub struct CheckJob {
 
 // Writes the report of a job's input of this number, from 1, and this name. There is no summary of
 // one that could not be read.
-fn put_report(
-    text: &mut String,
-    job: &CheckJob,
-    number: usize,
-    name: &str,
-    report: &Report,
-) -> Result<(), AllocError> {
+fn put_report(text: &mut Text, job: &CheckJob, number: usize, name: &str, report: &Report) {
     let counted = job.summary && report.ending != Ending::Unread;
     let colors = if job.colored { COLORED } else { PLAIN };
     match job.format {
-        _ if job.quiet => Ok(()),
+        _ if job.quiet => {}
         Format::Text => {
-            put_text(text, name, report, colors)?;
+            put_text(text, name, report, colors);
             if counted {
-                put_counts(text, name, report, colors)?;
+                put_counts(text, name, report, colors);
             }
-            Ok(())
         }
         Format::Tap => put_tap(text, number, name, report, counted),
         Format::Json => put_json(text, name, report, counted),
@@ -62,20 +55,20 @@ fn put_report(
 struct Reports<'a> {
     job: &'a CheckJob,
     // what waits to be written
-    text: String,
+    text: Text,
     endings: Vec<Ending>,
 }
 
 impl<'a> Reports<'a> {
-    fn new(alloc: Global, job: &'a CheckJob) -> Result<Reports<'a>, AllocError>
-        ensures { IfOk result (λ reports. reports.endings.items ≡ []) }
+    fn new(alloc: Global, job: &'a CheckJob) -> Reports<'a>
+        ensures { result.endings.items ≡ [] }
     {
-        let mut text = String::new(alloc);
+        let mut text = Text::new(alloc);
         if job.format == Format::Tap && !job.quiet {
-            put_plan(&mut text, job.files.len())?;
+            put_plan(&mut text, job.files.len());
         }
         let endings = Vec::new(alloc);
-        Ok(Reports { job, text, endings })
+        Reports { job, text, endings }
     }
 
     // Writes the report of the next file, of this name.
@@ -84,9 +77,8 @@ impl<'a> Reports<'a> {
             (self.new.endings.items ≡ self.old.endings.items ++ report.now.ending ∷ []) }
     {
         let number = self.endings.len().saturating_add(1);
-        put_report(&mut self.text, self.job, number, name, report)?;
-        output.write_all(self.text.as_bytes())?;
-        self.text.clear();
+        put_report(&mut self.text, self.job, number, name, report);
+        self.text.write_to(output)?;
         self.endings.push(report.ending)?;
         Ok(())
     }
@@ -125,7 +117,7 @@ fn check_opened<I: Read + Drop>(alloc: Global, input: io::Result<I>) -> Result<R
         Ok(input) => follow_input(alloc, input, &[], |_, _, _| -> Result<(), AllocError> {
             Ok(())
         }),
-        Err(error) => unread(alloc, &error),
+        Err(error) => Ok(unread(alloc, &error)),
     }
 }
 
@@ -249,7 +241,7 @@ where
     ensures each { IfOk result
         (λ endings. All (EndsInput (left_in R.File.remaining R.Reader.remaining)) endings.items) }
 {
-    let mut reports = Reports::new(alloc, job)?;
+    let mut reports = Reports::new(alloc, job);
     if is_shared(job) {
         check_rounds(rt, alloc, job, &mut reports, output)?;
     } else {

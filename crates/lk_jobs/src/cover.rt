@@ -3,20 +3,20 @@
 
 ghost use Rattle.std.specs.Prelude.{[], IfOk, length};
 ghost use Rattle.lk_text.specs.Sources.{left_in};
-ghost use Rattle.lk_jobs.specs.Verdicts.{EndsInput, IsCovered};
+ghost use Rattle.lk_text.specs.Verdicts.{EndsInput, IsCovered};
 ghost use Rattle.lk_jobs.specs.invariants.{Adds};
 
-use crate::follow::follow_file;
-use crate::formats::{PLAIN, put_text};
-use crate::report::{Ending, worst};
 use lk_lines::{Status, lock_text};
 use lk_locks::LockKind;
 pub use lk_search::is_kind;
 use lk_search::{Coverage, Kind, LOCKS, Observed, kinds_of};
-use lk_text::{Value, fill, has_counter, json};
+use lk_text::follow::follow_file;
+use lk_text::formats::{PLAIN, put_text};
+use lk_text::report::{Ending, worst};
+use lk_text::{Text, Value, has_counter, json};
 use lk_trace::{Event, Made, TraceLine, TraceReader};
 use std::alloc::{AllocError, Global};
-use std::fmt::Write;
+use std::fmt::InlineText;
 use std::rt::Runtime;
 
 /// The form of what is written.
@@ -76,7 +76,7 @@ fn take_file<R: Runtime>(
     alloc: Global,
     name: &str,
     coverages: &mut [Coverage],
-    errors: &mut String,
+    errors: &mut Text,
 ) -> Result<Ending, AllocError>
     ensures { IfOk result
         (λ ending. EndsInput (left_in R.File.remaining R.Reader.remaining) ending) }
@@ -99,27 +99,34 @@ fn take_file<R: Runtime>(
     if let Some(coverage) = kind.and_then(|kind| coverage_of(coverages, kind)) {
         coverage.end_trace(report.summary.wraps());
     }
-    put_text(errors, name, &report, PLAIN)?;
+    put_text(errors, name, &report, PLAIN);
     Ok(report.ending)
 }
 
 // Writes the command that gives a schedule with a transition of a kind.
-fn put_command(text: &mut String, lock: LockKind, kind: Kind) -> Result<(), AllocError> {
-    fill(
-        text,
-        "locktrace find {lock} 2",
-        &[("lock", Value::Text(lock_text(lock)))],
-    )?;
+fn put_command(text: &mut Text, lock: LockKind, kind: Kind) {
+    text.put("locktrace find ");
+    text.put(lock_text(lock));
+    text.put(" 2");
     for line in kind.sketch {
-        fill(text, " '{line}'", &[("line", Value::Text(line))])?;
+        text.fill(" '{line}'", &[("line", Value::Text(line))]);
     }
-    Ok(())
 }
 
 const SEEN: &str = "{lock}: {seen} of {all} kinds of transition, in {moves}\n";
 
+// Writes a count at the right of a column of ten signs.
+fn put_column(text: &mut Text, count: u64) {
+    let shown: InlineText<40> = InlineText::of(count);
+    for _ in shown.as_str().len()..10 {
+        text.put(" ");
+    }
+    text.put(shown.as_str());
+    text.put("  ");
+}
+
 // Writes how often there was each kind, and how to reach those that there were not.
-fn put_text_of(text: &mut String, coverage: &Coverage) -> Result<(), AllocError> {
+fn put_text_of(text: &mut Text, coverage: &Coverage) {
     let (lock, kinds) = (coverage.kind(), kinds_of(coverage.kind()));
     let places = [
         ("lock", Value::Text(lock_text(lock))),
@@ -127,72 +134,59 @@ fn put_text_of(text: &mut String, coverage: &Coverage) -> Result<(), AllocError>
         ("all", Value::Number(kinds.len() as u64)),
         ("moves", Value::Count(coverage.moves(), "move", "moves")),
     ];
-    fill(text, SEEN, &places)?;
+    text.fill(SEEN, &places);
     for (kind, count) in kinds.iter().zip(coverage.counts()) {
-        write!(text, "{count:>10}  ")?;
-        text.push_str(kind.name)?;
+        put_column(text, *count);
+        text.put(kind.name);
         if *count == 0 {
-            text.push_str(": ")?;
-            put_command(text, lock, *kind)?;
+            text.put(": ");
+            put_command(text, lock, *kind);
         }
-        text.push('\n')?;
+        text.put("\n");
     }
     if has_counter(lock) {
-        write!(text, "{:>10}", coverage.rounds())?;
-        text.push_str("  the counter wrapped around\n")?;
+        put_column(text, coverage.rounds());
+        text.put("the counter wrapped around\n");
     }
-    Ok(())
 }
 
 // Writes how often there was a kind, as an object of JSON.
-fn put_kind(
-    text: &mut String,
-    alloc: Global,
-    lock: LockKind,
-    kind: Kind,
-    count: u64,
-) -> Result<(), AllocError> {
-    text.push('{')?;
-    json::string(text, "name", kind.name)?;
-    json::number(text, "count", count)?;
+fn put_kind(text: &mut Text, alloc: Global, lock: LockKind, kind: Kind, count: u64) {
+    text.put("{");
+    json::string(text, "name", kind.name);
+    json::number(text, "count", count);
     if count == 0 {
-        let mut command = String::new(alloc);
-        put_command(&mut command, lock, kind)?;
-        json::string(text, "find", command.as_str())?;
+        let mut command = Text::new(alloc);
+        put_command(&mut command, lock, kind);
+        json::text(text, "find", &command);
     }
-    text.push('}')
+    text.put("}");
 }
 
 // Writes the same as an object of JSON.
-fn put_json_of(text: &mut String, alloc: Global, coverage: &Coverage) -> Result<(), AllocError> {
+fn put_json_of(text: &mut Text, alloc: Global, coverage: &Coverage) {
     let lock = coverage.kind();
-    text.push('{')?;
-    json::string(text, "lock", lock_text(lock))?;
-    json::number(text, "moves", coverage.moves())?;
-    json::number(text, "wraps", coverage.rounds())?;
-    json::name(text, "kinds")?;
+    text.put("{");
+    json::string(text, "lock", lock_text(lock));
+    json::number(text, "moves", coverage.moves());
+    json::number(text, "wraps", coverage.rounds());
+    json::name(text, "kinds");
     for (place, (kind, count)) in kinds_of(lock).iter().zip(coverage.counts()).enumerate() {
-        text.push_str(if place > 0 { "," } else { "[" })?;
-        put_kind(text, alloc, lock, *kind, *count)?;
+        text.put(if place > 0 { "," } else { "[" });
+        put_kind(text, alloc, lock, *kind, *count);
     }
-    text.push_str("]}\n")
+    text.put("]}\n");
 }
 
 // Writes the counts of each lock of which there was a trace.
-fn put_coverage(
-    text: &mut String,
-    alloc: Global,
-    format: CoverFormat,
-    coverages: &[Coverage],
-) -> Result<(), AllocError> {
+fn put_coverage(text: &mut Text, alloc: Global, format: CoverFormat, coverages: &[Coverage]) {
     for coverage in coverages {
         match format {
             _ if coverage.traces() == 0 => {}
-            CoverFormat::Text => put_text_of(text, coverage)?,
-            CoverFormat::Json => put_json_of(text, alloc, coverage)?,
+            CoverFormat::Text => put_text_of(text, coverage),
+            CoverFormat::Json => put_json_of(text, alloc, coverage),
         }
     }
-    Ok(())
 }
 
 // How often there was the kind of this name.
@@ -204,7 +198,7 @@ fn count_of(coverage: &Coverage, name: &str) -> u64 {
 }
 
 // Names each kind of a lock that there was not.
-fn put_unseen(errors: &mut String, coverage: &Coverage) -> Result<bool, AllocError> {
+fn put_unseen(errors: &mut Text, coverage: &Coverage) -> bool {
     let lock = lock_text(coverage.kind());
     let mut missing = false;
     for (kind, count) in kinds_of(coverage.kind()).iter().zip(coverage.counts()) {
@@ -213,43 +207,38 @@ fn put_unseen(errors: &mut String, coverage: &Coverage) -> Result<bool, AllocErr
                 ("lock", Value::Text(lock)),
                 ("name", Value::Text(kind.name)),
             ];
-            fill(errors, "locktrace: missing in {lock}: {name}\n", &places)?;
+            errors.fill("locktrace: missing in {lock}: {name}\n", &places);
             missing = true;
         }
     }
-    Ok(missing)
+    missing
 }
 
 // Names each kind that there was not of each lock with a trace.
-fn put_all_unseen(errors: &mut String, coverages: &[Coverage]) -> Result<bool, AllocError> {
+fn put_all_unseen(errors: &mut Text, coverages: &[Coverage]) -> bool {
     let mut missing = false;
     for coverage in coverages {
-        if coverage.traces() > 0 && put_unseen(errors, coverage)? {
+        if coverage.traces() > 0 && put_unseen(errors, coverage) {
             missing = true;
         }
     }
-    Ok(missing)
+    missing
 }
 
 // Names the kinds that are required and were in no trace. True if there is one.
-fn put_missing(
-    errors: &mut String,
-    coverages: &[Coverage],
-    all: bool,
-    required: &[String],
-) -> Result<bool, AllocError> {
-    let mut missing = all && put_all_unseen(errors, coverages)?;
+fn put_missing(errors: &mut Text, coverages: &[Coverage], all: bool, required: &[String]) -> bool {
+    let mut missing = all && put_all_unseen(errors, coverages);
     for name in required {
         if coverages
             .iter()
             .all(|coverage| count_of(coverage, name) == 0)
         {
             let name = Value::Text(name.as_str());
-            fill(errors, "locktrace: missing: {name}\n", &[("name", name)])?;
+            errors.fill("locktrace: missing: {name}\n", &[("name", name)]);
             missing = true;
         }
     }
-    Ok(missing)
+    missing
 }
 
 // Reads the traces in the files, and gives their endings.
@@ -258,7 +247,7 @@ fn take_files<R: Runtime>(
     alloc: Global,
     files: &[String],
     coverages: &mut [Coverage],
-    errors: &mut String,
+    errors: &mut Text,
 ) -> Result<Vec<Ending>, AllocError>
     ensures { IfOk result (λ endings. Adds (left_in R.File.remaining R.Reader.remaining)
         (length files.now) [] endings.items) }
@@ -281,16 +270,16 @@ pub fn cover_traces<R: Runtime>(
     rt: &R,
     alloc: Global,
     job: &CoverJob,
-    text: &mut String,
-    errors: &mut String,
+    text: &mut Text,
+    errors: &mut Text,
 ) -> Result<u8, AllocError>
     ensures { IfOk result (λ status. IsCovered (left_in R.File.remaining R.Reader.remaining)
         (length job.now.files.items) status) }
 {
     let mut coverages = nothing_counted(alloc)?;
     let endings = take_files(rt, alloc, &job.files, coverages.as_mut_slice(), errors)?;
-    put_coverage(text, alloc, job.format, &coverages)?;
-    let missing = put_missing(errors, &coverages, job.all, &job.required)?;
+    put_coverage(text, alloc, job.format, &coverages);
+    let missing = put_missing(errors, &coverages, job.all, &job.required);
     let least = if missing {
         Status::Refused
     } else {

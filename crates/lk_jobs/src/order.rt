@@ -12,16 +12,17 @@ mod logs;
 mod report;
 mod search;
 
-use crate::course::Course;
-use crate::formats::Format;
 use crate::progress::Progress;
 use files::{write_schedules, write_trace};
 use lk_order::{Log, Order};
-use lk_text::{Failure, STANDARD, Value};
+use lk_text::course::Course;
+use lk_text::formats::Format;
+use lk_text::report::Ending;
+use lk_text::{Failure, STANDARD, Text, Value};
 use logs::take_logs;
 use report::{OrderReport, put_cut, put_hang, put_stuck};
 pub use search::{BadLog, Search, Sought, search_logs};
-use std::alloc::{AllocError, Global};
+use std::alloc::Global;
 use std::fs;
 use std::io::{Eprint, Write};
 use std::rt::Files;
@@ -57,7 +58,7 @@ fn write_found<R: Files>(
     let left_out = write_schedules(rt, alloc, order, folder)?;
     if left_out > 0 {
         let moves = Value::Count(left_out as u64, "move is", "moves are");
-        report.warnings.say(0, TOO_LONG, &[("moves", moves)])?;
+        report.warnings.say(0, TOO_LONG, &[("moves", moves)]);
     }
     Ok(())
 }
@@ -81,19 +82,14 @@ fn write_order<R: Files, O: Write>(
 
 // Says how far an order came, and why not further. `names` has the files of the threads, and `open`
 // those that have not ended.
-fn put_ending(
-    report: &mut OrderReport,
-    search: &Search,
-    names: &[&str],
-    open: &[bool],
-) -> Result<(), AllocError> {
+fn put_ending(report: &mut OrderReport, search: &Search, names: &[&str], open: &[bool]) {
     let order = &search.found.order;
     report.placed = order.len();
     match (search.found.ending, &search.hung) {
         (lk_order::Ending::Stuck(stuck), _) => put_stuck(report, order, names, stuck),
         (_, Some(course)) => put_hang(report, order, names, course),
         (lk_order::Ending::Cut, None) => put_cut(report, order, names, open),
-        (lk_order::Ending::Whole, None) => Ok(()),
+        (lk_order::Ending::Whole, None) => {}
     }
 }
 
@@ -126,13 +122,13 @@ fn order_into<R: Files + Eprint, O: Write>(
     let search = match search_logs(alloc, logs, &taken.open)? {
         Some(search) => search,
         None => {
-            report.messages.say(0, "the logs are not of one run", &[])?;
+            report.messages.say(0, "the logs are not of one run", &[]);
             return Ok(Sought::Bad(BadLog::OtherLock));
         }
     };
     progress.begin("writing", moves_of(search.found.order.logs()));
     write_order(rt, alloc, &search, &job.folder, report, output)?;
-    put_ending(report, &search, &taken.names, &taken.open)?;
+    put_ending(report, &search, &taken.names, &taken.open);
     Ok(Sought::Order(search))
 }
 
@@ -140,20 +136,20 @@ fn order_into<R: Files + Eprint, O: Write>(
 fn put_report<O: Write>(
     alloc: Global,
     report: &OrderReport,
-    sought: &Sought,
+    ending: Ending,
     job: &OrderJob,
     output: &mut O,
-    errors: &mut String,
+    errors: &mut Text,
 ) -> Result<(), Failure> {
     let folder = job.folder.as_str();
-    let mut text = String::new(alloc);
-    report.put(sought.ending(), job.format, folder, &mut text, errors)?;
+    let mut text = Text::new(alloc);
+    report.put(ending, job.format, folder, &mut text, errors);
     if folder == STANDARD {
-        errors.push_str(&text)?;
-    } else {
-        output.write_all(text.as_bytes())?;
-        output.flush()?;
+        errors.put(text.as_str()?);
+        return Ok(());
     }
+    text.write_to(output)?;
+    output.flush()?;
     Ok(())
 }
 
@@ -170,7 +166,7 @@ pub fn order_logs<R: Files + Eprint, O: Write>(
     job: &OrderJob,
     is_terminal: bool,
     output: &mut O,
-    errors: &mut String,
+    errors: &mut Text,
 ) -> Result<Sought, Failure>
     ensures { IfOk result (IsSought R.File.remaining) }
 {
@@ -182,6 +178,6 @@ pub fn order_logs<R: Files + Eprint, O: Write>(
     if job.quiet {
         return Ok(sought);
     }
-    put_report(alloc, &report, &sought, job, output, errors)?;
+    put_report(alloc, &report, sought.ending(), job, output, errors)?;
     Ok(sought)
 }

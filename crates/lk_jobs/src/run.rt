@@ -1,55 +1,53 @@
 //! A run as a schedule.
 
-ghost use Rattle.std.specs.Prelude.{◌≡◌, ◌++◌, string_bytes, OnOk};
 ghost use Rattle.std.specs.List.{flat_map};
+ghost use Rattle.lk_text.specs.Texts.{Adds};
 ghost use Rattle.lk_jobs.specs.Written.{header_line, move_line, schedule_of};
 
-use crate::texts::put_move;
 use lk_lines::lock_text;
 use lk_locks::Shape;
 use lk_search::Taken;
-use std::alloc::AllocError;
-use std::fmt::Write;
+use lk_text::Text;
+use lk_text::phrases::put_move;
 
 /// Writes the header of a schedule or of a trace.
-pub fn put_header(text: &mut String, header: Shape) -> Result<(), AllocError>
-    ensures { OnOk result (string_bytes text.new ≡ string_bytes text.old
-        ++ header_line header.kind header.threads header.bits) }
+pub fn put_header(text: &mut Text, header: Shape)
+    ensures { Adds (header_line header.kind header.threads header.bits) text.old text.new }
 {
-    let (name, threads, bits) = (lock_text(header.kind()), header.threads(), header.bits());
-    if bits < 64 {
-        writeln!(text, "lock {name} threads {threads} bits {bits}")
-    } else {
-        writeln!(text, "lock {name} threads {threads}")
+    text.put("lock ");
+    text.put(lock_text(header.kind()));
+    text.put(" threads ");
+    text.put_number(u64::from(header.threads()));
+    if header.bits() < 64 {
+        text.put(" bits ");
+        text.put_number(u64::from(header.bits()));
     }
+    text.put("\n");
 }
 
 // Writes the line of a move.
-fn put_taken(text: &mut String, taken: Taken) -> Result<(), AllocError>
-    ensures { OnOk result
-        (string_bytes text.new ≡ string_bytes text.old ++ move_line taken) }
+fn put_taken(text: &mut Text, taken: Taken)
+    ensures { Adds (move_line taken) text.old text.new }
 {
-    put_move(text, taken.thread, taken.action)?;
-    text.push('\n')
+    put_move(text, taken.thread, taken.action);
+    text.put("\n");
 }
 
 // Writes the lines of a run's moves.
 #[tactic(auto, using(crate::proofs::Listed::one_line_more))]
-fn put_moves(text: &mut String, run: &[Taken]) -> Result<(), AllocError>
-    ensures { OnOk result
-        (string_bytes text.new ≡ string_bytes text.old ++ flat_map move_line run.now) }
+fn put_moves(text: &mut Text, run: &[Taken])
+    ensures { Adds (flat_map move_line run.now) text.old text.new }
 {
     for taken in run {
-        put_taken(text, *taken)?;
+        put_taken(text, *taken);
     }
-    Ok(())
 }
 
 /// Writes the header of a run's lock, and a line for each move.
-pub fn put_run(text: &mut String, header: Shape, run: &[Taken]) -> Result<(), AllocError>
-    ensures { OnOk result (string_bytes text.new ≡ string_bytes text.old
-        ++ schedule_of header.kind header.threads header.bits run.now) }
+pub fn put_run(text: &mut Text, header: Shape, run: &[Taken])
+    ensures { Adds (schedule_of header.kind header.threads header.bits run.now)
+        text.old text.new }
 {
-    put_header(text, header)?;
-    put_moves(text, run)
+    put_header(text, header);
+    put_moves(text, run);
 }

@@ -1,40 +1,34 @@
 //! The job of writing a trace without its values: the first two words of each move, and every other
 //! line as it is kept.
 
-use crate::follow::{faulty, unread};
-use crate::formats::{PLAIN, put_text};
-use crate::report::{Ending, Report};
-use crate::texts::put_move;
-use crate::waiting::write_waiting;
 use lk_lines::is_skipped;
-use lk_text::{Failure, open, take_lines};
+use lk_text::follow::{faulty, unread};
+use lk_text::formats::{PLAIN, put_text};
+use lk_text::phrases::put_move;
+use lk_text::report::{Ending, Report};
+use lk_text::{Failure, Text, open, take_lines};
 use lk_trace::{TextFault, read_header, read_line};
-use std::alloc::{AllocError, Global};
+use std::alloc::Global;
 use std::io::{Read, Write};
 use std::rt::Runtime;
 
 // Writes the line of a schedule that a trace's line is. `begun` says whether the header was read.
-fn put_line(
-    text: &mut String,
-    begun: &mut bool,
-    line: &[u8],
-) -> Result<Option<TextFault>, AllocError> {
+fn put_line(text: &mut Text, begun: &mut bool, line: &[u8]) -> Option<TextFault> {
     if is_skipped(line) {
-        text.push('\n')?;
+        // an empty line keeps its number
     } else if !*begun {
         if let Err(fault) = read_header(line) {
-            return Ok(Some(fault));
+            return Some(fault);
         }
         *begun = true;
-        text.push_str(str::from_utf8(line).unwrap_or(""))?;
-        text.push('\n')?;
+        text.put(str::from_utf8(line).unwrap_or(""));
     } else if let Some(read) = read_line(line) {
-        put_move(text, read.thread, read.action)?;
-        text.push('\n')?;
+        put_move(text, read.thread, read.action);
     } else {
-        return Ok(Some(TextFault::BadLine));
+        return Some(TextFault::BadLine);
     }
-    Ok(None)
+    text.put("\n");
+    None
 }
 
 // Writes the schedule of the trace in an input, and gives the report of a line that ends it.
@@ -43,23 +37,20 @@ fn write_input<I: Read + Drop, O: Write>(
     input: I,
     output: &mut O,
 ) -> Result<Option<Report>, Failure> {
-    let (mut text, mut begun) = (String::new(alloc), false);
+    let (mut text, mut begun) = (Text::new(alloc), false);
     let (number, stopped) = take_lines(alloc, input, |number, line| -> Result<_, Failure> {
-        let fault = put_line(&mut text, &mut begun, line.bytes())?;
-        write_waiting(&mut text, output)?;
-        match fault {
-            Some(fault) => Ok(Some(faulty(alloc, number, line.bytes(), fault)?)),
-            None => Ok(None),
-        }
+        let fault = put_line(&mut text, &mut begun, line.bytes());
+        text.write_waiting(output)?;
+        Ok(fault.map(|fault| faulty(alloc, number, line.bytes(), fault)))
     })?;
-    output.write_all(text.as_bytes())?;
+    text.write_to(output)?;
     output.flush()?;
-    match stopped {
-        Ok(None) if begun => Ok(None),
-        Ok(None) => Ok(Some(faulty(alloc, number, b"".as_slice(), TextFault::NoHeader)?)),
-        Ok(report) => Ok(report),
-        Err(error) => Ok(Some(unread(alloc, &error)?)),
-    }
+    Ok(match stopped {
+        Ok(None) if begun => None,
+        Ok(None) => Some(faulty(alloc, number, b"".as_slice(), TextFault::NoHeader)),
+        Ok(report) => report,
+        Err(error) => Some(unread(alloc, &error)),
+    })
 }
 
 /// Writes the schedule of a trace to the output, up to a line that is not a trace's, and to
@@ -75,15 +66,15 @@ pub fn write_schedule<R: Runtime, O: Write>(
     alloc: Global,
     name: &str,
     output: &mut O,
-    errors: &mut String,
+    errors: &mut Text,
 ) -> Result<Ending, Failure> {
     let report = match open(rt, name) {
         Ok(input) => write_input(alloc, input, output)?,
-        Err(error) => Some(unread(alloc, &error)?),
+        Err(error) => Some(unread(alloc, &error)),
     };
     let Some(report) = report else {
         return Ok(Ending::Accepted);
     };
-    put_text(errors, name, &report, PLAIN)?;
+    put_text(errors, name, &report, PLAIN);
     Ok(report.ending)
 }

@@ -1,15 +1,15 @@
 //! A sketch of a run, read line by line from a file or from the words of a command: a header, and
 //! lines of a trace in which parts are open.
 
-ghost use Rattle.std.specs.Prelude.{◌≡◌, ◌≤◌, vec_len, IfOk, OnOk};
+ghost use Rattle.std.specs.Prelude.{◌≡◌, ◌≤◌, vec_len};
 ghost use Rattle.lk_text.specs.Texts.{Grows};
 
-use crate::follow::unread;
-use crate::formats::{PLAIN, put_text};
 use lk_lines::{Status, is_skipped, number_of};
 use lk_locks::Shape;
 use lk_search::{Admitted, SketchFault, admit};
-use lk_text::{Value, escaped, fill, open, put_wrong, take_lines, wrong_in_header};
+use lk_text::follow::unread;
+use lk_text::formats::{PLAIN, put_text};
+use lk_text::{Text, Value, open, put_wrong, take_lines, wrong_in_header};
 use lk_trace::{TextFault, read_header, unreadable_sketch_line};
 use std::alloc::{AllocError, Global};
 use std::fmt::InlineText;
@@ -117,16 +117,11 @@ impl Sketch {
 }
 
 /// Writes why the input of this name cannot be read, or not to its end.
-pub fn put_unread(
-    errors: &mut String,
-    alloc: Global,
-    name: &str,
-    error: &Error,
-) -> Result<Status, AllocError>
-    ensures { IfOk result (λ status. status ≡ Status.Failed) }
+pub fn put_unread(errors: &mut Text, alloc: Global, name: &str, error: &Error) -> Status
+    ensures { result ≡ Status.Failed }
 {
-    put_text(errors, name, &unread(alloc, error)?, PLAIN)?;
-    Ok(Status::Failed)
+    put_text(errors, name, &unread(alloc, error), PLAIN);
+    Status::Failed
 }
 
 const AT_LINE: &str = "{name}:{line}: {fault}\n";
@@ -134,74 +129,54 @@ const AT_LINE: &str = "{name}:{line}: {fault}\n";
 const AT_WORD: &str = "locktrace: '{name}': {fault}\n";
 
 // Writes what is wrong with a line: the fault, the column, what is there and what could be there.
-fn put_fault(
-    text: &mut String,
-    alloc: Global,
-    line: &[u8],
-    fault: SketchFault,
-) -> Result<(), AllocError>
-    ensures { OnOk result (Grows text.old text.new) }
+fn put_fault(text: &mut Text, alloc: Global, line: &[u8], fault: SketchFault)
+    ensures { Grows text.old text.new }
 {
     let wrong = match fault {
-        SketchFault::Header(TextFault::NoHeader) => return text.push_str(""),
+        SketchFault::Header(TextFault::NoHeader) => return,
         SketchFault::Header(_) => wrong_in_header(line),
         SketchFault::BadLine => unreadable_sketch_line(line),
-        _ => return text.push_str(""),
+        _ => return,
     };
-    text.push_str("  ")?;
-    put_wrong(text, alloc, line, wrong)?;
-    text.push('\n')
+    text.put("  ");
+    put_wrong(text, alloc, line, wrong);
+    text.put("\n");
 }
 
 // Writes a fault after the place that it is at.
-fn put_front<'a>(
-    text: &mut String,
-    name: &'a str,
-    number: u64,
-    fault: &'a str,
-) -> Result<(), AllocError>
-    ensures { OnOk result (Grows text.old text.new) }
+fn put_front<'a>(text: &mut Text, name: &'a Text, number: u64, fault: &'a str)
+    ensures { Grows text.old text.new }
 {
     let places = [
-        ("name", Value::Text(name)),
+        ("name", Value::Part(name)),
         ("line", Value::Number(number)),
         ("fault", Value::Text(fault)),
     ];
-    fill(text, if number > 0 { AT_LINE } else { AT_WORD }, &places)
+    text.fill(if number > 0 { AT_LINE } else { AT_WORD }, &places);
 }
 
 // Writes what is wrong with the line of this number in an input, or if the number is 0 with this
 // word of the command.
-fn put_named(
-    text: &mut String,
-    alloc: Global,
-    place: (&str, u64),
-    line: &[u8],
-    fault: SketchFault,
-) -> Result<(), AllocError>
-    ensures { OnOk result (Grows text.old text.new) }
+fn put_named(text: &mut Text, alloc: Global, place: (&str, u64), line: &[u8], fault: SketchFault)
+    ensures { Grows text.old text.new }
 {
-    let (shown, said) = (escaped(alloc, place.0)?, InlineText::<96>::of(fault));
-    put_front(text, shown.as_str(), place.1, said.as_str())?;
-    put_fault(text, alloc, line, fault)
+    let mut name = Text::new(alloc);
+    name.put_escaped(place.0, "");
+    put_front(text, &name, place.1, InlineText::<96>::of(fault).as_str());
+    put_fault(text, alloc, line, fault);
 }
 
 /// A sketch with its lock, or how the job ends without one.
 pub type Taken = Result<(Sketch, Shape), Status>;
 
 // A sketch that was read to its end.
-fn whole(
-    sketch: Sketch,
-    alloc: Global,
-    place: (&str, u64),
-    errors: &mut String,
-) -> Result<Taken, AllocError> {
+fn whole(sketch: Sketch, alloc: Global, place: (&str, u64), errors: &mut Text) -> Taken {
     if let Some(header) = sketch.header {
-        return Ok(Ok((sketch, header)));
+        return Ok((sketch, header));
     }
     let fault = SketchFault::Header(TextFault::NoHeader);
-    put_named(errors, alloc, place, b"".as_slice(), fault)?;
-    Ok(Err(Status::Faulty))
+    put_named(errors, alloc, place, b"".as_slice(), fault);
+    Err(Status::Faulty)
 }
 
 // Reads the sketch in an input of this name.
@@ -209,37 +184,33 @@ fn read_input<R: Read + Drop>(
     alloc: Global,
     input: R,
     name: &str,
-    errors: &mut String,
+    errors: &mut Text,
 ) -> Result<Taken, AllocError> {
     let mut sketch = Sketch::new(alloc);
     let (number, ended) = take_lines(alloc, input, |number, line| -> Result<_, AllocError> {
         let Some(fault) = sketch.line(alloc, line.bytes())? else {
             return Ok(None);
         };
-        put_named(errors, alloc, (name, number), line.bytes(), fault)?;
+        put_named(errors, alloc, (name, number), line.bytes(), fault);
         Ok(Some(Status::Faulty))
     })?;
-    match ended {
+    Ok(match ended {
         Ok(None) => whole(sketch, alloc, (name, number), errors),
-        Ok(Some(status)) => Ok(Err(status)),
-        Err(error) => Ok(Err(put_unread(errors, alloc, name, &error)?)),
-    }
+        Ok(Some(status)) => Err(status),
+        Err(error) => Err(put_unread(errors, alloc, name, &error)),
+    })
 }
 
 /// Reads the sketch whose lines are words of a command.
-pub fn read_words(
-    alloc: Global,
-    words: &[String],
-    errors: &mut String,
-) -> Result<Taken, AllocError> {
+pub fn read_words(alloc: Global, words: &[String], errors: &mut Text) -> Result<Taken, AllocError> {
     let mut sketch = Sketch::new(alloc);
     for word in words {
         if let Some(fault) = sketch.line(alloc, word.as_bytes())? {
-            put_named(errors, alloc, (word.as_str(), 0), word.as_bytes(), fault)?;
+            put_named(errors, alloc, (word.as_str(), 0), word.as_bytes(), fault);
             return Ok(Err(Status::Misused));
         }
     }
-    whole(sketch, alloc, ("locktrace", 1), errors)
+    Ok(whole(sketch, alloc, ("locktrace", 1), errors))
 }
 
 /// Reads a sketch. What is wrong with it is written to `errors`.
@@ -251,13 +222,13 @@ pub fn read_sketch<R: Runtime>(
     rt: &R,
     alloc: Global,
     place: &Place,
-    errors: &mut String,
+    errors: &mut Text,
 ) -> Result<Taken, AllocError> {
     match place {
         Place::Words(words) => read_words(alloc, words.as_slice(), errors),
         Place::File(name) => match open(rt, name.as_str()) {
             Ok(input) => read_input(alloc, input, name, errors),
-            Err(error) => Ok(Err(put_unread(errors, alloc, name, &error)?)),
+            Err(error) => Ok(Err(put_unread(errors, alloc, name, &error))),
         },
     }
 }

@@ -1,16 +1,11 @@
 //! The sentence of a move: that of its kind of transition, with the values of the move.
 
-use crate::texts::{Lock, called};
 use lk_catalogue::{Kind, Observed, kinds_of, place_of};
-use lk_locks::LockKind;
 use lk_search::phase_code;
-use lk_text::{Value, fill};
+use lk_text::phrases::{Lock, called};
+use lk_text::{Text, Value};
 use lk_trace::{Made, TraceLine, name_at};
-use std::alloc::{AllocError, Global};
 use std::fmt::InlineText;
-
-// The most words of a lock that a sentence names: those of the FIFO lock.
-const MOST_NAMED: usize = 3;
 
 // The kind of transition of a move that was made on this lock.
 fn kind_of(lock: &Lock, line: TraceLine, made: Made) -> Option<Kind> {
@@ -28,32 +23,13 @@ fn kind_of(lock: &Lock, line: TraceLine, made: Made) -> Option<Kind> {
     kinds_of(lock.kind()).get(place).copied()
 }
 
-// A sentence with one of its places filled by a number.
-fn with_number(
-    alloc: Global,
-    sentence: &str,
-    name: &str,
-    number: u64,
-) -> Result<String, AllocError> {
-    let mut text = String::new(alloc);
-    fill(&mut text, sentence, &[(name, Value::Number(number))])?;
-    Ok(text)
-}
-
-// A sentence with the places of a read-write lock's words filled by their values.
-fn with_words(alloc: Global, sentence: &str, lock: &Lock) -> Result<String, AllocError> {
-    let mut text = String::from_str(alloc, sentence)?;
-    if let LockKind::Ticket | LockKind::Mcs = lock.kind() {
-        return Ok(text);
+// The name of a lock's word at this place, and its value. A lock with fewer words has none there.
+fn word_at(lock: &Lock, place: usize) -> (InlineText<40>, u64) {
+    let value = lock.machine().words().as_slice().get(place);
+    match (name_at(lock.kind(), place), value) {
+        (Some(name), Some(value)) => (InlineText::of(name), *value),
+        _ => (InlineText::new(), 0),
     }
-    let words = lock.machine().words().as_slice();
-    for (place, value) in words.iter().enumerate().take(MOST_NAMED) {
-        if let Some(word) = name_at(lock.kind(), place) {
-            let name: InlineText<40> = InlineText::of(word);
-            text = with_number(alloc, text.as_str(), name.as_str(), *value)?;
-        }
-    }
-    Ok(text)
 }
 
 // The thread whose record has this number, from 1 on, or nil.
@@ -65,22 +41,15 @@ fn record_of(number: u64, names: &[String]) -> Value<'_> {
 }
 
 /// Writes the sentence of a move that was made on this lock, without a full stop.
-pub fn put_sentence(
-    text: &mut String,
-    alloc: Global,
-    names: &[String],
-    lock: &Lock,
-    line: TraceLine,
-    made: Made,
-) -> Result<(), AllocError> {
+pub fn put_sentence(text: &mut Text, names: &[String], lock: &Lock, line: TraceLine, made: Made) {
     let Some(kind) = kind_of(lock, line, made) else {
-        return Ok(());
+        return;
     };
-    let sentence = with_words(alloc, kind.says, lock)?;
     let (_, number) = phase_code(made.from);
     let (found, left) = made
         .effect
         .map_or((0, 0), |effect| (effect.found, effect.left));
+    let [first, second, third] = [word_at(lock, 0), word_at(lock, 1), word_at(lock, 2)];
     let places = [
         ("who", called(line.thread, names)),
         ("found", Value::Number(found)),
@@ -88,6 +57,9 @@ pub fn put_sentence(
         ("number", Value::Number(number)),
         ("finds", record_of(found, names)),
         ("other", record_of(number.saturating_add(1), names)),
+        (first.0.as_str(), Value::Number(first.1)),
+        (second.0.as_str(), Value::Number(second.1)),
+        (third.0.as_str(), Value::Number(third.1)),
     ];
-    fill(text, sentence.as_str(), &places)
+    text.fill(kind.says, &places);
 }

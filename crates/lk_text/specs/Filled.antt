@@ -6,7 +6,7 @@ use Rattle.std.specs.Fmt.{decimal}
 use Rattle.std.specs.Str.{bytes_eq}
 use Rattle.std.specs.Fmt.InlineText.{inline_text}
 use Rattle.lk_text.specs.declared.fills.Value.{Value}
-use Rattle.lk_text.specs.declared.fills.Value.TheVariants.{Number, Text, Short}
+use Rattle.lk_text.specs.declared.fills.Value.TheVariants.{Number, Text, Part, Short}
 use Rattle.lk_text.specs.declared.fills.Value.TheVariants.{Numbered, Count}
 
 -- the last three digits of a number
@@ -20,10 +20,16 @@ grouped (suc k) n =
     if nat_lt n 1000 then decimal n
     else grouped k (n / 1000) ++ codes "," ++ three_digits (n % 1000)
 
+-- the bytes of a text that is whole
+abbrev pub bytes_of : Option (List ℕ) → List ℕ
+bytes_of None = []
+bytes_of (Some bytes) = bytes
+
 -- what a value is in a text
 abbrev pub value_text : Value → List ℕ
 value_text (Number n) = decimal n
 value_text (Text said) = said.now
+value_text (Part said) = bytes_of said.now
 value_text (Short said) = inline_text said
 value_text (Numbered word n) = word.now ++ codes " " ++ decimal n
 value_text (Count n one several) =

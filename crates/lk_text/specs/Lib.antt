@@ -3,4 +3,9 @@ pub mod Filled
 pub mod Sources
 pub mod Summaries
 pub mod Texts
+pub mod Accepted
+pub mod Fates
+pub mod Differences
+pub mod Notes
+pub mod Verdicts
 pub mod invariants

@@ -1,15 +1,15 @@
 //! Text of an input or of a command line as it is shown: with no control character, so that nothing
 //! of it reaches a terminal but letters.
 
-ghost use Rattle.lk_text.specs.Texts.{Grows};
+ghost use Rattle.lk_text.specs.Texts.{Lengthens};
 ghost use Rattle.std.specs.Prelude.{OnOk};
 
-use std::alloc::{AllocError, Global};
+use std::alloc::AllocError;
 use std::fmt::Write;
 
 // Writes a character, with a backslash before one of these.
 fn put_char(text: &mut String, c: char, marked: &str) -> Result<(), AllocError>
-    ensures { OnOk result (Grows text.old text.new) }
+    ensures { OnOk result (Lengthens text.old text.new) }
 {
     let code = c as u32;
     match c {
@@ -26,28 +26,13 @@ fn put_char(text: &mut String, c: char, marked: &str) -> Result<(), AllocError>
     }
 }
 
-/// Writes this text with its control characters escaped, and a backslash before each of the
-/// characters that are marked.
-///
-/// # Errors
-///
-/// A request for memory was refused.
-pub fn put_escaped(text: &mut String, said: &str, marked: &str) -> Result<(), AllocError>
-    ensures { OnOk result (Grows text.old text.new) }
+// Writes this text with its control characters escaped, and a backslash before each of the
+// characters that are marked.
+pub(crate) fn put_escaped(text: &mut String, said: &str, marked: &str) -> Result<(), AllocError>
+    ensures { OnOk result (Lengthens text.old text.new) }
 {
     for c in said.chars() {
         put_char(text, c, marked)?;
     }
     Ok(())
-}
-
-/// This text as it is shown.
-///
-/// # Errors
-///
-/// A request for memory was refused.
-pub fn escaped(alloc: Global, said: &str) -> Result<String, AllocError> {
-    let mut text = String::new(alloc);
-    put_escaped(&mut text, said, "")?;
-    Ok(text)
 }

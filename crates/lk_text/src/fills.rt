@@ -4,6 +4,7 @@ ghost use Rattle.std.specs.Prelude.{◌≡◌, ◌++◌, string_bytes, OnOk};
 ghost use Rattle.lk_text.specs.Filled.{filled, grouped, place_text, texts_of, value_named};
 ghost use Rattle.lk_text.specs.Filled.{value_text};
 
+use crate::texts::Text;
 use std::alloc::AllocError;
 use std::fmt::{InlineText, Write};
 
@@ -12,6 +13,8 @@ use std::fmt::{InlineText, Write};
 pub enum Value<'a> {
     Number(u64),
     Text(&'a str),
+    /// A text that was put together.
+    Part(&'a Text),
     /// A text that is borrowed of nobody.
     Short(InlineText<40>),
     /// A word, and a number after it.
@@ -49,6 +52,7 @@ fn put_value(text: &mut String, value: Value<'_>) -> Result<(), AllocError>
     match value {
         Value::Number(number) => write!(text, "{number}"),
         Value::Text(said) => text.push_str(said),
+        Value::Part(said) => text.push_str(said.as_str()?),
         Value::Short(said) => text.push_str(said.as_str()),
         Value::Numbered(word, number) => {
             text.push_str(word)?;
@@ -85,12 +89,12 @@ fn put_place(text: &mut String, places: &[Place<'_>], name: &str) -> Result<(), 
     }
 }
 
-/// Writes a sentence, with its places `{name}` filled. A brace without its end stays as it is.
-///
-/// # Errors
-///
-/// A request for memory was refused.
-pub fn fill(text: &mut String, sentence: &str, places: &[Place<'_>]) -> Result<(), AllocError>
+// Writes a sentence, with its places `{name}` filled. A brace without its end stays as it is.
+pub(crate) fn fill(
+    text: &mut String,
+    sentence: &str,
+    places: &[Place<'_>],
+) -> Result<(), AllocError>
     ensures { OnOk result (string_bytes text.new
         ≡ string_bytes text.old ++ filled (texts_of places.now) sentence.now) }
 {

@@ -1,14 +1,15 @@
 //! Objects of JSON, written field by field.
 
 ghost use Rattle.std.specs.Prelude.{OnOk};
-ghost use Rattle.lk_text.specs.Texts.{Grows};
+ghost use Rattle.lk_text.specs.Texts.{Grows, Lengthens};
 
+use crate::texts::Text;
 use std::alloc::AllocError;
 use std::fmt::Write;
 
 // Writes a character of a string.
 fn put_char(text: &mut String, c: char) -> Result<(), AllocError>
-    ensures { OnOk result (Grows text.old text.new) }
+    ensures { OnOk result (Lengthens text.old text.new) }
 {
     let code = c as u32;
     match c {
@@ -20,8 +21,8 @@ fn put_char(text: &mut String, c: char) -> Result<(), AllocError>
 }
 
 // Writes a string.
-fn put_string(text: &mut String, said: &str) -> Result<(), AllocError>
-    ensures { OnOk result (Grows text.old text.new) }
+pub(crate) fn put_quoted(text: &mut String, said: &str) -> Result<(), AllocError>
+    ensures { OnOk result (Lengthens text.old text.new) }
 {
     text.push('"')?;
     for c in said.chars() {
@@ -32,40 +33,38 @@ fn put_string(text: &mut String, said: &str) -> Result<(), AllocError>
 
 /// Begins a field of this name, after a comma if it is not the first of its object. The value
 /// follows.
-///
-/// # Errors
-///
-/// A request for memory was refused.
-pub fn name(text: &mut String, name: &str) -> Result<(), AllocError>
-    ensures { OnOk result (Grows text.old text.new) }
+pub fn name(text: &mut Text, name: &str)
+    ensures { Grows text.old text.new }
 {
-    if !text.as_str().ends_with('{') {
-        text.push(',')?;
+    if !text.ends_with('{') {
+        text.put(",");
     }
-    put_string(text, name)?;
-    text.push(':')
+    text.put_quoted(name);
+    text.put(":");
 }
 
 /// Writes a field with a string.
-///
-/// # Errors
-///
-/// A request for memory was refused.
-pub fn string(text: &mut String, field: &str, said: &str) -> Result<(), AllocError>
-    ensures { OnOk result (Grows text.old text.new) }
+pub fn string(text: &mut Text, field: &str, said: &str)
+    ensures { Grows text.old text.new }
 {
-    name(text, field)?;
-    put_string(text, said)
+    name(text, field);
+    text.put_quoted(said);
+}
+
+/// Writes a field with a text.
+pub fn text(text: &mut Text, field: &str, said: &Text)
+    ensures { Grows text.old text.new }
+{
+    match said.as_str() {
+        Ok(said) => string(text, field, said),
+        Err(AllocError) => text.lose(),
+    }
 }
 
 /// Writes a field with a number.
-///
-/// # Errors
-///
-/// A request for memory was refused.
-pub fn number(text: &mut String, field: &str, number: u64) -> Result<(), AllocError>
-    ensures { OnOk result (Grows text.old text.new) }
+pub fn number(text: &mut Text, field: &str, number: u64)
+    ensures { Grows text.old text.new }
 {
-    name(text, field)?;
-    write!(text, "{number}")
+    name(text, field);
+    text.put_number(number);
 }

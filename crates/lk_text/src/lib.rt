@@ -1,28 +1,40 @@
-//! What the programs that read files share: the lines of an input, sentences and the values that
-//! fill them, where a line goes wrong, the counts along a trace, and why a job ends early.
+//! What the programs say of texts: the lines of an input, sentences and the values that fill them,
+//! and the report of a trace.
 //!
 //! `open` opens a file or standard input, and `take_lines` gives each line of an input to a
-//! function. `fill` writes a sentence, `put_escaped` text of an input, `json` objects of JSON, and
-//! `put_plan` and `put_point` reports in the form of TAP. `put_wrong` names the words that could
-//! be where a line cannot be read, `Summary` counts the moves of a trace, and `Failure` says why a
-//! job was not done.
+//! function. A `Text` takes sentences and text of an input, `json` objects of JSON, and `put_plan`
+//! and `put_point` reports in the form of TAP. `put_wrong` names the words that could be where a
+//! line cannot be read, and `Failure` says why a job was not done.
+//!
+//! `follow` follows the trace in an input to its end, or up to the first line that is wrong, and
+//! makes its `report`: the verdict, the counts of a `Summary`, in what the line differs
+//! (`differences`), what helps to see why (`blame`), and what to do (`helps`). `formats` writes it.
 #![tactic(auto)]
 
+pub mod blame;
+pub mod course;
+pub mod differences;
 mod escapes;
 mod failures;
 mod fills;
+pub mod follow;
+pub mod formats;
+mod helps;
 mod inputs;
 pub mod json;
 mod lines;
+pub mod phrases;
+pub mod report;
 mod summary;
 mod tap;
+mod texts;
 mod wrong;
 
-pub use escapes::{escaped, put_escaped};
 pub use failures::Failure;
-pub use fills::{Place, Value, fill};
+pub use fills::{Place, Value};
 pub use inputs::{STANDARD, Source, open};
 pub use lines::{Line, Lines, take_lines};
 pub use summary::{Summary, has_counter};
 pub use tap::{put_plan, put_point};
+pub use texts::Text;
 pub use wrong::{put_wrong, wrong_in_header};

@@ -1,17 +1,18 @@
 //! What a run had of contention: waits, failed compare-and-swaps, polls of a late link, the longest
 //! queue, wraps of the counter.
 
-ghost use Rattle.std.specs.Prelude.{◌≡◌, ◌++◌, ◌∷◌, [], codes, decimal, map, string_bytes, OnOk};
+ghost use Rattle.std.specs.Prelude.{◌≡◌, ◌∷◌, [], codes, decimal, map};
 ghost use Rattle.lk_text.specs.Filled.{filled};
+ghost use Rattle.lk_text.specs.Texts.{Adds};
 ghost use Rattle.lk_text.specs.Summaries.{counts_of, has_counter, moved_in, new_summary, noted};
 ghost use Rattle.lk_text.specs.Summaries.{numbers_of};
 ghost use Rattle.lk_text.specs.Summaries.{after_lock, after_step, after_wait, is_contended};
 
-use crate::fills::{Value, fill};
+use crate::fills::Value;
+use crate::texts::Text;
 use lk_locks::{LockKind, Move, Outcome, Phase, StepKind, Tracker};
 use lk_trace::{Made, TraceLine};
 use lk_words::WordArray;
-use std::alloc::AllocError;
 
 /// Counts along a trace. They stay at their greatest value.
 #[derive(Clone, Copy)]
@@ -149,13 +150,8 @@ impl Summary {
     }
 
     /// Writes the counts, as a sentence.
-    ///
-    /// # Errors
-    ///
-    /// A request for memory was refused.
-    pub fn put(&self, text: &mut String) -> Result<(), AllocError>
-        ensures { OnOk result (string_bytes text.new
-            ≡ string_bytes text.old ++ filled (counts_of self.now) COUNTS.now) }
+    pub fn put(&self, text: &mut Text)
+        ensures { Adds (filled (counts_of self.now) COUNTS.now) text.old text.new }
     {
         let cas = "failed compare-and-swap";
         let late = "poll of a late link";
@@ -181,6 +177,6 @@ impl Summary {
                 Value::Count(self.wraps, wrap, "wraps of the counter"),
             ),
         ];
-        fill(text, COUNTS, &places)
+        text.fill(COUNTS, &places);
     }
 }

@@ -1,12 +1,12 @@
 //! Where a line goes wrong: the column, what could be there, and the nearest word.
 
-ghost use Rattle.std.specs.Prelude.{ℕ, IsNone, OnOk, ◌↔◌};
+ghost use Rattle.std.specs.Prelude.{ℕ, IsNone, ◌↔◌};
 ghost use Rattle.lk_lines.specs.Header.{header_of};
 ghost use Rattle.lk_lines.specs.Unreadable.{IsHeader};
 ghost use Rattle.lk_text.specs.Texts.{Grows};
 
-use crate::escapes::escaped;
-use crate::fills::{Value, fill};
+use crate::fills::Value;
+use crate::texts::Text;
 use lk_lines::{cut_word, unreadable_header};
 use lk_trace::{Due, MOST_OF_A_LINE};
 use std::alloc::{AllocError, Global};
@@ -58,72 +58,64 @@ pub fn wrong_in_header(line: &[u8]) -> Option<(usize, Due)>
 }
 
 // Writes a sentence about this column.
-fn put_at<'a>(
-    text: &mut String,
-    sentence: &str,
-    column: usize,
-    word: &'a str,
-    due: &'a str,
-) -> Result<(), AllocError>
-    ensures { OnOk result (Grows text.old text.new) }
+fn put_at(text: &mut Text, sentence: &str, column: usize, due: Due)
+    ensures { Grows text.old text.new }
+{
+    let due = InlineText::<160>::of(due);
+    let places = [
+        ("column", Value::Number(column as u64)),
+        ("due", Value::Text(due.as_str())),
+    ];
+    text.fill(sentence, &places);
+}
+
+// Writes the word that was found at this column, and what could be there.
+fn put_found<'a>(text: &mut Text, column: usize, word: &'a Text, due: &'a str)
+    ensures { Grows text.old text.new }
 {
     let places = [
         ("column", Value::Number(column as u64)),
-        ("word", Value::Text(word)),
+        ("word", Value::Part(word)),
         ("due", Value::Text(due)),
     ];
-    fill(text, sentence, &places)
+    text.fill(AT_WORD, &places);
 }
 
 // Writes what is said of the word at this column, and the nearest that could be there.
-fn put_word(
-    text: &mut String,
-    alloc: Global,
-    column: usize,
-    word: &str,
-    due: Due,
-) -> Result<(), AllocError>
-    ensures { OnOk result (Grows text.old text.new) }
+fn put_word(text: &mut Text, alloc: Global, column: usize, word: &str, due: Due)
+    ensures { Grows text.old text.new }
 {
-    let (shown, said) = (escaped(alloc, word)?, InlineText::<160>::of(due));
-    put_at(text, AT_WORD, column, shown.as_str(), said.as_str())?;
-    match nearest(alloc, word, due.words())? {
-        Some(near) => fill(text, NEAREST, &[("near", Value::Text(near))]),
-        None => Ok(()),
+    let mut shown = Text::new(alloc);
+    shown.put_escaped(word, "");
+    put_found(text, column, &shown, InlineText::<160>::of(due).as_str());
+    match nearest(alloc, word, due.words()) {
+        Ok(Some(near)) => text.fill(NEAREST, &[("near", Value::Text(near))]),
+        Ok(None) => {}
+        Err(AllocError) => text.lose(),
     }
 }
 
 /// Writes what is wrong with a line, which stops being one at this column, and what could be there.
 /// A line with no such column is a header whose numbers do not go together.
-///
-/// # Errors
-///
-/// A request for memory was refused.
-pub fn put_wrong(
-    text: &mut String,
-    alloc: Global,
-    line: &[u8],
-    wrong: Option<(usize, Due)>,
-) -> Result<(), AllocError>
-    ensures { OnOk result (Grows text.old text.new) }
+pub fn put_wrong(text: &mut Text, alloc: Global, line: &[u8], wrong: Option<(usize, Due)>)
+    ensures { Grows text.old text.new }
 {
     if line.len() > MOST_OF_A_LINE {
-        return text.push_str(TOO_LONG);
+        return text.put(TOO_LONG);
     }
     if line.ends_with(b"\r".as_slice()) {
-        return text.push_str(CR_LF);
+        return text.put(CR_LF);
     }
     let Some((column, due)) = wrong else {
-        return text.push_str(NARROW);
+        return text.put(NARROW);
     };
-    let said = InlineText::<160>::of(due);
     let Some(rest) = line.get(column.saturating_sub(1)..) else {
-        return put_at(text, AT_END, column, "", said.as_str());
+        return put_at(text, AT_END, column, due);
     };
     let word = cut_word(rest).map_or(rest, |(word, _)| word);
     match str::from_utf8(word) {
-        Ok("") => put_at(text, AT_BLANK, column, "", said.as_str()),
+        Ok("") => put_at(text, AT_BLANK, column, due),
         Ok(word) => put_word(text, alloc, column, word, due),
-        Err(_) => put_at(text, FOREIGN, column, "", said.as_str()),
+        Err(_) => put_at(text, FOREIGN, column, due),
     }
 }

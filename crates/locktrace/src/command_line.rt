@@ -3,11 +3,11 @@
 use crate::searches::{self, SearchJob};
 use clap::error::ErrorKind;
 use clap::{Arg, ArgAction, ArgMatches, Command, value_parser};
-use lk_jobs::Format;
 use lk_jobs::check::CheckJob;
 use lk_jobs::explain::ExplainJob;
 use lk_jobs::order::OrderJob;
-use lk_text::{STANDARD, Value, fill};
+use lk_text::formats::Format;
+use lk_text::{STANDARD, Text, Value};
 use std::alloc::{AllocError, Global};
 use thiserror::Error;
 
@@ -217,15 +217,15 @@ fn no_choice<'a, T>(
     word: &'a str,
     choices: &[(&'static str, T)],
 ) -> Result<ParseFault, AllocError> {
-    let mut text = String::new(alloc);
+    let mut text = Text::new(alloc);
     let places = [("option", Value::Text(option)), ("word", Value::Text(word))];
-    fill(&mut text, "error: --{option} '{word}' is none of ", &places)?;
+    text.fill("error: --{option} '{word}' is none of ", &places);
     for (place, (name, _)) in choices.iter().enumerate() {
-        text.push_str(if place > 0 { ", " } else { "" })?;
-        text.push_str(name)?;
+        text.put(if place > 0 { ", " } else { "" });
+        text.put(name);
     }
-    text.push('\n')?;
-    Ok(ParseFault::Usage(text))
+    text.put("\n");
+    Ok(ParseFault::Usage(String::from_str(alloc, text.as_str()?)?))
 }
 
 /// Which of these an option asks for, by its name, if it is given.

@@ -6,6 +6,7 @@
 
 mod command_line;
 mod folders;
+mod patient;
 mod searches;
 
 use command_line::{Job, ParseFault, parse_words};
@@ -18,9 +19,10 @@ use lk_jobs::order::order_logs;
 use lk_jobs::schedule::write_schedule;
 use lk_jobs::space::count_space;
 use lk_jobs::tour::write_tour;
-use lk_jobs::worst;
 use lk_lines::Status;
-use lk_text::Failure;
+use lk_text::report::worst;
+use lk_text::{Failure, Text};
+use patient::Patient;
 use searches::SearchJob;
 use std::alloc::{AllocError, Global};
 use std::env;
@@ -52,9 +54,9 @@ fn search<R: Runtime, O: Write>(
     alloc: Global,
     job: &SearchJob,
     output: &mut O,
-    errors: &mut String,
+    errors: &mut Text,
 ) -> Result<u8, Failure> {
-    let mut text = String::new(alloc);
+    let mut text = Text::new(alloc);
     let found = &mut text;
     let status = match job {
         SearchJob::Find { place, asked } => {
@@ -72,7 +74,7 @@ fn search<R: Runtime, O: Write>(
         } => write_tour(rt, alloc, header, *asked, folder, found, errors)? as u8,
         SearchJob::Cover(job) => cover_traces(rt, alloc, job, found, errors)?,
     };
-    output.write_all(text.as_bytes())?;
+    text.write_to(output)?;
     output.flush()?;
     Ok(status)
 }
@@ -103,7 +105,7 @@ fn perform<R: Runtime + Threads + Sync + Clone + Drop, O: Write + IsTerminal>(
     job: Job,
     told: bool,
     output: &mut O,
-    errors: &mut String,
+    errors: &mut Text,
 ) -> Result<u8, Failure>
 where
     R::File: Send,
@@ -123,14 +125,21 @@ where
     }
 }
 
+// Writes to standard error. If that fails, nobody is left to be told.
+fn tell(rt: &HostRuntime, errors: &Text) -> Result<(), Failure> {
+    let _ = rt.stderr().write_all(errors.as_str()?.as_bytes());
+    Ok(())
+}
+
 fn main(rt: HostRuntime) -> ExitCode {
-    let mut errors = String::new(rt.alloc());
+    let mut errors = Text::new(rt.alloc());
     let ended = match job_given(&rt) {
         Ok(job) => {
             let told = rt.stderr().is_terminal();
-            perform(&rt, rt.alloc(), job, told, &mut rt.stdout(), &mut errors)
+            let mut output = Patient::new(rt.stdout());
+            perform(&rt, rt.alloc(), job, told, &mut output, &mut errors)
         }
-        Err(ParseFault::Told(text)) => match rt.stdout().write_all(text.as_bytes()) {
+        Err(ParseFault::Told(text)) => match Patient::new(rt.stdout()).write_all(text.as_bytes()) {
             Ok(()) => Ok(Status::Accepted as u8),
             Err(error) => Err(Failure::Output(error)),
         },
@@ -140,12 +149,8 @@ fn main(rt: HostRuntime) -> ExitCode {
         }
         Err(ParseFault::Memory(error)) => Err(Failure::Memory(error)),
     };
-    let _ = rt.stderr().write_all(errors.as_bytes());
-    let status = match ended {
+    let status = match tell(&rt, &errors).and(ended) {
         Ok(status) => status,
-        // who reads has read enough
-        Err(Failure::Output(error)) if error.kind() == ErrorKind::BrokenPipe =>
-            Status::Accepted as u8,
         Err(failure) => {
             let _ = eprintln!(rt; "locktrace: {failure}");
             failure.status()

@@ -38,10 +38,10 @@ impl ReadWrite for FifoLock {
 
     fn read_lock(&self) {
         let _call = call(Call::ReadLock);
-        let mut state = self.state.lock();
+        let mut state = self.state.lock().unwrap();
         while state.writer {
             state.note(Outcome::Waits);
-            state = self.changed.wait(state);
+            state = self.changed.wait(state).unwrap();
         }
         state.read_acquires += 1;
         state.note(Outcome::Entered);
@@ -49,7 +49,7 @@ impl ReadWrite for FifoLock {
 
     fn read_unlock(&self) {
         let _call = call(Call::ReadUnlock);
-        let mut state = self.state.lock();
+        let mut state = self.state.lock().unwrap();
         state.read_releases += 1;
         state.note(Outcome::Left);
         self.changed.notify_all();
@@ -57,26 +57,26 @@ impl ReadWrite for FifoLock {
 
     fn write_lock(&self) {
         let _call = call(Call::WriteLock);
-        let mut state = self.state.lock();
+        let mut state = self.state.lock().unwrap();
         while state.writer {
             state.note(Outcome::Waits);
-            state = self.changed.wait(state);
+            state = self.changed.wait(state).unwrap();
         }
         state.writer = true;
         if state.has_readers() {
             state.note(Outcome::Moved);
-            state = self.changed.wait(state);
+            state = self.changed.wait(state).unwrap();
         }
         while state.has_readers() {
             state.note(Outcome::Waits);
-            state = self.changed.wait(state);
+            state = self.changed.wait(state).unwrap();
         }
         state.note(Outcome::Entered);
     }
 
     fn write_unlock(&self) {
         let _call = call(Call::WriteUnlock);
-        let mut state = self.state.lock();
+        let mut state = self.state.lock().unwrap();
         state.writer = false;
         state.note(Outcome::Left);
         self.changed.notify_all();
@@ -84,7 +84,7 @@ impl ReadWrite for FifoLock {
 
     fn downgrade(&self) {
         let _call = call(Call::Downgrade);
-        let mut state = self.state.lock();
+        let mut state = self.state.lock().unwrap();
         state.writer = false;
         state.read_acquires += 1;
         state.note(Outcome::Entered);

@@ -29,10 +29,10 @@ impl ReadWrite for SimpleLock {
 
     fn read_lock(&self) {
         let _call = call(Call::ReadLock);
-        let mut state = self.state.lock();
+        let mut state = self.state.lock().unwrap();
         while state.writer {
             state.note(Outcome::Waits);
-            state = self.changed.wait(state);
+            state = self.changed.wait(state).unwrap();
         }
         state.readers += 1;
         state.note(Outcome::Entered);
@@ -40,7 +40,7 @@ impl ReadWrite for SimpleLock {
 
     fn read_unlock(&self) {
         let _call = call(Call::ReadUnlock);
-        let mut state = self.state.lock();
+        let mut state = self.state.lock().unwrap();
         state.readers -= 1;
         state.note(Outcome::Left);
         self.changed.notify_all();
@@ -48,10 +48,10 @@ impl ReadWrite for SimpleLock {
 
     fn write_lock(&self) {
         let _call = call(Call::WriteLock);
-        let mut state = self.state.lock();
+        let mut state = self.state.lock().unwrap();
         while state.readers > 0 || state.writer {
             state.note(Outcome::Waits);
-            state = self.changed.wait(state);
+            state = self.changed.wait(state).unwrap();
         }
         state.writer = true;
         state.note(Outcome::Entered);
@@ -59,7 +59,7 @@ impl ReadWrite for SimpleLock {
 
     fn write_unlock(&self) {
         let _call = call(Call::WriteUnlock);
-        let mut state = self.state.lock();
+        let mut state = self.state.lock().unwrap();
         state.writer = false;
         state.note(Outcome::Left);
         self.changed.notify_all();
@@ -67,7 +67,7 @@ impl ReadWrite for SimpleLock {
 
     fn downgrade(&self) {
         let _call = call(Call::Downgrade);
-        let mut state = self.state.lock();
+        let mut state = self.state.lock().unwrap();
         state.writer = false;
         state.readers += 1;
         state.note(Outcome::Entered);

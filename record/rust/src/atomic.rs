@@ -31,7 +31,7 @@ use crate::plain::{Counter, Plain};
 /// # let _ = (&LOCK.next_ticket, &LOCK.now_serving, &GRANTED);
 /// ```
 pub struct Atomic<A: Plain> {
-    plain: A,
+    pub(crate) plain: A,
     name: Name<A::Value>,
 }
 
@@ -45,6 +45,16 @@ pub type AtomicU32 = Atomic<atomic::AtomicU32>;
 pub type AtomicU64 = Atomic<atomic::AtomicU64>;
 /// A number as wide as a pointer.
 pub type AtomicUsize = Atomic<atomic::AtomicUsize>;
+/// A number of 8 bits with a sign. It is noted as the number that has the same bits.
+pub type AtomicI8 = Atomic<atomic::AtomicI8>;
+/// A number of 16 bits with a sign.
+pub type AtomicI16 = Atomic<atomic::AtomicI16>;
+/// A number of 32 bits with a sign.
+pub type AtomicI32 = Atomic<atomic::AtomicI32>;
+/// A number of 64 bits with a sign.
+pub type AtomicI64 = Atomic<atomic::AtomicI64>;
+/// A number as wide as a pointer, with a sign.
+pub type AtomicIsize = Atomic<atomic::AtomicIsize>;
 /// A flag; `true` is noted as 1.
 pub type AtomicBool = Atomic<atomic::AtomicBool>;
 /// A pointer. It is noted as 0 for nil, and as j + 1 for one into thread j's
@@ -75,18 +85,51 @@ macro_rules! constructors {
     };
 }
 
+/// Operations that change a word by a value. On a word of the lock each is noted as a swap, with
+/// what it left.
+macro_rules! changes {
+    ($value:ty; $($name:ident $what:literal $left:expr),*) => { $(
+        #[doc = concat!("Makes the value ", $what, ", and returns what it found.")]
+        #[track_caller]
+        pub fn $name(&self, value: $value, order: Ordering) -> $value {
+            let left: fn($value, $value) -> $value = $left;
+            self.change(|plain| plain.$name(value, order), |found| left(found, value))
+        }
+    )* };
+}
+
 macro_rules! number {
-    ($($atomic:ident of $value:ty),*) => { $(
+    ($($atomic:ident of $value:ty as $bits:ty),*) => { $(
         impl Atomic<atomic::$atomic> {
-            constructors!($value, atomic::$atomic::new, |value| value as u64);
+            constructors!($value, atomic::$atomic::new, |value| value as $bits as u64);
+            changes!($value;
+                fetch_and "the bitwise and with another" |found, value| found & value,
+                fetch_nand "the negated bitwise and with another" |found, value| !(found & value),
+                fetch_or "the bitwise or with another" |found, value| found | value,
+                fetch_xor "the bitwise exclusive or with another" |found, value| found ^ value,
+                fetch_max "the greater of it and another" |found, value| found.max(value),
+                fetch_min "the lesser of it and another" |found, value| found.min(value)
+            );
         }
     )* };
 }
 
 number!(
-    AtomicU8 of u8, AtomicU16 of u16, AtomicU32 of u32, AtomicU64 of u64, AtomicUsize of usize,
-    AtomicBool of bool
+    AtomicU8 of u8 as u8, AtomicU16 of u16 as u16, AtomicU32 of u32 as u32,
+    AtomicU64 of u64 as u64, AtomicUsize of usize as usize, AtomicI8 of i8 as u8,
+    AtomicI16 of i16 as u16, AtomicI32 of i32 as u32, AtomicI64 of i64 as u64,
+    AtomicIsize of isize as usize
 );
+
+impl Atomic<atomic::AtomicBool> {
+    constructors!(bool, atomic::AtomicBool::new, |value| value as u64);
+    changes!(bool;
+        fetch_and "the and with another" |found, value| found & value,
+        fetch_nand "the negated and with another" |found, value| !(found & value),
+        fetch_or "the or with another" |found, value| found | value,
+        fetch_xor "the exclusive or with another" |found, value| found ^ value
+    );
+}
 
 impl<T> Atomic<atomic::AtomicPtr<T>> {
     constructors!(*mut T, atomic::AtomicPtr::new, |pointer| current::value_of(pointer as usize));
@@ -94,6 +137,7 @@ impl<T> Atomic<atomic::AtomicPtr<T>> {
 
 impl<A: Plain> Atomic<A> {
     /// A load.
+    #[track_caller]
     pub fn load(&self, order: Ordering) -> A::Value {
         let (turn, owner) = self.begin();
         let found = self.plain.load(order);
@@ -108,6 +152,7 @@ impl<A: Plain> Atomic<A> {
     }
 
     /// A store.
+    #[track_caller]
     pub fn store(&self, value: A::Value, order: Ordering) {
         let (turn, owner) = self.begin();
         // What a pointer is to has to be known before: afterwards another thread may have it.
@@ -117,6 +162,7 @@ impl<A: Plain> Atomic<A> {
     }
 
     /// A swap.
+    #[track_caller]
     pub fn swap(&self, value: A::Value, order: Ordering) -> A::Value {
         let (turn, owner) = self.begin();
         let left = self.value(&turn, value);
@@ -133,6 +179,7 @@ impl<A: Plain> Atomic<A> {
     /// # Errors
     ///
     /// What it found, if that was not `old`.
+    #[track_caller]
     pub fn compare_exchange(
         &self,
         old: A::Value,
@@ -152,6 +199,7 @@ impl<A: Plain> Atomic<A> {
     /// # Errors
     ///
     /// What it found, if it did not write.
+    #[track_caller]
     pub fn compare_exchange_weak(
         &self,
         old: A::Value,
@@ -168,6 +216,45 @@ impl<A: Plain> Atomic<A> {
             self.note_exchange(&turn, owner, result, left);
         }
         result
+    }
+
+    /// Loads, and tries to store what comes of it, until another thread does not come between. Each
+    /// try is an operation of its own.
+    ///
+    /// # Errors
+    ///
+    /// What it found, if nothing comes of that.
+    #[track_caller]
+    pub fn fetch_update(
+        &self,
+        success: Ordering,
+        failure: Ordering,
+        mut left: impl FnMut(A::Value) -> Option<A::Value>,
+    ) -> Result<A::Value, A::Value> {
+        let mut found = self.load(failure);
+        while let Some(new) = left(found) {
+            match self.compare_exchange_weak(found, new, success, failure) {
+                Ok(old) => return Ok(old),
+                Err(other) => found = other,
+            }
+        }
+        Err(found)
+    }
+
+    /// A change that is noted as a swap.
+    #[track_caller]
+    fn change(
+        &self,
+        make: impl FnOnce(&A) -> A::Value,
+        left: impl FnOnce(A::Value) -> A::Value,
+    ) -> A::Value {
+        let (turn, owner) = self.begin();
+        let found = make(&self.plain);
+        let left = left(found);
+        self.end(&turn, owner, found != left, |word| {
+            [Step::swap(word, self.shown(found)).with_left(self.shown(left))]
+        });
+        found
     }
 
     fn note_exchange(
@@ -202,8 +289,9 @@ impl<A: Plain> Atomic<A> {
 
     /// Lets others go first. The record that the word is in is looked for before the operation:
     /// afterwards its thread may have left it.
+    #[track_caller]
     fn begin(&self) -> (Turn, Option<usize>) {
-        let turn = current::turn(self.name.word().is_some());
+        let turn = current::turn_of_atomic(self.name.word().is_some());
         let owner = match self.name.word() {
             Some(Word::Next | Word::Locked) => current::other_owner_of(self.address()),
             _ => None,
@@ -224,7 +312,7 @@ impl<A: Plain> Atomic<A> {
             None => current::unnoted(self.address(), changed),
             Some(word) => {
                 for step in steps(word) {
-                    current::note(owner.map_or(step, |owner| step.of(owner)));
+                    turn.note(owner.map_or(step, |owner| step.of(owner)));
                 }
             }
         }
@@ -233,6 +321,7 @@ impl<A: Plain> Atomic<A> {
 
 impl<A: Counter> Atomic<A> {
     /// A fetch-and-add. On the served ticket it is the two steps of a release, a read and a write.
+    #[track_caller]
     pub fn fetch_add(&self, amount: A::Value, order: Ordering) -> A::Value {
         let (turn, owner) = self.begin();
         let found = self.plain.fetch_add(amount, order);
@@ -241,6 +330,7 @@ impl<A: Counter> Atomic<A> {
     }
 
     /// A fetch-and-subtract. It is noted as a fetch-and-add, with what it left.
+    #[track_caller]
     pub fn fetch_sub(&self, amount: A::Value, order: Ordering) -> A::Value {
         let (turn, owner) = self.begin();
         let found = self.plain.fetch_sub(amount, order);

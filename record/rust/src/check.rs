@@ -63,7 +63,8 @@ impl Run {
     ///     let _call = call(Call::Release); // of a lock that nobody has
     /// })?;
     /// let said = run.check().unwrap_err().to_string();
-    /// assert!(said.starts_with("refused at line 4 of the trace: "), "{said}");
+    /// assert!(said.starts_with("refused at line 4 of the trace, "), "{said}");
+    /// assert!(said.contains(".rs:") && said.contains(", '0 release': "), "{said}");
     /// # Ok::<(), Error>(())
     /// ```
     ///
@@ -78,13 +79,27 @@ impl Run {
         let mut steps = vec![Step::default(); self.0.turns.stage().order().len()];
         let answer = answer_to(&self.trace()?, &mut steps);
         if answer.fault != 0 {
-            return Err(Error::Refused { line: answer.line, reason: text_of(answer.fault) });
+            let (made, reason) = (move_at(&self.0, answer.moves), text_of(answer.fault));
+            return Err(Error::Refused { line: answer.line, made, reason });
         }
         match goes_on(&self.0, &steps) {
             Some(thread) => Err(Error::GoesOn { thread }),
             None => Ok(()),
         }
     }
+}
+
+/// The move at a place in the order, and where in the source it was made.
+fn move_at(run: &Shared, index: u64) -> String {
+    let order = run.turns.stage().order().to_vec();
+    let found = usize::try_from(index).ok().and_then(|index| {
+        let thread = usize::from(*order.get(index)?);
+        let before = order.get(..index)?.iter().filter(|&&it| usize::from(it) == thread).count();
+        let tape = run.tape(thread)?;
+        let (made, source) = tape.as_ref()?.at(before)?;
+        Some(format!("{}:{}, '{thread} {made}'", source.file(), source.line()))
+    });
+    found.unwrap_or_default()
 }
 
 #[allow(unsafe_code)]

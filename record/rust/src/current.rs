@@ -7,6 +7,7 @@
 #![allow(clippy::declare_interior_mutable_const)]
 
 use std::cell::RefCell;
+use std::panic::Location;
 use std::sync::Arc;
 use std::thread;
 
@@ -15,7 +16,7 @@ use crate::kind::Kind;
 use crate::moves::{Call, Move, Outcome, Step, Word};
 use crate::noise;
 use crate::run::Shared;
-use crate::tape::Tape;
+use crate::tape::{Source, Tape};
 use crate::turns::Place;
 
 /// The word that an atomic is, and its values in a trace.
@@ -56,6 +57,8 @@ pub(crate) struct Recorder {
     pub(crate) noise: Option<Draw>,
     /// How many turns are taken, one inside another.
     depth: usize,
+    /// How many operations on atomics were made in the turn.
+    operations: usize,
     /// How many monitors the thread is in, and whether it is in a call.
     monitors: usize,
     in_call: bool,
@@ -96,11 +99,16 @@ impl Recorder {
         tape: Tape,
         noise: Option<Draw>,
     ) -> Recorder {
-        Recorder { shared, thread, tape, noise, depth: 0, monitors: 0, in_call: false }
+        let (depth, operations, monitors, in_call) = (0, 0, 0, false);
+        Recorder { shared, thread, tape, noise, depth, operations, monitors, in_call }
     }
 
-    fn note(&mut self, made: Move) {
-        let added = self.tape.add(made);
+    fn note(&mut self, made: Move, source: Source) {
+        let made = match made {
+            Move::Step(step) => Move::Step(step.in_bits(self.shared.header.bits)),
+            other => other,
+        };
+        let added = self.tape.add(made, source);
         self.shared.turns.noted(self.thread, Kind::of_move(&made), added);
     }
 
@@ -112,6 +120,7 @@ impl Recorder {
             let is_step = may_be_step && self.in_call;
             let place = Place { is_step, in_monitor: self.monitors > 0 };
             self.shared.turns.take(self.thread, place);
+            self.operations = 0;
         }
         self.depth += 1;
     }
@@ -128,11 +137,32 @@ impl Recorder {
 #[derive(Debug)]
 pub(crate) struct Turn {
     is_recorded: bool,
+    source: Source,
 }
 
 /// Lets others go first, and begins an operation. It may be a step of the lock, or is none.
+#[track_caller]
 pub(crate) fn turn(may_be_step: bool) -> Turn {
-    Turn { is_recorded: with(|recorder| recorder.take_turn(may_be_step)).is_some() }
+    let source = Location::caller();
+    Turn { is_recorded: with(|recorder| recorder.take_turn(may_be_step)).is_some(), source }
+}
+
+/// The same of an operation on an atomic.
+///
+/// # Panics
+///
+/// If it is the second one in a turn, as in an [`operation`] that is none.
+#[track_caller]
+pub(crate) fn turn_of_atomic(may_be_step: bool) -> Turn {
+    let turn = turn(may_be_step);
+    let count = with(|recorder| {
+        recorder.operations += 1;
+        recorder.operations
+    });
+    if count > Some(1) {
+        panic!("two operations on atomics in one `operation`: other threads can come between them");
+    }
+    turn
 }
 
 /// Lets others go first.
@@ -143,6 +173,11 @@ pub(crate) fn pause() {
 impl Turn {
     pub(crate) fn is_recorded(&self) -> bool {
         self.is_recorded
+    }
+
+    /// Writes a step, made where the turn began.
+    pub(crate) fn note(&self, step: Step) {
+        with(|recorder| recorder.note(Move::Step(step), self.source));
     }
 }
 
@@ -170,10 +205,11 @@ pub struct InCall(());
 /// }
 /// # acquire();
 /// ```
+#[track_caller]
 pub fn call(call: Call) -> InCall {
-    let _turn = turn(true);
+    let turn = turn(true);
     with(|recorder| {
-        recorder.note(Move::Call(call));
+        recorder.note(Move::Call(call), turn.source);
         recorder.in_call = true;
     });
     InCall(())
@@ -215,13 +251,19 @@ pub(crate) fn unnoted(address: usize, changed: bool) {
 /// }
 /// # assert_eq!(take_ticket(&AtomicU32::new(0x0005_0003)), (5, 3));
 /// ```
+#[track_caller]
 pub fn note(step: Step) {
-    with(|recorder| recorder.note(Move::Step(step)));
+    let source = Location::caller();
+    with(|recorder| recorder.note(Move::Step(step), source));
 }
 
-/// One operation of several parts: no other thread gets its turn in it.
+/// One operation of several parts, as an atomic's and its notes: no other thread gets its turn in
+/// it. It must not wait for another thread.
 ///
-/// It must not wait for another thread.
+/// # Panics
+///
+/// If a second operation on an atomic is made in it: then it is not one.
+#[track_caller]
 pub fn operation<R>(parts: impl FnOnce() -> R) -> R {
     let _turn = turn(true);
     parts()
@@ -267,10 +309,11 @@ impl Drop for Held {
 }
 
 /// Notes the end of a monitor's section.
+#[track_caller]
 pub(crate) fn section(sections: &mut Sections, outcome: Outcome) {
     sections.0 += 1;
-    let count = sections.0;
-    with(|recorder| recorder.note(Move::Section { count, outcome }));
+    let (count, source) = (sections.0, Location::caller());
+    with(|recorder| recorder.note(Move::Section { count, outcome }, source));
 }
 
 /// By turns: waits until the thread is woken at an address.

@@ -65,6 +65,8 @@ pub enum Error {
     Refused {
         /// The line of the trace, from 1.
         line: u64,
+        /// Where in the source its move was made, and the move: `src/lock.rs:41, '0 cas ..'`.
+        made: String,
         /// What is wrong with it.
         reason: String,
     },
@@ -141,8 +143,8 @@ impl Error {
             Error::OtherRun { run } => write!(out, "the schedule is not of this run: {run}"),
             Error::NoSeed => out.write_str("wakes for nothing are drawn by the seed of a mode"),
             Error::NoOrder => out.write_str("of free threads `locktrace order` finds the order"),
-            Error::Refused { line, reason } => {
-                write!(out, "refused at line {line} of the trace: {reason}")
+            Error::Refused { line, made, reason } => {
+                write!(out, "refused at line {line} of the trace, {made}: {reason}")
             }
             Error::GoesOn { thread } => {
                 write!(out, "thread {thread} goes on with a call that is over")

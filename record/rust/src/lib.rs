@@ -74,17 +74,18 @@
 //!
 //! [`Mode::Pct`] draws few changes of the turn, so that a thread may be held up for long. Two ways
 //! leave nothing to chance. With [`Mode::Follow`] the lock follows a schedule, and a run
-//! ends where a move is not that of its line. [`Setup::explore`] makes all runs of a few threads
-//! with few preemptions. Each run's [trace](Run::trace) is for `locktrace check`.
+//! ends where a move is not that of its line. [`RunBuilder::explore`] makes all runs of a few
+//! threads with few preemptions. Each run's [trace](Run::trace) is for `locktrace check`.
 //!
-//! [`Setup::spurious`] wakes threads of a monitor for nothing, as a system may. With the feature
-//! `check`, `Run::check` checks a run in the process, by the library `liblk_trace_c.a`: without a
-//! file, so that many runs can be made.
+//! [`RunBuilder::spurious`] wakes threads of a monitor for nothing, as a system may. With the
+//! feature `check`, `Run::check` checks a run in the process, by the library `liblk_trace_c.a`:
+//! without a file, so that many runs can be made.
 //!
 //! A run that hangs ends all the same: a seeded one when nothing but failed polls was seen for
-//! 20,000 turns, others when their time is over. The threads unwind at their next operation on an
-//! atomic, without a message, and their logs end there. That needs `panic = "unwind"`, as tests
-//! have it. A thread that hangs elsewhere, as in a loop without an atomic, cannot be stopped.
+//! 20,000 turns ([`Ending::Hangs`]), others when their time is over ([`Ending::Stopped`]). The
+//! threads unwind at their next operation on an atomic, without a message, and their logs end
+//! there. That needs `panic = "unwind"`, as tests have it. A thread that hangs elsewhere, as in a
+//! loop without an atomic, cannot be stopped.
 //!
 //! # Where a lock's steps differ from the published ones
 //!
@@ -122,6 +123,7 @@ mod current;
 mod monitor;
 mod moves;
 mod plain;
+mod whole;
 
 #[cfg(feature = "check")]
 mod check;
@@ -167,7 +169,8 @@ mod turns;
 mod wakes;
 
 pub use atomic::{
-    Atomic, AtomicBool, AtomicPtr, AtomicU16, AtomicU32, AtomicU64, AtomicU8, AtomicUsize,
+    Atomic, AtomicBool, AtomicI16, AtomicI32, AtomicI64, AtomicI8, AtomicIsize, AtomicPtr,
+    AtomicU16, AtomicU32, AtomicU64, AtomicU8, AtomicUsize,
 };
 pub use current::{call, note, operation, own_record, switch, InCall};
 pub use monitor::{Condvar, Mutex, MutexGuard};
@@ -179,6 +182,6 @@ pub use {
     follow::Departure,
     lock::Lock,
     mode::Mode,
-    run::{Ending, Log, Run, Setup},
+    run::{Ending, Log, Run, RunBuilder},
     schedule::Schedule,
 };

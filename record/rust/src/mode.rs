@@ -14,7 +14,7 @@ use crate::schedule::Schedule;
 /// | `Pct` | one at a time, by priorities | the same, and `run.trace` | `locktrace check` |
 /// | `Follow` | one at a time, as a schedule says | the same, and `run.trace` | `locktrace check` |
 ///
-/// [`Setup::explore`](crate::Setup::explore) makes all runs with few preemptions.
+/// [`RunBuilder::explore`](crate::RunBuilder::explore) makes all runs with few preemptions.
 #[derive(Clone, Debug, PartialEq, Eq)]
 pub enum Mode {
     /// The threads run as they like, and each writes into memory of its own: recording adds no

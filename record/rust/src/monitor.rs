@@ -4,7 +4,8 @@
 use std::fmt;
 use std::ops::{Deref, DerefMut};
 use std::sync::atomic::{AtomicUsize, Ordering};
-use std::sync::{self, PoisonError, TryLockError};
+use std::sync::{self, LockResult, PoisonError, TryLockError, TryLockResult};
+use std::thread;
 use std::time::Duration;
 
 use crate::current::{self, Held, Sections};
@@ -13,7 +14,8 @@ use crate::moves::Outcome;
 /// How often a thread that waits looks whether its run was stopped.
 const LOOK: Duration = Duration::from_millis(100);
 
-/// A mutex that counts the sections of a monitor. It is not poisoned by a panic.
+/// A mutex of the standard library, with the same operations, that counts the sections of a
+/// monitor. A thread of a run that was stopped does not poison it for others.
 ///
 /// ```
 /// use lockreplay_record::{call, Call, Condvar, Mutex, Outcome};
@@ -28,10 +30,10 @@ const LOOK: Duration = Duration::from_millis(100);
 ///
 /// fn read_lock() {
 ///     let _call = call(Call::ReadLock);
-///     let mut state = STATE.lock();
+///     let mut state = STATE.lock().unwrap();
 ///     while state.writer {
 ///         state.note(Outcome::Waits);
-///         state = CHANGED.wait(state);
+///         state = CHANGED.wait(state).unwrap();
 ///     }
 ///     state.readers += 1;
 ///     state.note(Outcome::Entered);
@@ -58,8 +60,8 @@ pub struct MutexGuard<'a, T> {
 /// A condition variable for a [`Mutex`].
 ///
 /// In a seeded run a thread that waits runs again when it is notified, and not before, unless
-/// [wakes for nothing](crate::Setup::spurious) were asked for. So a run in which a notification is
-/// missing hangs.
+/// [wakes for nothing](crate::RunBuilder::spurious) were asked for. So a run in which a
+/// notification is missing hangs.
 #[derive(Debug, Default)]
 pub struct Condvar {
     plain: sync::Condvar,
@@ -74,21 +76,87 @@ impl<T> Mutex<T> {
     }
 
     /// Waits until no other thread has the mutex, and takes it.
-    pub fn lock(&self) -> MutexGuard<'_, T> {
+    ///
+    /// # Errors
+    ///
+    /// Another thread panicked while it had the mutex.
+    pub fn lock(&self) -> LockResult<MutexGuard<'_, T>> {
         while current::is_by_turns() {
             let _turn = current::turn(true);
             match self.plain.try_lock() {
-                Ok(plain) => return self.guard(plain),
-                Err(TryLockError::Poisoned(error)) => return self.guard(error.into_inner()),
+                Ok(plain) => return self.guard(Ok(plain)),
+                Err(TryLockError::Poisoned(error)) => return self.guard(Err(error)),
                 Err(TryLockError::WouldBlock) => current::unnoted(self.address(), false),
             }
         }
         current::pause();
-        self.guard(self.plain.lock().unwrap_or_else(PoisonError::into_inner))
+        self.guard(self.plain.lock())
     }
 
-    fn guard<'a>(&'a self, plain: sync::MutexGuard<'a, Counted<T>>) -> MutexGuard<'a, T> {
-        MutexGuard { plain, mutex: self, held: current::hold() }
+    /// Takes the mutex, if no other thread has it.
+    ///
+    /// # Errors
+    ///
+    /// Another thread has it, or panicked while it had it.
+    pub fn try_lock(&self) -> TryLockResult<MutexGuard<'_, T>> {
+        let _turn = current::turn(true);
+        match self.plain.try_lock() {
+            Ok(plain) => self.guard(Ok(plain)).map_err(TryLockError::Poisoned),
+            Err(TryLockError::Poisoned(error)) => {
+                self.guard(Err(error)).map_err(TryLockError::Poisoned)
+            }
+            Err(TryLockError::WouldBlock) => {
+                current::unnoted(self.address(), false);
+                Err(TryLockError::WouldBlock)
+            }
+        }
+    }
+
+    /// Whether a thread panicked while it had the mutex.
+    pub fn is_poisoned(&self) -> bool {
+        self.plain.is_poisoned()
+    }
+
+    /// What is in the mutex, which nobody else can have now.
+    ///
+    /// # Errors
+    ///
+    /// A thread panicked while it had the mutex.
+    pub fn get_mut(&mut self) -> LockResult<&mut T> {
+        match self.plain.get_mut() {
+            Ok(counted) => Ok(&mut counted.data),
+            Err(error) => Err(PoisonError::new(&mut error.into_inner().data)),
+        }
+    }
+
+    /// What is in the mutex.
+    ///
+    /// # Errors
+    ///
+    /// A thread panicked while it had the mutex.
+    pub fn into_inner(self) -> LockResult<T> {
+        match self.plain.into_inner() {
+            Ok(counted) => Ok(counted.data),
+            Err(error) => Err(PoisonError::new(error.into_inner().data)),
+        }
+    }
+
+    /// A thread that unwinds may take the mutex to give its lock back: it hears of no panic.
+    fn guard<'a>(
+        &'a self,
+        plain: LockResult<sync::MutexGuard<'a, Counted<T>>>,
+    ) -> LockResult<MutexGuard<'a, T>> {
+        if plain.is_err() {
+            current::go_on(); // a thread that was stopped while it had the mutex has not panicked
+        }
+        let is_poisoned = plain.is_err() && !thread::panicking();
+        let plain = plain.unwrap_or_else(PoisonError::into_inner);
+        let guard = MutexGuard { plain, mutex: self, held: current::hold() };
+        if is_poisoned {
+            Err(PoisonError::new(guard))
+        } else {
+            Ok(guard)
+        }
     }
 
     fn address(&self) -> usize {
@@ -99,6 +167,7 @@ impl<T> Mutex<T> {
 impl<T> MutexGuard<'_, T> {
     /// Notes that a section of the monitor ends here, and what it did. A section is from getting
     /// the mutex to leaving it or waiting in it.
+    #[track_caller]
     pub fn note(&mut self, outcome: Outcome) {
         current::section(&mut self.plain.sections, outcome);
     }
@@ -112,7 +181,11 @@ impl Condvar {
     }
 
     /// Leaves the mutex, waits until another thread notifies, and takes the mutex again.
-    pub fn wait<'a, T>(&self, guard: MutexGuard<'a, T>) -> MutexGuard<'a, T> {
+    ///
+    /// # Errors
+    ///
+    /// Another thread panicked while it had the mutex.
+    pub fn wait<'a, T>(&self, guard: MutexGuard<'a, T>) -> LockResult<MutexGuard<'a, T>> {
         let MutexGuard { plain, mutex, held } = guard;
         held.end();
         if current::is_by_turns() {
@@ -121,9 +194,26 @@ impl Condvar {
             return mutex.lock();
         }
         if current::is_recorded() {
-            return mutex.guard(self.wait_for_real(plain));
+            return mutex.guard(Ok(self.wait_for_real(plain)));
         }
-        mutex.guard(self.plain.wait(plain).unwrap_or_else(PoisonError::into_inner))
+        mutex.guard(self.plain.wait(plain))
+    }
+
+    /// Waits as long as the condition holds.
+    ///
+    /// # Errors
+    ///
+    /// Another thread panicked while it had the mutex.
+    pub fn wait_while<'a, T>(
+        &self,
+        guard: MutexGuard<'a, T>,
+        mut condition: impl FnMut(&mut T) -> bool,
+    ) -> LockResult<MutexGuard<'a, T>> {
+        let mut guard = guard;
+        while condition(&mut guard) {
+            guard = self.wait(guard)?;
+        }
+        Ok(guard)
     }
 
     /// Wakes one of the threads that wait.
@@ -181,6 +271,12 @@ impl<T> DerefMut for MutexGuard<'_, T> {
 impl<T: Default> Default for Mutex<T> {
     fn default() -> Mutex<T> {
         Mutex::new(T::default())
+    }
+}
+
+impl<T> From<T> for Mutex<T> {
+    fn from(data: T) -> Mutex<T> {
+        Mutex::new(data)
     }
 }
 

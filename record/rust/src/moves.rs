@@ -124,6 +124,18 @@ impl Step {
         Step { left: Some(left), ..self }
     }
 
+    /// The same, with values as a counter of so many bits has them.
+    #[cfg(feature = "record")]
+    pub(crate) fn in_bits(self, bits: u32) -> Step {
+        let of_counter = |value| value & (u64::MAX >> (64 - bits));
+        match self.word {
+            Word::NextTicket | Word::NowServing => {
+                Step { found: self.found.map(of_counter), left: self.left.map(of_counter), ..self }
+            }
+            Word::Tail | Word::Next | Word::Locked => self,
+        }
+    }
+
     #[cfg(feature = "record")]
     pub(crate) const fn kind(&self) -> Kind {
         match self.operation {

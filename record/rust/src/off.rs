@@ -66,6 +66,9 @@ impl Turn {
     pub(crate) fn is_recorded(&self) -> bool {
         false
     }
+
+    #[inline]
+    pub(crate) fn note(&self, _step: Step) {}
 }
 
 /// A call of the lock.
@@ -99,6 +102,11 @@ pub fn own_record<T: ?Sized>(_record: &T) {}
 
 #[inline]
 pub(crate) fn turn(_may_be_step: bool) -> Turn {
+    Turn
+}
+
+#[inline]
+pub(crate) fn turn_of_atomic(_may_be_step: bool) -> Turn {
     Turn
 }
 

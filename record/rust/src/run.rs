@@ -53,37 +53,37 @@ impl Shared {
 /// What is asked of a run before it is opened.
 #[derive(Clone, Debug)]
 #[must_use = "a run is opened by `open`"]
-pub struct Setup {
+pub struct RunBuilder {
     header: Header,
     mode: Mode,
     room: usize,
     spurious: usize,
 }
 
-impl Setup {
+impl RunBuilder {
     /// How the threads are scheduled; [`Mode::Free`] if this is not said.
-    pub fn mode(self, mode: Mode) -> Setup {
-        Setup { mode, ..self }
+    pub fn mode(self, mode: Mode) -> RunBuilder {
+        RunBuilder { mode, ..self }
     }
 
     /// The width of the lock's counters; 64, if nothing wraps around.
-    pub fn bits(self, bits: u32) -> Setup {
-        Setup { header: Header { bits, ..self.header }, ..self }
+    pub fn bits(self, bits: u32) -> RunBuilder {
+        RunBuilder { header: Header { bits, ..self.header }, ..self }
     }
 
     /// How many moves each log has room for; 65,536 if this is not said. A full log counts what it
     /// drops. A round of a ticket lock takes at most 6 moves, and two more for each thread before
     /// it in the queue; of an MCS lock 15; of a read-write lock 11. With [`Mode::Follow`] each poll
     /// of the schedule takes one.
-    pub fn room(self, moves: usize) -> Setup {
-        Setup { room: moves, ..self }
+    pub fn room(self, moves: usize) -> RunBuilder {
+        RunBuilder { room: moves, ..self }
     }
 
     /// By [`Mode::Seed`] and [`Mode::Pct`]: one turn in so many wakes a thread that waits for a
     /// notification, though nobody gave it. None does if that is 0, or is not said. A thread that
     /// does not look again after its wait is then seen.
-    pub fn spurious(self, one_in: usize) -> Setup {
-        Setup { spurious: one_in, ..self }
+    pub fn spurious(self, one_in: usize) -> RunBuilder {
+        RunBuilder { spurious: one_in, ..self }
     }
 
     /// Opens the run, with memory for all of its logs.
@@ -91,7 +91,7 @@ impl Setup {
     /// # Errors
     ///
     /// The threads or the bits are such as no run has, the schedule that is to be followed is of
-    /// another lock, the mode has no seed for [wakes](Setup::spurious), or memory was refused.
+    /// another lock, the mode has no seed for [wakes](RunBuilder::spurious), or memory was refused.
     pub fn open(self) -> Result<Run, Error> {
         let (rule, chooser) = match &self.mode {
             Mode::Free | Mode::Noise(_) => (Rule::AtOnce, Chooser::Seed(Draw::new(0))),
@@ -148,7 +148,7 @@ impl Setup {
     }
 
     fn open_by(self, rule: Rule, chooser: Chooser, number: u64) -> Result<Run, Error> {
-        let Setup { header, mode, room, spurious } = self;
+        let RunBuilder { header, mode, room, spurious } = self;
         let Header { threads, .. } = header.checked()?;
         let refused = |_| Error::OutOfMemory { logs: threads, room };
         let polls = if rule == Rule::ByLines { u32::MAX } else { POLLS_WRITTEN };
@@ -168,8 +168,10 @@ impl Setup {
 pub enum Ending {
     /// All threads came to their end.
     Complete,
-    /// These threads did not: the run hung, its time was over, or the schedule that it followed
-    /// ends in the middle of their calls. Their logs end there.
+    /// These threads did not, and nobody got on: there was nothing but failed polls and waits.
+    Hangs(Vec<usize>),
+    /// These threads did not: its time was over, though it may only have been slow; or the schedule
+    /// that it followed ends in the middle of their calls. Their logs end there.
     Stopped(Vec<usize>),
     /// The lock left the schedule that the run followed. The move that it made is the last one of
     /// the run.
@@ -199,9 +201,9 @@ pub struct Run(pub(crate) Arc<Shared>);
 
 impl Run {
     /// A run of this lock by so many threads, 1 to 64.
-    pub fn of(lock: Lock, threads: usize) -> Setup {
+    pub fn of(lock: Lock, threads: usize) -> RunBuilder {
         let header = Header { lock, threads, bits: MOST_BITS };
-        Setup { header, mode: Mode::Free, room: 1 << 16, spurious: 0 }
+        RunBuilder { header, mode: Mode::Free, room: 1 << 16, spurious: 0 }
     }
 
     /// Starts the run's threads, does the work on each, and waits until all have ended. If they
@@ -240,6 +242,7 @@ impl Run {
         Ok(match stage.departure() {
             Some(departure) => Ending::Departed(departure.clone()),
             None if missing.is_empty() => Ending::Complete,
+            None if stage.has_hung() => Ending::Hangs(missing),
             None => Ending::Stopped(missing),
         })
     }
@@ -277,8 +280,7 @@ impl Run {
             _ => None,
         };
         let tape = tape.ok_or(Error::ThreadTaken(thread))?;
-        let shared = Arc::clone(&self.0);
-        current::install(Recorder::of(shared, thread, tape, noise));
+        current::install(Recorder::of(Arc::clone(&self.0), thread, tape, noise));
         let shared = Arc::clone(&self.0);
         let (next_line, of_this_thread) = (Cell::new(0), PhantomData);
         let mut log = Log { shared, thread, next_line, has_begun: false, of_this_thread };
@@ -339,7 +341,6 @@ pub struct Log {
     /// At which line of the schedule the next call is looked for.
     next_line: Cell<usize>,
     has_begun: bool,
-    /// A log stays on its thread.
     of_this_thread: PhantomData<*const ()>,
 }
 
@@ -389,11 +390,10 @@ impl Log {
 impl Drop for Log {
     fn drop(&mut self) {
         let ended = self.has_begun && !thread::panicking();
-        if let Some(Recorder { mut tape, .. }) = current::remove() {
+        let own = current::remove().zip(self.shared.tape(self.thread));
+        if let Some((Recorder { mut tape, .. }, mut place)) = own {
             tape.ended = ended;
-            if let Some(mut place) = self.shared.tape(self.thread) {
-                *place = Some(tape);
-            }
+            *place = Some(tape);
         }
         self.shared.turns.leave(self.thread, ended);
     }

@@ -126,6 +126,11 @@ impl Stage {
         }
     }
 
+    /// Whether nobody got on, by turns that no schedule gave.
+    pub(crate) fn has_hung(&self) -> bool {
+        self.has_hung
+    }
+
     /// Whether the run goes on, though its last turns were in vain.
     fn is_patient(&self) -> bool {
         self.in_vain < self.chooser.patience()

@@ -1,8 +1,13 @@
-//! The log of one thread in memory.
+//! The log of one thread in memory, and where in the source each of its moves was made.
 // SPDX-License-Identifier: Apache-2.0 OR MIT
+
+use std::panic::Location;
 
 use crate::error::Error;
 use crate::moves::Move;
+
+/// Where a move was made.
+pub(crate) type Source = &'static Location<'static>;
 
 /// How often a poll that finds the same is written, one after another. One that should have ended
 /// the waiting is seen by the second: the lock's machine has no such step any more.
@@ -12,6 +17,7 @@ pub(crate) const POLLS_WRITTEN: u32 = 2;
 #[derive(Debug)]
 pub(crate) struct Tape {
     moves: Vec<Move>,
+    sources: Vec<Source>,
     room: usize,
     dropped: u64,
     last: Option<Move>,
@@ -37,15 +43,13 @@ pub(crate) enum Added {
 impl Tape {
     /// A tape with memory for so many moves, all of which was touched, and so many equal polls.
     pub(crate) fn with_room(room: usize, polls_written: u32) -> Result<Tape, Error> {
-        let mut moves = Vec::new();
-        let refused = Error::OutOfMemory { logs: 1, room };
-        moves.try_reserve_exact(room).map_err(|_| refused)?;
-        moves.resize(room, Move::Call(crate::moves::Call::Acquire));
-        moves.clear();
-        Ok(Tape { moves, room, dropped: 0, last: None, polls: 0, polls_written, ended: false })
+        let moves = touched(room, Move::Call(crate::moves::Call::Acquire))?;
+        let sources = touched(room, Location::caller())?;
+        let (last, dropped, polls, ended) = (None, 0, 0, false);
+        Ok(Tape { moves, sources, room, dropped, last, polls, polls_written, ended })
     }
 
-    pub(crate) fn add(&mut self, made: Move) -> Added {
+    pub(crate) fn add(&mut self, made: Move, source: Source) -> Added {
         let repeats = self.last.map_or(false, |last| made.repeats(&last));
         self.polls = if repeats { self.polls + 1 } else { 1 };
         self.last = Some(made);
@@ -58,11 +62,18 @@ impl Tape {
             return Added::Dropped;
         }
         self.moves.push(made);
+        self.sources.push(source);
         if repeats {
             Added::Repeated
         } else {
             Added::Written
         }
+    }
+
+    /// A move of the log, and where it was made.
+    #[cfg(feature = "check")]
+    pub(crate) fn at(&self, index: usize) -> Option<(&Move, Source)> {
+        Some((self.moves.get(index)?, *self.sources.get(index)?))
     }
 
     pub(crate) fn moves(&self) -> &[Move] {
@@ -72,4 +83,13 @@ impl Tape {
     pub(crate) fn dropped(&self) -> u64 {
         self.dropped
     }
+}
+
+/// An empty list with memory for so many of these, all of which was touched.
+fn touched<T: Clone>(room: usize, filled: T) -> Result<Vec<T>, Error> {
+    let mut list = Vec::new();
+    list.try_reserve_exact(room).map_err(|_| Error::OutOfMemory { logs: 1, room })?;
+    list.resize(room, filled);
+    list.clear();
+    Ok(list)
 }

@@ -99,11 +99,11 @@ fn who_is_woken_is_explored() -> Result<(), Error> {
         let (waiting, changed) = (Mutex::new(0), Condvar::new());
         let ending = run?.threads(LIMIT, |log| {
             if let Some(own) = woken.get(log.thread()) {
-                let mut state = waiting.lock();
+                let mut state = waiting.lock().unwrap();
                 *state += 1;
-                drop(changed.wait(state));
+                drop(changed.wait(state).unwrap());
                 own.fetch_add(1, SeqCst);
-            } else if *waiting.lock() == 2 {
+            } else if *waiting.lock().unwrap() == 2 {
                 changed.notify_one();
             }
         })?;

@@ -9,8 +9,8 @@ use std::thread;
 use std::time::Duration;
 
 use lockreplay_record::{
-    call, operation, switch, AtomicBool, AtomicU8, Call, Condvar, Ending, Error, Lock, Log, Mode,
-    Mutex, Outcome, Run, Schedule,
+    call, note, operation, switch, AtomicBool, AtomicU8, Call, Condvar, Ending, Error, Lock, Log,
+    Mode, Mutex, Outcome, Run, Schedule, Step, Word,
 };
 use ticket::TicketLock;
 
@@ -145,7 +145,7 @@ fn an_operation_of_two_steps_is_not_parted() -> Result<(), Error> {
             let _call = call(due);
             operation(|| {
                 lock.next_ticket.fetch_add(1, SeqCst);
-                lock.now_serving.load(SeqCst);
+                note(Step::read(Word::NowServing, 0));
             });
         }
     };
@@ -162,11 +162,11 @@ fn a_section_is_a_turn() -> Result<(), Error> {
     let (state, changed, other) = (Mutex::new(false), Condvar::new(), AtomicU8::new(0));
     let make = |due: Call| {
         let _call = call(due);
-        let mut writer = state.lock();
+        let mut writer = state.lock().unwrap();
         while due == Call::WriteLock && *writer {
             writer.note(Outcome::Waits);
             other.load(SeqCst);
-            writer = changed.wait(writer);
+            writer = changed.wait(writer).unwrap();
         }
         *writer = due == Call::WriteLock;
         writer.note(if *writer { Outcome::Entered } else { Outcome::Left });
@@ -209,7 +209,7 @@ fn a_text_that_is_no_schedule_is_refused() {
 
 #[test]
 fn a_schedule_of_another_run_is_refused() -> Result<(), Error> {
-    let open = |setup: lockreplay_record::Setup, text: &str| -> Result<String, Error> {
+    let open = |setup: lockreplay_record::RunBuilder, text: &str| -> Result<String, Error> {
         let opened = setup.mode(Mode::Follow(text.parse()?)).open();
         Ok(opened.map_or_else(|error| error.to_string(), |_| String::new()))
     };

@@ -19,6 +19,14 @@ const LIMIT: Duration = Duration::from_secs(60);
 /// On a loaded machine too a thread with nothing to do has ended by then.
 const LONG: Duration = Duration::from_secs(2);
 
+/// How a run without progress ends: by turns it is known that it hangs, else its time is over.
+fn cut_short(mode: &Mode, threads: Vec<usize>) -> Ending {
+    match mode {
+        Mode::Seed(_) => Ending::Hangs(threads),
+        _ => Ending::Stopped(threads),
+    }
+}
+
 fn round(lock: &TicketLock) {
     lock.make(Call::Acquire);
     lock.make(Call::Release);
@@ -169,10 +177,40 @@ fn nobody_comes_between_the_parts_of_an_operation() -> Result<(), Error> {
         let count = AtomicU8::new(0);
         let run = Run::of(Lock::Ticket, 2).bits(8).mode(mode).open()?;
         run.threads(LIMIT, |_| {
-            (0..10).for_each(|_| operation(|| count.store(count.load(SeqCst) + 1, SeqCst)));
+            (0..10).for_each(|_| {
+                operation(|| {
+                    let found = count.peek(SeqCst);
+                    switch();
+                    count.store(found + 1, SeqCst);
+                });
+            });
         })?;
         assert_eq!(count.load(SeqCst), 20);
     }
+    Ok(())
+}
+
+/// Between the two another thread can come, so a note of them as one would be wrong.
+#[test]
+#[should_panic(expected = "two operations on atomics in one `operation`")]
+fn two_operations_are_not_one() {
+    let count = AtomicU8::new(0);
+    let run = Run::of(Lock::Ticket, 1).mode(Mode::Seed(1)).open().unwrap();
+    let twice = |_: &_| operation(|| count.store(count.load(SeqCst) + 1, SeqCst));
+    run.threads(LIMIT, twice).unwrap();
+}
+
+/// A run that only takes its time was stopped, and does not hang.
+#[test]
+fn a_slow_run_does_not_hang() -> Result<(), Error> {
+    let (lock, is_late) = (TicketLock::new(), AtomicBool::new(false));
+    let run = Run::of(Lock::Ticket, 2).bits(8).mode(Mode::Seed(1)).open()?;
+    let ending = run.threads(Duration::from_millis(100), |_| {
+        while !is_late.peek(SeqCst) {
+            round(&lock);
+        }
+    })?;
+    assert_eq!(ending, Ending::Stopped(vec![0, 1]));
     Ok(())
 }
 
@@ -188,7 +226,7 @@ fn threads_that_poll_for_ever_are_stopped() -> Result<(), Error> {
                 thread::yield_now();
             }
         })?;
-        assert_eq!(ending, Ending::Stopped(vec![0, 2]), "{mode:?}");
+        assert_eq!(ending, cut_short(&mode, vec![0, 2]), "{mode:?}");
     }
     assert!(begun.elapsed() < LIMIT);
     Ok(())
@@ -203,17 +241,17 @@ fn a_missing_notification_is_seen() -> Result<(), Error> {
         let run = Run::of(Lock::RwSimple, 2).mode(mode.clone()).open()?;
         let is_asleep = AtomicBool::new(false);
         let ending = run.threads(limit, |log| {
-            let mut state = open.lock();
+            let mut state = open.lock().unwrap();
             if log.thread() == 0 {
                 is_asleep.store(true, SeqCst);
                 while !*state {
-                    state = changed.wait(state);
+                    state = changed.wait(state).unwrap();
                 }
             } else if is_asleep.peek(SeqCst) {
                 *state = true;
             }
         })?;
-        assert_eq!(ending, Ending::Stopped(vec![0]), "{mode:?}");
+        assert_eq!(ending, cut_short(&mode, vec![0]), "{mode:?}");
     }
     Ok(())
 }
@@ -228,12 +266,12 @@ fn one_or_all_are_woken() -> Result<(), Error> {
             let run = Run::of(Lock::RwSimple, 3).mode(Mode::Seed(seed)).open()?;
             run.threads(LIMIT, |log| {
                 if log.thread() < 2 {
-                    let mut state = waiting.lock();
+                    let mut state = waiting.lock().unwrap();
                     *state += 1;
-                    drop(changed.wait(state));
+                    drop(changed.wait(state).unwrap());
                     woken.fetch_add(1, SeqCst);
                 } else {
-                    while *waiting.lock() < 2 {}
+                    while *waiting.lock().unwrap() < 2 {}
                     if all {
                         changed.notify_all()
                     } else {
@@ -256,14 +294,14 @@ fn waits_once(seed: u64, spurious: usize) -> Result<(bool, String), Error> {
     let ending = run.threads(LIMIT, |log| {
         if log.thread() == 1 {
             (0..20).for_each(|_| switch());
-            *open.lock() = true;
+            *open.lock().unwrap() = true;
             changed.notify_all();
             return;
         }
-        let mut state = open.lock();
+        let mut state = open.lock().unwrap();
         if !*state {
             state.note(Outcome::Waits);
-            state = changed.wait(state);
+            state = changed.wait(state).unwrap();
         }
         has_seen.store(*state, SeqCst);
     })?;
@@ -289,10 +327,11 @@ fn a_wait_without_a_second_look_is_seen_by_a_wake_for_nothing() -> Result<(), Er
 /// With enough wakes for nothing nobody has to notify. Without them the run hangs.
 #[test]
 fn a_wake_for_nothing_takes_the_place_of_a_notification() -> Result<(), Error> {
-    for (spurious, due) in [(0, Ending::Stopped(vec![0, 1])), (1, Ending::Complete)] {
+    for (spurious, due) in [(0, Ending::Hangs(vec![0, 1])), (1, Ending::Complete)] {
         let (state, changed) = (Mutex::new(()), Condvar::new());
         let setup = Run::of(Lock::RwSimple, 2).mode(Mode::Seed(1)).spurious(spurious);
-        let ending = setup.open()?.threads(LIMIT, |_| drop(changed.wait(state.lock())))?;
+        let waits = |_: &_| drop(changed.wait(state.lock().unwrap()).unwrap());
+        let ending = setup.open()?.threads(LIMIT, waits)?;
         assert_eq!(ending, due);
     }
     Ok(())

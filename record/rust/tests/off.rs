@@ -35,6 +35,6 @@ fn operations_are_made() {
     operation(|| word.store(9, SeqCst));
     assert_eq!((word.load(SeqCst), word.peek(SeqCst)), (9, 9));
     let state = Mutex::new(1);
-    state.lock().note(Outcome::Entered);
-    assert_eq!(*state.lock(), 1);
+    state.lock().unwrap().note(Outcome::Entered);
+    assert_eq!(*state.lock().unwrap(), 1);
 }

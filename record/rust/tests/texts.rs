@@ -10,13 +10,13 @@ use std::time::Duration;
 
 use lockreplay_record::{
     call, note, own_record, AtomicBool, AtomicPtr, AtomicU8, AtomicUsize, Call, Error, Lock, Mode,
-    Mutex, Outcome, Run, Setup, Step, Word,
+    Mutex, Outcome, Run, RunBuilder, Step, Word,
 };
 
 const LIMIT: Duration = Duration::from_secs(60);
 
 /// The moves of a run of one thread that does this.
-fn moves(setup: Setup, work: impl Fn() + Sync) -> Result<Vec<String>, Error> {
+fn moves(setup: RunBuilder, work: impl Fn() + Sync) -> Result<Vec<String>, Error> {
     let run = setup.mode(Mode::Ordered).open()?;
     run.threads(LIMIT, |_| work())?;
     let lines = run.trace()?;
@@ -80,7 +80,7 @@ fn each_call_and_outcome_has_its_word() -> Result<(), Error> {
     for (made, outcome, call_due, section_due) in rows {
         let got = moves(Run::of(Lock::RwFifo, 1), || {
             let _call = call(made);
-            Mutex::new(()).lock().note(outcome);
+            Mutex::new(()).lock().unwrap().note(outcome);
         })?;
         assert_eq!(got, [call_due, section_due]);
     }
@@ -109,8 +109,8 @@ fn a_poll_is_written_twice() -> Result<(), Error> {
     assert_eq!(got, [read, read, "write now_serving left 8", "read now_serving found 8"]);
     let state = Mutex::new(());
     let got = moves(Run::of(Lock::RwSimple, 1), || {
-        (0..4).for_each(|_| state.lock().note(Outcome::Waits));
-        state.lock().note(Outcome::Entered);
+        (0..4).for_each(|_| state.lock().unwrap().note(Outcome::Waits));
+        state.lock().unwrap().note(Outcome::Entered);
     })?;
     assert_eq!(got, ["section 1 waits", "section 2 waits", "section 5 entered"]);
     Ok(())
@@ -230,7 +230,7 @@ fn read_write_round() {
     let state = Mutex::new(());
     let sections = |made, outcomes: &[Outcome]| {
         let _call = call(made);
-        outcomes.iter().for_each(|&outcome| state.lock().note(outcome));
+        outcomes.iter().for_each(|&outcome| state.lock().unwrap().note(outcome));
     };
     let waits = [Outcome::Waits; 5];
     let parts = [&waits[..], &[Outcome::Moved], &waits, &[Outcome::Entered]];

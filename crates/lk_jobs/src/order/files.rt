@@ -1,19 +1,18 @@
 //! An order as text: its trace, and schedules that are cut where nobody is in a call and nobody
 //! holds.
 
-use crate::course::{Course, Fate};
 use crate::run::put_header;
-use crate::texts::{put_line, put_move};
-use crate::waiting::write_waiting;
 use lk_order::{Order, Piece, Pieces};
-use lk_text::{Failure, Value, fill};
+use lk_text::course::{Course, Fate};
+use lk_text::phrases::{put_line, put_move};
+use lk_text::{Failure, Text, Value};
 use std::alloc::{AllocError, Global};
 use std::fs;
 use std::io::{ErrorKind, Write};
 use std::rt::Files;
 
 // Writes which threads of a run that hangs have ended, as a recorder writes it.
-fn put_ends(text: &mut String, threads: u8, course: &Course) -> Result<(), AllocError> {
+fn put_ends(text: &mut Text, threads: u8, course: &Course) {
     for thread in 0..threads {
         let is_over = course.fate(thread) == Fate::Ended;
         let end = if is_over { "ended" } else { "not ended" };
@@ -21,9 +20,8 @@ fn put_ends(text: &mut String, threads: u8, course: &Course) -> Result<(), Alloc
             ("thread", Value::Number(u64::from(thread))),
             ("end", Value::Text(end)),
         ];
-        fill(text, "# thread {thread} has {end}\n", &places)?;
+        text.fill("# thread {thread} has {end}\n", &places);
     }
-    Ok(())
 }
 
 /// Writes the trace of an order. If the run hangs, `hung` says how far its threads came.
@@ -33,34 +31,34 @@ pub fn write_trace<O: Write>(
     hung: Option<&Course>,
     output: &mut O,
 ) -> Result<(), Failure> {
-    let mut text = String::new(alloc);
-    put_header(&mut text, order.header())?;
+    let mut text = Text::new(alloc);
+    put_header(&mut text, order.header());
     for k in 0..order.len() {
         if let Some(line) = order.line(k) {
-            put_line(&mut text, &line)?;
-            text.push('\n')?;
+            put_line(&mut text, &line);
+            text.put("\n");
         }
-        write_waiting(&mut text, output)?;
+        text.write_waiting(output)?;
     }
     if let Some(course) = hung {
-        put_ends(&mut text, order.header().threads(), course)?;
+        put_ends(&mut text, order.header().threads(), course);
     }
-    output.write_all(text.as_bytes())?;
+    text.write_to(output)?;
     output.flush()?;
     Ok(())
 }
 
 // A piece of an order as a schedule.
-fn schedule_of(alloc: Global, order: &Order, piece: Piece) -> Result<String, AllocError> {
-    let mut text = String::new(alloc);
-    put_header(&mut text, order.header())?;
+fn schedule_of(alloc: Global, order: &Order, piece: Piece) -> Text {
+    let mut text = Text::new(alloc);
+    put_header(&mut text, order.header());
     for k in piece.first..piece.first.saturating_add(piece.moves) {
         if let Some(line) = order.line(k) {
-            put_move(&mut text, line.thread, line.action)?;
-            text.push('\n')?;
+            put_move(&mut text, line.thread, line.action);
+            text.put("\n");
         }
     }
-    Ok(text)
+    text
 }
 
 fn schedule_path(alloc: Global, folder: &str, number: usize) -> Result<String, AllocError> {
@@ -98,9 +96,9 @@ pub fn write_schedules<R: Files>(
             remove_schedules(rt, alloc, folder, number)?;
             break;
         };
-        let text = schedule_of(alloc, order, piece)?;
+        let text = schedule_of(alloc, order, piece);
         let path = schedule_path(alloc, folder, number)?;
-        fs::write(rt, path.as_str(), &text)?;
+        fs::write(rt, path.as_str(), text.as_str()?)?;
     }
     Ok(pieces.left_out())
 }

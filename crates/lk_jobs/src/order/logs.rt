@@ -7,9 +7,9 @@ ghost use Rattle.lk_jobs.specs.Orders.{IsBad, IsInFile, IsNoLog, IsText};
 ghost use Rattle.lk_jobs.specs.invariants.{IsBadBeside, IsKept, IsOwn};
 
 use super::search::BadLog;
-use crate::course::said_of;
-use crate::report::Notes;
 use lk_order::{Log, LogFault, LogReader, MOST_THREADS, Shelf, Unfit};
+use lk_text::course::said_of;
+use lk_text::report::Notes;
 use lk_text::{Line, Lines, Value};
 use std::alloc::{AllocError, Global};
 use std::fmt::InlineText;
@@ -81,18 +81,10 @@ fn read_input<I: Read + Drop>(
 const SECOND: &str = "a second log of thread {thread}, beside {other}";
 
 // Says this text of a line.
-fn put_shown(
-    messages: &mut Notes,
-    name: &str,
-    number: u64,
-    said: InlineText<256>,
-) -> Result<(), AllocError> {
-    messages.say_in(
-        name,
-        number,
-        "{text}",
-        &[("text", Value::Text(said.as_str()))],
-    )
+fn put_shown(messages: &mut Notes, name: &str, number: u64, said: InlineText<256>) {
+    let mut text = messages.text();
+    text.put(said.as_str());
+    messages.put_in(name, number, text);
 }
 
 // Reads the log in the file of this name. What is wrong with it is said, and is the answer.
@@ -113,11 +105,11 @@ fn read_log<R: Files>(
         Ok(Ok(read)) => Ok(Ok(read)),
         Ok(Err(LogFault::OutOfMemory)) => Err(AllocError),
         Ok(Err(fault)) => {
-            put_shown(messages, name, number, InlineText::of(fault))?;
+            put_shown(messages, name, number, InlineText::of(fault));
             Ok(Err(BadLog::Fault(fault)))
         }
         Err(error) => {
-            put_shown(messages, name, 0, InlineText::of(error))?;
+            put_shown(messages, name, 0, InlineText::of(error));
             Ok(Err(BadLog::Unread))
         }
     }
@@ -174,9 +166,9 @@ impl<'a> Taken<'a> {
                 ("thread", Value::Number(u64::from(thread))),
                 ("other", Value::Text(other)),
             ];
-            messages.say_in(name, 0, SECOND, &places)?;
+            messages.say_in(name, 0, SECOND, &places);
         } else {
-            put_shown(messages, name, 0, InlineText::of(bad))?;
+            put_shown(messages, name, 0, InlineText::of(bad));
         }
         Ok(Some(bad))
     }
@@ -215,7 +207,7 @@ pub fn take_logs<'a, R: Files>(
     }
     if let Some(thread) = taken.shelf.missing() {
         let bad = BadLog::Missing(thread);
-        put_shown(messages, "", 0, InlineText::of(bad))?;
+        put_shown(messages, "", 0, InlineText::of(bad));
         return Ok(Err(bad));
     }
     Ok(Ok(taken))

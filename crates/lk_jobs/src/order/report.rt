@@ -1,19 +1,19 @@
 //! What is said of an order that does not reach the end of the logs, or whose run hangs. It is
 //! written as lines on standard error, or on standard output as TAP or JSON.
 
-use crate::blame::{HANGS, put_waits};
-use crate::course::Course;
-use crate::differences::{details_of, put_refused};
-use crate::formats::{
-    BARE, Format, NOTE, PLAIN, WARNING, put_comments, put_details, put_note_fields, put_notes,
-};
-use crate::report::{Code, Details, Ending, Notes};
-use crate::texts::{called, put_line, put_standing};
 use lk_locks::{LockKind, Move, StepKind};
 use lk_order::{Log, Order, Stuck};
-use lk_text::{Value, fill, json, put_plan, put_point};
+use lk_text::blame::{HANGS, put_waits};
+use lk_text::course::Course;
+use lk_text::differences::{details_of, put_refused};
+use lk_text::formats::{
+    BARE, Format, NOTE, PLAIN, WARNING, put_comments, put_details, put_note_fields, put_notes,
+};
+use lk_text::phrases::{called, put_line, put_standing};
+use lk_text::report::{Code, Details, Ending, Notes};
+use lk_text::{Text, Value, json, put_plan, put_point};
 use lk_trace::{Difference, Seen, TraceLine};
-use std::alloc::{AllocError, Global};
+use std::alloc::Global;
 
 /// What is said of an order. A text of no file is the program's own.
 #[derive(Drop)]
@@ -50,65 +50,58 @@ impl OrderReport {
         ending: Ending,
         format: Format,
         folder: &str,
-        output: &mut String,
-        errors: &mut String,
-    ) -> Result<(), AllocError> {
+        output: &mut Text,
+        errors: &mut Text,
+    ) {
         match format {
             Format::Text => {
-                put_notes(errors, OWN_NAME, &self.messages, PLAIN, BARE)?;
-                put_notes(errors, OWN_NAME, &self.warnings, PLAIN, WARNING)?;
-                put_notes(errors, OWN_NAME, &self.notes, PLAIN, NOTE)
+                put_notes(errors, OWN_NAME, &self.messages, PLAIN, BARE);
+                put_notes(errors, OWN_NAME, &self.warnings, PLAIN, WARNING);
+                put_notes(errors, OWN_NAME, &self.notes, PLAIN, NOTE);
             }
             Format::Tap => {
-                put_plan(output, 1)?;
-                put_point(output, 1, ending == Ending::Accepted, folder)?;
-                put_comments(output, &self.messages)?;
-                put_comments(output, &self.warnings)?;
-                put_comments(output, &self.notes)
+                put_plan(output, 1);
+                put_point(output, 1, ending == Ending::Accepted, folder);
+                put_comments(output, &self.messages);
+                put_comments(output, &self.warnings);
+                put_comments(output, &self.notes);
             }
             Format::Json => self.put_json(ending, folder, output),
         }
     }
 
     // Writes it as an object of JSON.
-    fn put_json(
-        &self,
-        ending: Ending,
-        folder: &str,
-        output: &mut String,
-    ) -> Result<(), AllocError> {
-        output.push('{')?;
-        json::string(output, "folder", folder)?;
-        json::string(output, "ending", ending.text())?;
-        json::number(output, "moves", self.placed as u64)?;
+    fn put_json(&self, ending: Ending, folder: &str, output: &mut Text) {
+        output.put("{");
+        json::string(output, "folder", folder);
+        json::string(output, "ending", ending.text());
+        json::number(output, "moves", self.placed as u64);
         if let Some(details) = &self.details {
-            put_details(output, details)?;
+            put_details(output, details);
         }
-        put_note_fields(output, "messages", &self.messages)?;
-        put_note_fields(output, "warnings", &self.warnings)?;
-        put_note_fields(output, "notes", &self.notes)?;
-        output.push_str("}\n")
+        put_note_fields(output, "messages", &self.messages);
+        put_note_fields(output, "warnings", &self.warnings);
+        put_note_fields(output, "notes", &self.notes);
+        output.put("}\n");
     }
 }
 
+const PLACED: &str = "{placed} steps placed; ";
+
 // Says how far an order came, of a line of a file.
-fn put_placed(notes: &mut Notes, file: &str, line: u64, order: &Order) -> Result<(), AllocError> {
+fn put_placed(notes: &mut Notes, file: &str, line: u64, order: &Order) {
     let mut said = notes.text();
-    fill(
-        &mut said,
-        "{placed} steps placed; ",
-        &[("placed", Value::Number(order.len() as u64))],
-    )?;
-    put_standing(&mut said, order.checker().lock())?;
-    notes.put_in(file, line, said)
+    said.fill(PLACED, &[("placed", Value::Number(order.len() as u64))]);
+    put_standing(&mut said, order.checker().lock());
+    notes.put_in(file, line, said);
 }
 
 // Says why a thread's next step cannot be placed.
-fn put_why(text: &mut String, order: &Order, line: TraceLine) -> Result<(), AllocError> {
+fn put_why(text: &mut Text, order: &Order, line: TraceLine) {
     let checker = order.checker();
     match checker.difference(line) {
         Some(difference) => put_refused(text, checker.lock(), &[], line, difference),
-        None => text.push_str("a step of another thread has to come before"),
+        None => text.put("a step of another thread has to come before"),
     }
 }
 
@@ -137,18 +130,17 @@ fn missing_in(kind: LockKind, line: TraceLine) -> Option<&'static str> {
 const LACKS: &str = "' has no {part}, which an order needs";
 
 // Says which needed part is missing first in a log, if one is.
-fn put_missing(report: &mut OrderReport, log: &Log, name: &str) -> Result<(), AllocError> {
+fn put_missing(report: &mut OrderReport, log: &Log, name: &str) {
     for (at, line) in log.moves().iter().enumerate() {
         if let Some(part) = missing_in(log.header().kind(), *line) {
             let mut said = report.notes.text();
-            said.push('\'')?;
-            put_line(&mut said, line)?;
-            fill(&mut said, LACKS, &[("part", Value::Text(part))])?;
+            said.put("'");
+            put_line(&mut said, line);
+            said.fill(LACKS, &[("part", Value::Text(part))]);
             let number = u64::from(log.line_of(at).unwrap_or(0));
             return report.notes.put_in(name, number, said);
         }
     }
-    Ok(())
 }
 
 // The line of its file in which a thread's next step is.
@@ -165,75 +157,61 @@ fn put_step(
     (name, number): (&str, u64),
     line: TraceLine,
     difference: Option<Difference>,
-) -> Result<(), AllocError> {
+) {
     let mut said = report.messages.text();
     if let Some(difference) = difference {
         let lock = order.checker().lock();
         report.details = Some(details_of(lock, &Course::new(), line, difference));
     } else {
-        said.push('\'')?;
-        put_line(&mut said, &line)?;
-        said.push_str("' ")?;
+        said.put("'");
+        put_line(&mut said, &line);
+        said.put("' ");
     }
-    said.push_str("cannot be placed: ")?;
-    put_why(&mut said, order, line)?;
-    report.messages.put_in(name, number, said)
+    said.put("cannot be placed: ");
+    put_why(&mut said, order, line);
+    report.messages.put_in(name, number, said);
 }
 
 // Says what a thread would do next, and why that is not placed.
-fn put_next(
-    notes: &mut Notes,
-    order: &Order,
-    file: &str,
-    line: TraceLine,
-) -> Result<(), AllocError> {
+fn put_next(notes: &mut Notes, order: &Order, file: &str, line: TraceLine) {
     let mut said = notes.text();
-    fill(
-        &mut said,
+    said.fill(
         "{who}'s next step is '",
         &[("who", called(line.thread, &[]))],
-    )?;
-    put_line(&mut said, &line)?;
-    said.push_str("': ")?;
-    put_why(&mut said, order, line)?;
-    notes.put_in(file, next_number(order, line.thread), said)
+    );
+    put_line(&mut said, &line);
+    said.put("': ");
+    put_why(&mut said, order, line);
+    notes.put_in(file, next_number(order, line.thread), said);
 }
 
 /// Says which step cannot be placed, and why, with the line of the thread's file that it is in; and
 /// what each other thread would do next.
-pub fn put_stuck(
-    report: &mut OrderReport,
-    order: &Order,
-    names: &[&str],
-    stuck: Stuck,
-) -> Result<(), AllocError> {
+pub fn put_stuck(report: &mut OrderReport, order: &Order, names: &[&str], stuck: Stuck) {
     let name = names.get(stuck.thread as usize).copied().unwrap_or("");
     let number = next_number(order, stuck.thread);
     if let Some(line) = order.next(stuck.thread) {
-        put_step(report, order, (name, number), line, stuck.difference)?;
+        put_step(report, order, (name, number), line, stuck.difference);
     }
     for thread in 0..order.header().threads() {
         let file = names.get(thread as usize).copied().unwrap_or("");
         match order.next(thread) {
             Some(line) if thread != stuck.thread => {
-                put_next(&mut report.notes, order, file, line)?;
+                put_next(&mut report.notes, order, file, line);
             }
             _ => {}
         }
         if let Some(log) = order.logs().get(thread as usize) {
-            put_missing(report, log, file)?;
+            put_missing(report, log, file);
         }
     }
-    put_placed(&mut report.notes, name, number, order)
+    put_placed(&mut report.notes, name, number, order);
 }
 
+const CUT_TO: &str = "ordered up to there: {placed} steps";
+
 /// Says that an order ends where a log was cut short. `open` has the threads that have not ended.
-pub fn put_cut(
-    report: &mut OrderReport,
-    order: &Order,
-    names: &[&str],
-    open: &[bool],
-) -> Result<(), AllocError> {
+pub fn put_cut(report: &mut OrderReport, order: &Order, names: &[&str], open: &[bool]) {
     let warnings = &mut report.warnings;
     for (t, log) in order.logs().iter().enumerate() {
         let name = names.get(t).copied().unwrap_or("");
@@ -241,31 +219,22 @@ pub fn put_cut(
             Some(0) => {}
             Some(count) => {
                 let moves = Value::Count(count, "move was", "moves were");
-                warnings.say_in(name, 0, "{moves} dropped", &[("moves", moves)])?;
+                warnings.say_in(name, 0, "{moves} dropped", &[("moves", moves)]);
             }
             None if open.get(t) == Some(&true) => {
-                warnings.say_in(name, 0, "its thread has not ended", &[])?;
+                warnings.say_in(name, 0, "its thread has not ended", &[]);
             }
-            None => warnings.say_in(name, 0, "cut off, without its last line", &[])?,
+            None => warnings.say_in(name, 0, "cut off, without its last line", &[]),
         }
     }
     let placed = Value::Number(order.len() as u64);
-    report.notes.say(
-        0,
-        "ordered up to there: {placed} steps",
-        &[("placed", placed)],
-    )
+    report.notes.say(0, CUT_TO, &[("placed", placed)]);
 }
 
 /// Says that a run hangs, who waits for what, and who holds.
-pub fn put_hang(
-    report: &mut OrderReport,
-    order: &Order,
-    names: &[&str],
-    course: &Course,
-) -> Result<(), AllocError> {
+pub fn put_hang(report: &mut OrderReport, order: &Order, names: &[&str], course: &Course) {
     report.details = Some(Details::new(Code::Hangs));
-    report.messages.say(0, HANGS, &[])?;
-    put_waits(&mut report.notes, order.checker().lock(), course, names)?;
-    put_placed(&mut report.notes, "", 0, order)
+    report.messages.say(0, HANGS, &[]);
+    put_waits(&mut report.notes, order.checker().lock(), course, names);
+    put_placed(&mut report.notes, "", 0, order);
 }

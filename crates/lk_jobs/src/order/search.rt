@@ -10,12 +10,13 @@ ghost use Rattle.lk_order.specs.Runs.{IsOneRun};
 ghost use Rattle.lk_jobs.specs.Orders.{IsHung, IsSearch, ending_of_bad, ending_of_search};
 ghost use Rattle.lk_jobs.specs.Orders.{ending_of_sought};
 
-use crate::blame::may_go_on as thread_may_go_on;
-use crate::course::{Course, Fate};
-use crate::report::{Code, Details, Ending};
 use lk_order::{Found, Log, LogFault, Order, Unfit, find_order};
+use lk_text::blame::may_go_on as thread_may_go_on;
+use lk_text::course::{Course, Fate};
+use lk_text::report::{Code, Details, Ending};
 use lk_trace::{Checker, Event};
 use std::alloc::{AllocError, Global};
+use std::fmt::InlineText;
 use thiserror::Error;
 
 /// What is wrong with a log, or with the logs together.
@@ -67,7 +68,7 @@ impl BadLog {
 
     /// Its name, and the thread of the run that it is about.
     pub fn details(self) -> Details {
-        let mut details = Details::new(Code::BadLog(self));
+        let mut details = Details::new(Code::Named(InlineText::of(self.code())));
         match self {
             BadLog::OtherRun(thread) | BadLog::SecondLog(thread) | BadLog::Missing(thread) => {
                 details.thread = Some(thread);
@@ -136,7 +137,8 @@ fn course_of(order: &Order) -> Course {
         let log = order.logs().get(t);
         let number = log.and_then(|log| log.line_of(place)).unwrap_or(0);
         if let Ok(made) = checker.step(line) {
-            course.take(u64::from(number), b"".as_slice(), Event::Made(line, made));
+            let event = Event::Made(line, made);
+            course.take(u64::from(number), b"".as_slice(), &event);
         }
     }
     course

@@ -24,7 +24,7 @@ use std::process::ExitCode;
 use std::str::FromStr;
 use std::time::Duration;
 
-use lockreplay_record::{Call, Ending, Error, Lock, Log, Mode, Run, Setup};
+use lockreplay_record::{Call, Ending, Error, Lock, Log, Mode, Run, RunBuilder};
 
 const USAGE: &str =
     "usage: EXAMPLE free|noise|ordered|seed|pct|wakes THREADS ROUNDS SEED FOLDER [SECONDS]
@@ -118,7 +118,7 @@ fn record<L: Tested>(mode: &str, words: &Words) -> Option<Result<Told, Error>> {
     }))
 }
 
-fn setup<L: Tested>(threads: usize, rounds: usize) -> Setup {
+fn setup<L: Tested>(threads: usize, rounds: usize) -> RunBuilder {
     Run::of(L::LOCK, threads).bits(L::BITS).room(rounds.saturating_mul(MOST_MOVES))
 }
 
@@ -135,7 +135,8 @@ fn run_new<L: Tested>(
 fn told(ending: &Ending) -> Told {
     match ending {
         Ending::Complete => (0, String::new()),
-        Ending::Stopped(threads) => (1, format!("threads {threads:?} hang")),
+        Ending::Hangs(threads) => (1, format!("threads {threads:?} hang")),
+        Ending::Stopped(threads) => (1, format!("the time was over for threads {threads:?}")),
         Ending::Departed(departure) => (1, departure.to_string()),
     }
 }

@@ -1,9 +1,8 @@
 -- There is no ending before the first file.
-use Rattle.std.proofs.Common.{◌≡◌, [], All, ap, arith, length}
+use Rattle.std.proofs.Common.{All, ap, arith, length}
 use Rattle.std.proofs.lemmas.List.Elements.{All-same}
-use Rattle.std.proofs.lemmas.Result.{IfOk-at_ok}
 use Rattle.lk_text.specs.Sources.{left_in}
-use Rattle.lk_jobs.specs.Verdicts.{EndsInput}
+use Rattle.lk_text.specs.Verdicts.{EndsInput}
 use Rattle.lk_jobs.specs.declared.check.Reports.{Reports}
 use Rattle.lk_jobs.proofs.check.check_files.Goals as goal
 use Rattle.lk_jobs.proofs.check.check_files.Goals.{then-is_shared+in_ok-check_rounds}
@@ -11,11 +10,9 @@ use Rattle.lk_jobs.proofs.check.check_files.Goals.{else-is_shared+in_ok-check_ea
 
 pub returns-clause-each : goal.returns-clause-each
 returns-clause-each g c =
-    let empty : c.in_ok-reports.reports.endings.items ≡ [] =
-    IfOk-at_ok (λ (r : Reports). r.endings.items ≡ []) c.in_ok-reports.was c.new.ensures in
     let none : All (EndsInput (left_in g.R.File.Read.remaining g.R.Reader.Read.remaining))
-    c.in_ok-reports.reports.endings.items =
-    λ k d h. absurd (omega (arith, h, ap length empty)) in
+    c.new-reports.result.endings.items =
+    λ k d h. absurd (omega (arith, h, ap length c.new-reports.ensures)) in
     elim c.if-is_shared.branch [
       | then-is_shared+in_ok-check_rounds w ↦
           All-same (EndsInput (left_in g.R.File.Read.remaining g.R.Reader.Read.remaining)) _ _

@@ -3,8 +3,8 @@ use Rattle.std.proofs.Common.{◌∷◌, ◌∙◌, [], ap, arith, length, lengt
 use Rattle.std.proofs.lemmas.List.Elements.{All-same}
 use Rattle.std.proofs.lemmas.Result.{IfOk-at_ok}
 use Rattle.lk_text.specs.Sources.{left_in}
-use Rattle.lk_jobs.specs.Verdicts.{EndsInput}
-use Rattle.lk_jobs.proofs.Endings.{OfInput, IsLate, all_widened, next_of, one_more, or_error}
+use Rattle.lk_text.specs.Verdicts.{EndsInput}
+use Rattle.lk_text.proofs.Endings.{OfInput, IsLate, all_widened, next_of, one_more, or_error}
 use Rattle.lk_jobs.proofs.check.check_round.Goals as goal
 
 pub loop-name-init : goal.loop-name-init

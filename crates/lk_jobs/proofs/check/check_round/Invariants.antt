@@ -1,6 +1,6 @@
 -- One ending more for each file so far, that of an input; and so it is of the reports to come.
 use Rattle.lk_text.specs.Sources.{left_in}
-use Rattle.lk_jobs.specs.Verdicts.{AreChecked}
+use Rattle.lk_text.specs.Verdicts.{AreChecked}
 use Rattle.lk_jobs.specs.invariants.{Adds}
 use Rattle.lk_jobs.proofs.check.check_round.Given as goal
 

@@ -1,7 +1,7 @@
 -- One ending more for each file but those left, that of an input.
 use Rattle.std.proofs.Common.{◌≡◌, ◌+◌, All, length}
 use Rattle.lk_text.specs.Sources.{left_in}
-use Rattle.lk_jobs.specs.Verdicts.{EndsInput}
+use Rattle.lk_text.specs.Verdicts.{EndsInput}
 use Rattle.lk_jobs.proofs.check.check_rounds.Given as goal
 
 abbrev pub invariant-loop-rest : goal.invariant-loop-rest

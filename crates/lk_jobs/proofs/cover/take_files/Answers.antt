@@ -1,8 +1,8 @@
 -- The ending of each file's trace.
 use Rattle.std.proofs.Common.{◌∷◌, [], ap, arith, length, length-append}
 use Rattle.lk_text.specs.Sources.{left_in}
-use Rattle.lk_jobs.specs.Verdicts.{EndsInput}
-use Rattle.lk_jobs.proofs.Endings.{one_more}
+use Rattle.lk_text.specs.Verdicts.{EndsInput}
+use Rattle.lk_text.proofs.Endings.{one_more}
 use Rattle.lk_jobs.proofs.cover.take_files.Goals as goal
 
 pub loop-name-preserved : goal.loop-name-preserved

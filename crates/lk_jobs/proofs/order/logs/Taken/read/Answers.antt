@@ -18,8 +18,8 @@ returns-in_default g c = λ kept.
       tt,
     )
 
-pub returns-in_ok-say_in : goal.returns-in_ok-say_in
-returns-in_ok-say_in g c = λ kept.
+pub returns-in-SecondLog : goal.returns-in-SecondLog
+returns-in-SecondLog g c = λ kept.
     let here = MatchResult-at_ok
     (λ (read : ThreadLog × Option ℕ × Bool). IsInFile g.R.File.Read.remaining read.0)
     (IsBad g.R.File.Read.remaining) c.in-Ok.read c.in-Ok.is c.in_ok-read.ensures in (
@@ -30,8 +30,8 @@ returns-in_ok-say_in g c = λ kept.
           c.in-Err-put.ensures.bad),
     )
 
-pub returns-in_ok-put_shown : goal.returns-in_ok-put_shown
-returns-in_ok-put_shown g c = λ kept.
+pub returns-in_default-bad : goal.returns-in_default-bad
+returns-in_default-bad g c = λ kept.
     let here = MatchResult-at_ok
     (λ (read : ThreadLog × Option ℕ × Bool). IsInFile g.R.File.Read.remaining read.0)
     (IsBad g.R.File.Read.remaining) c.in-Ok.read c.in-Ok.is c.in_ok-read.ensures in (

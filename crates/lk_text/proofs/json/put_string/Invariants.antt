@@ -1,6 +1,0 @@
--- The text grows.
-use Rattle.lk_text.specs.Texts.{Grows}
-use Rattle.lk_text.proofs.json.put_string.Given as goal
-
-abbrev pub invariant-loop-c : goal.invariant-loop-c
-invariant-loop-c l = Grows l.initial.text l.text

@@ -1,0 +1,265 @@
+//! What helps to see why a run ended. Of a refused move it is the moves of its thread before it,
+//! the last write to its word, and a poll after which the thread should have waited, or should not.
+//! Of a run that hangs it is what each thread waits for, by the words of its lock.
+
+ghost use Rattle.std.specs.Prelude.{◌<◌, length};
+
+use crate::course::{Course, Fate, Step};
+use crate::phrases::{Lock, put_line};
+use crate::report::Notes;
+use crate::{Text, Value};
+use lk_catalogue::{Awaited, polled_for};
+use lk_lines::move_text;
+use lk_locks::{Move, Op, Outcome, Refusal};
+use lk_trace::{Difference, TraceLine, WordName, name_at};
+use std::fmt::InlineText;
+
+// The word that a thread's next step is on, if it is on one, and its place.
+fn next_word(lock: &Lock, thread: u8) -> Option<(WordName, usize)> {
+    let machine = lock.machine();
+    if thread >= machine.threads() {
+        return None;
+    }
+    let place = machine.operation(thread)?.word();
+    Some((name_at(lock.kind(), place)?, place))
+}
+
+// The name of a word as a text, or nothing.
+fn word_text(word: Option<WordName>) -> InlineText<40> {
+    word.map_or(InlineText::new(), |word| InlineText::of(word))
+}
+
+// What a thread waits for, as a text.
+fn due_text(awaited: Option<Awaited>) -> InlineText<40> {
+    match awaited {
+        Some(Awaited::Ticket(due) | Awaited::Value(due) | Awaited::Other(due)) => {
+            InlineText::of(due)
+        }
+        Some(Awaited::Section(due)) => InlineText::of(due),
+        None => InlineText::new(),
+    }
+}
+
+// What a thread did after its last poll, if it should have done otherwise.
+fn did_after(outcome: Outcome, action: Move, refusal: Refusal) -> Option<&'static str> {
+    match (outcome, refusal, action) {
+        (
+            Outcome::Waits,
+            Refusal::Busy,
+            Move::Call(Op::Release | Op::ReadUnlock | Op::WriteUnlock | Op::Downgrade),
+        ) => Some("entered"),
+        (Outcome::Waits, Refusal::Busy | Refusal::WrongStep { .. }, _) => Some("went on"),
+        (Outcome::Entered | Outcome::Left, Refusal::NoCall, _) => {
+            Some("did not see its call end")
+        }
+        _ => None,
+    }
+}
+
+// What is said of a poll: of one on a word, or of a section.
+fn poll_sentence(is_on_word: bool, awaited: Option<Awaited>) -> &'static str {
+    match awaited {
+        Some(Awaited::Ticket(_)) => {
+            "{who} {did}: its {step} of {word} found {found} and its ticket is {due}"
+        }
+        Some(Awaited::Value(_)) => {
+            "{who} {did}: its {step} of {word} found {found} and it waits for {due}"
+        }
+        Some(Awaited::Other(_)) => {
+            "{who} {did}: its {step} of {word} found {found} and it waits for another value than \
+                {due}"
+        }
+        Some(Awaited::Section(_)) => "{who} {did}: its {step} waits for {due}",
+        None if is_on_word => "{who} {did}: its {step} of {word} found {found}",
+        None => "{who} {did}: its {step}",
+    }
+}
+
+// Says what the last poll of a thread found, and what it polls for.
+fn put_poll(notes: &mut Notes, lock: &Lock, step: Step, did: &str) {
+    let awaited = polled_for(lock.kind(), step.made.from);
+    let found = step.made.effect.map_or(0, |effect| effect.found);
+    let word = step
+        .made
+        .effect
+        .and_then(|effect| name_at(lock.kind(), effect.word));
+    let places = [
+        (
+            "who",
+            Value::Numbered("thread", u64::from(step.line.thread)),
+        ),
+        ("did", Value::Text(did)),
+        (
+            "step",
+            Value::Short(InlineText::of(move_text(step.line.action))),
+        ),
+        ("word", Value::Short(word_text(word))),
+        ("found", Value::Number(found)),
+        ("due", Value::Short(due_text(awaited))),
+    ];
+    notes.say(step.number, poll_sentence(word.is_some(), awaited), &places);
+}
+
+const LAST_WRITE: &str = "{word} was last written here: {who}'s {step} left {left}";
+
+// Says who wrote the word last that the thread's next step is on.
+fn put_write(notes: &mut Notes, lock: &Lock, course: &Course, thread: u8) {
+    let Some((word, place)) = next_word(lock, thread) else {
+        return;
+    };
+    let Some((step, left)) = course.written(place) else {
+        return;
+    };
+    let places = [
+        ("word", Value::Short(word_text(Some(word)))),
+        (
+            "who",
+            Value::Numbered("thread", u64::from(step.line.thread)),
+        ),
+        (
+            "step",
+            Value::Short(InlineText::of(move_text(step.line.action))),
+        ),
+        ("left", Value::Number(left)),
+    ];
+    notes.say(step.number, LAST_WRITE, &places);
+}
+
+// Says which moves a thread made last.
+fn put_steps(notes: &mut Notes, course: &Course, thread: u8) {
+    let steps = course.steps(thread);
+    for step in steps.iter().rev() {
+        if let Some(step) = step {
+            let mut said = notes.text();
+            said.put("before it: ");
+            put_line(&mut said, &step.line);
+            notes.put_in("", step.number, said);
+        }
+    }
+}
+
+// Says after which poll a refused move came, if the thread should have done otherwise.
+fn put_poll_before(
+    notes: &mut Notes,
+    lock: &Lock,
+    course: &Course,
+    line: TraceLine,
+    refusal: Refusal,
+) {
+    let Some(step) = course.steps(line.thread)[0] else {
+        return;
+    };
+    if let Some(did) = did_after(step.made.outcome, line.action, refusal) {
+        put_poll(notes, lock, step, did);
+    }
+}
+
+/// Says what helps to see why the move in this line is refused.
+pub fn put_blame(
+    notes: &mut Notes,
+    lock: &Lock,
+    course: &Course,
+    line: TraceLine,
+    difference: Difference,
+) {
+    put_steps(notes, course, line.thread);
+    match difference {
+        Difference::Refused(refusal) => put_poll_before(notes, lock, course, line, refusal),
+        Difference::FoundOther { .. } | Difference::WroteOther { .. } => {
+            put_write(notes, lock, course, line.thread);
+        }
+        _ => {}
+    }
+}
+
+/// What is said of a run that hangs.
+pub const HANGS: &str = "hangs: each thread that has not ended waits";
+
+/// Whether a thread's next step, if it is in a call, would be no failed poll.
+pub fn may_go_on(lock: &Lock, thread: u8) -> bool {
+    let machine = lock.machine();
+    thread < machine.threads()
+        && machine
+            .effect(thread)
+            .is_some_and(|effect| effect.outcome() != Outcome::Waits)
+}
+
+// What a thread that hangs waits for.
+fn wait_sentence(awaited: Option<Awaited>) -> &'static str {
+    match awaited {
+        Some(Awaited::Ticket(_)) => {
+            "{who} waits from here on for {word} to be {due}, its ticket; {word} is {value}{missed}"
+        }
+        Some(Awaited::Value(_)) => {
+            "{who} waits from here on for {word} to be {due}; {word} is {value}{missed}"
+        }
+        Some(Awaited::Other(_)) => {
+            "{who} waits from here on for {word} to be other than {due}; {word} is {value}{missed}"
+        }
+        Some(Awaited::Section(_)) => "{who} waits from here on for {due}; {words}{missed}",
+        None => "{who} waits from here on for nothing{missed}",
+    }
+}
+
+// Writes each word of a lock with its value.
+fn put_words(text: &mut Text, lock: &Lock) {
+    for (place, value) in lock.machine().words().as_slice().iter().enumerate() {
+        if let Some(word) = name_at(lock.kind(), place) {
+            let places = [
+                ("word", Value::Short(InlineText::of(word))),
+                ("value", Value::Number(*value)),
+            ];
+            text.put(if place > 0 { ", " } else { "" });
+            text.fill("{word} is {value}", &places);
+        }
+    }
+}
+
+// The value of the word at a place.
+fn value_at(lock: &Lock, place: usize) -> u64 {
+    let words = lock.machine().words().as_slice();
+    words.get(place).copied().unwrap_or(0)
+}
+
+// Says what a thread waits for, and since which line of its file.
+fn put_wait(notes: &mut Notes, lock: &Lock, thread: u8, file: &str, since: u64)
+    requires { thread < length lock.now.state.phases }
+{
+    let awaited = polled_for(lock.kind(), lock.machine().phase(thread));
+    let polled = next_word(lock, thread);
+    let mut words = notes.text();
+    if let Some(Awaited::Section(_)) = awaited {
+        put_words(&mut words, lock);
+    }
+    let missed = if may_go_on(lock, thread) {
+        ", so it did not look again"
+    } else {
+        ""
+    };
+    let places = [
+        ("who", Value::Numbered("thread", u64::from(thread))),
+        (
+            "word",
+            Value::Short(word_text(polled.map(|(word, _)| word))),
+        ),
+        ("due", Value::Short(due_text(awaited))),
+        (
+            "value",
+            Value::Number(polled.map_or(0, |(_, place)| value_at(lock, place))),
+        ),
+        ("words", Value::Part(&words)),
+        ("missed", Value::Short(InlineText::of(missed))),
+    ];
+    notes.say_in(file, since, wait_sentence(awaited), &places);
+}
+
+/// Says of each thread that hangs what it waits for, and since which line of its file. If a thread
+/// has no file of its own, it is the one that the message is about.
+pub fn put_waits(notes: &mut Notes, lock: &Lock, course: &Course, files: &[&str]) {
+    for thread in 0..lock.machine().threads() {
+        if course.fate(thread) == Fate::Hangs {
+            let file = files.get(thread as usize).copied().unwrap_or("");
+            put_wait(notes, lock, thread, file, course.since(thread).unwrap_or(0));
+        }
+    }
+}

@@ -1,0 +1,47 @@
+// What the page says of lessons, lesson plans and lectures, in English.
+
+export const lessons = {
+  title: 'Lessons',
+  what: [
+    'This page plays four locks of the textbooks one atomic step at a time: who holds the lock, '
+      + 'who waits, and what is in memory.',
+    'Choose a lesson and press →; a proved machine decides every move.',
+  ],
+  teaches: {
+    ticket: 'Who draws a ticket first enters first. The easiest: begin here.',
+    mcs: 'Each thread polls a word of its own; each new record is linked after the last one.',
+    'rw-simple': 'Readers share the lock, a writer has it alone, and can be kept out for ever.',
+    'rw-fifo': 'A writer announces itself, and later readers wait for it.',
+  },
+  ways: {
+    own: ['Your own', 'Write, open or drop a schedule.'],
+    play: ['Play', 'Choose who moves next.'],
+    find: ['Find a moment', 'Search for a shortest run with a move.'],
+    plans: ['Teach', 'Four lesson plans of ten minutes.'],
+  },
+  size: (moves, minutes) => `${moves} moves, about ${minutes} min`,
+  done: 'done', refusals: 'What is refused: wrong moves, and texts that are no schedules',
+  ended: 'End. You saw:', next: (title) => `Next: ${title}`, noMore: 'That was the last move.',
+  groups: {
+    refused: 'Refused moves', fault: 'Texts that are not schedules',
+  },
+  kept: 'Kept in this browser', keptMove: (place) => `at move ${place}`,
+};
+
+export const hall = { noFullScreen: 'The browser did not allow the full screen.' };
+
+export const plans = {
+  title: 'Lesson plans',
+  hint: 'Ten minutes a lock, in hall mode. N goes to the next step, A shows the answer.',
+  minutes: (from, to) => `${from} to ${to} min`,
+  place: (title, move) => `${title}, ${move}`,
+  step: (at, count) => `Step ${at} of ${count}`,
+  homework: 'Homework:', sheet: 'Exercise sheet', next: 'Next step N', last: 'Last step',
+  back: 'The step before', left: 'Minutes left',
+};
+
+export const presenter = {
+  title: 'lockreplay: for the presenter', now: 'This move', next: 'The next move',
+  following: (title, move) => `Next step: ${title}, ${move}`,
+  blocked: 'The browser did not allow a second window.',
+};

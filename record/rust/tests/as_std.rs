@@ -1,0 +1,132 @@
+//! The atomics and the monitor are used as those of the standard library: the same text, compiled
+//! with the types of both, does the same.
+// SPDX-License-Identifier: Apache-2.0 OR MIT
+
+macro_rules! as_std {
+    ($name:ident, $atomics:path, $monitor:path) => {
+        mod $name {
+            use std::sync::atomic::Ordering::SeqCst;
+            use std::sync::{PoisonError, TryLockError};
+            use std::thread;
+
+            use $atomics as atomics;
+            use $monitor as monitor;
+
+            use atomics::{AtomicBool, AtomicI16, AtomicI32, AtomicI64, AtomicI8, AtomicIsize};
+            use atomics::{AtomicPtr, AtomicU16, AtomicU32, AtomicU64, AtomicU8, AtomicUsize};
+            use monitor::{Condvar, Mutex};
+
+            macro_rules! numbers {
+                ($test:ident, $atomic:ident, $number:ty) => {
+                    #[test]
+                    fn $test() {
+                        let mut word = $atomic::new(6);
+                        assert_eq!(word.load(SeqCst), 6);
+                        word.store(7, SeqCst);
+                        assert_eq!(word.swap(8, SeqCst), 7);
+                        assert_eq!(word.compare_exchange(8, 9, SeqCst, SeqCst), Ok(8));
+                        assert_eq!(word.compare_exchange(8, 1, SeqCst, SeqCst), Err(9));
+                        assert_eq!(word.compare_exchange_weak(8, 1, SeqCst, SeqCst), Err(9));
+                        assert_eq!(word.fetch_add(<$number>::MAX, SeqCst), 9);
+                        let sum = <$number>::MAX.wrapping_add(9);
+                        assert_eq!(word.fetch_sub(<$number>::MAX, SeqCst), sum);
+                        assert_eq!(word.fetch_and(12, SeqCst), 9);
+                        assert_eq!(word.fetch_or(3, SeqCst), 8);
+                        assert_eq!(word.fetch_xor(1, SeqCst), 11);
+                        assert_eq!(word.fetch_max(12, SeqCst), 10);
+                        assert_eq!(word.fetch_min(5, SeqCst), 12);
+                        assert_eq!(word.fetch_nand(4, SeqCst), 5);
+                        assert_eq!(word.load(SeqCst), !4);
+                        assert_eq!(word.fetch_update(SeqCst, SeqCst, |_| None), Err(!4));
+                        assert_eq!(word.fetch_update(SeqCst, SeqCst, |it| Some(!it)), Ok(!4));
+                        *word.get_mut() += 1;
+                        assert_eq!(format!("{word:?}"), "5");
+                        assert_eq!(word.into_inner(), 5);
+                        assert_eq!($atomic::default().into_inner(), 0);
+                        assert_eq!($atomic::from(3).into_inner(), 3);
+                    }
+                };
+            }
+            numbers!(of_u8, AtomicU8, u8);
+            numbers!(of_u16, AtomicU16, u16);
+            numbers!(of_u32, AtomicU32, u32);
+            numbers!(of_u64, AtomicU64, u64);
+            numbers!(of_usize, AtomicUsize, usize);
+            numbers!(of_i8, AtomicI8, i8);
+            numbers!(of_i16, AtomicI16, i16);
+            numbers!(of_i32, AtomicI32, i32);
+            numbers!(of_i64, AtomicI64, i64);
+            numbers!(of_isize, AtomicIsize, isize);
+
+            #[test]
+            fn of_bool() {
+                let mut word = AtomicBool::default();
+                assert!(!word.swap(true, SeqCst));
+                assert!(word.fetch_and(false, SeqCst));
+                assert!(!word.fetch_or(true, SeqCst));
+                assert!(word.fetch_xor(true, SeqCst));
+                assert!(!word.fetch_nand(true, SeqCst));
+                *word.get_mut() = !word.load(SeqCst);
+                assert!(!word.into_inner());
+                assert!(AtomicBool::from(true).into_inner());
+            }
+
+            #[test]
+            fn of_pointers() {
+                let mut number = 4;
+                let pointer: *mut i32 = &mut number;
+                let mut word = AtomicPtr::default();
+                assert!(word.swap(pointer, SeqCst).is_null());
+                assert_eq!(*word.get_mut(), pointer);
+                assert_eq!(AtomicPtr::from(pointer).into_inner(), word.into_inner());
+            }
+
+            #[test]
+            fn of_a_mutex() {
+                let mut mutex = Mutex::new(1);
+                *mutex.lock().unwrap() += 1;
+                let held = mutex.lock().unwrap();
+                assert!(matches!(mutex.try_lock(), Err(TryLockError::WouldBlock)));
+                drop(held);
+                assert_eq!(*mutex.try_lock().unwrap(), 2);
+                *mutex.get_mut().unwrap() = 5;
+                assert!(!mutex.is_poisoned());
+                assert_eq!(mutex.into_inner().unwrap(), 5);
+                assert_eq!(Mutex::from(3).into_inner().unwrap(), 3);
+                assert_eq!(Mutex::<u8>::default().into_inner().unwrap(), 0);
+            }
+
+            #[test]
+            fn of_a_panic() {
+                let mutex = Mutex::new(1);
+                let panicked = thread::scope(|scope| {
+                    let holds = || {
+                        let _held = mutex.lock().unwrap();
+                        panic!("a panic of this test");
+                    };
+                    scope.spawn(holds).join().is_err()
+                });
+                assert!(panicked && mutex.is_poisoned());
+                assert!(matches!(mutex.try_lock(), Err(TryLockError::Poisoned(_))));
+                assert_eq!(*mutex.lock().unwrap_or_else(PoisonError::into_inner), 1);
+            }
+
+            #[test]
+            fn of_a_condition() {
+                let (count, changed) = (Mutex::new(0), Condvar::new());
+                thread::scope(|scope| {
+                    scope.spawn(|| {
+                        *count.lock().unwrap() = 1;
+                        changed.notify_all();
+                    });
+                    let held = changed.wait_while(count.lock().unwrap(), |it| *it == 0).unwrap();
+                    assert_eq!(*held, 1);
+                    changed.notify_one();
+                });
+            }
+        }
+    };
+}
+
+as_std!(of_the_standard_library, std::sync::atomic, std::sync);
+as_std!(of_this_crate, lockreplay_record, lockreplay_record);

@@ -1,0 +1,90 @@
+/* Waiting for a run's end. A run that is only slow goes on: what counts is whether moves come. */
+
+enum { LR_TICKS = 10, LR_TICK = 1000000000 / LR_TICKS }; /* of a second, in nanoseconds */
+
+/* How many moves and turns were made until now. A full log has no more moves. */
+typedef struct lr_progress {
+    size_t moves, turns;
+} lr_progress;
+
+static inline lr_progress lr_progress_of(const lr_run *run)
+{
+    lr_progress progress = {0, lr_count_of(run->turns)};
+    for (unsigned t = 0; t < run->threads; t++)
+        progress.moves += lr_count_of(run->logs[t].count) + lr_count_of(run->logs[t].ended);
+    return progress;
+}
+
+/* What each thread that has not ended noted last. */
+static inline void lr_tell_lasts(lr_run *run)
+{
+    const char *between = ": ";
+    for (unsigned t = 0; t < run->threads; t++) {
+        if (lr_count_of(run->logs[t].ended)) continue;
+        lr_tell(run->said, "%sthread %u", between, t);
+        lr_tell_last(run->said, &run->logs[t]);
+        between = ", ";
+    }
+}
+
+/* What a run of which no move came for so long is waiting for. */
+static inline void lr_say_late(lr_run *run, unsigned seconds, int has_turns)
+{
+    if (run->begun < run->threads) {
+        lr_tell(run->said, "%u of %u threads have called lr_begin", run->begun, run->threads);
+    } else if (LR_TURNS && !has_turns) {
+        lr_tell(run->said, "thread %u", run->holder);
+        lr_tell_last(run->said, &run->logs[run->holder % LR_THREADS]);
+        lr_tell(run->said, " has its turn and does not give it back: it blocks, or it has ended "
+                           "without lr_end, or it polls without a note");
+    } else {
+        lr_tell(run->said, "%u of %u threads have not ended, and made no move for %u s",
+                lr_missing(run), run->threads, seconds);
+        lr_tell_lasts(run);
+    }
+}
+
+/* Waits until all threads have ended or the run is over: 1, or 0 if a tick has passed. */
+static inline int lr_wait_a_tick(lr_run *run)
+{
+    struct timespec until;
+    int late = 0;
+    timespec_get(&until, TIME_UTC);
+    until.tv_nsec += LR_TICK;
+    until.tv_sec += until.tv_nsec / 1000000000;
+    until.tv_nsec %= 1000000000;
+    while ((LR_TURNS || lr_missing(run)) && !run->is_over && !late)
+        late = pthread_cond_timedwait(&run->changed, &run->mutex, &until);
+    return !late;
+}
+
+/* Waits until all threads have ended, the run is over, or no move came for so many seconds. How
+   many threads have not ended. */
+static inline unsigned lr_wait_for(lr_run *run, unsigned seconds)
+{
+    unsigned long idle = 0;
+    unsigned missing;
+    lr_progress before = lr_progress_of(run), now;
+    int has_turns = 0;
+    pthread_mutex_lock(&run->mutex);
+    while (idle < (unsigned long)seconds * LR_TICKS && !lr_wait_a_tick(run)) {
+        now = lr_progress_of(run);
+        has_turns = now.turns != before.turns;
+        idle = now.moves != before.moves ? 0 : idle + 1;
+        before = now;
+    }
+    missing = lr_missing(run);
+    if (missing && !run->is_over) lr_say_late(run, seconds, has_turns);
+    pthread_mutex_unlock(&run->mutex);
+    return missing;
+}
+
+/* What a run ended by before its threads did, or an empty text. */
+static inline const char *lr_said(const lr_run *run) { return run->said; }
+
+static inline unsigned lr_await(lr_run *run, unsigned seconds)
+{
+    unsigned missing = lr_wait_for(run, seconds);
+    if (run->said[0]) lr_say("%s", run->said);
+    return missing;
+}

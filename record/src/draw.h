@@ -1,0 +1,83 @@
+/* SEED: a number drawn by the seed says who is next.
+
+   Without LR_PCT each thread that can go on is as likely as another. With LR_PCT=d the turns are
+   those of Burckhardt, Kothari, Musuvathi and Nagarakatte, "A randomized scheduler with
+   probabilistic guarantees of finding bugs" (ASPLOS 2010): each thread has a priority, the one with
+   the greatest goes on, and at d - 1 drawn turns the one that runs becomes the last. What is
+   different here: a thread that polled in vain is passed over until another one made a move, as if
+   it were blocked.
+   LR_STEPS is their k, about how many turns a run has; a run's trace says how many it had. */
+
+#ifndef LR_STEPS
+#define LR_STEPS 1000
+#endif
+
+static inline unsigned lr_draw_of(lr_run *run, uint64_t threads)
+{
+    unsigned found[LR_THREADS], count = 0;
+    for (unsigned t = 0; t < run->threads; t++)
+        if (threads >> t & 1) found[count++] = t;
+    return found[lr_draw(&run->drawn) % count];
+}
+
+static inline unsigned lr_choose_waiter(lr_run *run, uint64_t waiters)
+{
+    return lr_draw_of(run, waiters);
+}
+
+/* One turn in so many wakes a thread that nobody signalled. POSIX lets a condition do so, and few
+   machines do: by itself that is tried with even seeds. */
+static inline unsigned lr_spurious_of(uint64_t seed)
+{
+#ifdef LR_SPURIOUS
+    (void)seed;
+    return LR_SPURIOUS;
+#else
+    return seed % 2 ? 0 : 8;
+#endif
+}
+
+static inline void lr_wake_for_nothing(lr_run *run)
+{
+    if (run->parked && run->spurious && lr_draw(&run->drawn) % run->spurious == 0)
+        run->parked &= ~lr_bit(lr_draw_of(run, run->parked));
+}
+
+#ifdef LR_PCT
+static inline void lr_draw_priorities(lr_run *run)
+{
+    static size_t changes[LR_PCT];
+    run->changes = changes;
+    for (unsigned t = 0; t < run->threads; t++) {
+        unsigned other = (unsigned)(lr_draw(&run->drawn) % (t + 1));
+        run->logs[t].turn.priority = run->logs[other].turn.priority;
+        run->logs[other].turn.priority = LR_PCT + t;
+    }
+    for (unsigned i = 0; i + 1 < LR_PCT; i++)
+        run->changes[i] = (size_t)(lr_draw(&run->drawn) % LR_STEPS) + 1;
+}
+
+static inline void lr_lower(lr_run *run, unsigned current)
+{
+    for (unsigned i = 0; i + 1 < LR_PCT; i++)
+        if (run->changes[i] == run->turns && current != LR_NOBODY)
+            run->logs[current].turn.priority = LR_PCT - 1 - i;
+}
+
+static inline unsigned lr_choose(lr_run *run, uint64_t ready, unsigned current)
+{
+    uint64_t moving = ready & ~run->stuck ? ready & ~run->stuck : ready;
+    unsigned best = lr_after(moving, LR_NOBODY);
+    if (!(ready & ~run->stuck)) return lr_after(ready, current);
+    lr_lower(run, current);
+    for (unsigned t = 0; t < run->threads; t++)
+        if (moving >> t & 1 && run->logs[t].turn.priority > run->logs[best].turn.priority) best = t;
+    return best;
+}
+#else
+static inline unsigned lr_choose(lr_run *run, uint64_t ready, unsigned current)
+{
+    (void)current;
+    return lr_draw_of(run, ready);
+}
+#endif

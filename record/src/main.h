@@ -1,0 +1,123 @@
+/* The main function of a program that tests a lock: `return lr_main(&driver, count, words);`
+
+       PROGRAM THREADS ROUNDS PREEMPTIONS FOLDER [RUNS]    EXPLORE, at most so many runs
+       PROGRAM THREADS ROUNDS again TRACE                  EXPLORE: makes a saved run again
+       PROGRAM THREADS ROUNDS SEED FOLDER [SECONDS]        SEED, VALUES, OFF
+       PROGRAM SCHEDULES FOLDER                            FOLLOW: the schedules of a folder
+
+   With one thread at a time a run is checked if the program can do it. SECONDS (60) is how long no
+   move may come. Status: 0 all is well; 1 a run is refused or hangs, or a schedule was not
+   followed; 2 usage; 3 the system refused memory, a thread or a file, a log was full, or a file is
+   no schedule of this lock. */
+
+/* A log has room for so many moves a round. */
+enum { LR_ROUND = 128 };
+
+#if LR_EXPLORES
+static inline int lr_main(const lr_driver *driver, int count, char **words)
+{
+    lr_explored explored;
+    if (count < 5 || count > 6) {
+        fprintf(stderr, "usage: %s THREADS ROUNDS PREEMPTIONS FOLDER [RUNS]\n"
+                        "       %s THREADS ROUNDS again TRACE\n", words[0], words[0]);
+        return 2;
+    }
+    unsigned threads = (unsigned)atoi(words[1]), rounds = (unsigned)atoi(words[2]);
+    int is_again = !strcmp(words[3], "again");
+    unsigned long most = count > 5 ? strtoul(words[5], NULL, 10) : 1000000;
+    int fault = is_again ? lr_explore_again(driver, threads, rounds, words[4], &explored)
+                         : lr_explore(driver, threads, rounds, (unsigned)atoi(words[3]), most,
+                                      words[4], &explored);
+    if (fault && is_again) lr_say("%s: %s", words[4], strerror(fault));
+    if (!is_again && explored.runs)
+        printf("%lu runs with up to %u preemptions, %s%s\n", explored.runs, explored.preemptions,
+               explored.is_complete ? "all of them" : "not all of them",
+               explored.is_refused ? ", the last one is refused" : "");
+    if (explored.is_refused) printf("%s\n", explored.said);
+    if (explored.is_refused && !is_again)
+        printf("again: %s %u %u again %s/run.trace\n", words[0], threads, rounds, words[4]);
+    fflush(stdout);
+    _Exit(fault ? 3 : explored.is_refused);
+}
+#elif LR_FOLLOWS
+static inline int lr_main(const lr_driver *driver, int count, char **words)
+{
+    lr_called called;
+    if (count != 3) {
+        fprintf(stderr, "usage: %s SCHEDULES FOLDER\n", words[0]);
+        return 2;
+    }
+    int fault = lr_calls(driver, words[1], words[2], &called);
+    if (fault) lr_say("%s: %s", words[1], strerror(fault));
+    printf("%u schedules of %zu moves, %u not followed\n", called.schedules, called.moves,
+           called.refused);
+    fflush(stdout);
+    _Exit(fault ? 3 : called.refused > 0);
+}
+#else
+#if LR_RECORDS
+/* One run: the status. Threads that have not ended are left behind. */
+static inline int lr_main_run(const lr_driver *driver, unsigned threads, unsigned rounds,
+                              uint64_t seed, const char *folder, unsigned seconds)
+{
+    lr_run *run = lr_open(driver->lock, threads, driver->bits, (size_t)rounds * LR_ROUND, seed,
+                          folder);
+    if (!run) return 3;
+    unsigned missing = lr_go(run, driver, rounds, seconds);
+    int is_refused = missing != 0;
+#if LR_CHECKS
+    is_refused = lr_check(run) || is_refused;
+#endif
+    if (run->said[0]) lr_say("%s", run->said);
+    if (lr_save(run)) return 3;
+    if (!missing) lr_close(run);
+    return is_refused;
+}
+#else
+typedef struct lr_task {
+    pthread_t id;
+    const lr_driver *driver;
+    unsigned thread, rounds;
+} lr_task;
+
+static inline void *lr_do_task(void *of)
+{
+    const lr_task *task = (const lr_task *)of;
+    for (unsigned round = 0; round < task->rounds; round++)
+        task->driver->round(task->thread, round);
+    return NULL;
+}
+
+/* The threads do their rounds. */
+static inline int lr_main_run(const lr_driver *driver, unsigned threads, unsigned rounds,
+                              uint64_t seed, const char *folder, unsigned seconds)
+{
+    static lr_task tasks[64];
+    (void)seed, (void)folder, (void)seconds;
+    if (driver->reset) driver->reset();
+    for (unsigned t = 0; t < threads; t++) {
+        tasks[t].driver = driver;
+        tasks[t].thread = t;
+        tasks[t].rounds = rounds;
+        if (pthread_create(&tasks[t].id, NULL, lr_do_task, &tasks[t])) return 3;
+    }
+    for (unsigned t = 0; t < threads; t++) pthread_join(tasks[t].id, NULL);
+    return 0;
+}
+#endif
+
+static inline int lr_main(const lr_driver *driver, int count, char **words)
+{
+    unsigned threads = count < 5 || count > 6 ? 0 : (unsigned)atoi(words[1]);
+    if (threads < 1 || threads > 64) {
+        fprintf(stderr, "usage: %s THREADS ROUNDS SEED FOLDER [SECONDS]\n", words[0]);
+        return 2;
+    }
+    int status = lr_main_run(driver, threads, (unsigned)atoi(words[2]),
+                             strtoul(words[3], NULL, 10), words[4],
+                             count > 5 ? (unsigned)atoi(words[5]) : 60);
+    fflush(stdout);
+    if (status) _Exit(status);
+    return 0;
+}
+#endif

@@ -1,0 +1,21 @@
+/* The memory of the machine: its own data, and from their end on what is lent to it. */
+
+static w2c_lockreplay lt_module;
+
+static uint8_t *lt_at(uint64_t address) { return lt_module.w2c_memory.data + address; }
+
+/* Makes room for so many bytes: the address of the first. A program without memory ends. */
+static uint64_t lt_make_room(uint64_t bytes)
+{
+    wasm_rt_memory_t *memory = &lt_module.w2c_memory;
+    if (!memory->data) init_globals(&lt_module);
+    uint64_t base = (lt_module.w2c_0x5F_heap_base + 15) & ~(uint64_t)15, size = base + bytes;
+    if (size <= memory->size) return base;
+    uint8_t *data = (uint8_t *)realloc(memory->data, size);
+    if (!data) abort();
+    memset(data + memory->size, 0, size - memory->size);
+    if (!memory->size) memcpy(data + LT_DATA_AT, lt_data, sizeof lt_data);
+    memory->data = data;
+    memory->size = size;
+    return base;
+}

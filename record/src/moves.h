@@ -1,0 +1,35 @@
+/* The words of a trace as numbers. They are there in each mode. */
+
+enum {
+    /* generated: calls */
+    LR_CALL_acquire, LR_CALL_release, LR_CALL_rlock, LR_CALL_runlock, LR_CALL_wlock,
+    LR_CALL_wunlock, LR_CALL_downgrade,
+    /* end */
+    /* generated: steps */
+    LR_STEP_read, LR_STEP_write, LR_STEP_swap, LR_STEP_cas, LR_STEP_add, LR_STEP_section,
+    /* end */
+    LR_WORDS
+};
+enum {
+    LR_PLACE_none,
+    /* generated: places */
+    LR_PLACE_next_ticket, LR_PLACE_now_serving, LR_PLACE_tail, LR_PLACE_next, LR_PLACE_locked,
+    /* end */
+};
+/* A step on a word that no lock has it on is an error when it is compiled. */
+enum {
+    LR_WORD_TO_ADD_TO_next_ticket = LR_PLACE_next_ticket,
+    LR_WORD_TO_SWAP_tail = LR_PLACE_tail,
+    LR_WORD_TO_COMPARE_AND_SWAP_tail = LR_PLACE_tail,
+    LR_WORD_OF_A_RECORD_next = LR_PLACE_next,
+    LR_WORD_OF_A_RECORD_locked = LR_PLACE_locked
+};
+enum {
+    LR_PART_none,
+    /* generated: parts */
+    LR_PART_found, LR_PART_left, LR_PART_done, LR_PART_failed,
+    /* end */
+    /* generated: outcomes */
+    LR_OUTCOME_moved, LR_OUTCOME_waits, LR_OUTCOME_entered, LR_OUTCOME_left,
+    /* end */
+};

@@ -1,0 +1,157 @@
+/* The notes: what a step of a lock found or left, written down for its thread. */
+
+#define LR_CALL(call) LR_NOTE(LR_CALL_##call, LR_PLACE_none, LR_OWN, LR_PART_none, 0)
+#define LR_READ(word, found) LR_NOTE(LR_STEP_read, LR_PLACE_##word, LR_OWN, LR_PART_found, found)
+#define LR_WRITE(word, left) LR_NOTE(LR_STEP_write, LR_PLACE_##word, LR_OWN, LR_PART_left, left)
+#define LR_SWAP(word, found)                                                                    \
+    LR_NOTE(LR_STEP_swap, LR_WORD_TO_SWAP_##word, LR_OWN, LR_PART_found, found)
+#define LR_ADD(word, found)                                                                     \
+    LR_NOTE(LR_STEP_add, LR_WORD_TO_ADD_TO_##word, LR_OWN, LR_PART_found, found)
+#define LR_CAS(word, wrote)                                                                     \
+    LR_NOTE(LR_STEP_cas, LR_WORD_TO_COMPARE_AND_SWAP_##word, LR_OWN,                            \
+            (wrote) ? LR_PART_done : LR_PART_failed, 0)
+#define LR_READ_OF(word, j, found)                                                              \
+    LR_NOTE(LR_STEP_read, LR_WORD_OF_A_RECORD_##word, lr_owner(j), LR_PART_found, found)
+#define LR_WRITE_OF(word, j, left)                                                              \
+    LR_NOTE(LR_STEP_write, LR_WORD_OF_A_RECORD_##word, lr_owner(j), LR_PART_left, left)
+#define LR_SECTION(count, outcome)                                                              \
+    LR_NOTE(LR_STEP_section, LR_PLACE_none, LR_OWN, LR_OUTCOME_##outcome, count)
+#define LR_NOTE(word, place, owner, part, value)                                                \
+    LR_DO(lr_note(lr_self, word, place, owner, part, (uint64_t)(value), __FILE__, __LINE__))
+#define LR_RECORD(first, pointer) ((pointer) ? (uint64_t)((pointer) - (first)) + 1 : (uint64_t)0)
+#define LR_JOIN() LR_DO((void)(lr_self->turn.joined = 1))
+
+#if LR_RECORDS
+
+/* A record that is no thread's, as a wrong lock may reach, is named 255. */
+static inline unsigned lr_owner(int64_t thread)
+{
+    return thread >= 0 && thread < LR_THREADS ? (unsigned)thread : 255u;
+}
+
+/* A note knows its kind when it is compiled, so what it does is worked out then. For this a move is
+   handed on by value, and stored part by part: one that is first put together in memory costs as
+   much as all the rest. */
+#define LR_AT_ONCE static inline __attribute__((always_inline))
+
+LR_AT_ONCE int lr_waits(lr_move move) { return move.kind.part == LR_OUTCOME_waits; }
+
+/* Whether a move is a poll that found what another move did. A section that waits has no value. */
+LR_AT_ONCE int lr_is_same(lr_move move, const lr_move *other)
+{
+    if (move.kind.word != LR_STEP_read && !lr_waits(move)) return 0;
+    return move.kind.word == other->kind.word && move.kind.place == other->kind.place &&
+           move.kind.part == other->kind.part && move.kind.owner == other->kind.owner &&
+           (lr_waits(move) || move.value == other->value);
+}
+
+/* Whether a move is left out: the third one or a later one of a thread that polls and finds the
+   same. The second is written: if the first found what the thread waited for, it shows that the
+   thread did not see it. With one thread at a time a section is left out only if nobody moved in
+   between, since it has no value. A schedule that is followed has every poll. `end` is where the
+   thread's moves end. */
+LR_AT_ONCE int lr_is_left_out(const lr_log *log, const lr_move *end, lr_move move)
+{
+    if (LR_FOLLOWS) return 0;
+    if (LR_TURNS && lr_waits(move) && log->turn.seen != log->run->ordered) return 0;
+    return lr_is_same(move, &end[-1]) && lr_is_same(move, &end[-2]);
+}
+
+/* Counts a move for which there is no room. A thread that is in no run has none for its first. */
+__attribute__((cold)) static inline void lr_drop(lr_log *log, lr_move move)
+{
+    if (log == &lr_outside) {
+        char at[LR_LINE];
+        lr_say("a step is noted before lr_begin, or after lr_end, at %s", lr_where(at, &move));
+        _Exit(2);
+    }
+    size_t dropped = lr_count_of(log->dropped);
+    if (!dropped) memcpy(log->last, &log->moves[log->room] - 2, sizeof log->last);
+    if (lr_is_left_out(log, &log->last[2], move)) return;
+    log->last[0] = log->last[1];
+    log->last[1] = move;
+    lr_set_count(log->dropped, dropped + 1);
+    if (LR_TURNS) log->run->is_cut = 1;
+}
+
+/* Writes a move, unless it is left out or dropped. */
+LR_AT_ONCE void lr_append(lr_log *log, lr_move move)
+{
+    size_t count = lr_count_of(log->count);
+    if (count == log->room) {
+        lr_drop(log, move);
+        return;
+    }
+    lr_move *end = &log->moves[count];
+    if (lr_is_left_out(log, end, move)) return;
+    end->value = move.value;
+    end->file = move.file;
+    end->kind = move.kind;
+    end->line = move.line;
+    lr_set_count(log->count, count + 1);
+    lr_run *run = log->run;
+    if (!LR_TURNS || run->is_cut) return;
+    run->order[run->ordered] = (unsigned char)log->thread;
+    lr_set_count(run->ordered, run->ordered + 1);
+}
+
+#if LR_TURNS
+static inline void lr_before_note(lr_log *log, unsigned word)
+{
+#if LR_FOLLOWS
+    lr_stop_at_end(log);
+#endif
+    if (word != LR_STEP_section) lr_pass_if_due(log);
+}
+
+/* Of a run that goes on without a move nothing more could be said. */
+static inline void lr_stop_if_full(lr_log *log)
+{
+    if (!log->run->is_cut) return;
+    lr_tell(log->run->said, "the log of thread %u is full: it has room for %zu moves", log->thread,
+            log->room);
+    lr_stop(log);
+}
+
+/* If a step found something else than the one before it, the others may find so too. */
+static inline void lr_after_note(lr_log *log, unsigned word, int polls)
+{
+    lr_run *run = log->run;
+    int joined = log->turn.joined;
+    lr_stop_if_full(log);
+    log->turn.joined = 0;
+    log->turn.seen = run->ordered;
+    run->stuck = polls ? run->stuck | lr_bit(log->thread) : 0;
+    if (!polls) run->in_vain = 0;
+#if LR_FOLLOWS
+    lr_made(log, word);
+#endif
+    if (word == LR_STEP_section)
+        log->turn.is_due = 1;
+    else if (!joined)
+        lr_pass(log);
+}
+#endif
+
+/* A counter's value has the bits of its counter, however wide what was computed with is. */
+LR_AT_ONCE void lr_note(lr_log *log, unsigned word, unsigned place, unsigned owner, unsigned part,
+                        uint64_t value, const char *file, unsigned line)
+{
+    if (place == LR_PLACE_next_ticket || place == LR_PLACE_now_serving) value &= log->mask;
+    lr_kind kind = {(uint8_t)word, (uint8_t)place, (uint8_t)part, 0, (uint16_t)owner};
+    lr_move move = {value, file, kind, (uint16_t)line};
+#if LR_TURNS
+    if (log == &lr_outside) lr_drop(log, move);
+    lr_before_note(log, word);
+    int polls = lr_is_same(move, &log->noted);
+    log->noted = move;
+#endif
+    lr_append(log, move);
+#if LR_TURNS
+    lr_after_note(log, word, polls);
+#else
+    lr_noise(log);
+#endif
+}
+
+#endif /* LR_RECORDS */

@@ -1,0 +1,187 @@
+/* Opening a run, the threads in it, and closing it. */
+
+static inline int lr_is_lock(const char *lock)
+{
+    static const char *const locks[] = {
+        /* generated: locks */
+        "ticket", "mcs", "rw-simple", "rw-fifo",
+        /* end */
+    };
+    for (size_t i = 0; lock && i < sizeof locks / sizeof locks[0]; i++)
+        if (!strcmp(lock, locks[i])) return 1;
+    return 0;
+}
+
+/* Says which argument of `lr_open` is wrong, and returns whether one is. */
+static inline int lr_is_wrong(const char *lock, unsigned threads, unsigned bits, size_t moves)
+{
+    /* generated: locks */
+    static const char locks[] = "ticket, mcs, rw-simple or rw-fifo";
+    /* end */
+    if (!lr_is_lock(lock))
+        lr_say("there is no lock '%s': %s", lock ? lock : "", locks);
+    else if (threads < 1 || threads > LR_THREADS)
+        lr_say("%u threads: a run has 1 to %d", threads, LR_THREADS);
+    else if (bits < 2 || bits > 64)
+        lr_say("%u bits: a counter has 2 to 64", bits);
+    else if (bits < 8 && threads >> bits)
+        lr_say("%u threads and counters of %u bits: there have to be fewer threads than values",
+               threads, bits);
+    else if (moves >= SIZE_MAX / (sizeof(lr_move) + 1) / threads - sizeof(lr_run))
+        lr_say("%zu moves for each thread are more than memory can have", moves);
+    else
+        return 0;
+    return 1;
+}
+
+static inline void lr_close(lr_run *run)
+{
+    if (!run) return;
+    lr_leave_unwatched(run);
+    for (unsigned t = 0; t < run->threads; t++) sem_destroy(&run->logs[t].turn.comes);
+    pthread_cond_destroy(&run->changed);
+    pthread_mutex_destroy(&run->mutex);
+    free(run->lines);
+    free(run->choices);
+    munmap(run, run->size);
+}
+
+/* A number by which the logs of one run are known: of the time, or if a seed or a schedule
+   decides the run, of that. */
+static inline uint64_t lr_number_of(const lr_run *run)
+{
+    struct timespec now;
+    uint64_t state = run->seed;
+    if (!LR_TURNS && !timespec_get(&now, TIME_UTC)) return 0;
+    if (!LR_TURNS) state ^= (uint64_t)now.tv_sec * 1000000000u + (uint64_t)now.tv_nsec;
+    if (!LR_TURNS) state ^= (uint64_t)(uintptr_t)run << 20;
+    return lr_draw(&state);
+}
+
+static inline void lr_open_log(lr_run *run, unsigned thread, size_t moves)
+{
+    lr_log *log = &run->logs[thread];
+    log->run = run;
+    log->thread = thread;
+    log->room = moves;
+    log->mask = ~UINT64_C(0) >> (64 - run->bits);
+    log->noise = run->seed ^ (uint64_t)(thread + 1) << 48;
+    log->moves = &run->moves[thread * (moves + 2) + 2];
+    sem_init(&log->turn.comes, 0, 0);
+}
+
+/* Memory that another process shares: each page of the logs is touched before the run. */
+static inline lr_run *lr_memory_of(unsigned threads, size_t moves)
+{
+    size_t all = threads * (moves + 2), size = sizeof(lr_run) + all * (sizeof(lr_move) + 1);
+    int zero = open("/dev/zero", O_RDWR);
+    void *memory = mmap(NULL, size, PROT_READ | PROT_WRITE, MAP_SHARED, zero, 0);
+    if (zero >= 0) close(zero);
+    if (memory == MAP_FAILED) {
+        lr_say("no memory for %zu moves of each of %u threads: %s", moves, threads,
+               strerror(errno));
+        return NULL;
+    }
+    lr_run *run = (lr_run *)memory;
+    run->size = size;
+    run->moves = (lr_move *)(run + 1);
+    run->order = (unsigned char *)(run->moves + all);
+    memset(run->moves, 1, all * sizeof(lr_move));
+    return run;
+}
+
+static inline lr_run *lr_open(const char *lock, unsigned threads, unsigned bits, size_t moves,
+                              uint64_t seed, const char *folder)
+{
+    if (lr_is_wrong(lock, threads, bits, moves) || lr_folder_fault(folder)) return NULL;
+    lr_run *run = lr_memory_of(threads, moves);
+    if (!run) return NULL;
+    run->mode = LR_CHOSEN;
+    run->lock = lock;
+    run->folder = folder;
+    run->threads = threads;
+    run->bits = bits;
+    run->seed = run->drawn = seed;
+    run->number = lr_number_of(run);
+    run->holder = LR_NOBODY;
+    run->watch = -1;
+    pthread_mutex_init(&run->mutex, NULL);
+    pthread_cond_init(&run->changed, NULL);
+    for (unsigned t = 0; t < threads; t++) lr_open_log(run, t, moves);
+#if LR_SEEDED
+    run->spurious = lr_spurious_of(seed);
+#endif
+#ifdef LR_PCT
+    lr_draw_priorities(run);
+#endif
+    lr_watch(run);
+    return run;
+}
+
+static inline lr_log *lr_log_of(lr_run *run, unsigned thread)
+{
+    if (thread < run->threads) return &run->logs[thread];
+    lr_say("there is no thread %u: the run has the threads 0 to %u", thread, run->threads - 1);
+    _Exit(2);
+}
+
+/* Ends the program if a thread may not begin now. */
+static inline void lr_may_begin(const lr_log *log)
+{
+    if (log->run->mode != LR_CHOSEN)
+        lr_say("LR_MODE is not the same in all files of the program");
+    else if (log->begun)
+        lr_say("thread %u begins twice: each thread has a log of its own", log->thread);
+    else
+        return;
+    _Exit(2);
+}
+
+/* Lets no thread go on before all have come, or with one at a time before it is its turn. */
+static inline void lr_begin(lr_log *log)
+{
+    lr_run *run = log->run;
+    pthread_mutex_lock(&run->mutex);
+    lr_may_begin(log);
+    lr_self = log;
+    log->begun = 1;
+    run->inside |= lr_bit(log->thread);
+    int is_last = ++run->begun == run->threads;
+    if (is_last) pthread_cond_broadcast(&run->changed);
+    while (!LR_TURNS && run->begun < run->threads) pthread_cond_wait(&run->changed, &run->mutex);
+    pthread_mutex_unlock(&run->mutex);
+#if LR_TURNS
+    if (is_last) lr_give(run, lr_next(run, LR_NOBODY));
+    lr_await_turn(log);
+#endif
+}
+
+static inline void lr_end(lr_log *log)
+{
+    lr_run *run = log->run;
+    if (!log->begun || log->ended) {
+        lr_say("thread %u ends, and has not begun or has ended before", log->thread);
+        _Exit(2);
+    }
+#if LR_TURNS
+    lr_pass_if_due(log);
+    run->in_vain = 0;
+    run->stuck = 0;
+#endif
+    lr_self = &lr_outside;
+    pthread_mutex_lock(&run->mutex);
+    run->inside &= ~lr_bit(log->thread);
+    lr_set_count(log->ended, 1);
+    pthread_cond_broadcast(&run->changed);
+    pthread_mutex_unlock(&run->mutex);
+#if LR_TURNS
+    lr_give(run, lr_next(run, LR_NOBODY));
+#endif
+}
+
+static inline unsigned lr_missing(const lr_run *run)
+{
+    unsigned missing = 0;
+    for (unsigned t = 0; t < run->threads; t++) missing += !lr_count_of(run->logs[t].ended);
+    return missing;
+}

@@ -1,0 +1,182 @@
+/* What is kept of a run: its moves, the log of each thread, and whose turn it is. */
+
+#include <errno.h>
+#include <fcntl.h>
+#include <inttypes.h>
+#include <pthread.h>
+#include <semaphore.h>
+#include <stdarg.h>
+#include <stdint.h>
+#include <stdio.h>
+#include <stdlib.h>
+#include <string.h>
+#include <sys/mman.h>
+#include <sys/socket.h>
+#include <sys/stat.h>
+#include <sys/wait.h>
+#include <time.h>
+#include <unistd.h>
+
+enum { LR_THREADS = 64, LR_OWN = 256, LR_NOBODY = 256, LR_APART = 128, LR_SAID = 1024 };
+
+typedef struct lr_kind {
+    uint8_t word, place, part, none;
+    uint16_t owner; /* the thread whose record it is, or LR_OWN */
+} lr_kind;
+
+typedef struct lr_move {
+    uint64_t value; /* what was found or left; the count of a section */
+    const char *file; /* where it was noted, and in which line */
+    lr_kind kind;
+    uint16_t line;
+} lr_move;
+
+/* What only the modes need in which one thread runs at a time. */
+typedef struct lr_turn {
+    sem_t comes;
+    int joined;         /* the next note is followed by one of the same operation */
+    int in_monitor;     /* between LR_LOCK and LR_UNLOCK */
+    int is_due;         /* a section was noted: its turn ends when its monitor is left */
+    int has_passed;     /* nothing was done since the turn came back */
+    const void *awaits; /* the condition for which the thread waits */
+    size_t seen;        /* how many moves of all threads were written at the last note */
+    size_t next_call;   /* the line of its schedule at which its next call is looked for */
+    unsigned priority;  /* with LR_PCT: the greatest goes first */
+} lr_turn;
+
+/* The record of a thread's own, of which its words are fields. */
+typedef struct lr_extent {
+    uintptr_t first;
+    size_t length;
+} lr_extent;
+
+typedef struct lr_log {
+    char apart[LR_APART]; /* keeps two threads' logs on cache lines of their own */
+    struct lr_run *run;
+    lr_move *moves; /* before the first one are two that no thread makes */
+    size_t room;
+    size_t count, dropped;
+    uint64_t mask;   /* the bits of a counter */
+    lr_move last[2]; /* of those that were dropped */
+    lr_move noted;   /* with one thread at a time: the last note, also if it was left out */
+    unsigned thread;
+    int begun, ended; /* ended: 1 after the thread's last move */
+    pthread_t id;     /* of a thread that a driver's run started */
+    uint64_t noise;   /* with LR_NOISE: the state of its draws */
+    lr_extent record;
+    lr_turn turn;
+} lr_log;
+
+/* A line of a schedule that is followed. */
+typedef struct lr_line {
+    unsigned char thread, word;
+    unsigned number; /* in its file, from 1 */
+} lr_line;
+
+/* What was chosen in a run that is explored: of `options` the one that goes on. */
+typedef struct lr_choice {
+    uint64_t options;
+    uint16_t chosen, current; /* current: who would have gone on, or LR_NOBODY */
+} lr_choice;
+
+/* It has the same fields in each mode, and the mode with which it was opened. */
+typedef struct lr_run {
+    int mode;
+    const struct lr_driver *driver;
+    const char *lock, *folder;
+    size_t size; /* of this and of all that follows it in memory */
+    unsigned threads, bits, rounds;
+    uint64_t seed, drawn, number;
+    pthread_mutex_t mutex; /* of `begun`, `ended` of each log and `is_over` */
+    pthread_cond_t changed;
+    unsigned begun;
+    int is_over;        /* nobody gets a turn any more */
+    int is_crashed;     /* the program ended before the run was saved */
+    int watch;          /* by which the process that saves it then is told that all is well */
+    char said[LR_SAID]; /* why it ended before its threads, or why it is refused */
+    lr_log logs[LR_THREADS];
+    lr_move *moves; /* of all logs */
+
+    /* One thread at a time: only the thread whose turn it is touches these. */
+    unsigned holder;
+    uint64_t inside; /* the threads between lr_begin and lr_end, a bit for each */
+    uint64_t parked; /* those that wait for a condition */
+    uint64_t stuck;  /* those that polled in vain, and nobody moved since */
+    size_t turns, in_vain; /* in_vain: how many of the last turns made no step but polls */
+    int hangs;
+    unsigned char *order; /* whose each move is, up to the first that was dropped */
+    size_t ordered;
+    int is_cut; /* a move was dropped */
+    unsigned spurious; /* one turn in so many wakes a thread for nothing */
+    size_t *changes;   /* with LR_PCT: at which turns the thread that runs becomes the last */
+    lr_line *lines;    /* of the schedule that is followed */
+    size_t lines_count, at;
+    int is_at_end; /* every line was made: each thread may come to its end */
+    const unsigned char *way; /* what to choose first */
+    size_t way_length;
+    lr_choice *choices;
+    size_t chosen, choices_room;
+} lr_run;
+
+/* The log of the thread that runs, one variable for all files of a program. A thread that has none
+   has this one, which has no room: so only a note without room needs to ask. */
+#ifdef __cplusplus
+extern "C" {
+__attribute__((weak)) lr_log lr_outside;
+__attribute__((weak)) thread_local lr_log *lr_self = &lr_outside;
+}
+#else
+__attribute__((weak)) lr_log lr_outside;
+__attribute__((weak)) _Thread_local lr_log *lr_self = &lr_outside;
+#endif
+
+/* The number of the thread that runs. */
+static inline unsigned lr_thread(void) { return lr_self->thread; }
+
+/* `lr_save` may read what is counted while threads still run. */
+#define lr_count_of(count) __atomic_load_n(&(count), __ATOMIC_ACQUIRE)
+#define lr_set_count(count, value) __atomic_store_n(&(count), value, __ATOMIC_RELEASE)
+
+static inline uint64_t lr_bit(unsigned thread) { return UINT64_C(1) << thread; }
+
+/* The next number of splitmix64 (Steele, Lea and Flood, 2014). */
+static inline uint64_t lr_draw(uint64_t *state)
+{
+    uint64_t z = (*state += UINT64_C(0x9E3779B97F4A7C15));
+    z = (z ^ (z >> 30)) * UINT64_C(0xBF58476D1CE4E5B9);
+    z = (z ^ (z >> 27)) * UINT64_C(0x94D049BB133111EB);
+    return z ^ (z >> 31);
+}
+
+/* A sentence on what is wrong. */
+__attribute__((format(printf, 1, 2))) static inline void lr_say(const char *format, ...)
+{
+    va_list values;
+    va_start(values, format);
+    fputs("lockreplay_record: ", stderr);
+    vfprintf(stderr, format, values);
+    fputc('\n', stderr);
+    va_end(values);
+}
+
+/* Appends to a text of LR_SAID bytes, as far as there is room. */
+__attribute__((format(printf, 2, 3))) static inline void lr_tell(char *text, const char *format,
+                                                                 ...)
+{
+    size_t length = strlen(text);
+    va_list values;
+    va_start(values, format);
+    vsnprintf(text + length, LR_SAID - length, format, values);
+    va_end(values);
+}
+
+static inline const char *lr_word(unsigned word)
+{
+    static const char *const words[] = {
+        /* generated: calls, steps */
+        "acquire", "release", "rlock", "runlock", "wlock", "wunlock", "downgrade", "read", "write",
+        "swap", "cas", "add", "section",
+        /* end */
+    };
+    return words[word];
+}

@@ -1,0 +1,213 @@
+/* Writing what was recorded: the log of each thread, and of one thread at a time the trace. */
+
+/* A text, which goes to a file or into memory. */
+typedef struct lr_text {
+    FILE *file;
+    char *bytes;
+    size_t length, room;
+    int no_memory;
+} lr_text;
+
+static inline void lr_put_bytes(lr_text *text, const char *bytes, size_t length)
+{
+    if (text->file) {
+        fwrite(bytes, 1, length, text->file);
+        return;
+    }
+    if (text->length + length > text->room) {
+        size_t room = 2 * text->room + length + 4096;
+        char *larger = (char *)realloc(text->bytes, room);
+        text->no_memory = text->no_memory || !larger;
+        if (!larger) return;
+        text->bytes = larger;
+        text->room = room;
+    }
+    memcpy(text->bytes + text->length, bytes, length);
+    text->length += length;
+}
+
+/* Puts at most 511 bytes, which is more than any line has. */
+__attribute__((format(printf, 2, 3))) static inline void lr_put(lr_text *text, const char *format,
+                                                                ...)
+{
+    char line[512];
+    va_list values;
+    va_start(values, format);
+    int length = vsnprintf(line, sizeof line, format, values);
+    va_end(values);
+    if (length > 0) lr_put_bytes(text, line, (size_t)length);
+}
+
+static inline void lr_print_move(lr_text *text, const lr_move *move)
+{
+    char line[LR_LINE];
+    lr_put(text, "%s\n", lr_text_of(line, move));
+}
+
+/* Comments, by which runs are told apart and made again, and the header up to a log's thread. */
+static inline void lr_print_head(lr_text *text, const lr_run *run)
+{
+    lr_put(text, "# run %016" PRIx64 "\n", run->number);
+    if (LR_SEEDED) lr_put(text, "# seed %" PRIu64 "\n", run->seed);
+    lr_put(text, "lock %s threads %u bits %u", run->lock, run->threads, run->bits);
+}
+
+/* What is said of a thread's end. Of a run that was stopped, as by the end of a schedule or for
+   lack of room, nobody knows whether it would have gone on. */
+static inline const char *lr_end_of(const lr_run *run, const lr_log *log)
+{
+    if (lr_count_of(log->ended)) return "has ended";
+    int was_stopped = run->is_cut || run->is_crashed || (LR_TURNS && !run->hangs) ||
+                      lr_count_of(log->dropped);
+    return was_stopped ? "was stopped" : "has not ended";
+}
+
+/* A log whose thread has not ended has a comment in the place of its last line. */
+static inline void lr_print_log(lr_text *text, const lr_log *log)
+{
+    int ended = lr_count_of(log->ended);
+    size_t count = lr_count_of(log->count);
+    lr_put(text, " thread %u\n", log->thread);
+    for (size_t i = 0; i < count; i++) lr_print_move(text, &log->moves[i]);
+    if (ended)
+        lr_put(text, "dropped %zu\n", lr_count_of(log->dropped));
+    else
+        lr_put(text, "# thread %u %s\n", log->thread, lr_end_of(log->run, log));
+}
+
+static inline void lr_print_moves(lr_text *text, const lr_run *run)
+{
+    size_t next[LR_THREADS] = {0}, ordered = lr_count_of(run->ordered);
+    lr_put(text, "\n");
+    for (size_t turn = 0; turn < ordered; turn++) {
+        unsigned t = run->order[turn];
+        lr_put(text, "%u ", t);
+        lr_print_move(text, &run->logs[t].moves[next[t]++]);
+    }
+}
+
+/* With EXPLORE: what was chosen, by which `lr_main` makes the same run again. A program that has
+   crashed took it along. */
+static inline void lr_print_way(lr_text *text, const lr_run *run)
+{
+    if (!LR_EXPLORES || run->is_crashed) return;
+    for (size_t i = 0; i < run->chosen; i++)
+        lr_put(text, "%s %u%s", i % 24 ? "" : "# way", (unsigned)run->choices[i].chosen,
+               i % 24 == 23 || i + 1 == run->chosen ? "\n" : "");
+}
+
+/* The trace: its moves, and in comments how the run ended. */
+static inline void lr_print_trace(lr_text *text, const lr_run *run)
+{
+    lr_print_head(text, run);
+    lr_print_moves(text, run);
+    lr_put(text, "# turns %zu\n", run->turns);
+    for (unsigned t = 0; t < run->threads; t++)
+        lr_put(text, "# thread %u %s\n", t, lr_end_of(run, &run->logs[t]));
+    if (run->is_cut) lr_put(text, "%s", "# cut where a log was full\n");
+    if (run->is_crashed) lr_put(text, "%s", "# the program ended before its run was saved\n");
+    if (run->said[0]) {
+        lr_put(text, "# ");
+        lr_put_bytes(text, run->said, strlen(run->said));
+        lr_put(text, "\n");
+    }
+    lr_print_way(text, run);
+}
+
+/* Writes a file of a directory by a function. It gets its name when it is whole: nothing is left of
+   one that could not be written. Says why: 0, or an errno. */
+static inline int lr_save_file(const lr_run *run, const char *path, unsigned thread,
+                               void (*print)(lr_text *, const lr_run *, unsigned))
+{
+    char part[4096 + 8];
+    snprintf(part, sizeof part, "%s.part", path);
+    lr_text text = {fopen(part, "w"), NULL, 0, 0, 0};
+    int fault = text.file ? 0 : errno;
+    errno = 0;
+    if (text.file) print(&text, run, thread);
+    if (text.file && (fflush(text.file) || ferror(text.file))) fault = errno ? errno : EIO;
+    if (text.file && fclose(text.file) && !fault) fault = errno;
+    if (!fault && rename(part, path)) fault = errno;
+    if (!fault) return 0;
+    remove(part);
+    lr_say("%s: %s", path, strerror(fault));
+    return fault;
+}
+
+static inline void lr_print_whole_log(lr_text *text, const lr_run *run, unsigned thread)
+{
+    lr_print_head(text, run);
+    lr_print_log(text, &run->logs[thread]);
+}
+
+static inline void lr_print_whole_trace(lr_text *text, const lr_run *run, unsigned thread)
+{
+    (void)thread;
+    lr_print_trace(text, run);
+}
+
+static inline int lr_save_trace(const lr_run *run, const char *path)
+{
+    return lr_save_file(run, path, 0, lr_print_whole_trace);
+}
+
+/* The path of a thread's log in the run's folder, or of the trace if the thread is LR_NOBODY. */
+static inline int lr_path_of(char *path, const lr_run *run, unsigned thread)
+{
+    int length = thread == LR_NOBODY
+                     ? snprintf(path, 4096, "%s/run.trace", run->folder)
+                     : snprintf(path, 4096, "%s/thread-%u.log", run->folder, thread);
+    if (length > 0 && length < 4096) return 0;
+    lr_say("%s: %s", run->folder, strerror(ENAMETOOLONG));
+    return ENAMETOOLONG;
+}
+
+/* Takes away what an earlier run of more threads, or in another mode, left. */
+static inline int lr_remove_earlier(const lr_run *run)
+{
+    char path[4096];
+    int fault = 0;
+    for (unsigned t = run->threads; t <= LR_THREADS && !fault; t++) {
+        fault = lr_path_of(path, run, t < LR_THREADS ? t : (unsigned)LR_NOBODY);
+        if (fault || !remove(path) || errno == ENOENT) continue;
+        fault = errno;
+        lr_say("%s: %s", path, strerror(fault));
+    }
+    return fault;
+}
+
+static inline int lr_save_files(lr_run *run)
+{
+    char path[4096];
+    int fault = lr_remove_earlier(run);
+    for (unsigned t = 0; t < run->threads && !fault; t++) {
+        fault = lr_path_of(path, run, t);
+        if (!fault) fault = lr_save_file(run, path, t, lr_print_whole_log);
+    }
+    if (!LR_TURNS || fault) return fault;
+    fault = lr_path_of(path, run, LR_NOBODY);
+    return fault ? fault : lr_save_trace(run, path);
+}
+
+/* Says of which threads a log was full. What is written is right, but it is not the whole run. */
+static inline int lr_full_fault(const lr_run *run)
+{
+    int fault = 0;
+    for (unsigned t = 0; t < run->threads; t++) {
+        size_t dropped = lr_count_of(run->logs[t].dropped);
+        if (!dropped) continue;
+        fault = ENOBUFS;
+        if (!run->said[0])
+            lr_say("the log of thread %u was full: it has room for %zu moves, and dropped %zu", t,
+                   run->logs[t].room, dropped);
+    }
+    return fault;
+}
+
+static inline int lr_save(lr_run *run)
+{
+    if (!run->folder) return 0;
+    int fault = lr_save_files(run);
+    lr_leave_unwatched(run);
+    return fault ? fault : lr_full_fault(run);
+}

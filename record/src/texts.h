@@ -1,0 +1,55 @@
+/* The text of a move, as a trace has it. */
+
+/* Writes a move without its thread into at most LR_LINE bytes. */
+enum { LR_LINE = 128 };
+
+static inline const char *lr_text_of(char *line, const lr_move *move)
+{
+    static const char *const places[] = {
+        "",
+        /* generated: places */
+        " next_ticket", " now_serving", " tail", " next", " locked",
+        /* end */
+    };
+    static const char *const parts[] = {
+        "",
+        /* generated: parts, outcomes */
+        " found", " left", " done", " failed", " moved", " waits", " entered", " left",
+        /* end */
+    };
+    const lr_kind *kind = &move->kind;
+    int has_value = kind->part == LR_PART_found || kind->part == LR_PART_left;
+    char owner[16] = "", count[24] = "", value[24] = "";
+    if (kind->owner != LR_OWN) snprintf(owner, sizeof owner, " of %u", (unsigned)kind->owner);
+    if (kind->word == LR_STEP_section)
+        snprintf(count, sizeof count, " %" PRIu64, move->value);
+    if (has_value) snprintf(value, sizeof value, " %" PRIu64, move->value);
+    snprintf(line, LR_LINE, "%s%s%s%s%s%s", lr_word(kind->word), places[kind->place], owner, count,
+             parts[kind->part], value);
+    return line;
+}
+
+/* Writes where a move was noted, without folders, into at most LR_LINE bytes. */
+static inline const char *lr_where(char *text, const lr_move *move)
+{
+    const char *slash = strrchr(move->file, '/');
+    snprintf(text, LR_LINE, "%.99s:%u", slash ? slash + 1 : move->file, (unsigned)move->line);
+    return text;
+}
+
+/* The last note of a thread, also one that was left out or dropped; NULL if it made none. */
+static inline const lr_move *lr_last_of(const lr_log *log)
+{
+    size_t count = lr_count_of(log->count);
+    if (LR_TURNS) return log->noted.file ? &log->noted : NULL;
+    if (lr_count_of(log->dropped)) return &log->last[1];
+    return count ? &log->moves[count - 1] : NULL;
+}
+
+/* Appends to a text what a thread noted last, and where. */
+static inline void lr_tell_last(char *text, const lr_log *log)
+{
+    char line[LR_LINE], at[LR_LINE];
+    const lr_move *last = lr_last_of(log);
+    if (last) lr_tell(text, " ('%s' at %s)", lr_text_of(line, last), lr_where(at, last));
+}

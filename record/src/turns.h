@@ -1,0 +1,108 @@
+/* One thread runs at a time: how the turn goes from one to the next.
+
+   A thread keeps its turn until a hook of this header passes it. Who is next says `lr_choose`, of
+   which each mode has its own. A thread that goes on itself costs a call; another one costs a
+   semaphore's post and wait, which is what one futex each costs (bench/README.md compares it with
+   other ways). Nothing here is touched but by the thread whose turn it is. */
+
+#ifndef LR_PATIENCE
+#if LR_EXPLORES
+#define LR_PATIENCE 1000
+#else
+#define LR_PATIENCE 20000
+#endif
+#endif
+
+static inline unsigned lr_choose(lr_run *run, uint64_t ready, unsigned current);
+static inline unsigned lr_choose_waiter(lr_run *run, uint64_t waiters);
+static inline void lr_wake_for_nothing(lr_run *run);
+
+/* The first thread of a set after another one, or after nobody; after the last comes the first. */
+static inline unsigned lr_after(uint64_t threads, unsigned current)
+{
+    unsigned next = current < LR_THREADS ? current : LR_THREADS - 1;
+    do next = (next + 1) % LR_THREADS;
+    while (!(threads >> next & 1));
+    return next;
+}
+
+/* Says of each thread that is left what it does; nobody moves any more. */
+static inline void lr_hang(lr_run *run)
+{
+    lr_tell(run->said, "the run hangs:");
+    for (unsigned t = 0; t < run->threads; t++) {
+        if (!(run->inside >> t & 1)) continue;
+        int is_parked = (int)(run->parked >> t & 1);
+        lr_tell(run->said, " thread %u %s", t, is_parked ? "waits for a signal" : "polls");
+        lr_tell_last(run->said, &run->logs[t]);
+        lr_tell(run->said, "%s", run->inside >> t >> 1 ? "," : "");
+    }
+    run->hangs = 1;
+}
+
+/* Who is next, or LR_NOBODY. */
+static inline unsigned lr_next(lr_run *run, unsigned current)
+{
+    lr_wake_for_nothing(run);
+    uint64_t ready = run->inside & ~run->parked;
+    lr_set_count(run->turns, run->turns + 1);
+    run->in_vain++;
+#if !LR_FOLLOWS
+    if (run->inside && (!ready || run->in_vain > LR_PATIENCE)) lr_hang(run);
+    if (!ready || run->hangs) return LR_NOBODY;
+#endif
+    return lr_choose(run, ready, current);
+}
+
+static inline void lr_end_run(lr_run *run)
+{
+    pthread_mutex_lock(&run->mutex);
+    run->is_over = 1;
+    pthread_cond_broadcast(&run->changed);
+    pthread_mutex_unlock(&run->mutex);
+}
+
+static inline void lr_give(lr_run *run, unsigned next)
+{
+    run->holder = next;
+    if (next == LR_NOBODY)
+        lr_end_run(run);
+    else
+        sem_post(&run->logs[next].turn.comes);
+}
+
+/* A signal of the system may interrupt the wait. */
+static inline void lr_await_turn(lr_log *log)
+{
+    while (sem_wait(&log->turn.comes)) {}
+}
+
+/* Ends the run: the thread stays where it is. */
+static inline void lr_stop(lr_log *log)
+{
+    lr_give(log->run, LR_NOBODY);
+    for (;;) lr_await_turn(log);
+}
+
+static inline void lr_pass(lr_log *log)
+{
+    unsigned next = lr_next(log->run, log->thread);
+    log->turn.is_due = 0;
+    log->turn.has_passed = 1;
+    if (next == log->thread) return;
+    lr_give(log->run, next);
+    lr_await_turn(log);
+}
+
+/* Ends the turn of a section that was noted in a monitor which has been left since. */
+static inline void lr_pass_if_due(lr_log *log)
+{
+    if (log->turn.is_due) lr_pass(log);
+}
+
+/* Before an atomic operation. After a pass nothing was done yet, so one is enough. */
+static inline void lr_point_of(lr_log *log)
+{
+    if (!log->turn.in_monitor && !log->turn.has_passed) lr_pass(log);
+    log->turn.has_passed = 0;
+}

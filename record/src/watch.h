@@ -1,0 +1,64 @@
+/* A run that is to be saved is also saved if its program crashes, is killed, or ends too early.
+
+   The memory of a run is shared with a process of its own, which waits at a socket. Whatever ends
+   the program closes the socket, also `kill -9`; then that process writes what was noted until
+   then. It has no part in the run, so a note costs nothing more. It is a grandchild, which the
+   program need not wait for, in a session of its own, which no interrupt of a terminal ends. */
+
+/* Makes the folder, if it is not there. Says what is wrong with it. */
+static inline int lr_folder_fault(const char *folder)
+{
+    if (!folder || !mkdir(folder, 0777)) return 0;
+    int fault = errno;
+    struct stat found;
+    if (!stat(folder, &found)) fault = S_ISDIR(found.st_mode) ? 0 : ENOTDIR;
+    if (fault) lr_say("%s: %s", folder, strerror(fault));
+    return fault;
+}
+
+static inline int lr_save_files(lr_run *run);
+
+/* What the other process does: it ends in silence if a byte comes. */
+static inline void lr_keep_watch(lr_run *run, int from)
+{
+    char byte;
+    ssize_t got;
+    setsid();
+    close(0);
+    close(1);
+    do got = read(from, &byte, 1);
+    while (got < 0 && errno == EINTR);
+    if (got > 0) _Exit(0);
+    run->is_crashed = 1;
+    if (!lr_save_files(run))
+        lr_say("the program ended before its run was saved: its moves until then are in %s",
+               run->folder);
+    _Exit(0);
+}
+
+/* Without another process a run is kept all the same, unless it crashes. */
+static inline void lr_watch(lr_run *run)
+{
+    int ends[2];
+    if (!run->folder || socketpair(AF_UNIX, SOCK_STREAM, 0, ends)) return;
+    fflush(NULL);
+    pid_t child = fork();
+    if (child == 0) {
+        close(ends[1]);
+        if (fork() == 0) lr_keep_watch(run, ends[0]);
+        _Exit(0);
+    }
+    close(ends[0]);
+    if (child > 0) waitpid(child, NULL, 0);
+    fcntl(ends[1], F_SETFD, FD_CLOEXEC);
+    run->watch = ends[1];
+}
+
+/* The run was saved, or nobody wants it. */
+static inline void lr_leave_unwatched(lr_run *run)
+{
+    if (run->watch < 0) return;
+    send(run->watch, "", 1, MSG_NOSIGNAL);
+    close(run->watch);
+    run->watch = -1;
+}

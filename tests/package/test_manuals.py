@@ -1,0 +1,43 @@
+"""Manual pages have no fault that mandoc finds, show the version, and name each word of the command
+line.
+"""
+import os
+import re
+import shutil
+
+import pytest
+
+from installs import MANUALS
+from tree import VERSION, cases, output
+
+HELP_LINE = r"^ +(?:-\w, )?(?:--)?([a-z]+)(?: <[^>]*>)?(?:  |$)"  # `  -j, --jobs <N>  How many`
+
+
+@pytest.mark.parametrize("page", MANUALS)
+def test_manual_page(installed, tmp_path, page):
+    """No message of mandoc, found by man, with the version, and no warning of groff."""
+    manual = shutil.copytree(installed / "share" / "man", tmp_path / "man")
+    name, section = page.rsplit(".", 1)
+    assert output("makewhatis", manual) == ""
+    # all of `mandoc -Tlint` but the conventions of OpenBSD's and NetBSD's base systems
+    assert output("mandoc", "-Tlint", "-Wstyle", "-M", manual,
+                  manual / f"man{section}" / page) == ""
+    shown = output("man", "-M", manual, "--warnings", section, name, env={
+        "PATH": os.environ["PATH"], "LANG": "C.UTF-8", "MANWIDTH": "80"})
+    assert f"version {VERSION}." in shown and ": warning: " not in shown
+
+
+@cases("name, commands, due", {
+    "lockreplay": ("lockreplay", "replay batch", "replay batch help workers"),
+    "locktrace": ("locktrace", "check explain order schedule find tour space cover",
+                  "check explain order schedule find tour space cover help version format color "
+                  "summary quiet jobs moves names rounds bits limit require"),
+})
+def test_words(installed, name, commands, due):
+    """What a program's help offers is what is due, and each word of it is in the program's page."""
+    page = (installed / f"share/man/man1/{name}.1").read_text()
+    helps = "".join(output(installed / "bin" / name, *command, "--help")
+                    for command in ([], *([it] for it in commands.split())))
+    words = set(re.findall(HELP_LINE, helps, re.MULTILINE))
+    assert words == set(due.split())
+    assert {word for word in words if re.search(rf"(Cm|Fl) {word}\b", page)} == words

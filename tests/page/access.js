@@ -1,0 +1,93 @@
+// Who has no mouse, no large screen, or does not see: what has the focus, what is said, what fits.
+
+const tag = (node) => node.id || node.tagName.toLowerCase();
+
+const stops = () => all('*').filter((one) => one.tabIndex >= 0 && one.checkVisibility()
+  && !one.disabled).map(tag);
+
+// What has the focus, and whether it is seen to have it.
+function ring() {
+  const one = document.activeElement;
+  const { outlineStyle, outlineWidth } = getComputedStyle(
+    one.id === 'slider' ? one.nextElementSibling : one);
+  return [tag(one), outlineStyle !== 'none' && parseFloat(outlineWidth) >= 2];
+}
+
+// The lane that is chosen, the move that is shown, and what has the focus.
+function lane() {
+  const chosen = byId(byId('lanes').getAttribute('aria-activedescendant'));
+  return [chosen?.getAttribute('aria-label'), chosen?.getAttribute('aria-selected'),
+    port.state().place, focused()];
+}
+
+// Controls and parts without a name, and pictures without a text.
+function nameless() {
+  const isNamed = (one) => one.getAttribute('aria-label') || one.textContent.trim()
+    || one.labels?.length || one.hidden;
+  const parts = [...all('button, select, input, textarea, summary'),
+    ...all('section, [role]').filter((one) => one.checkVisibility())];
+  const pictures = all('svg').filter((one) => !one.closest('[aria-hidden]')
+    && !one.getAttribute('aria-label'));
+  return [...parts.filter((one) => !isNamed(one)), ...pictures].map((one) => one.outerHTML);
+}
+
+// Where a part is once the page is scrolled down to it.
+function reached(id) {
+  byId(id).scrollIntoView();
+  const { left, right, top, height } = rect(byId(id));
+  return {
+    height, inside: left >= -1 && right <= innerWidth + 1 && top > -1 && top < innerHeight,
+    across: document.documentElement.scrollWidth > innerWidth,
+  };
+}
+
+function onPhone() {
+  click('#show-keys');
+  const keys = all('#key-list kbd').every((one) => one.checkVisibility());
+  const signs = count('#sign-list > span');
+  closeDialog('keys');
+  click('#menu');
+  const tools = all('.tools button').every((one) => (
+    one.checkVisibility() && rect(one).left >= 0 && rect(one).right <= innerWidth));
+  click('#menu');
+  return { slider: rect(byId('slider')).width, keys, signs, tools };
+}
+
+// Whether all choices and what they do are on the screen.
+function choicesFit() {
+  const choices = all('#choices button');
+  return choices.length > 0 && choices.every((one) => rect(one).bottom <= innerHeight)
+    && rect(byId('now')).bottom <= innerHeight && rect(byId('now')).height > 60;
+}
+
+const LETTERS = ['#now .say', '#now .plain', '.facts dt', '.report-line', '.code-line.plain',
+  '#subtitle', 'kbd', '#memory-caption', '.legend', '#position', '.card h2', '.hint'];
+
+function colours() {
+  return {
+    texts: LETTERS.map((one) => styleOf(one).color), page: styleOf('body').backgroundColor,
+    gutter: styleOf('#gutter').color, back: styleOf('#gutter').backgroundColor,
+    word: styleOf('#memory-picture .word:not(.read)').stroke,
+    card: styleOf('#now').backgroundColor,
+  };
+}
+
+// Whether the browser says that the system asks for this.
+const isAsked = (name, wanted) => matchMedia(`(${name}: ${wanted})`).matches;
+
+// What is seen where the system has colours of its own: the bars of lines of code, buttons, and
+// the ground of pictures.
+function inForcedColours() {
+  const { backgroundColor } = styleOf('#code');
+  const bars = all('.code-line').map((one) => [one.classList.contains('here'),
+    getComputedStyle(one).borderLeftColor !== backgroundColor]);
+  const border = (pressed) => styleOf(`.tools [aria-pressed="${pressed}"]`).borderTopWidth;
+  return {
+    here: bars.filter(([is]) => is).map(([, seen]) => seen),
+    others: bars.filter(([is, seen]) => !is && seen).length,
+    pressed: border(true), free: border(false),
+    ground: styleOf('#lanes').backgroundColor, letters: styleOf('.lane-name').fill,
+  };
+}
+
+const slides = () => styleOf('.record').transitionDuration;

@@ -1,0 +1,16 @@
+// A branch of a lesson, an edit of its text, and two schedules compared.
+
+const isLinked = (letters) => {
+  const coded = btoa(letters).replaceAll('+', '-').replaceAll('/', '_').replaceAll('=', '');
+  return location.hash.startsWith(`#schedule=${coded}&`);
+};
+
+const edit = (old, other) => write(value('#text').replace(old, other));
+
+function compared() {
+  const mark = (id) => document.querySelector(`#${id} [data-different]`)?.dataset.different;
+  return {
+    shown: !byId('other').hidden, there: mark('other'), here: mark('time'),
+    lines: texts('#other .compared code'), title: text('#other h2'),
+  };
+}

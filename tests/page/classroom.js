@@ -1,0 +1,52 @@
+// Hall mode in a class: the quiz in it, a black screen, and how much of code and memory is seen.
+
+const place = () => port.state().place;
+const isHall = () => document.body.classList.contains('hall');
+
+// The question of the quiz, if all of it is on the screen.
+function asked() {
+  const form = byId('quiz-form');
+  const screen = { left: 0, top: 0, right: innerWidth, bottom: innerHeight };
+  return form && all('input, button', form).every((one) => inside(rect(one), screen))
+    && { move: Number(form.dataset.move), kind: form.dataset.kind };
+}
+
+function answer(given) {
+  const form = byId('quiz-form');
+  const radio = form.querySelector('input[type=radio]');
+  if (radio) radio.checked = true;
+  else form.querySelector('input[name=answer]').value = given;
+  form.requestSubmit();
+}
+
+// Whether nothing is seen but black.
+function isBlack() {
+  const { backgroundColor, position } = getComputedStyle(document.body, '::after');
+  return position === 'fixed' && backgroundColor === 'rgb(0, 0, 0)';
+}
+
+// How many lines the code has, and how many of them are seen.
+function code() {
+  const box = rect(byId('code-lines'));
+  const lines = all('#code-lines .code-line').map(rect);
+  return [lines.length, lines.filter(({ top, bottom }) => top >= box.top - 1
+    && bottom <= box.bottom + 1).length];
+}
+
+// Texts of the memory picture that are not seen whole.
+function cut() {
+  const box = rect(byId('memory-picture'));
+  return all('#memory-picture text').filter((one) => !inside(rect(one), box)
+    || one.lastChild.textContent.endsWith('…')).map((one) => one.textContent);
+}
+
+async function saved(name) {
+  let blob;
+  byId('quiz-name').value = name;
+  URL.createObjectURL = (one) => { blob = one; return 'data:,'; };
+  HTMLAnchorElement.prototype.click = () => {};
+  click('[data-save-quiz]');
+  return blob.text();
+}
+
+const today = () => new Date().toISOString().slice(0, 10);

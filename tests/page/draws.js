@@ -1,0 +1,71 @@
+// What is wrong with what is drawn, as a list of sentences.
+
+const nameOf = (node) => `${node.closest('[id]').id}: ${node.textContent.trim().slice(0, 40)}`;
+const screen = () => ({ left: 0, top: 0, right: innerWidth, bottom: innerHeight });
+const seen = (selector) => all(selector).filter((one) => (
+  one.checkVisibility() && rect(one).width > 0));
+const isApart = (one, other) => one.bottom <= other.top + 1 || one.top >= other.bottom - 1;
+
+function outOfView(selector, id) {
+  const isInside = (one) => inside(rect(one), rect(byId(id))) && inside(rect(one), screen());
+  return seen(selector).filter((one) => !isInside(one))
+    .map((one) => `out of view: ${selector} ${nameOf(one)}`);
+}
+
+// A line is in view or it is out of view; none is cut.
+function cutLines() {
+  const lines = seen('.code-line, #now p, #now .head, #now dt, #now dd, #now summary');
+  const isCut = (one) => {
+    const box = rect(one.closest('#code-lines, #now'));
+    return !inside(rect(one), box) && !isApart(rect(one), box);
+  };
+  return lines.filter(isCut).map((one) => `cut: ${nameOf(one)}`);
+}
+
+const isWider = (node) => node.scrollWidth > node.clientWidth + 1;
+
+function wrongInParts({ place, refused }, isHidden) {
+  const wrong = [
+    ...outOfView('.code-line.here', 'code-lines'),
+    ...outOfView('#memory-picture [data-moving]', 'memory-picture'),
+    ...outOfView('#now .say', 'now'), ...outOfView('#memory-picture text', 'memory-picture'),
+    ...outOfView('#numbers text', 'time'), ...outOfView('#lanes text', 'lanes'),
+    ...outOfView('#memory-caption', 'memory'), ...cutLines(),
+    ...seen('#memory-picture text').filter((one) => one.textContent.endsWith('…')).map(nameOf),
+    ...['code-lines', 'now', 'memory-picture'].filter((id) => isWider(byId(id)))
+      .map((id) => `wider than its part: ${id}`),
+  ];
+  const isMade = place > 0 && !refused;
+  if (isMade && !count('.code-line.here')) wrong.push('no line');
+  const hasRecord = isMade && count('.record') > 0;
+  if (hasRecord && !seen('#memory-picture [data-moving]').length) wrong.push('no record');
+  const isSaid = seen('#now .say').length > 0;
+  if (isSaid === isHidden) wrong.push(isSaid ? 'the sentence is not hidden' : 'no sentence');
+  const now = byId('now');
+  if (now.scrollHeight > now.clientHeight + 1) wrong.push('now is scrolled');
+  return wrong;
+}
+
+function wrongNow(isHidden) {
+  const shown = port.state();
+  const wrong = shown.threads ? wrongInParts(shown, isHidden) : [];
+  const controls = seen('h1, #subtitle, button, #position');
+  const isOff = (one) => !inside(rect(one), screen()) && !one.closest('aside');
+  wrong.push(...controls.filter(isWider).map((one) => `cut: ${nameOf(one)}`));
+  wrong.push(...controls.filter(isOff).map((one) => `off: ${nameOf(one)}`));
+  if (document.documentElement.scrollWidth > innerWidth) wrong.push('wider than the screen');
+  return wrong;
+}
+
+// The answer brings the sentence. The two may be longer than their part, which is then scrolled.
+function wrongWithAnswer() {
+  key('a');
+  const wrong = outOfView('#now .say', 'now');
+  return seen('#now .say').length ? wrong : ['no sentence with the answer'];
+}
+
+// With the first of these links the page was loaded.
+const wrongAt = (links) => links.map(([fragment, isHidden], i) => {
+  if (i) follow(fragment);
+  return [...wrongNow(isHidden), ...(isHidden ? wrongWithAnswer() : [])];
+});

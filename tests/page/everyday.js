@@ -1,0 +1,64 @@
+// What a reader does every day: menu, files, phones and low windows.
+
+const isMenu = () => document.body.classList.contains('menu');
+
+function dropFiles(files) {
+  const data = new DataTransfer();
+  for (const [name, letters] of files) data.items.add(new File([letters], name));
+  bring('drop', 'dataTransfer', data);
+}
+
+const fitsAcross = () => [document.documentElement, byId('lessons')]
+  .every((one) => one.scrollWidth <= one.clientWidth + 1);
+const instead = () => [byId('text').placeholder, byId('text').wrap];
+const openNew = () => { byId('new').parentElement.open = true; };
+
+// Whether all of a control can be clicked.
+function isFree(selector) {
+  const { left, top, bottom, width } = rect(document.querySelector(selector));
+  return [top + 3, bottom - 3].every((y) => (
+    document.elementFromPoint(left + width / 2, y)?.closest(selector)));
+}
+
+// A line of the code, and the number that is drawn before it.
+function numbered(number) {
+  const line = all('#code-lines .code-line')[number - 1];
+  const counted = all('#code-lines .code-line').slice(0, number)
+    .every((one) => getComputedStyle(one).counterIncrement === 'line 1');
+  return [plain(line.querySelector('code').textContent),
+    getComputedStyle(line, '::before').content, counted];
+}
+
+// Which of these parts of the move are seen whole.
+function seenOfMove(parts) {
+  const box = rect(byId('now'));
+  return parts.filter((part) => {
+    const node = document.querySelector(`#now ${part}`);
+    return node.checkVisibility() && inside(rect(node), box);
+  });
+}
+
+const tops = (selectors) => selectors.map((one) => rect(document.querySelector(one)).top);
+const scrolled = () => [scrollX, scrollY];
+const disabled = (ids) => ids.map((id) => byId(id).disabled);
+
+function withoutMachine() {
+  WebAssembly.Module = class {
+    constructor() { throw new WebAssembly.CompileError('no memory of 64 bits'); }
+  };
+}
+
+function swipe(by) {
+  const node = byId('lanes');
+  const touch = (x) => new Touch({ identifier: 1, target: node, clientX: x, clientY: 300 });
+  const begin = { touches: [touch(200)], changedTouches: [touch(200)], bubbles: true };
+  node.dispatchEvent(new TouchEvent('touchstart', begin));
+  const end = { changedTouches: [touch(200 + by)], bubbles: true };
+  node.dispatchEvent(new TouchEvent('touchend', end));
+}
+
+// Controls on the screen that a finger may miss.
+const small = () => all('button, select, summary').filter((one) => one.checkVisibility()
+  && rect(one).width && Math.min(rect(one).height, rect(one).width) < 43.5)
+  .map((one) => one.id || plain(one.textContent));
+const place = () => port.state().place;

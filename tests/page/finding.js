@@ -1,0 +1,20 @@
+// The dialog in which a moment is looked for, and what can happen next.
+
+// Fills in fields as a reader does, and gives the lines of the sketch.
+function fill(fields) {
+  const { elements } = byId('find-form');
+  for (const [name, text] of fields) {
+    elements[name].value = text;
+    elements[name].dispatchEvent(new Event('change', { bubbles: true }));
+  }
+  return elements.sketch.value;
+}
+
+const kinds = () => [...byId('find-form').elements.kind.options].slice(1).map((one) => one.label);
+
+// Each kind that can be reached, and in how many moves.
+const next = () => all('#soon-list li').map((row) => [
+  row.textContent.replace(row.firstChild.textContent, '').trim(), row.firstChild.textContent]);
+const nextOf = (least) => next().length >= least && next();
+
+const answerBegins = (begun) => text('#find-answer').startsWith(begun);

@@ -1,0 +1,67 @@
+// Hall mode: how large letters are, and what is in view.
+
+const PARTS = ['time', 'memory', 'code', 'now'];
+
+function scaleOf(node) {
+  const svg = node.closest('svg');
+  return svg ? rect(svg).width / svg.viewBox.baseVal.width
+    : rect(document.body).width / document.body.offsetWidth;
+}
+
+const isUnseen = (node) => node.closest('script, style, title, .spoken, option, #paper')
+  || !node.checkVisibility() || !rect(node).width;
+
+// The least sizes of letters that are seen, as shares of the screen's height, and what has them.
+function letters() {
+  const seen = [];
+  const walker = document.createTreeWalker(document.body, NodeFilter.SHOW_TEXT);
+  for (let one = walker.nextNode(); one; one = walker.nextNode()) {
+    const node = one.parentElement;
+    if (!one.data.trim() || isUnseen(node)) continue;
+    const size = parseFloat(getComputedStyle(node).fontSize) * scaleOf(node);
+    seen.push([size / innerHeight, one.data.trim(), node.closest('[id]').id]);
+  }
+  return seen.sort(([one], [other]) => one - other).slice(0, 3);
+}
+
+const parts = () => {
+  const page = { left: 0, top: 0, right: innerWidth, bottom: innerHeight };
+  return PARTS.map(byId).filter((part) => part.checkVisibility() && rect(part).height > 40
+    && inside(rect(part), page)).map((part) => part.id);
+};
+
+// Whether the current line is in view: of the code, or in the bar that has it alone.
+function line() {
+  const page = { left: 0, top: 0, right: innerWidth, bottom: innerHeight };
+  const lines = all('.code-line.here').filter((one) => one.checkVisibility());
+  const bar = document.querySelector('#current code');
+  return lines.length ? lines.every((one) => inside(rect(one), rect(byId('code-lines'))))
+    : bar !== null && inside(rect(bar), page);
+}
+
+const header = () => document.querySelector('header').checkVisibility();
+
+function inView() {
+  const memory = rect(byId('memory-picture'));
+  const isCut = (one) => one.checkVisibility()
+    && (one.lastChild.textContent.endsWith('…') || !inside(rect(one), memory));
+  return {
+    parts: parts(), line: line(), current: text('#current'), header: header(),
+    cut: all('#memory-picture text').filter(isCut).map((one) => one.textContent),
+    moving: all('#memory-picture [data-moving]').every((one) => inside(rect(one), memory)),
+  };
+}
+
+function choosePart(name) {
+  click('#show-view');
+  click(`#view [name=${name}]`);
+  closeDialog('view');
+}
+
+function story() {
+  return {
+    story: count('.story[open]'), faint: count('#lanes .future'), marks: count('#lanes .move'),
+    links: count('#memory-picture .link'), caption: text('#memory-caption'),
+    answers: count('.question details[open]'),
+  };
+}

@@ -1,0 +1,14 @@
+// What is shown, and where it is kept: in the address, in the history and in the browser.
+
+// Whether this text is shown, and at this place if one is given.
+function shows(letters, place) {
+  const { text: bytes, place: now } = port.state();
+  return lettersOf(bytes) === letters && (place === null || place === now);
+}
+
+const told = () => text('#told');
+const keptNames = () => all('[data-kept]').map((one) => one.dataset.kept);
+const keptAt = (move) => location.hash.match(`^#kept=(\\w+)&move=${move}$`)?.[1];
+const damaged = () => (byId('damaged').hidden ? '' : text('#damaged'));
+const goTo = (fragment) => { location.hash = fragment; };
+const href = () => location.href;

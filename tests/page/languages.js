@@ -1,0 +1,23 @@
+// A lesson at each of its places: what is said, and what of a picture's texts is cut.
+
+function atEachPlace(name, take) {
+  lesson(name);
+  const { last } = port.state();
+  return Array.from({ length: last + 1 }, (_, place) => {
+    go(place);
+    return take();
+  });
+}
+
+const untranslated = () => port.untranslated();
+const language = () => document.documentElement?.lang;
+const said = (name) => atEachPlace(name, () => document.querySelector('main').textContent);
+
+function cutNow() {
+  const { left, right } = rect(byId('memory-picture'));
+  return all('#memory-picture text').filter((one) => one.lastChild.textContent.endsWith('…')
+    || rect(one).left < left - 1.5 || rect(one).right > right + 1.5)
+    .map((one) => one.lastChild.textContent);
+}
+
+const cut = (name) => atEachPlace(name, cutNow);

@@ -1,0 +1,71 @@
+// Schedules as long as they may be: how many milliseconds it takes to load them, to step and to
+// edit, until the page is laid out.
+
+const BEGUN = 'lock ticket threads 2\n0 acquire\n0 add\n1 acquire\n1 add\n';
+const layOut = () => document.body.offsetHeight;
+
+function timed(act) {
+  const from = performance.now();
+  act();
+  layOut();
+  return performance.now() - from;
+}
+
+const mean = (act, times) => timed(() => {
+  for (let i = 0; i < times; i += 1) {
+    act(i);
+    layOut();
+  }
+}) / times;
+
+const least = (rounds, act) => Math.min(...Array.from({ length: rounds }, act));
+
+// Of a text from its bytes on, after a lesson, since a text that is shown is not played again.
+function loads(letters, rounds) {
+  const text = bytesOf(letters);
+  return least(rounds, () => {
+    lesson('mcs-late-link');
+    const copy = text.slice();
+    return timed(() => port.open({ text: copy }));
+  });
+}
+
+// Of a step, the mean of some from each of these places; and of a jump.
+function steps(places, times, rounds) {
+  const stretches = places.map((from) => least(rounds, () => {
+    timed(() => go(from));
+    return mean(() => click('#forward'), times);
+  }));
+  const jumps = least(rounds, () => mean((i) => go((i * 40503 + 65535) % 65537), times));
+  return [...stretches, jumps];
+}
+
+// Of an edit of a text of 354,000 bytes, at whose end a letter is typed. To set the field is the
+// browser's, and is not counted.
+function edits(rounds) {
+  show(`${BEGUN}${'1 read\n'.repeat(50560)}`);
+  return least(rounds, (_, round) => {
+    const settle = typed(`${value('#text')}${round % 2 ? ' ' : '#'}`);
+    layOut();
+    return timed(settle);
+  });
+}
+
+// The place after so many choices at the end of a long schedule; how many of them Undo takes back,
+// and the bytes of all that it brings back.
+function undone(times) {
+  show(`${BEGUN}${'1 read\n'.repeat(60000)}`);
+  inMode('play');
+  go(60000);
+  for (let i = 0; i < times; i += 1) choose(1, 'read');
+  const { place } = port.state();
+  const sizes = [];
+  const isUndone = () => {
+    undo();
+    return port.state().place === place - sizes.length - 1;
+  };
+  while (isUndone()) sizes.push(port.state().text.length);
+  return [place, sizes.length, sizes.reduce((sum, size) => sum + size, 0)];
+}
+
+const size = () => value('#text').length;

@@ -1,0 +1,102 @@
+// Colours, patterns and names as they are drawn.
+
+const isDark = () => matchMedia('(prefers-color-scheme: dark)').matches;
+
+const ground = () => styleOf('body').backgroundColor;
+const fills = (kinds) => kinds.map((kind) => styleOf(`#lanes .span.${kind}`).fill);
+
+function showEnd(letters) {
+  show(letters);
+  go(Infinity);
+}
+
+// Whether each head of a record has a gap between the thread's name and its standing.
+function heads(letters) {
+  showEnd(letters);
+  return all('.record').map((one) => rect(one.querySelector('.name')).right
+    <= rect(one.querySelector('.standing')).left);
+}
+
+// Names of threads as they are drawn, and whole, as they are said where one points.
+function namesDrawn(letters) {
+  showEnd(letters);
+  inMode('lessons');
+  const drawn = (one) => one.lastChild.textContent;
+  const pointed = (one) => one.closest('g').querySelector('title').textContent;
+  const isInside = (one) => {
+    const [text, frame] = [one, one.parentNode.querySelector('.word, .own')].map(rect);
+    return text.left >= frame.left && text.right <= frame.right;
+  };
+  const [heads, line] = [all('.record > .name'), rect(document.querySelector('.lane-line')).left];
+  const next = document.querySelector('.record .value');
+  return {
+    lanes: all('.lane-name').map(drawn), lanesWhole: all('.lane-name title').map(drawn),
+    heads: heads.map(drawn), headsWhole: heads.map(pointed),
+    next: drawn(next), nextWhole: pointed(next),
+    inside: all('#memory-picture .value').every(isInside)
+      && all('.lane-name').every((one) => rect(one).right <= line),
+  };
+}
+
+// What comes, drawn faintly. A colour over another, of which it takes a share.
+
+const numbers = (colour) => colour.match(/[\d.]+/g).slice(0, 3).map(Number);
+
+function over(colour, ground, share) {
+  const parts = numbers(colour).map((part, i) => (
+    Math.round(part * share + numbers(ground)[i] * (1 - share))));
+  return `rgb(${parts.join(', ')})`;
+}
+
+function shareOf(node) {
+  let share = Number(getComputedStyle(node).fillOpacity);
+  for (let one = node; one.id !== 'lanes'; one = one.parentNode) {
+    share *= Number(getComputedStyle(one).opacity);
+  }
+  return share;
+}
+
+// The card, or the bar in which a text is.
+function groundOf(node, card) {
+  const at = rect(node);
+  const isBelow = (one) => {
+    const { left, right, top, bottom } = rect(one);
+    const middle = at.top + at.height / 2;
+    return left <= at.left && at.right <= right && top <= middle && middle <= bottom;
+  };
+  const bar = !node.closest('.move')
+    && all('#lanes .span.holds, #lanes .span.writes').find(isBelow);
+  if (!bar) return card;
+  const { fill, opacity } = getComputedStyle(bar);
+  return over(fill, card, Number(opacity));
+}
+
+// Each text of what comes: its colour as it is drawn, and what is below it.
+function coming() {
+  const card = styleOf('#time').backgroundColor;
+  const shown = all('#lanes .future text, #lanes text.future').filter((one) => one.textContent);
+  return shown.map((one) => {
+    const ground = groundOf(one, card);
+    const colour = over(getComputedStyle(one).fill, ground, shareOf(one));
+    return [one.lastChild.textContent, colour, ground];
+  });
+}
+
+// The label on the dashes of a thread that is not linked.
+function label() {
+  const [node, line] = ['.unlinked-text.future', '.unlinked.future']
+    .map((one) => document.querySelector(one));
+  const { stroke, strokeOpacity, strokeWidth, paintOrder, opacity } = getComputedStyle(node);
+  return {
+    stroke, paintOrder, text: node.textContent, card: styleOf('#time').backgroundColor,
+    opaque: Number(strokeOpacity) * Number(opacity), wide: parseFloat(strokeWidth),
+    line: parseFloat(getComputedStyle(line).strokeWidth),
+    above: Boolean(line.compareDocumentPosition(node) & Node.DOCUMENT_POSITION_FOLLOWING),
+  };
+}
+
+// How many ticks of the slider are of moves that failed, at each of these moves.
+const ticks = (moves) => moves.map((move) => {
+  go(move);
+  return count('#slider-picture .tick.fails');
+});

@@ -1,0 +1,42 @@
+// What is printed.
+
+const drawPaper = () => dispatchEvent(new Event('beforeprint'));
+
+// From now on a sheet is only drawn, and noted, in the place of being printed.
+function stubPrint() {
+  window.print = () => {
+    drawPaper();
+    window.printed = port.state().sheet;
+  };
+}
+
+const printed = () => window.printed;
+
+function print(sheet) {
+  stubPrint();
+  click('#print');
+  click(`[data-sheet=${sheet}]`);
+  return printed();
+}
+
+const rows = () => all('#paper tbody tr').map((row) => (
+  [...row.cells].map((cell) => cell.textContent)));
+const movesOfStrips = () => all('#paper .strip').map((one) => all('.move', one).length);
+const words = (selector) => document.querySelector(selector).textContent;
+
+// The style as it is for a printer: rules for the screen are off, those for paper are on.
+function onPaper() {
+  document.documentElement.dataset.theme = 'dark';
+  for (const { media } of [...document.styleSheets].flatMap(({ cssRules }) => [...cssRules])) {
+    const said = media?.mediaText.replace('screen', 'speech').replace('print', 'all');
+    if (media) media.mediaText = said;
+  }
+  const shows = (id) => styleOf(`#${id}`).display !== 'none';
+  return [shows('paper'), shows('work'), styleOf('body').backgroundColor,
+    styleOf('#paper td').color];
+}
+
+// Of an exercise sheet: what is drawn of its moves, and lines to write on.
+const drawn = () => [count('#paper .strip .span, #paper .strip .found, #paper .strip .arrow'),
+  count('#paper .asked .blank')];
+const offered = () => document.activeElement.dataset.sheet;

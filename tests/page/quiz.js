@@ -1,0 +1,51 @@
+// The quiz: what it asks, and answers that need no thought.
+
+function question() {
+  const form = byId('quiz-form');
+  const fields = form ? all('input', form) : [];
+  const isFilled = (one) => one.checked || (one.type !== 'radio' && one.value !== '');
+  return {
+    kind: form?.dataset.kind, move: Number(form?.dataset.move ?? 0), filled: fields.some(isFilled),
+    choices: fields.filter(({ type }) => type === 'radio').map((one) => one.value),
+    future: count('#lanes .future'), place: port.state().place, position: text('#position'),
+  };
+}
+
+function asked() {
+  go(Infinity);
+  return question();
+}
+
+function answer(given) {
+  const form = byId('quiz-form');
+  const radio = form.querySelector(`input[value="${given}"]`);
+  if (radio) radio.checked = true;
+  else form.querySelector('input[name=answer]').value = given;
+  form.requestSubmit();
+}
+
+// What holders or queue are now, as the report writes them.
+function now(kind) {
+  const part = document.querySelector(`#now [data-${kind}]`);
+  const threads = part ? all('[data-thread]', part).map((one) => one.dataset.thread) : [];
+  const letter = { reads: 'r', writes: 'w' }[/reads|writes/.exec(part?.textContent)?.[0]] ?? '';
+  return threads.length ? `${kind === 'holders' ? letter : ''}${threads.join(',')}` : '-';
+}
+
+// Answers all questions of a lesson with this outcome, and on threads with this, or with what is
+// now.
+function answerBlindly(name, outcome, threads) {
+  lesson(name);
+  for (let one = asked(); one.move; one = asked()) {
+    answer(one.kind === 'outcome' ? outcome : threads ?? now(one.kind));
+  }
+}
+
+// What would be saved of the answers.
+async function saved() {
+  let blob;
+  URL.createObjectURL = (one) => { blob = one; return 'data:,'; };
+  HTMLAnchorElement.prototype.click = () => {};
+  click('[data-save-quiz]');
+  return blob.text();
+}

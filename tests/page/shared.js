@@ -1,0 +1,151 @@
+// What tests of the page share. Each function is called by its name inside the page, with values of
+// JSON. The .js file of a test is read after this one.
+
+const port = window.lockreplay?.test;
+const byId = (id) => document.getElementById(id);
+const all = (selector, from = document) => [...from.querySelectorAll(selector)];
+const rect = (node) => node.getBoundingClientRect();
+const plain = (text) => text.replace(/\s+/g, ' ').trim();
+const styleOf = (selector) => getComputedStyle(document.querySelector(selector));
+
+// Whether one box is inside another, up to what rounding moves.
+const inside = (one, other) => one.left >= other.left - 1.5 && one.right <= other.right + 1.5
+  && one.top >= other.top - 1.5 && one.bottom <= other.bottom + 1.5;
+
+// What the page's rules against strangers refuse is told as an error.
+function reportViolations() {
+  addEventListener('securitypolicyviolation', ({ violatedDirective, blockedURI }) => {
+    console.error(`${violatedDirective}: ${blockedURI}`);
+  });
+}
+
+// What an earlier test has left in this browser.
+const forget = () => location.protocol === 'file:' && localStorage.clear();
+
+const isThere = () => document.readyState === 'complete' && Boolean(window.lockreplay);
+
+function isAt(url) {
+  return document.readyState === 'complete' && location.href.split('#')[0] === url;
+}
+
+// The test port. A text that goes through JSON has a letter for each byte.
+
+const bytesOf = (letters) => Uint8Array.from(letters, (letter) => letter.charCodeAt(0));
+
+function lettersOf(bytes) {
+  let letters = '';
+  for (const byte of bytes) letters += String.fromCharCode(byte);
+  return letters;
+}
+
+const show = (letters, move) => port.open({ text: bytesOf(letters), move });
+const lesson = (name, move) => port.open({ lesson: name, move });
+// JSON has no Infinity.
+const go = (move) => port.go(move ?? Infinity);
+const undo = () => port.undo();
+
+const reports = (texts) => texts.map((text) => port.report(bytesOf(text)));
+
+// What a reader sees
+
+const text = (selector) => plain(document.querySelector(selector)?.textContent ?? '');
+const texts = (selector) => all(selector).map((one) => plain(one.textContent));
+const value = (selector) => document.querySelector(selector).value;
+const attribute = (selector, name) => document.querySelector(selector)?.getAttribute(name) ?? null;
+const count = (selector) => all(selector).length;
+const address = () => location.hash;
+const addressBegins = (part) => location.hash.startsWith(part);
+const addressEnds = (part) => location.hash.endsWith(part);
+const focused = () => document.activeElement.id || document.activeElement.tagName.toLowerCase();
+const theme = () => document.documentElement.dataset.theme ?? '';
+
+function shown() {
+  const { lesson, text: bytes, held, threads, moves, place, refused } = port.state();
+  const parts = ['position', 'title', 'now', 'verdict', 'spoken'].map((id) => [id, text(`#${id}`)]);
+  return {
+    lesson, text: lettersOf(bytes), held: lettersOf(held), threads, moves, place, refused,
+    question: text('#now .question'), area: value('#text'), mode: document.body.dataset.mode,
+    ...Object.fromEntries(parts),
+  };
+}
+
+// What is shown, once it has these parts.
+function shownWith(wanted) {
+  const now = shown();
+  return Object.entries(wanted).every(([name, one]) => now[name] === one) && now;
+}
+
+// Where a control is to be clicked, scrolled into view. Nothing may lie over it.
+function middle(selector) {
+  const node = document.querySelector(selector);
+  node.scrollIntoView({ block: 'nearest' });
+  const { left, top, width, height } = rect(node);
+  const [x, y] = [Math.round(left + width / 2), Math.round(top + height / 2)];
+  const there = document.elementFromPoint(x, y);
+  if (!node.contains(there)) throw new Error(`${selector} is below ${there?.id}`);
+  return [x, y];
+}
+
+// What a reader does, at once
+
+const click = (selector) => document.querySelector(selector).click();
+const choice = (thread, word) => `#choices [data-thread="${thread}"][data-word="${word}"]`;
+const choose = (thread, word) => click(choice(thread, word));
+const back = () => history.back();
+const forward = () => history.forward();
+const focus = (selector) => document.querySelector(selector).focus();
+const blur = () => document.activeElement.blur();
+const closeDialog = (id) => byId(id).close();
+
+function key(name) {
+  document.body.dispatchEvent(new KeyboardEvent('keydown', { key: name, bubbles: true }));
+}
+
+// A panel beside the schedule: own, play, or with 'lessons' none.
+function inMode(mode) {
+  const { mode: now } = document.body.dataset;
+  if (mode !== now) click(`#mode-${mode === 'lessons' ? now : mode}`);
+}
+
+function slide(move) {
+  byId('slider').value = move;
+  byId('slider').dispatchEvent(new Event('input', { bubbles: true }));
+}
+
+// A link, followed in the page that is there.
+function follow(fragment) {
+  history.replaceState(null, '', fragment);
+  dispatchEvent(new PopStateEvent('popstate'));
+}
+
+// Writes into the address what is shown, without the delay.
+const leave = () => dispatchEvent(new Event('pagehide'));
+
+// Types a text into the field. Gives what has it played, without the wait for more.
+function typed(letters) {
+  const later = window.setTimeout;
+  let settle;
+  window.setTimeout = (act) => { settle = act; };
+  byId('text').value = letters;
+  byId('text').dispatchEvent(new Event('input', { bubbles: true }));
+  window.setTimeout = later;
+  return settle;
+}
+
+const write = (letters) => typed(letters)();
+
+// What is brought by the clipboard or by the mouse.
+function bring(kind, name, data) {
+  const event = new Event(kind, { bubbles: true, cancelable: true });
+  event[name] = data;
+  document.body.dispatchEvent(event);
+}
+
+function carried(letters) {
+  const data = new DataTransfer();
+  data.setData('text/plain', letters);
+  return data;
+}
+
+const paste = (letters) => bring('paste', 'clipboardData', carried(letters));
+const drop = (letters) => bring('drop', 'dataTransfer', carried(letters));

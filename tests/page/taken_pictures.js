@@ -1,0 +1,57 @@
+// Pictures to take away, with what was chosen.
+
+function tick(parts) {
+  for (const box of all('#take [type=checkbox]')) box.checked = parts.includes(box.name);
+}
+
+// The bytes of the file that is saved by an act.
+async function caught(act) {
+  const saved = new Promise((done) => {
+    URL.createObjectURL = (blob) => { blob.arrayBuffer().then(done); return 'data:,'; };
+  });
+  HTMLAnchorElement.prototype.click = () => {};
+  act();
+  return new Uint8Array(await saved);
+}
+
+async function taken(what, parts) {
+  click('#show-take');
+  tick(parts);
+  return new TextDecoder().decode(await caught(() => click(`[data-take=${what}]`)));
+}
+
+// The letters of each text of a picture that stands alone, and its bands under the move.
+async function alone(parts) {
+  const frame = document.createElement('iframe');
+  document.body.append(frame);
+  frame.contentDocument.body.innerHTML = await taken('svg', parts);
+  const inFrame = (selector) => all(selector, frame.contentDocument);
+  const families = inFrame('text')
+    .map((one) => frame.contentWindow.getComputedStyle(one).fontFamily.split(',')[0]);
+  const bands = inFrame('.here-column').map((one) => [rect(one).top, rect(one).bottom]);
+  frame.remove();
+  return { families: [...new Set(families)].sort(), bands };
+}
+
+// The kinds of the chunks of an animated picture, and its width as the browser finds it.
+async function animation(from, to) {
+  click('#show-take');
+  byId('take-from').value = from;
+  byId('take-to').value = to;
+  const bytes = await caught(() => click('[data-take=animated]'));
+  const image = new Image();
+  image.src = `data:image/png;base64,${btoa(lettersOf(bytes))}`;
+  await image.decode();
+  return { kinds: kindsOf(bytes), width: image.naturalWidth };
+}
+
+function kindsOf(bytes) {
+  const view = new DataView(bytes.buffer);
+  const kinds = [];
+  for (let at = 8; at < bytes.length; at += view.getUint32(at) + 12) {
+    kinds.push(String.fromCharCode(...bytes.subarray(at + 4, at + 8)));
+  }
+  return kinds;
+}
+
+const asks = () => byId('take-answer').checkVisibility();

@@ -1,0 +1,29 @@
+// What can be taken away, as it is handed to the browser or to the clipboard.
+
+// Takes it, and gives the name of the file with its bytes as letters.
+async function take(what) {
+  const taken = {};
+  const caught = new Promise((done) => {
+    URL.createObjectURL = (blob) => { blob.arrayBuffer().then(done); return 'data:,'; };
+  });
+  HTMLAnchorElement.prototype.click = function click() { taken.name = this.download; };
+  click(`[data-take=${what}]`);
+  const letters = lettersOf(new Uint8Array(await caught));
+  return [taken.name, letters];
+}
+
+function copied(what) {
+  let text;
+  const clipboard = { writeText: async (given) => { text = given; } };
+  Object.defineProperty(navigator, 'clipboard', { value: clipboard });
+  click(`[data-take=${what}]`);
+  return text;
+}
+
+const tips = () => all('footer button, footer select').map((one) => one.title);
+
+// A step has an open angle, and playing the full triangle.
+const fills = () => [styleOf('#back path').fill, styleOf('#forward path').fill,
+  styleOf('#run .go').fill !== 'none'];
+const withKeys = () => all('button').filter((one) => one.querySelector('kbd'))
+  .map((one) => plain(one.textContent));

@@ -1,0 +1,126 @@
+"""The page by keys alone, read aloud, at 200 %, on a phone, and where the system asks for colours
+of its own and for less motion."""
+import pytest
+
+from contrast import contrast
+from tree import cases
+
+LATE_LINK = "#lesson=mcs-late-link&move=9"
+FORCED = {"forced-colors": "active", "prefers-reduced-motion": "reduce"}
+
+
+@cases("media", {"usual": {}, "forced": FORCED})
+def test_tab_reaches_everything(page):
+    """Each control is reached in order, and is seen to have the focus."""
+    page.open(LATE_LINK)
+    stops = page.js("stops")
+    for part in ["show-about", "mode-lessons", "menu", "lanes", "code-lines", "slider", "run"]:
+        assert part in stops
+    reached = []
+    for _ in stops:
+        page.press("Tab")
+        reached.append(page.js("ring"))
+    assert reached == [[stop, True] for stop in stops]
+
+
+def test_lanes_are_chosen(page):
+    """A lane has the focus by its key, says its moves, and Enter goes to its next one."""
+    page.open(LATE_LINK)
+    page.js("focus", "#lanes")
+    page.press("ArrowDown")
+    label, chosen, place, focused = page.js("lane")
+    assert label.startswith("Ann, holds. 1 acquire called, 2 write moved, 3 swap entered"), label
+    assert label.endswith("9 cas moved") and (chosen, place, focused) == ("true", 9, "lanes"), place
+    page.press("ArrowDown")
+    assert page.js("lane")[0].startswith("Bob, queue. 4 acquire called")
+    page.press("Enter")
+    label, _, place, focused = page.js("lane")
+    assert (place, focused) == (12, "lanes") and label.endswith("12 write moved"), label
+    page.press("ArrowUp")
+    assert page.js("lane")[0].startswith("Ann, holds")
+
+
+def test_what_is_read_aloud(page):
+    page.open("#lesson=mcs-late-link&move=10")
+    spoken = page.text("#spoken")
+    assert spoken.startswith("Move 10 of 16. Ann, read, waits. Ann polls its own next")
+    assert page.js("attribute", "#spoken", "aria-live") == "polite"
+    assert page.js("texts", "[aria-current=step]") == ["await succ := me.next A"]
+    label = page.js("attribute", "#memory-picture svg", "aria-label")
+    assert label.startswith("Ann is followed by Bob, and only Bob knows. ")
+    for word in ["tail = Bob", "Ann.next = nil", "Bob.next = nil", "Bob.locked = 0"]:
+        assert word in label
+    assert page.js("attribute", "#slider", "aria-valuetext") == "Move 10 of 16."
+    page.press("h")
+    assert page.text("#spoken") == spoken
+
+
+def test_everything_has_a_name(page):
+    """Each control and part, and each picture; and each move is spoken."""
+    page.open(LATE_LINK)
+    assert page.js("nameless") == []
+    # What the question asks for is spoken once its answer is shown.
+    assert "compare-and-swap fails" not in page.text("#spoken")
+    page.press("a")
+    spoken = page.text("#spoken")
+    for part in ["Move 9 of 16", "Ann", "compare-and-swap fails", "Holds: Ann", "Queue: Ann, Bob",
+                 "Question:"]:
+        assert part in spoken
+
+
+@pytest.mark.parametrize("width, height", [(720, 450), (640, 360), (512, 384)])
+def test_at_two_hundred_per_cent(page, width, height):
+    """A screen at 200 % has half of its pixels: all parts are reached, by scrolling down alone."""
+    page.resize(width, height)
+    page.open(LATE_LINK)
+    for part in ["title", "time", "memory", "code", "now", "forward", "menu"]:
+        shown = page.js("reached", part)
+        assert shown["height"] >= 15 and shown["inside"] and not shown["across"], (part, shown)
+
+
+@pytest.mark.parametrize("width, height", [(360, 780), (390, 844)])
+def test_on_a_phone(page, width, height):
+    """There is a slider, the keys have their keys, and choices are beside what they do."""
+    page.resize(width, height)
+    page.open(LATE_LINK)
+    shown = page.js("onPhone")
+    assert shown["slider"] >= 90 and shown["keys"] and shown["tools"], shown
+    assert shown["signs"] >= 18, shown
+    page.press("g")
+    assert page.js("choicesFit")
+
+
+@cases("media, theme", {
+    "light": ({}, "&theme=light"), "dark": ({}, "&theme=dark"), "system light": ({}, ""),
+    "system dark": ({"prefers-color-scheme": "dark"}, "")})
+def test_contrast_of_letters_and_words(page, theme):
+    """Letters and line numbers have 4.5 : 1, and borders of words 3 : 1."""
+    page.open(f"{LATE_LINK}{theme}")
+    page.press("a", "e")
+    shown = page.js("colours")
+    assert contrast(shown["gutter"], shown["back"]) >= 4.5, shown
+    for letters in shown["texts"]:
+        for ground in [shown["card"], shown["page"]]:
+            assert contrast(letters, ground) >= 4.5, (letters, ground)
+    assert contrast(shown["word"], shown["card"]) >= 3, shown
+
+
+@cases("media", {"forced": FORCED})
+@pytest.mark.parametrize("theme", ["light", "dark"])
+def test_colours_of_the_system(page, media, theme):
+    """One line of code has the bar, a pressed button is seen to be, and pictures, which keep their
+    colours, have their own ground."""
+    page.open(f"{LATE_LINK}&theme={theme}")
+    assert [page.js("isAsked", *asked) for asked in media.items()] == [True, True]
+    page.press("g")
+    shown = page.js("inForcedColours")
+    assert shown["here"] == [True] and not shown["others"], shown
+    assert shown["pressed"] != shown["free"], shown
+    assert contrast(shown["letters"], shown["ground"]) >= 4.5, shown
+
+
+@cases("media, is_moved", {"usual": ({}, True), "forced": (FORCED, False)})
+def test_less_motion(page, is_moved):
+    """A record is moved to its new place, or is there at once."""
+    page.open(LATE_LINK)
+    assert (page.js("slides") != "0s") == is_moved

@@ -1,0 +1,73 @@
+"""On a branch and after an edit nothing is said that belongs to other moves, and the two schedules
+are compared."""
+
+
+def test_no_question_of_another_branch(page):
+    """The compare-and-swap comes before the swap, so all questions but that of move 7 are gone."""
+    page.open("#lesson=mcs-late-link&move=6")
+    page.press("g", *"001111111")
+    for move in range(16):
+        page.go(move)
+        shown = page.shown()
+        assert bool(shown["question"]) == (move == 7), shown
+        assert "The late link" != shown["title"] and "too late" not in shown["now"], shown
+        assert "The late link" in shown["title"], shown
+    held = shown["held"]
+    assert "#! ask 7 " in held and "#! answer 7 " in held and "#! name 0 Ann" in held, held
+    for gone in ["#! ask 8", "#! answer 9", "#! ask 15", "#! title", "# MCS lock"]:
+        assert gone not in held, (gone, held)
+    page.until("isLinked", held)
+    page.press(*"u" * 9)
+    shown = page.shown()
+    assert shown["title"] == "The late link" and "#! ask 15" in shown["held"], shown
+
+
+SWAPPED = ["1 swap\n0 cas\n", "0 cas\n1 swap\n"]
+
+
+def test_an_edit_leaves_out_what_no_longer_holds(page):
+    """What was typed stays in the field; written back, all holds again; or it is kept as it is."""
+    page.open("#lesson=mcs-late-link&move=16")
+    before = page.shown()["held"]
+    page.press("e")
+    page.js("edit", *SWAPPED)
+    shown = page.shown()
+    assert "17 lines of comment belong to other moves" in shown["verdict"], shown
+    assert "#! ask 7" in shown["held"] and "#! ask 8" not in shown["held"], shown
+    assert "#! ask 8" in shown["area"] and "end 16" not in shown["verdict"], shown
+    page.js("edit", *reversed(SWAPPED))
+    shown = page.shown()
+    assert shown["held"] == before and "comment belong" not in shown["verdict"], shown
+    assert "end 16" in shown["verdict"], shown
+    page.js("edit", *SWAPPED)
+    page.js("click", "#verdict [data-keep]")
+    shown = page.shown()
+    assert "#! ask 8" in shown["held"] and shown["title"] == "The late link", shown
+
+
+def test_the_branch_and_the_original(page):
+    page.open("#lesson=mcs-late-link&move=6")
+    page.press("c")
+    assert not page.js("compared")["shown"]
+    page.press("g", "0", "0", "c")
+    shown = page.js("compared")
+    assert shown["there"] == shown["here"] == "8", shown
+    assert shown["title"] == "Compared with: The late link First difference: move 8", shown
+    assert shown["lines"] == [
+        "there: 8 1 swap moved hold 0 queue 0,1", "here: 8 0 cas left hold - queue -"], shown
+    page.press("ArrowLeft")
+    lines = page.js("compared")["lines"]
+    assert lines[0].removeprefix("there: ") == lines[1].removeprefix("here: "), lines
+    page.press("c")
+    assert not page.js("compared")["shown"]
+
+
+def test_the_same_calls_on_the_other_lock(page):
+    """The reader that waits on the FIFO lock joins on the simple one: by the tables of both."""
+    page.open("#lesson=fifo-reader-waits-behind-writer&move=6")
+    page.press("c")
+    shown = page.js("compared")
+    assert shown["there"] == shown["here"] == "4", shown
+    assert shown["lines"] == [
+        "there: 6 2 section entered hold r0,2 queue -",
+        "here: 6 2 section waits hold r0 queue 1"], shown

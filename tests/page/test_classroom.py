@@ -1,0 +1,117 @@
+"""Hall mode in a class: quiz and clicker work in it, the screen is blanked, Escape leaves."""
+import pytest
+
+from tree import EXAMPLES
+from reports import moves_of
+
+SCREENS = [(1024, 768), (1366, 768), (1920, 1080)]
+LATE_LINK = "#lesson=mcs-late-link"
+TRUTH = {"outcome": 2, "holders": 3, "queue": 4}
+
+
+@pytest.mark.parametrize("width, height", SCREENS)
+def test_the_quiz_is_given_in_hall_mode(page, width, height):
+    """It begins where the class is, asks on the screen, and says what came of the answer."""
+    page.resize(width, height)
+    page.open(f"{LATE_LINK}&move=7&hall")
+    page.press("q")
+    assert page.js("place") == 7, "what was seen is not asked"
+    page.press("End")
+    asked = page.js("asked")
+    assert asked and asked["move"] > 7, asked
+    page.js("answer", "-")
+    assert page.js("place") == asked["move"]
+    assert page.text("#current .result")[0] in "✓✕"
+
+
+def test_it_ends_where_it_is(page):
+    """Q again does not move the schedule."""
+    page.open(f"{LATE_LINK}&move=7")
+    page.press("q", "q")
+    assert page.js("place") == 7
+
+
+def test_a_reload_keeps_the_answers(page):
+    page.open(f"{LATE_LINK}&move=0")
+    page.press("q", "End")
+    page.js("answer", "-")
+    score = page.text(".score")
+    page.js("leave")
+    page.reload()
+    assert page.text(".score") == score and "(0 right, 0 wrong)" not in score
+
+
+def test_the_answers_for_the_teacher(page):
+    """Name, day and link are in them."""
+    page.open(f"{LATE_LINK}&move=0")
+    page.press("q", "End")
+    page.js("answer", "-")
+    text = page.js("saved", "Ada Lovelace")
+    assert "# Name: Ada Lovelace\n" in text and LATE_LINK in text, text
+    assert page.js("today") in text
+
+
+def test_a_name_is_an_answer(page):
+    """Ann and Bob for threads 0 and 1 are right where their numbers are."""
+    moves = moves_of((EXAMPLES / "mcs-late-link.report").read_text("ascii"))
+    page.open(f"{LATE_LINK}&move=0")
+    page.press("q", "End")
+    named = 0
+    while asked := page.js("asked"):
+        if asked["kind"] != "outcome":
+            truth = moves[asked["move"] - 1][TRUTH[asked["kind"]]]
+            page.js("answer", truth.replace("0", "Ann").replace("1", " Bob"))
+            assert page.text(".result")[0] == "✓", (asked, truth)
+            named += "Ann" in truth.replace("0", "Ann")
+        else:
+            page.js("answer", "-")
+        page.press("End")
+    assert named
+
+
+def test_what_was_wrong_is_listed_at_the_end(page):
+    page.open(f"{LATE_LINK}&move=0")
+    page.press("q", "End")
+    while page.js("asked"):
+        page.js("answer", "0,0")
+        page.press("End")
+    listed = page.js("texts", ".quiz-end li")
+    wrong = int(page.text(".score").split(" right, ")[1].split(" ")[0])
+    assert len(listed) == wrong > 0 and all("(" in one for one in listed), listed
+
+
+def test_a_clicker(page):
+    """Page Down is one move in hall mode, a full stop makes the screen black, any key brings it
+    back, and Escape leaves."""
+    page.open(f"{LATE_LINK}&move=0&hall")
+    page.press("PageDown", "PageDown")
+    assert page.js("place") == 2
+    page.press("PageUp")
+    assert page.js("place") == 1
+    page.press(".")
+    assert page.js("isBlack")
+    page.press("ArrowRight")
+    assert not page.js("isBlack") and page.js("place") == 1
+    page.press("Escape")
+    assert not page.js("isHall")
+    page.press("PageDown")
+    assert page.js("place") == 11
+
+
+@pytest.mark.parametrize("lesson, move", [
+    ("ticket-hand-over", 5), ("mcs-late-link", 8), ("simple-writer-after-readers", 6),
+    ("fifo-second-writer", 6)])
+def test_all_lines_of_code_on_a_projector(page, lesson, move):
+    page.resize(1024, 768)
+    page.open(f"#lesson={lesson}&move={move}&hall")
+    whole, seen = page.js("code")
+    assert whole == seen > 6, (whole, seen)
+
+
+@pytest.mark.parametrize("width, height", [*SCREENS, (1280, 720)])
+def test_names_of_words_beside_the_lanes(page, width, height):
+    """The words of the FIFO lock keep their names when the answer is shown."""
+    page.resize(width, height)
+    page.open("#lesson=fifo-second-writer&move=13&hall&show=time,memory")
+    page.press("a")
+    assert page.js("cut") == []

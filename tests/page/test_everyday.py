@@ -1,0 +1,138 @@
+"""What a reader does every day: the menu, files that are dropped, long titles and texts, phones,
+and low windows."""
+import pytest
+
+LESSON = "#lesson=mcs-late-link&move=3"
+ONE = "lock mcs threads 2\n0 acquire\n"
+TRACE = """# A trace
+lock mcs threads 2
+0 acquire
+0 write next left 0
+0 swap tail found 0 left 1
+"""
+
+
+@pytest.mark.parametrize("width, height", [(390, 844), (1366, 768)])
+def test_the_menu_closes(page, width, height):
+    """With what is chosen, with a click elsewhere, and with Escape."""
+    page.resize(width, height)
+    for away in ["#mode-quiz", "#position", None]:
+        page.open(LESSON)
+        page.click("#menu")
+        assert page.js("isMenu")
+        if away:
+            page.click(away)
+        else:
+            page.press("Escape")
+        assert not page.js("isMenu"), away
+
+
+def test_several_files(page):
+    """The first is shown, the others are listed with the lessons, and that is said."""
+    page.open(LESSON)
+    page.js("dropFiles", [
+        ["a.txt", f"#! title First\n{ONE}"], ["b.txt", f"#! title Second\n{ONE}"]])
+    page.becomes("First", "text", "#title")
+    told = page.until("text", "#told")
+    assert "a.txt is shown" in told and "other file is kept" in told, told
+    page.press("Escape", "o")
+    assert "Second" in page.text("#lessons .kept")
+
+
+def test_a_trace(page):
+    """It is shown as the schedule that it has, and that is said."""
+    page.open(LESSON)
+    page.js("dropFiles", [["run.trace", TRACE]])
+    held = page.shown(moves=3)["held"]
+    assert "This is a trace" in page.text("#told")
+    assert held == "# A trace\nlock mcs threads 2\n0 acquire\n0 write\n0 swap\n"
+
+
+def test_a_long_title(page):
+    """It does not let page or start scroll sideways."""
+    page.resize(1366, 768)
+    page.open(LESSON)
+    page.show(f"#! title {'W' * 5000}\n{ONE}")
+    assert page.js("fitsAcross")
+    page.press("o")
+    assert page.js("fitsAcross")
+
+
+def test_a_text_that_is_too_large(page):
+    """What is said in its place is seen whole."""
+    page.open(LESSON)
+    page.show("lock ticket threads 2\n0 acquire\n0 add\n1 acquire\n1 add\n" + "1 read\n" * 65000)
+    said, wrap = page.js("instead")
+    assert "too much to edit here" in said and wrap == "soft"
+
+
+def test_beginning_a_new_schedule(page):
+    """The button is in view, at 1366 by 768."""
+    page.resize(1366, 768)
+    page.open(LESSON)
+    page.press("g")
+    page.js("openNew")
+    assert page.js("isFree", "#new button")
+
+
+def test_lines_have_numbers(page):
+    """A refusal names a line of the code, and the line shows this number."""
+    page.open("#lesson=mcs-late-link&move=7")
+    page.press("g", "w")
+    page.js("choose", 0, "write")
+    assert "in line 12 of the code" in page.text("#now")
+    line, number, is_counted = page.js("numbered", 12)
+    assert line.startswith("cas(tail, me, nil)") and "counter(line)" in number and is_counted
+
+
+def test_the_move_on_a_phone(page):
+    """Who holds and who is in the queue, the outcome in words, and the sentence."""
+    page.resize(390, 844)
+    page.open("#lesson=mcs-late-link&move=10")
+    parts = ["[data-holders]", "[data-queue]", ".plain", ".say"]
+    assert page.js("seenOfMove", parts) == parts
+
+
+def test_a_finger(page):
+    """To the left is a move forward, and no control is smaller than a finger."""
+    page.resize(390, 844)
+    page.open("#lesson=mcs-late-link&move=9")
+    page.js("swipe", -120)
+    assert page.js("place") == 10
+    page.js("swipe", 120)
+    assert page.js("place") == 9
+    assert page.js("small") == []
+
+
+@pytest.mark.parametrize("width, height", [(683, 384), (844, 390)])
+def test_nothing_is_off_a_low_screen(page, width, height):
+    """At 200 % zoom and on a phone on its side: title, menu, lanes and foot, at each move."""
+    page.resize(width, height)
+    for move in (0, 9):
+        page.open(f"#lesson=mcs-late-link&move={move}")
+        tops = page.js("tops", ["#title", "#menu", "#numbers", "#lanes", "footer"])
+        assert all(0 <= top < height for top in tops) and page.js("scrolled") == [0, 0], tops
+
+
+def test_ticks_that_would_be_a_bar(page):
+    """Of many entries the slider shows none; of few each."""
+    page.open("#lesson=ticket-wraps-at-2-bits&move=28")
+    ticks = "#slider-picture .tick.enters"
+    assert page.js("count", ticks) == 5
+    turn = "0 acquire\n0 add\n0 read\n0 release\n0 read\n0 write\n"
+    page.show("lock ticket threads 1\n" + turn * 1000, 6000)
+    assert page.js("count", ticks) == 0
+
+
+def test_without_the_machine(page):
+    """What needs it cannot be chosen, and the banner goes if one asks."""
+    page.before("withoutMachine")
+    page.resize(1366, 768)
+    page.open(LESSON)
+    assert page.js("disabled", ["mode-own", "mode-play", "show-find"]) == [True] * 3
+    page.press("e")
+    assert page.shown()["mode"] == "lessons"
+    [before] = page.js("tops", ["#time"])
+    page.click("#close-banner")
+    [after] = page.js("tops", ["#time"])
+    assert after < before < 145, (before, after)

@@ -1,0 +1,154 @@
+"""A moment is looked for: by a kind of transition, by lines, and what is said if there is none.
+
+Lengths and states are those of tests/rows/kinds.txt and tests/rows/sketches.txt. Then what can
+happen next: from a new lock of two threads as soon as kinds.txt says, and in a lesson by hand.
+"""
+import pytest
+
+from tree import ROWS, cases
+
+HAND_OVER = "#lesson=ticket-hand-over&move=3"
+each_lock = pytest.mark.parametrize("lock", ["ticket", "mcs", "rw-simple", "rw-fifo"])
+
+
+def rows_of(name, lock):
+    lines = (ROWS / name).read_text(encoding="utf-8").splitlines()
+    parts = [[part.strip() for part in line.split("|")] for line in lines]
+    return [row[1:] for row in parts if row[0] == lock]
+
+
+def ask(page, **fields):
+    """Opens the dialog, fills in fields in this order, and presses its button."""
+    page.press("m")
+    sketch = page.js("fill", list(fields.items()))
+    page.click("#find-search")
+    return sketch
+
+
+def shown_lines(page):
+    """What is shown, and the lines of its text that are no comments."""
+    shown = page.shown()
+    return shown, [line for line in shown["text"].splitlines() if not line.startswith("#")]
+
+
+def test_a_kind_is_found(page):
+    """At its last move, which is the one looked for; Undo brings the lesson back."""
+    page.open(HAND_OVER)
+    assert "cas failed" in ask(page, lock="mcs", kind="12")
+    page.becomes("release: failed compare-and-swap", "text", "#title")
+    assert page.js("count", "#find[open]") == 0
+    shown, lines = shown_lines(page)
+    assert shown["place"] == shown["moves"] == 9 and not shown["refused"], shown
+    assert lines[0] == "lock mcs threads 2" and lines[-1].endswith(" cas"), lines
+    page.press("u")
+    assert page.shown()["lesson"] == "ticket-hand-over"
+
+
+@each_lock
+def test_each_kind_is_opened_at_its_move(page, lock):
+    """Also if the shortest run of its sketch goes on, as after an entry with a call."""
+    page.open(HAND_OVER)
+    for at, (_, name, length, *_) in enumerate(rows_of("kinds.txt", lock)):
+        ask(page, lock=lock, kind=str(at))
+        page.becomes(name, "text", "#title")
+        assert page.shown()["place"] == int(length)
+
+
+@pytest.mark.parametrize("lock, count", [
+    ("ticket", 7), ("mcs", 16), ("rw-simple", 12), ("rw-fifo", 15)])
+def test_each_lock_lists_its_kinds(page, lock, count):
+    page.open(HAND_OVER)
+    page.press("m")
+    page.js("fill", [["lock", lock]])
+    assert len(set(page.js("kinds"))) == count
+
+
+def test_lines_of_ones_own(page):
+    """By thread, word and value, over more threads and rounds than are shown."""
+    page.open(HAND_OVER)
+    ask(page, lock="mcs", threads="3", sketch="2 swap\n# then\n1 cas failed")
+    page.becomes("2 swap; # then; 1 cas failed", "text", "#title")
+    shown, lines = shown_lines(page)
+    assert shown["threads"] == 3 and not shown["refused"], shown
+    assert lines[-1] == "1 cas" and "2 swap" in lines and shown["place"] == shown["moves"], lines
+
+
+NONE_OF_3 = "No run of 3 threads, each of which takes the lock at most once, has these lines: all"
+NONE_OF_2 = ("No run of 2 threads, each of which takes the lock at most 2 times, has these lines: "
+             "all")
+NO_LINE = ("Line 2 is not a line of a sketch. A line is a thread’s number or *, and a call or a "
+           "step, as in “* cas failed”.")
+KEIN_LAUF = ("Kein Lauf mit 2 Threads, von denen jeder die Sperre höchstens einmal nimmt, hat "
+             "diese Zeilen: Alle 41 Zustände sind durchsucht.")
+BOTH_LOCKED = "0 write locked of 1\n1 write locked of 0"
+
+
+@cases("fields, answer", {
+    "none": ({"lock": "mcs", "threads": "3", "sketch": BOTH_LOCKED},
+             f"{NONE_OF_3} 1,018 states were searched."),
+    "rounds": ({"lock": "mcs", "threads": "2", "rounds": "2", "sketch": "0 swap tail found 1"},
+               f"{NONE_OF_2} 325 states were searched."),
+    "a line": ({"lock": "ticket", "threads": "2", "rounds": "1", "sketch": "0 add\n0 lost"},
+               NO_LINE),
+    "a lock": ({"lock": "ticket", "threads": "4", "bits": "2", "sketch": "0 add"},
+               "There is no such lock, the text is too long, or many threads need wider words."),
+})
+def test_what_is_answered(page, fields, answer):
+    """If there is no such run, or none can be asked for: the lesson stays."""
+    page.open(HAND_OVER)
+    ask(page, **fields)
+    page.becomes(answer, "text", "#find-answer")
+    assert page.shown()["lesson"] == "ticket-hand-over"
+
+
+def test_it_speaks_german(page):
+    page.open("#lang=de&lesson=ticket-hand-over&move=0")
+    ask(page, lock="ticket", sketch="0 write\n0 add")
+    page.becomes(KEIN_LAUF, "text", "#find-answer")
+
+
+def test_what_is_not_decided(page):
+    page.open(HAND_OVER)
+    ask(page, lock="mcs", threads="9", rounds="9", sketch=BOTH_LOCKED)
+    page.until("answerBegins", "Not decided: ")
+
+
+# After move 8 of the lesson of the late link: thread 0 is about to try its compare-and-swap, and
+# thread 1 has swapped, and has written nothing yet.
+AFTER_THE_SWAP = {
+    "release: failed compare-and-swap": 1, "acquire: set its locked": 1,
+    "acquire: linked itself": 2, "release: poll of a missing link": 2,
+    "acquire: poll of a missing grant": 3, "release: found a late link": 4,
+    "release: granted the lock": 5, "acquire: entered after waiting": 6,
+}
+
+
+def what_is_next(page, wanted):
+    """In how many moves each kind can be reached, of those that are wanted. Gives all kinds."""
+    found = dict(page.until("nextOf", len(wanted)))
+    assert {kind: found.get(kind) for kind in wanted} == {
+        kind: f"in {moves} move{'s' if moves != 1 else ''}" for kind, moves in wanted.items()}
+    return list(found)
+
+
+@each_lock
+def test_a_new_lock_reaches_every_kind(page, lock):
+    page.open(HAND_OVER)
+    page.show(f"lock {lock} threads 2\n")
+    page.press("g")
+    page.click("#soon summary")
+    what_is_next(page, {name: int(moves) for _, name, moves, *_ in rows_of("kinds.txt", lock)})
+
+
+def test_what_is_near_in_a_lesson(page):
+    """It is gone to by a click, and Undo comes back."""
+    page.open("#lesson=mcs-late-link&move=8")
+    page.press("g")
+    page.click("#soon summary")
+    at = what_is_next(page, AFTER_THE_SWAP).index("release: found a late link")
+    page.click(f"#soon-list [data-soon='{at}']")
+    shown, lines = shown_lines(page)
+    assert shown["place"] == 12 and not shown["refused"] and lines[-1] == "0 read", shown
+    page.press("u")
+    assert page.shown()["place"] == 8
+    what_is_next(page, AFTER_THE_SWAP)

@@ -1,0 +1,119 @@
+"""Hall mode, frames for slides, and parts that are hidden: by key, by link and by choice."""
+import pytest
+
+SCREENS = [(1024, 768), (1280, 720), (1366, 768), (1440, 900), (1920, 1080)]
+# A state of each lock with as much in its picture as its lessons have.
+STATES = [
+    ("mcs-third-linked-before-second", 12), ("ticket-wraps-at-2-bits", 23),
+    ("simple-second-writer", 6), ("fifo-counts-wrap-at-2-bits", 16)]
+PAIRS = ["memory,code", "time,now", "time,memory", "code,now"]
+SHARE = 0.025
+LATE_LINK = "#lesson=mcs-late-link&move=9"
+
+
+@pytest.mark.parametrize("width, height", SCREENS)
+def test_letters_are_large(page, width, height):
+    """Every letter that is seen has 2.5 % of the screen's height; the line of code is in view."""
+    page.resize(width, height)
+    first, *others = [(*state, PAIRS[0]) for state in STATES]
+    for lesson, move, pair in [(*first[:2], pair) for pair in PAIRS] + others:
+        page.open(f"#lesson={lesson}&move={move}&hall&show={pair}")
+        where = (lesson, pair)
+        least = page.js("letters")
+        assert least and least[0][0] >= SHARE - 0.0001, (where, least)
+        shown = page.js("inView")
+        assert shown["parts"] == pair.split(","), (where, shown)
+        assert shown["line"] and shown["moving"], (where, shown)
+        # Beside the lanes memory may be scrolled, on the lowest screens.
+        assert not shown["cut"] or pair == "time,memory", (where, shown)
+        assert shown["current"].startswith(str(move)), (where, shown)
+
+
+def test_by_key(page):
+    page.open(LATE_LINK)
+    assert page.js("header")
+    page.press("h")
+    assert not page.js("header") and page.js("parts") == ["memory", "code"]
+    page.becomes(f"{LATE_LINK}&hall", "address")
+    page.press("ArrowRight")
+    assert page.text("#current").startswith("10 Ann, read await succ")
+    page.press("h")
+    assert page.js("header")
+    page.becomes("#lesson=mcs-late-link&move=10", "address")
+
+
+def test_two_parts_are_chosen(page):
+    """In a hall, of which the first goes for a third."""
+    page.open(f"{LATE_LINK}&hall")
+    page.js("choosePart", "now")
+    assert page.js("parts") == ["code", "now"]
+
+
+@pytest.mark.parametrize("mode", ["", "g", "e", "q"])
+def test_parts_are_chosen(page, mode):
+    """Elsewhere as many as the reader wants."""
+    page.open(LATE_LINK)
+    page.press(*mode)
+    page.js("choosePart", "code")
+    assert page.js("parts") == ["time", "memory", "now"]
+    page.until("addressEnds", "&show=time,memory,now")
+    page.reload()
+    assert page.js("parts") == ["time", "memory", "now"]
+
+
+@pytest.mark.parametrize("key", ["g", "e", "a"])
+def test_the_line_stays_in_view(page, key):
+    """If a panel opens beside the code or an answer above it, or if the window is made lower."""
+    page.resize(1280, 720)
+    page.open(LATE_LINK)
+    page.press(key)
+    assert page.js("line")
+    page.resize(1280, 600)
+    page.until("line")
+
+
+@pytest.mark.parametrize("look", ["", "&hall&show=time,now"])
+def test_story_and_moves_to_come(page, look):
+    """They are shown when they are asked for."""
+    page.open(f"#lesson=mcs-late-link&move=0{look}")
+    shown = page.js("story")
+    assert shown["story"] == shown["faint"] == shown["marks"] == 0, shown
+    page.press("a", "f")
+    shown = page.js("story")
+    assert shown["story"] == 1 and shown["marks"] == 16 and shown["faint"] > 16, shown
+    page.press("f")
+    assert page.js("story")["marks"] == 0
+
+
+def test_an_answer_is_not_given_away(page):
+    """What answers a question is shown when it is asked for."""
+    page.open("#lesson=mcs-late-link&move=8")
+    shown = page.js("story")
+    assert shown["links"] == shown["answers"] == 0 and "only Bob" not in shown["caption"], shown
+    page.press("a")
+    shown = page.js("story")
+    assert shown["links"] == 2 and shown["caption"].startswith("Ann is followed by Bob"), shown
+
+
+def test_a_frame_for_a_slide(page):
+    """In 960 by 480 both parts are in sight, and no tools."""
+    page.resize(960, 480)
+    for lesson, move in STATES:
+        page.open(f"#lesson={lesson}&move={move}&embed&show=memory,code")
+        shown = page.js("inView")
+        assert shown["parts"] == ["memory", "code"] and not shown["header"], (lesson, shown)
+        assert shown["line"] and shown["moving"], (lesson, shown)
+    page.press("ArrowRight")
+    page.until("addressEnds", "&move=17&embed&show=memory,code")
+
+
+def test_a_theme_in_the_link(page):
+    """It is in the link once it is chosen, and the browser remembers it."""
+    page.open(f"{LATE_LINK}&theme=dark")
+    assert page.js("theme") == "dark"
+    # What opening writes into the address is written by then.
+    page.js("leave")
+    page.press("d")
+    page.until("addressEnds", "&theme=light")
+    page.open(LATE_LINK)
+    assert page.js("theme") == "light"

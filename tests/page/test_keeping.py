@@ -1,0 +1,168 @@
+"""Nothing is lost: Back, Undo and reload bring work back, a link carries a schedule and a move, and
+no address names another schedule."""
+import base64
+
+import pytest
+
+from tab import PAGE
+from tree import cases
+
+MINE = b"# caf\xe9\nlock ticket threads 2\n0 acquire\n0 add\n0 read\n"
+LESSON = "#lesson=mcs-late-link&move=3"
+LONG = "lock ticket threads 2\n0 acquire\n0 add\n1 acquire\n1 add\n" + "1 read\n" * 5000
+AWAY = {
+    "new": lambda page: page.js("click", "#clear"),
+    "lesson": lambda page: page.lesson("ticket-hand-over"),
+    "paste": lambda page: page.js("paste", "lock mcs threads 3\n2 acquire\n"),
+}
+
+
+def shows(page, text, place=None):
+    """Waits until this text is shown, at this place."""
+    page.until("shows", text.decode("latin-1"), place)
+
+
+def mine_at(page, place):
+    page.open(LESSON)
+    page.show(MINE)
+    page.go(place)
+    page.until("addressEnds", f"&move={place}")
+
+
+@cases("away", AWAY)
+def test_undo(page, away):
+    mine_at(page, 2)
+    away(page)
+    assert page.shown()["text"] != MINE.decode("latin-1")
+    page.undo()
+    shows(page, MINE, 2)
+
+
+@cases("away", AWAY)
+def test_back(page, away):
+    mine_at(page, 1)
+    mine = page.js("address")
+    away(page)
+    page.becomes(False, "addressBegins", mine[:30])
+    page.js("back")
+    shows(page, MINE, 1)
+
+
+def test_a_paste_that_is_no_schedule(page):
+    page.open(LESSON)
+    page.js("paste", "hello")
+    shown = page.shown()
+    assert (shown["place"], shown["lesson"]) == (3, "mcs-late-link")
+    assert "no schedule" in page.js("told")
+
+
+def test_a_text_that_is_dropped(page):
+    page.open(LESSON)
+    text = MINE.replace(b"\xe9", b"e")
+    page.js("drop", text.decode())
+    shows(page, text)
+
+
+def test_a_branch_and_back(page):
+    """The first choice of a branch is an entry of the history, so Back is the lesson again."""
+    page.open("#lesson=mcs-late-link&move=7")
+    page.press("g", "0", "1")
+    page.until("addressBegins", "#schedule=")
+    page.js("back")
+    page.becomes("#lesson=mcs-late-link&move=7", "address")
+    shown = page.shown()
+    assert (shown["lesson"], shown["place"]) == ("mcs-late-link", 7)
+
+
+def test_a_long_schedule(page):
+    """Its address names what this browser keeps, and a reload brings it back."""
+    page.open(LESSON)
+    page.show(LONG)
+    page.go(4000)
+    name = page.until("keptAt", 4000)
+    page.js("click", "#link")
+    assert "saved as a file" in page.js("told")
+    page.reload()
+    shows(page, LONG.encode(), 4000)
+    page.press("o")
+    assert name in page.js("keptNames")
+
+
+def test_a_link_from_disk(page):
+    """Who copies it is told that it names a file of this disk."""
+    page.open(LESSON)
+    page.press("l")
+    assert "on your disk" in page.until("told")
+
+
+@cases("fragment, part", {
+    "lesson": ("#lesson=nonsense&move=3", "There is no lesson “nonsense”"),
+    "capital": ("#lesson=MCS-late-link", "There is no lesson “MCS-late-link”"),
+    "no base64": ("#schedule=%%%&move=2", "This link is damaged"),
+    "nothing": ("#move=4", "names no schedule"),
+    "kept": ("#kept=nobody&move=1", "kept in another browser"),
+    "cut": ("#schedule=bG9jayBtY3MgdGhyZWFkcyAyCjAgYWNxdWlyZQo", "has no end"),
+})
+def test_damaged_links(page, fragment, part):
+    """It is said, and the address stays until another schedule is opened."""
+    page.open(fragment)
+    assert part in page.js("damaged")
+    page.press("ArrowRight")
+    page.js("leave")
+    assert page.js("address") == fragment
+    page.lesson("ticket-hand-over", 2)
+    page.becomes("#lesson=ticket-hand-over&move=2", "address")
+    assert page.js("damaged") == ""
+
+
+def test_foreign_bytes_survive_a_mend(page):
+    page.open()
+    page.show(MINE.replace(b"0 read", b"0 readd") + b"# \xff\xfe\n")
+    page.js("click", "#verdict [data-mend]")
+    shows(page, MINE + b"# \xff\xfe\n")
+
+
+@cases("text", {
+    "mcs": b"lock mcs threads 2\n0 acquire\n0 write\n0 swap\n",
+    "no text": b"# \xff\xfe\0 no text\r\nlock rw-fifo threads 3 bits 2\n0 rlock\n0 section",
+    "refused": b"lock ticket threads 2\n0 acquire\n0 read\n0 add\n",
+    "markup": "# \u00fcber \u20ac <b>&amp;\nlock ticket threads 1\n0 acquire\n".encode(),
+})
+def test_a_link_carries_a_schedule(page, text):
+    page.open()
+    page.show(text)
+    page.go(1)
+    before = page.shown()
+    assert before["place"] == 1 and before["text"] == text.decode("latin-1")
+    page.js("click", "#link")
+    coded = base64.urlsafe_b64encode(text).decode().rstrip("=")
+    page.becomes(f"#schedule={coded}&move=1", "address")
+    page.open(page.js("address"))
+    after = page.shown()
+    assert [after[name] for name in ("place", "moves", "text")] == [
+        before[name] for name in ("place", "moves", "text")]
+
+
+def test_a_link_names_a_lesson(page):
+    page.open("#lesson=ticket-hand-over&move=3")
+    shown = page.shown()
+    assert (shown["place"], shown["moves"]) == (3, 10)
+    page.js("click", "#link")
+    assert page.js("address") == "#lesson=ticket-hand-over&move=3"
+    page.js("goTo", "#lesson=mcs-late-link&move=9")
+    page.becomes("9 of 16", "text", "#position")
+
+
+@pytest.mark.parametrize("fragment", [
+    "#", "#move=4", "#lesson=no-such", "#schedule=%%%", "#schedule=A&move=x"])
+def test_a_link_that_names_nothing(page, fragment):
+    """It opens the first lesson."""
+    page.open(fragment)
+    assert page.text("#title") != ""
+    assert page.js("href").startswith(PAGE.as_uri())
+
+
+@pytest.mark.parametrize("move, shown", [("-3", 0), ("99", 16), ("x", 0), ("2.7", 2)])
+def test_the_nearest_move(page, move, shown):
+    page.open(f"#lesson=mcs-late-link&move={move}")
+    assert page.shown()["place"] == shown

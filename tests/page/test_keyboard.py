@@ -1,0 +1,93 @@
+"""The page by keys alone: not one click."""
+from tree import VERSION
+
+LATE_LINK = "#lesson=mcs-late-link&move="
+
+
+def test_slider(page):
+    page.open(f"{LATE_LINK}4")
+    page.js("focus", "#slider")
+    page.press("ArrowRight")
+    page.shown(position="5 of 16")
+    assert page.js("value", "#slider") == "5"
+    page.js("slide", 12)
+    page.shown(position="12 of 16")
+
+
+def test_moving(page):
+    page.open(f"{LATE_LINK}0")
+    for key, move in [
+            ("ArrowRight", 1), ("ArrowRight", 2), ("ArrowLeft", 1), ("End", 16), ("Home", 0),
+            ("PageDown", 10), ("PageUp", 0), ("j", 7), ("j", 8), ("]", 12), ("[", 8), ("+", 8),
+            ("-", 8)]:
+        page.press(key)
+        page.shown(position=f"{move} of 16")
+
+
+def test_running(page):
+    """Play stops at the next question."""
+    page.open(f"{LATE_LINK}6")
+    runs = ("attribute", "#run", "aria-pressed")
+    page.press("Space")
+    page.becomes("true", *runs)
+    page.becomes("false", *runs)
+    page.shown(position="7 of 16")
+    page.press("Space")
+    page.becomes("true", *runs)
+    page.press("Space")
+    page.becomes("false", *runs)
+
+
+def test_choosing_a_lesson(page):
+    page.open(f"{LATE_LINK}0")
+    page.press("o")
+    page.becomes(1, "count", "#lessons[open]")
+    page.press("Tab", "Enter")
+    page.shown(position="0 of 25", title="The third is linked before the second")
+    assert page.js("count", "#lessons[open]") == 0
+    page.press("?")
+    page.becomes(1, "count", "#keys[open]")
+    assert f"lockreplay {VERSION}" in page.text("#keys")
+    page.press("Escape")
+    page.becomes(0, "count", "#keys[open]")
+
+
+def test_writing_and_playing(page):
+    page.open("#lesson=ticket-hand-over&move=0")
+    page.press("e")
+    page.shown(mode="own")
+    stops = 0
+    while page.js("focused") != "text" and stops < 60:
+        page.press("Tab")
+        stops += 1
+    page.press("Control+a", *"lock ticket threads 2", "Enter", *"0 acquire", "Enter", *"0 add",
+               "Enter")
+    page.shown(position="2 of 2")
+    page.press("Escape", "g")
+    page.shown(mode="play")
+    page.press(*"011")
+    page.shown(position="5 of 5",
+               area="lock ticket threads 2\n0 acquire\n0 add\n0 read\n1 acquire\n1 add\n")
+    page.press("u")
+    page.shown(position="4 of 4")
+
+
+def test_themes(page):
+    page.open(f"{LATE_LINK}0")
+    for theme in ["dark", "light"]:
+        page.press("d")
+        page.becomes(theme, "theme")
+
+
+# An answer by keys alone: a choice, or a word.
+ANSWERS = {"outcome": "Space", "holders": "0", "queue": "0"}
+
+
+def test_quiz(page):
+    page.open("#lesson=mcs-record-used-again&move=0")
+    page.press("q", "End")
+    page.becomes(1, "count", "#quiz-form")
+    kind, move = [page.js("attribute", "#quiz-form", name) for name in ("data-kind", "data-move")]
+    page.press(ANSWERS[kind], "Enter")
+    page.shown(position=f"{move} of 9")
+    assert page.js("count", "#quiz-form") == 0

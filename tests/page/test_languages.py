@@ -1,0 +1,56 @@
+"""The page in German: every sentence is there, none has a hole, pictures have room for its words,
+and reports stay as they are."""
+import pytest
+
+from reports import LESSONS, moves_of
+from tree import EXAMPLES
+
+GERMAN = "#lesson=mcs-late-link&move=0&lang=de"
+# Words of schedules and reports, names of files, and what has no word in it.
+THE_SAME = {f"page.{name}" for name in [
+    "product", "shortThread", "outcomes", "wordBecomes", "spoken.did", "own.fileName",
+    "own.template", "quiz.short", "quiz.fileName"]}
+
+
+def test_every_sentence(page):
+    page.open("#lang=de&lesson=mcs-late-link&move=0")
+    assert {path.strip(".") for path in page.js("untranslated")} == THE_SAME
+    assert page.js("language") == "de"
+
+
+def test_reports_are_the_same(page):
+    page.open(GERMAN)
+    lessons = [(EXAMPLES / f"{name}.schedule").read_text("latin-1") for name in LESSONS]
+    assert page.js("reports", lessons) == list(LESSONS.values())
+
+
+def test_no_holes(page):
+    page.open(GERMAN)
+    for name, report in LESSONS.items():
+        if moves_of(report) or report.startswith("refused"):
+            for text in page.js("said", name):
+                for hole in ["{", "undefined", "NaN", "[object"]:
+                    assert hole not in text, name
+
+
+@pytest.mark.parametrize("width, height, look", [
+    (390, 844, ""), (1280, 720, ""), (1280, 720, "&hall"), (1440, 900, "")])
+def test_pictures_fit(page, width, height, look):
+    """German words are longer, and no word of a picture is cut for that."""
+    page.resize(width, height)
+    page.open(f"{GERMAN}{look}")
+    for name, report in LESSONS.items():
+        if not report.startswith("fault"):
+            assert not any(page.js("cut", name)), name
+
+
+def test_by_the_address_and_back(page):
+    """The language stays in the address, and is chosen in the dialog that says who the page is."""
+    page.open("#lesson=mcs-late-link&move=9&lang=de")
+    assert page.text("#now .say").startswith("Das compare-and-swap scheitert")
+    page.go(10)
+    page.becomes("#lesson=mcs-late-link&move=10&lang=de", "address")
+    page.js("click", "#show-about")
+    page.js("click", "#about [data-lang=en]")
+    page.wait(lambda: page.tried("language") == "en", lambda: "it stays German")
+    page.becomes("#lesson=mcs-late-link&move=10&lang=en", "address")

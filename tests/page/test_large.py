@@ -1,0 +1,51 @@
+"""64 threads and 65,536 moves: loaded within 1 s, stepped within 50 ms; an edit of a long text is
+settled soon, and what Undo keeps has a bound.
+
+Loading goes from the bytes of the file to the page laid out, a step from the button's click to the
+page laid out; a step's time is the mean of twelve. The least of some rounds is bounded, so that
+other work on the machine counts little.
+"""
+import random
+
+import pytest
+
+import schedules
+
+LOAD_MS, STEP_MS, EDIT_MS = 1000, 50, 450
+STEPS, ROUNDS, EDITS = 12, 3, 5
+PLACES = [0, 30000, 65500]
+CHOICES = 60
+MOST_BYTES = 16_000_000
+
+
+def text_of(lock, threads, count):
+    chance = random.Random(64)
+    lines = [f"lock {lock} threads {threads}"]
+    lines += [f"{thread} {word}" for thread, word in schedules.moves(chance, lock, threads, count)]
+    return "\n".join(lines) + "\n"
+
+
+@pytest.mark.parametrize("lock", schedules.NAMES)
+def test_loads_and_steps(page, record_property, lock):
+    page.open()
+    load = page.js("loads", text_of(lock, 64, 65536), ROUNDS)
+    page.js("inMode", "lessons")
+    steps = page.js("steps", PLACES, STEPS, ROUNDS)
+    record_property("measured", f"load {load:.0f} ms, step {max(steps):.0f} ms")
+    assert page.shown()["moves"] == 65536
+    assert load <= LOAD_MS and max(steps) <= STEP_MS, (load, steps)
+    assert page.js("count", "#lanes *") < 3000
+
+
+def test_an_edit_of_a_long_text(page, record_property):
+    page.open()
+    least = page.js("edits", EDITS)
+    record_property("measured", f"an edit {least:.0f} ms")
+    assert page.js("size") > 353_000 and least <= EDIT_MS, least
+
+
+def test_what_undo_keeps(page):
+    """The last choices, and no more than their bytes."""
+    page.open()
+    place, kept, size = page.js("undone", CHOICES)
+    assert place == 60060 and 20 <= kept < CHOICES and size <= MOST_BYTES, (place, kept, size)

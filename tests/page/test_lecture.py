@@ -1,0 +1,93 @@
+"""The lesson plans in the page: each step at its place, its answer by key, a clock, a second window
+for who gives the lecture; and the same plans in docs/GUIDE.md."""
+import json
+import re
+
+import pytest
+
+from tree import EXAMPLES, TOP
+
+PLANS = json.loads((EXAMPLES / "plans.json").read_text("utf-8"))
+GUIDE = (TOP / "docs" / "GUIDE.md").read_text("utf-8")
+LESSONS = {"ticket": "ticket-", "mcs": "mcs-", "rw-simple": "simple-", "rw-fifo": "fifo-"}
+
+
+def begin(page, lock):
+    """By key and click, as a lecturer does it."""
+    page.open("#lesson=ticket-hand-over&move=0")
+    page.press("n")
+    assert page.js("isOpen")
+    page.click(f'#plans [data-plan="{lock}"][data-step="0"]')
+
+
+def played(step):
+    """How many moves a step goes on with."""
+    return len(step["play"].split(",")) if "play" in step else 0
+
+
+@pytest.mark.parametrize("width, height", [(1024, 768), (1366, 768), (1920, 1080)])
+@pytest.mark.parametrize("plan", PLANS, ids=list(LESSONS))
+def test_a_plan_step_by_step(page, plan, width, height):
+    """N goes on; each step has a question on the screen, and A shows its answer."""
+    page.resize(width, height)
+    begin(page, plan["lock"])
+    for at, step in enumerate(plan["steps"], 1):
+        shown = page.js("step")
+        where = (at, shown)
+        assert shown["place"] == step["move"] + played(step) and shown["hall"], where
+        assert shown["step"] == f"Step {at} of {len(plan['steps'])}" and shown["isSeen"], where
+        assert "show" not in step or shown["parts"] == step["show"].split(","), where
+        assert shown["compares"] == bool(played(step) or step.get("compare")), where
+        if step["place"] != "hand-over, 3":
+            assert shown["question"].startswith("Question: "), where
+            page.press("a")
+            answered = page.js("step")
+            assert answered["answers"] == 1 and answered["isSeen"], (at, answered)
+        page.press(*"n"[:at < len(plan["steps"])])
+    page.press("Escape")
+    shown = page.js("step")
+    assert not shown["hall"] and not shown["step"], shown
+
+
+def test_the_clock(page):
+    """It shows the minutes that are left of the plan, and after the end how many are over."""
+    begin(page, "mcs")
+    assert re.fullmatch(r"10:00|9:5\d", page.js("step")["clock"])
+    page.js("wait", 11)
+    page.until("clockBegins", "−1:")
+
+
+def test_minutes():
+    """Each plan has ten, in at least five steps of its lock, and homework."""
+    assert [plan["lock"] for plan in PLANS] == list(LESSONS)
+    for plan in PLANS:
+        ends = [step["to"] for step in plan["steps"]]
+        assert ends == sorted(set(ends)) and ends[-1] == 10 and len(ends) >= 5, ends
+        for step in [*plan["steps"], plan["homework"]]:
+            assert step["lesson"].startswith(LESSONS[plan["lock"]]), step
+
+
+def test_links_of_the_guide(page):
+    """Each opens the place that its row names, as the page's own plan does."""
+    links = re.findall(r"\]\(\.\./page/lockreplay\.html(#\S+?)\) \|", GUIDE)
+    steps = [step for plan in PLANS for step in [*plan["steps"], plan["homework"]]]
+    assert len(links) == len(steps) >= 25
+    for link, step in zip(links, steps):
+        page.open(link)
+        shown = page.js("step")
+        assert shown["place"] == step.get("move", 0) + played(step), (link, shown)
+        assert shown["hall"] == ("move" in step) and shown["sheet"] != shown["hall"], (link, shown)
+
+
+def test_a_second_window(page):
+    """Its reader sees the answer, the sentence on the move and the next move before the hall does;
+    its keys are the page's."""
+    page.before("keepWindows")
+    begin(page, "mcs")
+    page.press("n", "2")
+    said = page.until("presented")
+    assert "The tail alone, and Bob's own pred" in said and "The next move" in said, said
+    assert "Next step: The late link, 9" in said, said
+    page.js("pressThere", "n")
+    assert page.js("step")["place"] == 9
+    page.js("closeThere")

@@ -1,0 +1,93 @@
+"""Each lesson is stepped through by key to its end. At each move the outcome, the holders and the
+line that the page shows are those of the lesson's report; also where the machine cannot run."""
+import pytest
+
+from reports import LESSONS, moves_of, numbers_of
+from tree import cases
+
+MODES = {"r": "reads", "w": "writes"}
+each_lesson = pytest.mark.parametrize("name", LESSONS)
+
+
+def compare(shown, move, report):
+    line = report.splitlines()[move - 1]
+    _, word, outcome, hold, queue = moves_of(report)[move - 1]
+    assert MODES.get(hold[0], "") in shown["mode"], shown
+    assert f"Move {move} of " in shown["spoken"], shown
+    assert {name: shown[name] for name in ("outcome", "holders", "queue", "report", "here")} == {
+        "outcome": outcome, "holders": numbers_of(hold), "queue": numbers_of(queue),
+        "report": line, "here": [word]}, (move, shown)
+
+
+def check_lesson(page, name, has_banner):
+    """Stepped through to its end, and once more, by which a refused move is shown."""
+    report = LESSONS[name]
+    last, count = report.splitlines()[-1], len(moves_of(report))
+    page.open(f"#lesson={name}&move=0")
+    assert page.text("#verdict .report-line") == last
+    assert page.js("banner") == has_banner
+    for move in range(1, count + 1):
+        page.press("ArrowRight")
+        shown = page.js("atMove")
+        assert shown["position"] == f"{move} of {count}"
+        compare(shown, move, report)
+    if count:
+        page.press("ArrowRight")
+        end = "refused" if last.startswith("refused") else f"{count} of {count}"
+        assert page.text("#position") == end
+
+
+def test_there_are_lessons():
+    assert len(LESSONS) >= 28
+
+
+@each_lesson
+def test_lesson(page, name):
+    check_lesson(page, name, False)
+
+
+@each_lesson
+def test_without_the_machine(page, name):
+    """A browser without 64-bit WebAssembly memory: it is told so, and is shown the lessons."""
+    page.before("withoutMachine")
+    check_lesson(page, name, True)
+
+
+def test_without_the_machine_nothing_is_played(page):
+    page.before("withoutMachine")
+    page.open("#lesson=mcs-late-link&move=0")
+    page.press("g")
+    assert "needs a browser with 64-bit" in page.text("#told")
+    assert page.js("count", "#choices button") == 0
+    page.show("lock mcs threads 1\n")
+    assert "Only the lessons can be shown" in page.text("#verdict")
+
+
+def test_questions_are_asked(page):
+    """A question is at its move alone, its answer is hidden until it is asked for."""
+    page.open("#lesson=mcs-late-link&move=8")
+    page.press("j")
+    page.becomes("9 of 16", "text", "#position")
+    assert page.js("answerIsOpen") is False
+    page.press("a")
+    page.becomes(True, "answerIsOpen")
+    page.press("ArrowRight")
+    page.becomes(0, "count", "#now .question")
+
+
+# By lesson and move: a swap, a compare-and-swap that fails, a write, an add that wraps, and
+# sections of one word and of two.
+@cases("lesson, wrote", {
+    "mcs": ("mcs-late-link", {
+        3: "tail = Ann (was nil)", 8: "tail = Bob (was Ann)", 9: "no word",
+        13: "Ann.next = Bob (was nil)"}),
+    "ticket": ("ticket-wraps-at-2-bits", {
+        18: "now_serving = 3 (was 2)", 20: "next_ticket = 0 (was 3)"}),
+    "fifo": ("fifo-downgrade", {
+        2: "flag = 1 (was 0)", 6: "readAcquires = 1 (was 0), flag = 0 (was 1)"}),
+    "german": ("mcs-late-link&lang=de", {8: "tail = Bob (war Ann)"}),
+})
+def test_what_was_there(page, lesson, wrote):
+    """Each word that a move wrote is said with what was there before."""
+    page.open(f"#lesson={lesson}")
+    assert page.js("wrote", list(wrote)) == list(wrote.values())

@@ -1,0 +1,104 @@
+"""Both themes, patterns, names of threads, and what comes, drawn faintly."""
+import pytest
+
+from contrast import contrast, luminance
+from tree import cases
+
+LATE_LINK = "#lesson=mcs-late-link&move=9"
+LEAST = 4.5
+
+
+@cases("media, is_dark", {
+    "light": ({}, False), "dark": ({"prefers-color-scheme": "dark"}, True)})
+def test_themes(page, is_dark):
+    """The theme is the system's, until the reader chooses the other one."""
+    page.open(LATE_LINK)
+    assert page.js("isDark") == is_dark
+    grounds = [luminance(page.js("ground"))]
+    page.js("click", "#theme")
+    grounds.append(luminance(page.js("ground")))
+    light, dark = reversed(grounds) if is_dark else grounds
+    assert light > 0.8 and dark < 0.05, grounds
+
+
+def test_without_colour(page):
+    """What a colour says, a pattern, a shape or a word says as well."""
+    page.open("#lesson=fifo-reader-waits-behind-writer&move=6")
+    line, reads, call = page.js("fills", ["line", "reads", "call"])
+    assert "hatch" in line and "ruled" in reads and "url" not in call
+    words = page.js("texts", "#now .pill, #now .outcome")
+    assert words and all(words), words
+
+
+MOVES = "0 acquire\n0 write\n0 swap\n1 acquire\n1 write\n1 swap\n"
+NAMES = "#! name 0 Wilhelmina\n#! name 1 Montgomery\n"
+LONGER_NAMES = "#! name 0 Wilhelmina of the second row\n#! name 1 Montgomery of the first row\n"
+LINKED = f"{MOVES}1 write\n1 write\n2 acquire\n2 write\n2 swap\n"
+
+
+@cases("names", {"none": "", "long": NAMES})
+def test_heads_have_room(page, names):
+    """A thread's name in the head of its record does not run into its standing."""
+    page.open()
+    assert page.js("heads", f"{names}lock mcs threads 2\n{MOVES}") == [True, True]
+
+
+def test_names_are_whole(page):
+    """A long name is whole if there is room for it, else when one points at it."""
+    page.open()
+    shown = page.js("namesDrawn", f"{NAMES}lock mcs threads 2\n{MOVES}1 write\n1 write\n")
+    assert shown["lanes"] == shown["heads"] == ["Wilhelmina", "Montgomery"], shown
+    assert shown["next"] == "Montgomery" and shown["inside"], shown
+
+
+def test_names_that_are_cut(page):
+    page.open()
+    whole = ["Wilhelmina of the second row", "Montgomery of the first row"]
+    shown = page.js("namesDrawn", f"{LONGER_NAMES}lock mcs threads 4\n{LINKED}")
+    for part in ["lanes", "heads"]:
+        for cut, name in zip(shown[part], whole):
+            assert cut.endswith("…") and name.startswith(cut[:-1]), (part, shown)
+            assert len(cut) >= 4, (part, shown)
+        assert shown[f"{part}Whole"][:2] == whole, (part, shown)
+    assert shown["next"].endswith("…") and shown["nextWhole"] == whole[1], shown
+    assert shown["inside"], shown
+
+
+def test_sentences_begin_so(page):
+    """Each sentence on a move begins with a capital letter, also with a thread that has no name."""
+    page.open()
+    page.js("showEnd", f"lock mcs threads 2\n{MOVES}0 release\n0 read\n0 cas\n0 read\n")
+    assert page.text("#now .say") == (
+        "Thread 0 polls its own next and waits for the link: it is still nil.")
+
+
+@pytest.mark.parametrize("theme", ["light", "dark"])
+@pytest.mark.parametrize("lesson, word", [
+    ("mcs-late-link", "fails"), ("fifo-downgrade", "writes"), ("refused-not-holder", "refused")])
+def test_letters_of_what_comes(page, theme, lesson, word):
+    """They can be read in both themes, and what comes has this word."""
+    page.open(f"#lesson={lesson}&move=0&theme={theme}")
+    page.press("f")
+    coming = page.js("coming")
+    assert word in [text for text, _, _ in coming], coming
+    for text, colour, ground in coming:
+        assert contrast(colour, ground) >= LEAST, (text, colour, ground)
+
+
+def test_no_line_through_a_label(page):
+    """The label on dashes is drawn after them, and has an edge in the colour of the ground."""
+    page.open("#lesson=mcs-late-link&move=0")
+    page.press("f")
+    label = page.js("label")
+    assert label["text"] == "in the queue, not linked" and label["above"], label
+    assert label["stroke"] == label["card"] and label["opaque"] == 1, label
+    assert label["paintOrder"].startswith("stroke"), label
+    assert label["wide"] > 2 * label["line"], label
+
+
+@pytest.mark.parametrize("width", range(1440, 1446))
+def test_ticks_of_what_was(page, width):
+    """A tick of the slider is there from its move on, at any width."""
+    page.resize(width, 900)
+    page.open("#lesson=mcs-late-link")
+    assert page.js("ticks", [8, 9]) == [0, 1]

@@ -1,0 +1,73 @@
+"""Many threads: what moves is in view with its neighbours, and what is folded is counted."""
+import pytest
+
+from reports import moves_replayed, numbers_of
+
+# All threads wait for one that holds the lock; or all read, and one waits to write.
+CALLS = {
+    "ticket": ("acquire", ["add", "read"]),
+    "mcs": ("acquire", ["write", "swap", "write", "write"]),
+    "rw-simple": ("wlock", ["section"]),
+    "rw-fifo": ("rlock", ["section"]),
+}
+
+
+def schedule(lock, threads):
+    call, steps = CALLS[lock]
+    lines = [f"lock {lock} threads {threads}"]
+    for thread in range(threads):
+        last = lock == "rw-fifo" and thread == threads - 1
+        lines.append(f"{thread} {'wlock' if last else call}")
+        for step in ["section"] if last else steps[: 2 if lock == "mcs" and not thread else None]:
+            lines.append(f"{thread} {step}")
+    return "\n".join(lines) + "\n", len(lines) - 1
+
+
+@pytest.mark.parametrize("lock", CALLS)
+@pytest.mark.parametrize("threads", [6, 9, 16, 28, 64])
+def test_what_moves_is_in_view(page, lockreplay, lock, threads):
+    """At the end, in the middle and at the beginning, in lessons and in Play."""
+    page.open()
+    text, count = schedule(lock, threads)
+    moves = moves_replayed(lockreplay, text)
+    for mode, move in [("lessons", count), ("lessons", count // 2), ("play", count)]:
+        page.js("open", [text, mode, move])
+        shown = page.js("drawn")
+        where = (mode, move, shown)
+        queue = numbers_of(moves[move - 1][4])
+        assert not shown["cut"] and shown["laneInView"], where
+        assert shown["pills"] + shown["listed"] == len(queue), where
+        assert shown["pills"] <= 9 and not shown["overflows"], where
+        if move == count:
+            assert shown["moving"] and shown["threads"] == threads, where
+        if threads > 8:
+            assert any(letter.isdigit() for letter in shown["note"]), where
+
+
+def test_idle_lanes_are_folded(page):
+    """Of twenty threads, all of which move once, only those that are busy in view have lanes."""
+    page.open()
+    lines = ["lock ticket threads 20"]
+    for thread in range(20):
+        lines += [f"{thread} {word}" for word in "acquire add read release read write".split()]
+    page.js("open", ["\n".join(lines) + "\n", "lessons", 120])
+    shown = page.js("drawn")
+    assert shown["lanes"] <= 6 and shown["note"].startswith(f"{20 - shown['lanes']} threads"), shown
+
+
+# A writer of a read-write lock polls ten times.
+POLLS = ["0 rlock", "0 section", "1 wlock", *["1 section"] * 10, "0 runlock", "0 section",
+         "1 section", "0 rlock", *["0 section"] * 9]
+# The ticket lock's widest numbers.
+NUMBERS = ["0 acquire", "0 add", "0 read", "1 acquire", "1 add", *["1 read"] * 20]
+
+
+@pytest.mark.parametrize("mode", ["lessons", "play"])
+@pytest.mark.parametrize("lock, moves", [
+    ("rw-simple", POLLS), ("rw-fifo", POLLS), ("ticket", NUMBERS)], ids=lambda it: str(it)[:9])
+def test_no_value_is_cut(page, lock, moves, mode):
+    """Below the marks of many moves, and in memory beside the choices of Play."""
+    page.open()
+    text = "\n".join([f"lock {lock} threads 2", *moves]) + "\n"
+    page.js("open", [text, mode, len(moves)])
+    assert page.js("cut") == []

@@ -1,0 +1,10 @@
+"""The page's module in Node, without the page; the first lines of a script say what it tests."""
+import pytest
+
+from tree import TESTS, ran
+
+
+@pytest.mark.parametrize("script", ["module", "bytes", "moments", "known"])
+def test_in_node(module, script):
+    done = ran("node", TESTS / "page" / f"{script}.mjs", module)
+    assert done.returncode == 0, done.stderr

@@ -1,0 +1,57 @@
+"""Schedules of one's own: typed, files, what a text field would swallow."""
+import pytest
+
+HEAD = b"lock ticket threads 1\n0 acquire\n0 add\n"
+MOST = 1048576  # bytes
+
+
+def test_typed(page):
+    """Text typed into the field is played as it is typed."""
+    page.open("#lesson=mcs-late-link&move=0")
+    page.click("#mode-own")
+    page.click("#clear")
+    page.click("#text")
+    page.press("Control+a")
+    page.press(*"\n".join(["lock rw-simple threads 2", "0 rlock", "0 section", "1 wlock",
+                           "1 sektion"]).replace("\n", "\ue007"))
+    page.until("verdictHas", "Did you mean “section”?")
+    assert page.shown()["moves"] == 3
+
+
+@pytest.mark.parametrize("data, said, count", [
+    (HEAD, "end 2", 2),
+    (HEAD.replace(b"\n", b"\r\n"), "carriage return", 0),
+    (HEAD + b"#" * (MOST - len(HEAD)), "end 2", 2),
+    (HEAD + b"#" * (MOST + 1 - len(HEAD)), "fault TooLong", 2),
+    (b"# \xff\xfe\0\n" + HEAD, "end 2", 2),
+    (b"\xef\xbb\xbf" + HEAD, "byte order mark", 0),
+    (b"\0" * MOST, "BadHeader", 0),
+], ids=["plain", "returns", "longest", "too long", "no text", "mark", "zeros"])
+def test_files(page, tmp_path, data, said, count):
+    path = tmp_path / "schedule.txt"
+    path.write_bytes(data)
+    page.open()
+    page.choose_file("#file", path)
+    page.until("verdictHas", said)
+    assert page.shown()["moves"] == count
+
+
+def test_dropped_and_pasted(page):
+    page.open()
+    page.js("dropFile", "lock mcs threads 1\n0 acquire\n")
+    page.until("verdictHas", "end 1")
+    page.js("paste", "lock rw-fifo threads 1\n0 rlock\n0 section\n")
+    page.until("verdictHas", "end 2")
+
+
+def test_saved(page, tmp_path):
+    """What is saved is the schedule, byte for byte."""
+    data = b"# \xff no text\r\nlock ticket threads 1\n0 acquire"
+    path = tmp_path / "mine.txt"
+    path.write_bytes(data)
+    page.open("#lesson=mcs-late-link&move=0")
+    page.click("#mode-own")
+    page.choose_file("#file", path)
+    page.until("verdictHas", "end 1")
+    page.click("#save")
+    assert page.saved("schedule.txt", len(data)) == data

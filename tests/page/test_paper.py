@@ -1,0 +1,95 @@
+"""Print: strips of moves, memory and code, and the table, in light colours whatever the theme; with
+answers or with blanks, and never on more than twelve sheets."""
+import re
+import zlib
+
+import pytest
+
+from reports import LESSONS, moves_of
+
+MOST_SHEETS = 12
+LATE_LINK = "#lesson=mcs-late-link&move=9"
+
+
+def test_a_lesson(page):
+    name = "mcs-third-linked-before-second"
+    page.open(f"#lesson={name}&move=12")
+    assert page.pdf().startswith(b"%PDF")
+    rows = page.js("rows")
+    assert [row[:4] + row[5:] for row in rows] == [
+        [str(number), f"thread {thread}", word, outcome, hold, queue]
+        for number, (thread, word, outcome, hold, queue) in enumerate(moves_of(LESSONS[name]), 1)]
+    assert all(row[4] for row in rows)
+    assert page.js("count", "#paper .strip") >= 2
+    assert page.js("count", "#paper .future") == 0
+
+
+def test_only_paper_is_printed(page):
+    page.open("#lesson=ticket-hand-over&move=5")
+    page.js("drawPaper")
+    assert page.js("onPaper") == [True, False, "rgb(255, 255, 255)", "rgb(0, 0, 0)"]
+
+
+def sheets(data):
+    """How many pages a PDF has; some of its objects may be packed."""
+    packed = re.findall(rb"/ObjStm.*?stream\r?\n(.*?)endstream", data, re.DOTALL)
+    parts = [data, *(zlib.decompressobj().decompress(part) for part in packed)]
+    return sum(len(re.findall(rb"/Type\s*/Page[^s]", part)) for part in parts)
+
+
+def turns(threads, count):
+    """The ticket lock: all draw a ticket, then all poll in turn."""
+    lines = [f"lock ticket threads {threads}"]
+    for thread in range(threads):
+        lines += [f"{thread} acquire", f"{thread} add"]
+    lines += [f"{1 + at % (threads - 1)} read" for at in range(count - len(lines) + 1)]
+    return "\n".join(lines) + "\n"
+
+
+@pytest.mark.parametrize("threads, count", [(2, 1500), (8, 60), (12, 60), (64, 381), (64, 65536)])
+def test_a_long_schedule(page, threads, count):
+    """Of a long schedule as many moves around the current one as twelve sheets have room for."""
+    page.open()
+    page.show(turns(threads, count), count // 2)
+    number = sheets(page.pdf())
+    rows = [int(row[0]) for row in page.js("rows")]
+    assert len(rows) >= 60 and rows[0] <= count // 2 <= rows[-1], rows
+    assert 2 <= number <= MOST_SHEETS, number
+
+
+def test_forty_moves_in_one_row(page):
+    page.open()
+    page.show(turns(8, 40), 40)
+    page.js("drawPaper")
+    assert page.js("movesOfStrips") == [40]
+
+
+def test_memory_and_code(page):
+    page.open(LATE_LINK)
+    page.js("drawPaper")
+    figure = page.js("words", "#paper .figure")
+    for part in ["after move 9", "tail", "no link", "cas(tail, me, nil), or else:", "pred = Ann"]:
+        assert part in figure
+    assert page.js("words", "#paper td:nth-child(2)") == "Ann (0)"
+
+
+def test_an_exercise_sheet(page):
+    """What a thread called is there; what came of it, and the answers, are blanks."""
+    page.open(LATE_LINK)
+    assert page.js("print", "exercise") == "exercise"
+    rows, said = page.js("rows"), page.js("words", "#paper")
+    assert len(rows) == 16 and rows[8] == ["9", "Ann (0)", "cas", "", "", ""]
+    # Two lines to write on for each question.
+    assert page.js("drawn") == [0, 10]
+    assert "record that nobody reads" not in said and "no link" not in said
+    assert page.js("print", "worked") == "worked"
+    assert "record that nobody reads" in page.js("words", "#paper")
+
+
+def test_a_link_asks_for_a_sheet(page):
+    """Enter prints it."""
+    page.open(f"{LATE_LINK}&sheet=exercise")
+    assert page.js("offered") == "exercise"
+    page.js("stubPrint")
+    page.press("Enter")
+    assert page.js("printed") == "exercise"

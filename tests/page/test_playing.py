@@ -1,0 +1,61 @@
+"""Schedules made by clicks. What is so made is accepted by the program."""
+import random
+
+import pytest
+
+from reports import moves_replayed
+
+CLICKS = 12
+
+
+@pytest.mark.parametrize("lock, threads, bits", [
+    ("ticket", 3, 2), ("mcs", 3, 64), ("rw-simple", 2, 2), ("rw-fifo", 4, 3)])
+def test_played_by_clicks(page, lockreplay, lock, threads, bits):
+    chance = random.Random(7)
+    page.open("#lesson=mcs-late-link&move=0")
+    page.click("#mode-play")
+    page.js("openNew", lock)
+    for name, number in [("threads", threads), ("bits", bits)]:
+        page.click(f"#new [name={name}]")
+        page.press("Control+a", *str(number))
+    page.click("#new button")
+    page.becomes("0 of 0", "text", "#position")
+    header, lines = page.shown()["area"], []
+    for number in range(1, CLICKS + 1):
+        lines.append(chance.choice(page.js("offered")))
+        page.click(page.js("choice", *lines[-1].split()))
+        page.becomes(f"{number} of {number}", "text", "#position")
+    text = page.shown()["area"]
+    assert text == header + "".join(f"{line}\n" for line in lines)
+    assert len(moves_replayed(lockreplay, text)) == CLICKS
+    for left in range(CLICKS - 1, -1, -1):
+        page.click("#undo")
+        page.becomes(f"{left} of {left}", "text", "#position")
+    assert page.shown()["area"] == header
+
+
+def test_from_a_lesson(page, lockreplay):
+    """A choice in the middle of a lesson goes on from there, and undo brings the lesson back."""
+    page.open("#lesson=mcs-late-link&move=9")
+    page.click("#mode-play")
+    before = page.shown()["area"]
+    page.click("#choices [data-thread='1']")
+    page.becomes("10 of 10", "text", "#position")
+    text = page.shown()["area"]
+    assert text.endswith("0 cas\n1 write\n"), text
+    assert len(moves_replayed(lockreplay, text)) == 10
+    page.click("#undo")
+    page.becomes("9 of 16", "text", "#position")
+    assert page.shown()["area"] == before
+
+
+@pytest.mark.parametrize("header", [
+    "lock ticket threads 3 bits 2\n", "lock mcs threads 5", "lock rw-simple threads 4\n",
+    "# a comment\nlock rw-fifo threads 3 bits 2\n\n"], ids=lambda it: it.split()[1])
+def test_never_refused(page, header):
+    """A hundred choices, each of those that are offered: none is refused."""
+    page.open()
+    page.show(header)
+    page.click("#mode-play")
+    assert page.js("chooseMany", 100) == [100, 100, 100]
+    assert page.shown()["verdict"].endswith("end 100")

@@ -1,0 +1,73 @@
+"""What a question asks for is not beside it before its answer is shown, in neither view."""
+import re
+
+import pytest
+
+from tree import EXAMPLES
+
+HIDES = re.compile(r"^#! ask (\d+) hide ([a-z ]+?) : ", re.MULTILINE)
+QUESTIONS = [(path.stem, int(move), parts.split()) for path in sorted(EXAMPLES.glob("*.schedule"))
+             for move, parts in HIDES.findall(path.read_text("latin-1"))]
+assert len(QUESTIONS) >= 35
+
+
+def test_each_part_comes_with_the_answer(page):
+    page.open()
+    for name, move, parts in QUESTIONS:
+        page.lesson(name, move)
+        before = page.js("beside")
+        page.press("a")
+        after = page.js("beside")
+        where = (name, move, before, after)
+        if "sentence" in parts:
+            assert before["sentence"] == "" != after["sentence"], where
+            assert after["sentence"] not in before["spoken"], where
+        if "facts" in parts:
+            assert before["facts"] == before["report"] == "" and before["marks"] == 0, where
+            assert after["facts"] and after["report"], where
+        if "memory" in parts:
+            assert before["caption"].endswith("come with the answer (A).") and not before["links"]
+            assert after["caption"] and after["caption"] != before["caption"], where
+
+
+def test_who_holds_is_not_drawn(page):
+    """A question whether a reader is still inside: neither lane, picture nor code says it."""
+    page.resize(1366, 768)
+    page.open("#lesson=simple-writer-after-readers&move=9")
+    signs, beyond = page.js("readers")
+    assert signs == 0 and beyond < -10, (signs, beyond)
+    page.press("a")
+    signs, beyond = page.js("readers")
+    assert signs >= 1 and beyond > -10, (signs, beyond)
+
+
+OWN = """#! title Mine
+#! ask 3 Who holds now?
+#! answer 3 Thread 0.
+#! ask 4 hide sentence facts : And now?
+#! answer 4 Still thread 0.
+#! ask 5 hide nonsense : Is this a question?
+#! answer 5 Yes, with all its words.
+lock ticket threads 2
+0 acquire
+0 add
+0 read
+1 acquire
+1 add
+"""
+
+
+@pytest.mark.parametrize("move, question, hidden", [
+    (3, "Who holds now?", ["caption"]), (4, "And now?", ["sentence", "facts"]),
+    (5, "hide nonsense : Is this a question?", ["caption"])])
+def test_the_form_of_before_is_valid(page, move, question, hidden):
+    """A question that does not say what it hides hides caption and arrows. If it names what is no
+    part of the page, these words are the question's."""
+    page.open()
+    page.show(OWN, move)
+    shown = page.js("beside")
+    found = [part for part in ("sentence", "facts") if not shown[part]]
+    if "answer (A)" in shown["caption"]:
+        found.append("caption")
+    assert found == hidden, shown
+    assert page.text("#now .question p") == f"Question: {question}"

@@ -1,0 +1,61 @@
+"""The quiz: what is asked is not shown before, each move counts once, and no answer that is always
+the same earns a point."""
+import re
+
+import pytest
+
+from reports import LESSONS, moves_of
+
+LESSON = "fifo-reader-waits-behind-writer"
+TRUTH = {"outcome": 2, "holders": 3, "queue": 4}
+# Answers that need no thought: always the same, or what is now.
+ALWAYS = ["moved", "waits", "entered", "left"]
+
+
+def begin(page, name):
+    page.open(f"#lesson={name}&move=0")
+    page.press("q")
+
+
+def test_all_right(page):
+    """Answered as the report has it, every answer is right; none is given before it is asked."""
+    moves = moves_of(LESSONS[LESSON])
+    begin(page, LESSON)
+    right = 0
+    while (shown := page.js("asked"))["move"]:
+        assert shown["place"] == shown["move"] - 1 and shown["future"] == 0, shown
+        assert not shown["filled"], shown
+        # A call is not asked for, and no step is only called.
+        assert shown["choices"] == (ALWAYS if shown["kind"] == "outcome" else []), shown
+        page.js("answer", moves[shown["move"] - 1][TRUTH[shown["kind"]]])
+        right += 1
+        score = page.text("#now .score")
+        assert score.startswith(f"Points: {right} ({right} right, 0 wrong)"), score
+    assert shown["position"] == "15 of 15" and right >= 6, (right, shown)
+    page.go(2)
+    assert not page.js("question")["move"], "a move is asked once"
+
+
+def test_a_wrong_answer_is_told_why(page):
+    begin(page, LESSON)
+    kind = page.js("asked")["kind"]
+    page.js("answer", "waits" if kind == "outcome" else "w2")
+    assert "The outcome is" in page.text("#now .why")
+    assert "0 right, 1 wrong" in page.text("#now .score")
+    page.press("Escape", "q", "q")
+    assert "0 right, 1 wrong" in page.text("#now .score")
+    page.lesson("ticket-hand-over")
+    assert "0 right, 1 wrong" in page.text("#now .score")
+    report = page.js("saved")
+    assert "A reader may not pass" in report and "\n- " in report, report
+
+
+@pytest.mark.parametrize("outcome, threads", zip(ALWAYS, [None, "-", "0", "1"]))
+def test_chance_earns_nothing(page, outcome, threads):
+    begin(page, "mcs-late-link")
+    for name, report in LESSONS.items():
+        if moves_of(report):
+            page.js("answerBlindly", name, outcome, threads)
+    score = page.text("#now .score")
+    right, wrong = map(int, re.search(r"\((\d+) right, (\d+) wrong\)", score).groups())
+    assert right <= wrong and right + wrong >= 100, score

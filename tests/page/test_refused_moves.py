@@ -1,0 +1,101 @@
+"""A refused move is a scene: in lessons and links, on paper, and in Play."""
+import pytest
+
+# The lesson, how many moves are accepted, the report's last line, and what is said of it. Written
+# by hand from examples/ and docs/LOCKS.md.
+LESSONS = [
+    ("already-holds", 2, "refused line 5 AlreadyHolds",
+     ["Thread 0 holds the lock already", "Thread 0 holds the lock and reads.", "call “runlock”",
+      "move 2: 0 section"]),
+    ("busy", 1, "refused line 4 Busy",
+     ["has a pending call", "The next step is “add”, in line 2 of the code: "
+      "“ticket := add(next_ticket, 1)”.", "make the step “add”", "move 1: 0 acquire"]),
+    ("no-call", 0, "refused line 3 NoCall",
+     ["has no pending call", "Nobody holds the lock.", "call “acquire”",
+      "no move of thread 0 yet"]),
+    ("no-such-thread", 0, "refused line 4 NoSuchThread",
+     ["There is no thread 1", "Line 3: lock ticket threads 1"]),
+    ("not-holder", 0, "refused line 3 NotHolder",
+     ["does not hold what it would release", "Nobody holds the lock.", "call “acquire”"]),
+    ("wrong-lock", 0, "refused line 3 WrongLock",
+     ["“rlock” is not a move of this lock", "call “acquire”", "Line 2: lock ticket threads 1"]),
+    ("wrong-step", 1, "refused line 4 WrongStep next add",
+     ["The next step is “add”, in line 2 of the code", "make the step “add”"]),
+]
+FAULTS = [
+    ("bad-header", "fault line 2 BadHeader", ["Unknown lock clh", "lock clh threads 2"]),
+    ("bad-line", "fault line 5 BadLine", ["Unknown move “looks”", "0 looks"]),
+    ("bad-threads", "fault line 2 BadThreads", ["“65” is not a number of threads"]),
+    ("no-header", "fault line 3 NoHeader", ["There is no header"]),
+    ("words-too-narrow", "fault line 2 WordsTooNarrow", ["threads need wider words"]),
+]
+
+
+def check_scene(page, count, last, parts):
+    shown = page.shown()
+    assert "refused" in shown["now"], shown
+    for part in [last, *parts]:
+        assert part in shown["now"]
+    assert page.js("attribute", "#lanes [data-refused]", "data-move") == str(count + 1)
+    assert shown["position"] == "refused", shown
+    assert shown["spoken"].startswith("refused"), shown
+
+
+@pytest.mark.parametrize("name, count, last, parts", LESSONS, ids=[row[0] for row in LESSONS])
+def test_lesson(page, name, count, last, parts):
+    """Stepped to the end by key; the address then names the scene, and a link opens it."""
+    page.open(f"#lesson=refused-{name}&move=0")
+    assert "refused" not in page.shown()["now"]
+    page.press(*["ArrowRight"] * (count + 1))
+    check_scene(page, count, last, parts)
+    shown = page.shown(mode="lessons")
+    place = f"#lesson=refused-{name}&move={count + 1}"
+    page.becomes(place, "address")
+    page.open(place)
+    assert page.shown() == shown
+    paper, is_crossed = page.js("onPaper")
+    assert is_crossed
+    for part in [last, *parts]:
+        assert part in paper
+
+
+@pytest.mark.parametrize("name, code", [
+    ("wrong-step", "ticket := add(next_ticket, 1)"), ("no-call", "")])
+def test_the_line_that_is_due(page, name, code):
+    page.open(f"#lesson=refused-{name}&move=9")
+    assert page.text("#code-lines .here code") == code
+
+
+@pytest.mark.parametrize("name, last, parts", FAULTS, ids=[row[0] for row in FAULTS])
+def test_fault_on_paper(page, name, last, parts):
+    page.open(f"#lesson=fault-{name}&move=0")
+    paper, _ = page.js("onPaper")
+    for part in [last, *parts]:
+        assert part in paper
+
+
+# The line after that of move 8. Left are two names, the questions of moves 7 and 8 with their
+# answers, which are five lines, the header, and eight moves.
+WRONG_LINE = 17
+
+
+def test_a_wrong_step_in_play(page):
+    """It is told why, by the word that was found; another choice or undo takes its place."""
+    page.open("#lesson=mcs-late-link&move=8")
+    page.press("g", "w")
+    page.js("choose", 0, "write")
+    check_scene(page, 8, f"refused line {WRONG_LINE} WrongStep next cas",
+                ["The next step is “cas”", "found Ann.next = nil"])
+    page.js("choose", 1, "release")
+    assert f"refused line {WRONG_LINE} Busy" in page.text("#now")
+    page.press("u")
+    assert "WrongStep next cas" in page.text("#now")
+    page.js("choose", 0, "cas")
+    assert page.text("#position") == "9 of 9"
+
+
+def test_a_digit_leaves_the_choice(page):
+    """A thread with more than one call is chosen by its digit, and its call by Tab."""
+    page.open("#lesson=fifo-reader-waits-behind-writer&move=0")
+    page.press("g", "0", "Tab")
+    assert page.js("focusedChoice") == {"thread": "0", "word": "wlock"}

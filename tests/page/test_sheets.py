@@ -1,0 +1,47 @@
+"""Exercise sheets as a class gets them: nothing on them says an answer, and there are places to
+write and draw in. As PDF they have one or two pages, which poppler reads."""
+import re
+import subprocess
+
+import pytest
+
+from tree import EXAMPLES
+
+LESSONS = [path.stem for path in sorted(EXAMPLES.glob("*.schedule"))
+           if not path.stem.startswith(("refused", "fault"))]
+MOST_PAGES = 2
+
+
+def remarks(name, what):
+    """The texts of a lesson's questions or answers, line by line."""
+    text = (EXAMPLES / f"{name}.schedule").read_text("latin-1")
+    return re.findall(rf"^#! {what} \d+ (?:hide [a-z ]+ : )?(.+)$", text, re.MULTILINE)
+
+
+def test_marks_and_places(page):
+    """Every mark is to be filled in, and so are words, holder and queue."""
+    page.open()
+    for name in LESSONS:
+        page.lesson(name)
+        shown = page.js("sheet")
+        moves = len((EXAMPLES / f"{name}.report").read_text().splitlines()) - 1
+        assert shown["waits"] == shown["spans"] == shown["values"] == 0, (name, shown)
+        assert shown["blanks"] == moves and shown["lines"] == 2, (name, shown)
+        assert shown["words"] >= 2 and shown["places"] >= 2, (name, shown)
+
+
+@pytest.mark.parametrize("name", LESSONS)
+def test_as_a_pdf(page, name, tmp_path):
+    """Its pages name what is asked and say no answer; none of them is empty."""
+    page.before("keepSheet")
+    page.open(f"#lesson={name}&move=0")
+    page.js("asExercise")
+    path = tmp_path / "sheet.pdf"
+    path.write_bytes(page.pdf())
+    pages = subprocess.run(["pdftotext", "-layout", path, "-"], check=True, text=True,
+                           capture_output=True).stdout.split("\f")[:-1]
+    assert 1 <= len(pages) <= MOST_PAGES, len(pages)
+    assert all(len(one.strip()) > 60 for one in pages), pages
+    said = " ".join(" ".join(pages).split())
+    assert "Name:" in said and "Date:" in said and "fill in" in said
+    assert not [line for line in remarks(name, "answer") if line in said]

@@ -1,0 +1,81 @@
+"""The start: what the page is, four cards with the lessons in their order, and where to go on."""
+from tree import EXAMPLES
+
+LOCKS = ["ticket", "mcs", "rw-simple", "rw-fifo"]
+REFUSED = ("refused", "fault")
+
+
+def test_without_a_link(page):
+    """Two sentences, the ticket lock first, and in each card its lessons, with what one learns."""
+    page.open()
+    assert page.js("isOpen") and page.js("chosen") == "ticket-hand-over"
+    what = page.text("#lessons .what")
+    assert what.count(".") == 2 and "one atomic step at a time" in what, what
+    cards = page.js("cards")
+    assert [card["lock"] for card in cards] == LOCKS
+    listed = [name for card in cards for name, _ in card["lessons"]]
+    assert sorted(listed) == sorted(path.stem for path in EXAMPLES.glob("*.schedule")
+                                    if not path.stem.startswith(REFUSED))
+    for card in cards:
+        assert card["live"] >= 4, card
+        for at, (name, said) in enumerate(card["lessons"], 1):
+            assert said.startswith(str(at)) and " moves, about " in said, said
+            assert name not in said, "no name of a file"
+    assert page.js("refusals") == [12, False]
+    assert page.js("ways") == ["own", "play", "find", "plans"]
+
+
+def test_a_link_opens_its_lesson(page):
+    page.open("#lesson=mcs-late-link&move=3")
+    assert not page.js("isOpen")
+
+
+def test_the_first_lesson(page):
+    """Enter begins it, and it says in its own words what each move does."""
+    page.open()
+    page.press("Enter")
+    assert page.js("lessonNow") == "ticket-hand-over"
+    for move in range(1, 11):
+        page.press("ArrowRight")
+        said = page.js("seen", "#now .own-say")
+        assert (said == "") == (move in (5, 7, 9)), (move, said)
+        assert "fetch" not in said and "compare" not in said, (move, said)
+
+
+def test_the_end_of_a_lesson(page):
+    """It says what was shown, leads to the next one by key, and is ticked off."""
+    page.open("#lesson=ticket-hand-over&move=10")
+    last = page.text("#now .last")
+    assert "You saw: A thread is in the queue from its fetch-and-add on" in last, last
+    page.press("ArrowRight", "Enter")
+    assert page.js("lessonNow") == "ticket-order-of-tickets"
+    page.press("o")
+    assert page.js("ticked") == ["ticket-hand-over"]
+
+
+def test_what_was_kept_is_near_the_top(page):
+    page.resize(1366, 768)
+    page.open("#lesson=mcs-late-link&move=3")
+    page.show("#! title Mine\nlock mcs threads 2\n0 acquire\n")
+    page.press("e", "o")
+    assert page.js("topOf", "#lessons [data-kept]") < 250
+    assert "Mine" in page.text("#lessons .kept")
+
+
+def test_the_ways(page):
+    """Each opens what it names."""
+    for way, opened in [("own", "#own"), ("play", "#play"), ("find", "#find"), ("plans", "#plans")]:
+        page.open()
+        page.click(f"[data-way={way}]")
+        assert not page.js("isOpen") and page.js("topOf", opened) >= 0, way
+
+
+def test_terms_are_explained(page):
+    """Where one points at them, in the words of the glossary."""
+    page.resize(1366, 768)
+    page.open("#lesson=ticket-hand-over&move=6")
+    for term, meaning in [("holder", "entered a lock and not left it"),
+                          ("failed poll", "a step that finds that its thread has to wait"),
+                          ("queue", "oldest first, so that the holder is its head")]:
+        said, is_seen = page.js("explained", term)
+        assert said and meaning in said and is_seen, (term, said)

@@ -1,0 +1,93 @@
+"""Pictures to take away: in the page's letters, with what was chosen, in one piece; several moves;
+and for LaTeX."""
+import shutil
+import subprocess
+import xml.etree.ElementTree
+
+import pytest
+
+LATE_LINK = "#lesson=mcs-late-link&move=9"
+EVERYTHING = ["title", "legend", "code", "answer"]
+
+
+def tree_of(page, *parts):
+    return xml.etree.ElementTree.fromstring(page.js("taken", "svg", list(parts)))
+
+
+def texts(tree):
+    """What each text of a picture says; its style is none."""
+    found = tree.iter("{http://www.w3.org/2000/svg}text")
+    return [" ".join(" ".join(one.itertext()).split()) for one in found]
+
+
+def words(tree):
+    return " ".join(texts(tree))
+
+
+def test_in_letters_of_its_own(page):
+    """Each text is in letters that the picture has."""
+    page.open(LATE_LINK)
+    assert "url(data:font/woff2;base64," in page.js("taken", "svg", EVERYTHING)
+    families = page.js("alone", EVERYTHING)["families"]
+    assert [one.strip('"') for one in families] == ["Page Mono", "Page Sans"], families
+
+
+def test_what_was_chosen(page):
+    page.open(LATE_LINK)
+    plain = words(tree_of(page))
+    assert "no link" not in plain and "acquire(me):" not in plain and "entered" not in plain
+    whole = tree_of(page, *EVERYTHING)
+    for part in ["The late link", "acquire(me):", "in the queue, not linked", "no link", "entered"]:
+        assert part in words(whole), part
+    assert float(whole.get("height")) > float(tree_of(page).get("height")) + 30
+
+
+def test_the_band_has_no_gap(page):
+    """It goes under the move from its number to the last lane."""
+    page.open(LATE_LINK)
+    (_, above), (below, _) = page.js("alone", [])["bands"][:2]
+    assert below <= above
+
+
+def test_an_open_question_is_asked_about(page):
+    page.open(LATE_LINK)
+    page.press("t")
+    assert page.js("asks")
+    page.js("closeDialog", "take")
+    page.go(10)
+    page.press("t")
+    assert not page.js("asks")
+
+
+def test_a_strip(page):
+    """Memory after each of the moves, with the link that is missing from move 8 on."""
+    page.open("#lesson=mcs-late-link&move=10")
+    page.press("t")
+    page.js("closeDialog", "take")
+    said = texts(xml.etree.ElementTree.fromstring(page.js("taken", "strip", [])))
+    for move in range(7, 11):
+        assert [one for one in said if one.startswith(f"{move} ")], (move, said)
+    assert said.count("tail") == 4 and said.count("no link") == 3, said
+
+
+def test_an_animation(page):
+    """An APNG with a frame for each move, which the browser shows."""
+    page.open(LATE_LINK)
+    shown = page.js("animation", 5, 8)
+    kinds = shown["kinds"]
+    assert kinds.count("fcTL") == 4 and kinds[:3] == ["IHDR", "acTL", "fcTL"], kinds
+    assert kinds.count("fdAT") >= 3 and kinds[-1] == "IEND" and shown["width"] > 1000
+
+
+@pytest.mark.skipif(not shutil.which("pdflatex"), reason="needs texlive-latex-base and pgf")
+@pytest.mark.parametrize("lesson, move", [
+    ("ticket-wraps-at-2-bits", 23), ("mcs-late-link", 13), ("fifo-counts-wrap-at-2-bits", 16)])
+def test_for_latex(page, lesson, move, tmp_path):
+    """pdflatex takes it without an error, and the words of the picture are in its page."""
+    page.open(f"#lesson={lesson}&move={move}")
+    (tmp_path / "state.tex").write_text(page.js("taken", "tikz", EVERYTHING), "utf-8")
+    subprocess.run(["pdflatex", "-halt-on-error", "-interaction=batchmode", "state.tex"],
+                   cwd=tmp_path, check=True, capture_output=True)
+    said = subprocess.run(["pdftotext", "state.pdf", "-"], cwd=tmp_path, check=True, text=True,
+                          capture_output=True).stdout
+    assert "acquire" in said or "rlock" in said

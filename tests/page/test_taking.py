@@ -1,0 +1,82 @@
+"""What can be taken away: pictures, the report, a frame; and what the page says of itself."""
+import xml.etree.ElementTree
+
+import pytest
+
+from tree import EXAMPLES, TOP, VERSION
+
+LATE_LINK = "#lesson=mcs-late-link&move=9"
+
+
+def test_the_picture(page):
+    """It is well formed, and has the moves and the words of memory of the state. What answers a
+    question is in it once the answer is shown."""
+    page.open(LATE_LINK)
+    assert "no link" not in page.js("take", "svg")[1]
+    page.press("a")
+    name, letters = page.js("take", "svg")
+    text = letters.encode("latin-1").decode()
+    tree = xml.etree.ElementTree.fromstring(text)
+    words = " ".join(tree.itertext())
+    for part in ["Ann", "Bob", "tail", "cas", "fails", "no link"]:
+        assert part in words
+    assert "url(http" not in text and tree.tag.endswith("svg")
+    assert name == "mcs-late-link-9.svg"
+
+
+def test_the_picture_of_points(page):
+    page.open(LATE_LINK)
+    name, letters = page.js("take", "png")
+    assert letters.startswith("\x89PNG\r\n\x1a\n") and len(letters) > 20000
+    assert name == "mcs-late-link-9.png"
+
+
+@pytest.mark.parametrize("what, name", [
+    ("report", "mcs-late-link-9.report"), ("schedule", "mcs-late-link.schedule")])
+def test_the_report_and_the_schedule(page, what, name):
+    page.open(LATE_LINK)
+    assert page.js("take", what) == [name, (EXAMPLES / f"mcs-late-link.{what}").read_text("ascii")]
+
+
+def test_the_frame(page):
+    page.open(LATE_LINK)
+    frame = page.js("copied", "frame")
+    assert "#lesson=mcs-late-link&amp;move=9&amp;embed&amp;show=memory,code" in frame, frame
+
+
+def test_tips_and_speeds(page):
+    """Each control of the foot has a tooltip, and the speed is chosen by key."""
+    page.open("#lesson=mcs-late-link&move=0")
+    tips = page.js("tips")
+    assert len(tips) == 6 and all(tips) and len(set(tips)) == 6, tips
+    assert page.js("fills") == ["none", "none", True]
+    page.press(".", ".")
+    assert page.js("value", "#speed") == "4"
+    page.press(",")
+    assert page.js("value", "#speed") == "2"
+
+
+def test_names_of_controls(page):
+    """A control's name and its key are two words."""
+    page.open()
+    assert {"Lessons O", "Play G", "Keys ?", "Undo U"} <= set(page.js("withKeys"))
+
+
+def test_who_it_is(page):
+    page.open()
+    page.js("click", "#show-about")
+    said = page.text("#about")
+    for part in [f"lockreplay {VERSION}", "proved", "Apache-2.0 OR MIT", "Chromium from 133"]:
+        assert part in said
+    assert "cas(tail, me, nil), or else:" in said and "Lesson plans" in said
+    for name in ["PROOF.md", "GUIDE.md"]:
+        assert f"docs/{name}" in said and (TOP / "docs" / name).exists()
+
+
+def test_words_of_the_report(page):
+    """The outcome is the report's word, with plain words beside it."""
+    page.open(LATE_LINK)
+    shown = [page.text(part) for part in [
+        "#now .outcome", "#now .plain", "#code h2", "#now dt:last-of-type"]]
+    assert shown == ["cas fails", "the compare-and-swap fails", "Code: this move and next steps",
+                     "Queue"]

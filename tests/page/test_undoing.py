@@ -1,0 +1,62 @@
+"""Undo is pressed: its buttons in Play and in Your own, its key, and Ctrl+Z."""
+import pytest
+
+from tree import cases
+
+
+def buttons(page):
+    """How many buttons undo something."""
+    return page.js("count", ":is(#undo, #undo-own):enabled")
+
+
+@cases("undo", {
+    "button": lambda page: page.click("#undo"), "key": lambda page: page.press("u"),
+    "control": lambda page: page.press("Control+z")})
+def test_choices_are_undone(page, undo):
+    """The last choice first, and then the branch: the whole lesson is there again."""
+    page.open("#lesson=mcs-late-link&move=7")
+    page.press("g")
+    lesson = page.shown(position="7 of 16")
+    assert buttons(page) == 0
+    page.click("#choices [data-thread='0']")
+    branch = page.shown(position="8 of 8", lesson=None)
+    assert branch["area"].endswith("0 read\n0 cas\n") and buttons(page) == 2
+    page.click("#choices [data-thread='1']")
+    assert page.shown(position="9 of 9")["area"] == branch["area"] + "1 swap\n"
+    undo(page)
+    assert page.shown(position="8 of 8") == branch
+    undo(page)
+    assert page.shown(position="7 of 16") == lesson
+
+
+@pytest.mark.parametrize("key", ["u", "Control+z"])
+def test_nothing_is_left_to_undo(page, key):
+    """A press more changes nothing."""
+    page.open("#lesson=mcs-late-link&move=7")
+    page.press("g")
+    lesson = page.shown()
+    page.press(key)
+    assert page.shown() == lesson
+
+
+def test_a_new_text_is_undone(page):
+    """In Your own, which has a button of its own."""
+    page.open("#lesson=ticket-hand-over&move=5")
+    page.press("e")
+    lesson = page.shown()
+    page.click("#clear")
+    page.shown(lesson=None)
+    assert buttons(page) == 2
+    page.click("#undo-own")
+    assert page.shown(lesson="ticket-hand-over") == lesson
+
+
+def test_a_letter_in_the_text_is_no_undo(page):
+    page.open("#lesson=ticket-hand-over&move=5")
+    page.press("e")
+    page.click("#clear")
+    before = page.shown()["area"]
+    page.click("#text")
+    page.press("u")
+    after = page.shown(lesson=None)["area"]
+    assert len(after) == len(before) + 1 and after.replace("u", "") == before.replace("u", "")

@@ -1,0 +1,47 @@
+// What is out of view in a window.
+
+const foot = () => rect(document.querySelector('footer'));
+
+function isSeen(node, part) {
+  const [{ top, bottom, left, right }, box] = [node, part].map(rect);
+  return top >= Math.max(-1, box.top - 1.5) && bottom <= Math.min(foot().top + 1, box.bottom + 1.5)
+    && left >= -1 && right <= innerWidth + 1;
+}
+
+// Of the line of code, the question and the move's sentence, at each of these links.
+const outOfView = (fragments) => fragments.flatMap((fragment) => {
+  follow(fragment);
+  const seen = all('.code-line.here, #now .say, #now .question > p, #now .question summary')
+    .filter((one) => one.checkVisibility());
+  const out = seen.filter((one) => !isSeen(one, one.closest('#code-lines, #now')));
+  return [...out.map((one) => one.textContent.trim()),
+    ...seen.length > 2 ? [] : [`${fragment}: too little is there`]];
+});
+
+// Of the variables that threads have beside their records.
+const variables = (fragments) => fragments.flatMap((fragment) => {
+  follow(fragment);
+  const { left, right } = rect(byId('memory-picture'));
+  const found = all('.record .own ~ text');
+  const isOut = (one) => !isSeen(one, byId('memory-picture'))
+    || rect(one).left < left - 1 || rect(one).right > right + 1;
+  return [...found.filter(isOut).map((one) => `${fragment}: ${one.textContent}`),
+    ...found.length ? [] : [`${fragment}: no variable`]];
+});
+
+// Whether the current line is above the foot, and whether the page can be scrolled.
+function lowest() {
+  const { top, bottom } = rect(all('#code-lines .here').at(-1));
+  const { scrollHeight } = document.documentElement;
+  return [top >= 0 && bottom <= foot().top, scrollHeight > innerHeight + 1];
+}
+
+// The moves of a lesson at which "Show the answer" is out of view.
+function hidden(name, moves) {
+  lesson(name);
+  return moves.filter((move) => {
+    go(move);
+    const [answer, now] = ['#now summary', '#now'].map((one) => rect(document.querySelector(one)));
+    return answer.top < now.top || answer.bottom > now.bottom;
+  });
+}

@@ -1,0 +1,63 @@
+/* An MCS lock of atomics that note themselves, its records on the stacks of their threads. With
+   SWAP_OF_TWO the swap of the tail is a load and a store. C11; noted.cc is the same in C++. */
+#include <sched.h>
+#include <stdatomic.h>
+#include <stddef.h>
+
+#include "../../record/lockreplay_record.h"
+
+typedef struct record {
+    _Atomic(struct record *) next;
+    _Atomic unsigned locked;
+} record;
+
+static _Atomic(record *) tail;
+
+static record *swap_tail(record *own)
+{
+#ifdef SWAP_OF_TWO
+    record *found = lr_load(&tail, LR_TAIL);
+    lr_store(&tail, own, LR_TAIL);
+    return found;
+#else
+    return lr_exchange_explicit(&tail, own, memory_order_acq_rel, LR_TAIL);
+#endif
+}
+
+static void acquire(record *own)
+{
+    LR_CALL(acquire);
+    lr_own_record(own);
+    lr_store_explicit(&own->next, NULL, memory_order_relaxed, LR_NEXT);
+    record *before = swap_tail(own);
+    if (!before) return;
+    lr_store(&own->locked, 1, LR_LOCKED);
+    lr_store(&before->next, own, LR_NEXT);
+    while (lr_load_explicit(&own->locked, memory_order_acquire, LR_LOCKED)) sched_yield();
+}
+
+static void release(record *own)
+{
+    LR_CALL(release);
+    record *next = lr_load(&own->next, LR_NEXT), *last = own;
+    if (!next && lr_compare_exchange(&tail, &last, NULL, LR_TAIL)) return;
+    while (!next) next = lr_load(&own->next, LR_NEXT);
+    lr_store(&next->locked, 0, LR_LOCKED);
+}
+
+static void reset(void) { tail = NULL; }
+
+static void one_round(unsigned thread, unsigned round)
+{
+    record own = {NULL, 0};
+    (void)thread, (void)round;
+    acquire(&own);
+    LR_SWITCH();
+    release(&own);
+}
+
+int main(int count, char **words)
+{
+    const lr_driver driver = {"mcs", 64, reset, one_round, NULL};
+    return lr_main(&driver, count, words);
+}

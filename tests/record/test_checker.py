@@ -1,0 +1,106 @@
+"""record/locktrace.c, which any C compiler takes, beside the proved library: they answer the same.
+
+Texts are traces of random runs with one value, word or line changed, and lines that are no moves.
+Both files of record/ are what their parts make.
+"""
+import ctypes
+import random
+import sys
+
+import pytest
+
+from random_runs import random_run
+from recorders import WARNINGS, once
+from tree import EXAMPLES, TOP, output, ran
+
+sys.path.append(str(EXAMPLES / "bindings"))
+from locktrace import Answer, Step  # noqa: E402
+
+pytestmark = pytest.mark.slow
+
+TEXTS = 10_000
+ROOM = 8  # fewer than most runs have moves
+WORDS = """0 1 2 3 00 255 256 lock ticket mcs rw-simple rw-fifo threads bits acquire release rlock
+    runlock wlock wunlock downgrade read write swap cas add section next_ticket now_serving tail
+    next locked of found left done failed moved waits entered
+    18446744073709551615 18446744073709551616
+    -1 # x""".split()
+
+
+@pytest.fixture(scope="session")
+def both(shared, library):
+    """The two checks as shared libraries."""
+    def build(name, *words):
+        path = shared / f"{name}.so"
+        once(path, lambda: output("gcc", "-shared", "-fPIC", "-O2", "-o", path, *words))
+        found = ctypes.CDLL(str(path))
+        found.lt_check.restype, found.lt_fault_text.restype = ctypes.c_uint32, ctypes.c_size_t
+        return found
+    return (build("library", "-Wl,--whole-archive", library, "-Wl,--no-whole-archive"),
+            build("source", TOP / "record" / "locktrace.c"))
+
+
+def answer_of(check, text):
+    """All that a check says of a text."""
+    steps, answer = (Step * ROOM)(), Answer()
+    bytes_of = text.encode("latin-1")
+    fault = check.lt_check(bytes_of, ctypes.c_size_t(len(bytes_of)), steps, ctypes.c_size_t(ROOM),
+                           ctypes.byref(answer))
+    made = [tuple(getattr(step, name) for name, _ in Step._fields_)
+            for step in steps[:min(answer.moves, ROOM)]]
+    return (fault, *(getattr(answer, name) for name, _ in Answer._fields_), made)
+
+
+def changed_line(dice, line):
+    """A line with a word that is another one, is missing, or comes twice."""
+    words = line.split(" ")
+    at = dice.randrange(len(words))
+    words[at:at + 1] = dice.choice([[dice.choice(WORDS)], [], [words[at]] * 2,
+                                    [words[at], dice.choice(WORDS)]])
+    return " ".join(words)
+
+
+def changed_text(dice):
+    """The trace of a run, in half of all texts with a line that is changed, left out or put in."""
+    run = random_run(dice)
+    lines = [run.header, *(f"{thread} {line}" for thread, line in run.moves)]
+    at = dice.randrange(len(lines))
+    change = dice.randrange(8)
+    if change < 3:
+        lines[at] = changed_line(dice, lines[at])
+    elif change == 3:
+        del lines[at]
+    elif change == 4:
+        lines.insert(at, dice.choice(["", "# " + "x" * 200, " ", "\r", "0 read\0", lines[at],
+                                      "0 acquire " + "x" * 100, run.header]))
+    return "\n".join(lines) + dice.choice(["", "\n"])
+
+
+def test_random_texts(both, request):
+    seed = int(request.config.getoption("hypothesis_seed"))
+    dice, faults = random.Random(seed), set()
+    for _ in range(TEXTS // 10 if request.config.getoption("quick") else TEXTS):
+        text = changed_text(dice)
+        due, found = (answer_of(check, text) for check in both)
+        assert found == due, (seed, text)
+        faults.add(due[0])
+    assert faults >= {0, 3, 6, 7, 8, 9, 10, 11, 12, 13, 16, 17, 18, 20}
+
+
+def test_text_of_each_fault(both):
+    for fault in [*range(21), 99]:
+        texts = [ctypes.create_string_buffer(200) for _ in both]
+        sizes = [check.lt_fault_text(fault, text, ctypes.c_size_t(200))
+                 for check, text in zip(both, texts)]
+        assert sizes[0] == sizes[1] and texts[0].raw == texts[1].raw
+
+
+@pytest.mark.parametrize("compiler", ["gcc", "clang"])
+@pytest.mark.parametrize("standard", ["c11", "c17"])
+def test_compiles(compiler, standard):
+    assert output(compiler, f"-std={standard}", *WARNINGS, "-O1", "-c", "-o", "/dev/null",
+                  TOP / "record" / "locktrace.c") == ""
+
+
+def test_one_file():
+    assert ran(TOP / "record" / "src" / "join.py", "--check").stderr == ""
