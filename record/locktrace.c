@@ -40,7 +40,9 @@ extern "C" {
 #endif
 
 /* generated: version */
+/* clang-format off */
 #define LT_VERSION "1.0.0"
+/* clang-format on */
 /* end */
 
 #define LT_NO_WORD UINT32_MAX
@@ -48,16 +50,20 @@ extern "C" {
 /* The actions of a step: calls, and steps from 16 on. */
 enum {
     /* generated: numbers of moves */
+    /* clang-format off */
     LT_ACQUIRE = 0, LT_RELEASE = 1, LT_RLOCK = 2, LT_RUNLOCK = 3, LT_WLOCK = 4, LT_WUNLOCK = 5,
     LT_DOWNGRADE = 6, LT_READ = 16, LT_WRITE = 17, LT_SWAP = 18, LT_CAS = 19, LT_ADD = 20,
     LT_SECTION = 21,
+    /* clang-format on */
     /* end */
 };
 
 /* What came of a step. */
 enum {
     /* generated: numbers of outcomes */
+    /* clang-format off */
     LT_CALLED = 0, LT_MOVED = 1, LT_WAITS = 2, LT_ENTERED = 3, LT_LEFT = 4,
+    /* clang-format on */
     /* end */
 };
 
@@ -66,10 +72,12 @@ enum {
 enum {
     LT_ACCEPTED = 0,
     /* generated: numbers of faults */
+    /* clang-format off */
     LT_NO_SUCH_THREAD = 1, LT_WRONG_LOCK = 2, LT_BUSY = 3, LT_NOT_HOLDER = 4, LT_ALREADY_HOLDS = 5,
     LT_NO_CALL = 6, LT_WRONG_STEP = 7, LT_OTHER_WORD = 8, LT_FOUND_OTHER = 9, LT_LEFT_OTHER = 10,
     LT_WROTE_OTHER = 11, LT_COUNT_NOT_ABOVE = 12, LT_OTHER_OUTCOME = 13, LT_NO_HEADER = 16,
     LT_BAD_HEADER = 17, LT_BAD_THREADS = 18, LT_WORDS_TOO_NARROW = 19, LT_BAD_LINE = 20,
+    /* clang-format on */
     /* end */
 };
 
@@ -152,18 +160,18 @@ static inline uint8_t *lt_range(const wasm_rt_memory_t *memory, u64 address, u64
     return memory->data + address;
 }
 
-#define LT_LOAD(name, stored, answer)                                                           \
-    static inline answer name(const wasm_rt_memory_t *memory, u64 address)                      \
-    {                                                                                           \
-        stored found;                                                                           \
-        memcpy(&found, lt_range(memory, address, sizeof found), sizeof found);                  \
-        return found;                                                                           \
+#define LT_LOAD(name, stored, answer)                                                              \
+    static inline answer name(const wasm_rt_memory_t *memory, u64 address)                         \
+    {                                                                                              \
+        stored found;                                                                              \
+        memcpy(&found, lt_range(memory, address, sizeof found), sizeof found);                     \
+        return found;                                                                              \
     }
-#define LT_STORE(name, stored, given)                                                           \
-    static inline void name(const wasm_rt_memory_t *memory, u64 address, given value)           \
-    {                                                                                           \
-        stored left = (stored)value;                                                            \
-        memcpy(lt_range(memory, address, sizeof left), &left, sizeof left);                     \
+#define LT_STORE(name, stored, given)                                                              \
+    static inline void name(const wasm_rt_memory_t *memory, u64 address, given value)              \
+    {                                                                                              \
+        stored left = (stored)value;                                                               \
+        memcpy(lt_range(memory, address, sizeof left), &left, sizeof left);                        \
     }
 
 LT_LOAD(i32_load, u32, u32)
@@ -17277,19 +17285,25 @@ struct lt_words {
 
 static const char *const lt_moves[] = {
     /* generated: moves by number */
+    /* clang-format off */
     "acquire", "release", "rlock", "runlock", "wlock", "wunlock", "downgrade", "", "", "", "", "",
     "", "", "", "", "read", "write", "swap", "cas", "add", "section",
+    /* clang-format on */
     /* end */
 };
 static const char *const lt_places[] = {
     "",
     /* generated: places */
+    /* clang-format off */
     "next_ticket", "now_serving", "tail", "next", "locked",
+    /* clang-format on */
     /* end */
 };
 static const char *const lt_outcomes[] = {
     /* generated: outcomes by number */
+    /* clang-format off */
     "called", "moved", "waits", "entered", "left",
+    /* clang-format on */
     /* end */
 };
 
@@ -17361,8 +17375,10 @@ static int lt_read_values(struct lt_words *words, struct lt_seen *seen)
     if (seen->has_found && !lt_take_number(words, UINT64_MAX, &seen->found)) return 0;
     seen->has_left = lt_takes(words, "left");
     if (seen->has_left && !lt_take_number(words, UINT64_MAX, &seen->left)) return 0;
-    if (seen->action == LT_CAS && lt_takes(words, "done")) seen->wrote = 1;
-    else if (seen->action == LT_CAS && lt_takes(words, "failed")) seen->wrote = 0;
+    if (seen->action == LT_CAS && lt_takes(words, "done"))
+        seen->wrote = 1;
+    else if (seen->action == LT_CAS && lt_takes(words, "failed"))
+        seen->wrote = 0;
     return words->at == words->count;
 }
 
@@ -17522,9 +17538,9 @@ static void lt_compare(const struct lt_played *played, const uint8_t *text, size
 /* Plays a schedule, whole or up to a line that is none. */
 static void lt_play(struct lt_played *played, struct lt_schedule *schedule)
 {
-    played->result = w2c_lockreplay_play_0(&lt_module, played->text, schedule->length, UINT64_MAX,
-                                         played->records, played->most * LT_RECORD, played->state,
-                                         LT_STATE);
+    played->result =
+        w2c_lockreplay_play_0(&lt_module, played->text, schedule->length, UINT64_MAX,
+                              played->records, played->most * LT_RECORD, played->state, LT_STATE);
     const uint8_t *state = lt_at(played->state);
     if (played->result != LT_FAULTY || lt_number_at(state + 4, 4) != LT_BAD_LINE) return;
     schedule->bad = lt_number_at(state + 8, 4);
@@ -17572,6 +17588,7 @@ size_t lt_fault_text(uint32_t fault, uint8_t *text, size_t room)
 {
     static const char *const texts[] = {
         /* generated: texts of faults */
+        /* clang-format off */
         "accepted", "NoSuchThread: no such thread",
         "WrongLock: the lock has no such operation or step", "Busy: the thread has a pending call",
         "NotHolder: the thread does not hold the lock in that mode",
@@ -17587,6 +17604,7 @@ size_t lt_fault_text(uint32_t fault, uint8_t *text, size_t room)
         "NoHeader: there is no header", "BadHeader: not a header",
         "BadThreads: not a number of threads", "WordsTooNarrow: words too narrow for the threads",
         "BadLine: not a move",
+        /* clang-format on */
         /* end */
     };
     const char *said = "no fault has this number";

@@ -24,7 +24,9 @@ extern "C" {
 #endif
 
 /* generated: version */
+/* clang-format off */
 #define LT_VERSION "1.0.0"
+/* clang-format on */
 /* end */
 
 #define LT_NO_WORD UINT32_MAX
@@ -32,16 +34,20 @@ extern "C" {
 /* The actions of a step: calls, and steps from 16 on. */
 enum {
     /* generated: numbers of moves */
+    /* clang-format off */
     LT_ACQUIRE = 0, LT_RELEASE = 1, LT_RLOCK = 2, LT_RUNLOCK = 3, LT_WLOCK = 4, LT_WUNLOCK = 5,
     LT_DOWNGRADE = 6, LT_READ = 16, LT_WRITE = 17, LT_SWAP = 18, LT_CAS = 19, LT_ADD = 20,
     LT_SECTION = 21,
+    /* clang-format on */
     /* end */
 };
 
 /* What came of a step. */
 enum {
     /* generated: numbers of outcomes */
+    /* clang-format off */
     LT_CALLED = 0, LT_MOVED = 1, LT_WAITS = 2, LT_ENTERED = 3, LT_LEFT = 4,
+    /* clang-format on */
     /* end */
 };
 
@@ -50,10 +56,12 @@ enum {
 enum {
     LT_ACCEPTED = 0,
     /* generated: numbers of faults */
+    /* clang-format off */
     LT_NO_SUCH_THREAD = 1, LT_WRONG_LOCK = 2, LT_BUSY = 3, LT_NOT_HOLDER = 4, LT_ALREADY_HOLDS = 5,
     LT_NO_CALL = 6, LT_WRONG_STEP = 7, LT_OTHER_WORD = 8, LT_FOUND_OTHER = 9, LT_LEFT_OTHER = 10,
     LT_WROTE_OTHER = 11, LT_COUNT_NOT_ABOVE = 12, LT_OTHER_OUTCOME = 13, LT_NO_HEADER = 16,
     LT_BAD_HEADER = 17, LT_BAD_THREADS = 18, LT_WORDS_TOO_NARROW = 19, LT_BAD_LINE = 20,
+    /* clang-format on */
     /* end */
 };
 

@@ -15,10 +15,7 @@ static void monitor_open(rw_monitor *own)
     pthread_cond_init(&own->changed, NULL);
 }
 
-static void monitor_enter(rw_monitor *own)
-{
-    LR_LOCK(pthread_mutex_lock(&own->mutex));
-}
+static void monitor_enter(rw_monitor *own) { LR_LOCK(pthread_mutex_lock(&own->mutex)); }
 
 static void monitor_leave(rw_monitor *own)
 {

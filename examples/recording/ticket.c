@@ -14,10 +14,7 @@ typedef struct {
     _Atomic unsigned next_ticket, now_serving;
 } ticket_lock;
 
-static int must_wait(unsigned served, unsigned ticket)
-{
-    return served != ticket;
-}
+static int must_wait(unsigned served, unsigned ticket) { return served != ticket; }
 
 static void ticket_acquire(ticket_lock *lock)
 {

@@ -38,47 +38,47 @@ static inline void lr_point(void)
 
 /* operation(pointer, order), (pointer, value, order) and so on. A value that is stored has the
    word's type, one that is added its own. */
-#define LR_OF_WORD(operation, p, ...)                                                           \
-    __extension__({                                                                             \
-        LR_AUTO lr_p = (p);                                                                     \
-        lr_point();                                                                             \
-        operation(lr_p, __VA_ARGS__);                                                           \
+#define LR_OF_WORD(operation, p, ...)                                                              \
+    __extension__({                                                                                \
+        LR_AUTO lr_p = (p);                                                                        \
+        lr_point();                                                                                \
+        operation(lr_p, __VA_ARGS__);                                                              \
     })
-#define LR_OF_STORE(operation, p, v, ...)                                                       \
-    __extension__({                                                                             \
-        LR_AUTO lr_p = (p);                                                                     \
-        LR_VALUE_OF(lr_p) lr_v = (v);                                                           \
-        lr_point();                                                                             \
-        operation(lr_p, lr_v, __VA_ARGS__);                                                     \
+#define LR_OF_STORE(operation, p, v, ...)                                                          \
+    __extension__({                                                                                \
+        LR_AUTO lr_p = (p);                                                                        \
+        LR_VALUE_OF(lr_p) lr_v = (v);                                                              \
+        lr_point();                                                                                \
+        operation(lr_p, lr_v, __VA_ARGS__);                                                        \
     })
-#define LR_OF_VALUE(operation, p, v, ...)                                                       \
-    __extension__({                                                                             \
-        LR_AUTO lr_p = (p);                                                                     \
-        LR_AUTO lr_v = (v);                                                                     \
-        lr_point();                                                                             \
-        operation(lr_p, lr_v, __VA_ARGS__);                                                     \
+#define LR_OF_VALUE(operation, p, v, ...)                                                          \
+    __extension__({                                                                                \
+        LR_AUTO lr_p = (p);                                                                        \
+        LR_AUTO lr_v = (v);                                                                        \
+        lr_point();                                                                                \
+        operation(lr_p, lr_v, __VA_ARGS__);                                                        \
     })
-#define LR_OF_CAS(operation, p, e, d, ...)                                                      \
-    __extension__({                                                                             \
-        LR_AUTO lr_p = (p);                                                                     \
-        LR_AUTO lr_e = (e);                                                                     \
-        LR_VALUE_OF(lr_p) lr_d = (d);                                                           \
-        lr_point();                                                                             \
-        operation(lr_p, lr_e, lr_d, __VA_ARGS__);                                               \
+#define LR_OF_CAS(operation, p, e, d, ...)                                                         \
+    __extension__({                                                                                \
+        LR_AUTO lr_p = (p);                                                                        \
+        LR_AUTO lr_e = (e);                                                                        \
+        LR_VALUE_OF(lr_p) lr_d = (d);                                                              \
+        lr_point();                                                                                \
+        operation(lr_p, lr_e, lr_d, __VA_ARGS__);                                                  \
     })
-#define LR_OF_SYNC(operation, p, v)                                                             \
-    __extension__({                                                                             \
-        LR_AUTO lr_p = (p);                                                                     \
-        LR_AUTO lr_v = (v);                                                                     \
-        lr_point();                                                                             \
-        operation(lr_p, lr_v);                                                                  \
+#define LR_OF_SYNC(operation, p, v)                                                                \
+    __extension__({                                                                                \
+        LR_AUTO lr_p = (p);                                                                        \
+        LR_AUTO lr_v = (v);                                                                        \
+        lr_point();                                                                                \
+        operation(lr_p, lr_v);                                                                     \
     })
-#define LR_OF_SYNC_CAS(operation, p, e, d)                                                      \
-    __extension__({                                                                             \
-        LR_AUTO lr_p = (p);                                                                     \
-        LR_VALUE_OF(lr_p) lr_e = (e), lr_d = (d);                                               \
-        lr_point();                                                                             \
-        operation(lr_p, lr_e, lr_d);                                                            \
+#define LR_OF_SYNC_CAS(operation, p, e, d)                                                         \
+    __extension__({                                                                                \
+        LR_AUTO lr_p = (p);                                                                        \
+        LR_VALUE_OF(lr_p) lr_e = (e), lr_d = (d);                                                  \
+        lr_point();                                                                                \
+        operation(lr_p, lr_e, lr_d);                                                               \
     })
 
 #define __atomic_load_n(p, o) LR_OF_WORD(__atomic_load_n, p, o)
@@ -87,9 +87,9 @@ static inline void lr_point(void)
 #define __atomic_store(p, v, o) LR_OF_WORD(__atomic_store, p, v, o)
 #define __atomic_exchange_n(p, v, o) LR_OF_STORE(__atomic_exchange_n, p, v, o)
 #define __atomic_exchange(p, v, r, o) LR_OF_WORD(__atomic_exchange, p, v, r, o)
-#define __atomic_compare_exchange_n(p, e, d, w, s, f)                                           \
+#define __atomic_compare_exchange_n(p, e, d, w, s, f)                                              \
     LR_OF_CAS(__atomic_compare_exchange_n, p, e, d, w, s, f)
-#define __atomic_compare_exchange(p, e, d, w, s, f)                                             \
+#define __atomic_compare_exchange(p, e, d, w, s, f)                                                \
     LR_OF_WORD(__atomic_compare_exchange, p, e, d, w, s, f)
 #define __atomic_fetch_add(p, v, o) LR_OF_VALUE(__atomic_fetch_add, p, v, o)
 #define __atomic_fetch_sub(p, v, o) LR_OF_VALUE(__atomic_fetch_sub, p, v, o)
@@ -119,10 +119,8 @@ static inline void lr_point(void)
 #define __sync_xor_and_fetch(p, v) LR_OF_SYNC(__sync_xor_and_fetch, p, v)
 #define __sync_nand_and_fetch(p, v) LR_OF_SYNC(__sync_nand_and_fetch, p, v)
 #define __sync_lock_test_and_set(p, v) LR_OF_SYNC(__sync_lock_test_and_set, p, v)
-#define __sync_bool_compare_and_swap(p, e, d)                                                   \
-    LR_OF_SYNC_CAS(__sync_bool_compare_and_swap, p, e, d)
-#define __sync_val_compare_and_swap(p, e, d)                                                    \
-    LR_OF_SYNC_CAS(__sync_val_compare_and_swap, p, e, d)
+#define __sync_bool_compare_and_swap(p, e, d) LR_OF_SYNC_CAS(__sync_bool_compare_and_swap, p, e, d)
+#define __sync_val_compare_and_swap(p, e, d) LR_OF_SYNC_CAS(__sync_val_compare_and_swap, p, e, d)
 #define __sync_lock_release(p) (lr_point(), __sync_lock_release(p))
 
 /* Clang's `atomic_` operations are made of these, GCC's of those above. */
@@ -130,9 +128,9 @@ static inline void lr_point(void)
 #define __c11_atomic_load(p, o) LR_OF_WORD(__c11_atomic_load, p, o)
 #define __c11_atomic_store(p, v, o) LR_OF_STORE(__c11_atomic_store, p, v, o)
 #define __c11_atomic_exchange(p, v, o) LR_OF_STORE(__c11_atomic_exchange, p, v, o)
-#define __c11_atomic_compare_exchange_strong(p, e, d, s, f)                                     \
+#define __c11_atomic_compare_exchange_strong(p, e, d, s, f)                                        \
     LR_OF_CAS(__c11_atomic_compare_exchange_strong, p, e, d, s, f)
-#define __c11_atomic_compare_exchange_weak(p, e, d, s, f)                                       \
+#define __c11_atomic_compare_exchange_weak(p, e, d, s, f)                                          \
     LR_OF_CAS(__c11_atomic_compare_exchange_weak, p, e, d, s, f)
 #define __c11_atomic_fetch_add(p, v, o) LR_OF_VALUE(__c11_atomic_fetch_add, p, v, o)
 #define __c11_atomic_fetch_sub(p, v, o) LR_OF_VALUE(__c11_atomic_fetch_sub, p, v, o)

@@ -23,19 +23,25 @@ struct lt_words {
 
 static const char *const lt_moves[] = {
     /* generated: moves by number */
+    /* clang-format off */
     "acquire", "release", "rlock", "runlock", "wlock", "wunlock", "downgrade", "", "", "", "", "",
     "", "", "", "", "read", "write", "swap", "cas", "add", "section",
+    /* clang-format on */
     /* end */
 };
 static const char *const lt_places[] = {
     "",
     /* generated: places */
+    /* clang-format off */
     "next_ticket", "now_serving", "tail", "next", "locked",
+    /* clang-format on */
     /* end */
 };
 static const char *const lt_outcomes[] = {
     /* generated: outcomes by number */
+    /* clang-format off */
     "called", "moved", "waits", "entered", "left",
+    /* clang-format on */
     /* end */
 };
 
@@ -107,8 +113,10 @@ static int lt_read_values(struct lt_words *words, struct lt_seen *seen)
     if (seen->has_found && !lt_take_number(words, UINT64_MAX, &seen->found)) return 0;
     seen->has_left = lt_takes(words, "left");
     if (seen->has_left && !lt_take_number(words, UINT64_MAX, &seen->left)) return 0;
-    if (seen->action == LT_CAS && lt_takes(words, "done")) seen->wrote = 1;
-    else if (seen->action == LT_CAS && lt_takes(words, "failed")) seen->wrote = 0;
+    if (seen->action == LT_CAS && lt_takes(words, "done"))
+        seen->wrote = 1;
+    else if (seen->action == LT_CAS && lt_takes(words, "failed"))
+        seen->wrote = 0;
     return words->at == words->count;
 }
 
@@ -268,9 +276,9 @@ static void lt_compare(const struct lt_played *played, const uint8_t *text, size
 /* Plays a schedule, whole or up to a line that is none. */
 static void lt_play(struct lt_played *played, struct lt_schedule *schedule)
 {
-    played->result = w2c_lockreplay_play_0(&lt_module, played->text, schedule->length, UINT64_MAX,
-                                         played->records, played->most * LT_RECORD, played->state,
-                                         LT_STATE);
+    played->result =
+        w2c_lockreplay_play_0(&lt_module, played->text, schedule->length, UINT64_MAX,
+                              played->records, played->most * LT_RECORD, played->state, LT_STATE);
     const uint8_t *state = lt_at(played->state);
     if (played->result != LT_FAULTY || lt_number_at(state + 4, 4) != LT_BAD_LINE) return;
     schedule->bad = lt_number_at(state + 8, 4);
@@ -318,6 +326,7 @@ size_t lt_fault_text(uint32_t fault, uint8_t *text, size_t room)
 {
     static const char *const texts[] = {
         /* generated: texts of faults */
+        /* clang-format off */
         "accepted", "NoSuchThread: no such thread",
         "WrongLock: the lock has no such operation or step", "Busy: the thread has a pending call",
         "NotHolder: the thread does not hold the lock in that mode",
@@ -333,6 +342,7 @@ size_t lt_fault_text(uint32_t fault, uint8_t *text, size_t room)
         "NoHeader: there is no header", "BadHeader: not a header",
         "BadThreads: not a number of threads", "WordsTooNarrow: words too narrow for the threads",
         "BadLine: not a move",
+        /* clang-format on */
         /* end */
     };
     const char *said = "no fault has this number";

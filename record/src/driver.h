@@ -7,7 +7,7 @@
 typedef struct lr_driver {
     const char *lock;
     unsigned bits;
-    void (*reset)(void);                           /* makes the lock new */
+    void (*reset)(void);                            /* makes the lock new */
     void (*round)(unsigned thread, unsigned round); /* takes the lock, and gives it back */
     void (*call)(unsigned thread, int call); /* FOLLOW: one call, LR_CALL_acquire or another one */
 } lr_driver;
@@ -20,11 +20,9 @@ static inline void *lr_work(void *of)
     const lr_run *run = log->run;
     lr_begin(log);
 #if LR_FOLLOWS
-    for (int call; (call = lr_next_call(log)) != LR_NO_CALL;)
-        run->driver->call(log->thread, call);
+    for (int call; (call = lr_next_call(log)) != LR_NO_CALL;) run->driver->call(log->thread, call);
 #else
-    for (unsigned round = 0; round < run->rounds; round++)
-        run->driver->round(log->thread, round);
+    for (unsigned round = 0; round < run->rounds; round++) run->driver->round(log->thread, round);
 #endif
     lr_end(log);
     return NULL;

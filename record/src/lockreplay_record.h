@@ -89,7 +89,9 @@
 #define LOCKREPLAY_RECORD_H
 
 /* generated: version */
+/* clang-format off */
 #define LR_VERSION "1.0.0"
+/* clang-format on */
 /* end */
 
 #include "modes.h"

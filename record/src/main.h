@@ -18,8 +18,10 @@ static inline int lr_main(const lr_driver *driver, int count, char **words)
 {
     lr_explored explored;
     if (count < 5 || count > 6) {
-        fprintf(stderr, "usage: %s THREADS ROUNDS PREEMPTIONS FOLDER [RUNS]\n"
-                        "       %s THREADS ROUNDS again TRACE\n", words[0], words[0]);
+        fprintf(stderr,
+                "usage: %s THREADS ROUNDS PREEMPTIONS FOLDER [RUNS]\n"
+                "       %s THREADS ROUNDS again TRACE\n",
+                words[0], words[0]);
         return 2;
     }
     unsigned threads = (unsigned)atoi(words[1]), rounds = (unsigned)atoi(words[2]);
@@ -60,8 +62,8 @@ static inline int lr_main(const lr_driver *driver, int count, char **words)
 static inline int lr_main_run(const lr_driver *driver, unsigned threads, unsigned rounds,
                               uint64_t seed, const char *folder, unsigned seconds)
 {
-    lr_run *run = lr_open(driver->lock, threads, driver->bits, (size_t)rounds * LR_ROUND, seed,
-                          folder);
+    lr_run *run =
+        lr_open(driver->lock, threads, driver->bits, (size_t)rounds * LR_ROUND, seed, folder);
     if (!run) return 3;
     unsigned missing = lr_go(run, driver, rounds, seconds);
     int is_refused = missing != 0;
@@ -113,9 +115,8 @@ static inline int lr_main(const lr_driver *driver, int count, char **words)
         fprintf(stderr, "usage: %s THREADS ROUNDS SEED FOLDER [SECONDS]\n", words[0]);
         return 2;
     }
-    int status = lr_main_run(driver, threads, (unsigned)atoi(words[2]),
-                             strtoul(words[3], NULL, 10), words[4],
-                             count > 5 ? (unsigned)atoi(words[5]) : 60);
+    int status = lr_main_run(driver, threads, (unsigned)atoi(words[2]), strtoul(words[3], NULL, 10),
+                             words[4], count > 5 ? (unsigned)atoi(words[5]) : 60);
     fflush(stdout);
     if (status) _Exit(status);
     return 0;

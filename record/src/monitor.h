@@ -8,8 +8,7 @@
 #if LR_TURNS
 #define LR_LOCK(lock) (lr_before_lock(), (void)(lock), lr_set_inside(1))
 #define LR_UNLOCK(unlock) ((void)(unlock), lr_set_inside(0), lr_after_unlock())
-#define LR_WAIT(condition, unlock, wait, lock)                                                  \
-    ((void)(unlock), lr_park(condition), (void)(lock))
+#define LR_WAIT(condition, unlock, wait, lock) ((void)(unlock), lr_park(condition), (void)(lock))
 #define LR_SIGNAL(condition, signal) lr_wake(condition, 0)
 #define LR_BROADCAST(condition, broadcast) lr_wake(condition, 1)
 #define LR_SWITCH() lr_switch()

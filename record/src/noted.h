@@ -27,58 +27,58 @@ enum {
 #define lr_store(p, v, word) lr_store_explicit(p, v, memory_order_seq_cst, word)
 #define lr_exchange(p, v, word) lr_exchange_explicit(p, v, memory_order_seq_cst, word)
 #define lr_fetch_add(p, v, word) lr_fetch_add_explicit(p, v, memory_order_seq_cst, word)
-#define lr_compare_exchange(p, e, d, word)                                                      \
+#define lr_compare_exchange(p, e, d, word)                                                         \
     lr_compare_exchange_explicit(p, e, d, memory_order_seq_cst, memory_order_seq_cst, word)
 
 #if LR_RECORDS
 #define lr_own_record(pointer) lr_set_record(pointer, sizeof *(pointer))
 /* What is noted of a value: GCC and Clang number the class of pointers 5. */
-#define LR_WORTH(v)                                                                             \
-    (__builtin_classify_type(v) == 5 ? lr_pointer_at(lr_self, (uintptr_t)(v))                   \
+#define LR_WORTH(v)                                                                                \
+    (__builtin_classify_type(v) == 5 ? lr_pointer_at(lr_self, (uintptr_t)(v))                      \
                                      : (uint64_t)(uintptr_t)(v))
-#define LR_NOTE_OF(step, word, part, value)                                                     \
+#define LR_NOTE_OF(step, word, part, value)                                                        \
     lr_note_of(LR_STEP_##step, word, lr_o, part, value, __FILE__, __LINE__)
 
-#define lr_load_explicit(p, o, word)                                                            \
-    __extension__({                                                                             \
-        __auto_type lr_q = (p);                                                                 \
-        unsigned lr_o = lr_owner_at(word, (uintptr_t)lr_q);                                     \
-        __auto_type lr_w = atomic_load_explicit(lr_q, o);                                       \
-        LR_NOTE_OF(read, word, LR_PART_found, LR_WORTH(lr_w));                                  \
-        lr_w;                                                                                   \
+#define lr_load_explicit(p, o, word)                                                               \
+    __extension__({                                                                                \
+        __auto_type lr_q = (p);                                                                    \
+        unsigned lr_o = lr_owner_at(word, (uintptr_t)lr_q);                                        \
+        __auto_type lr_w = atomic_load_explicit(lr_q, o);                                          \
+        LR_NOTE_OF(read, word, LR_PART_found, LR_WORTH(lr_w));                                     \
+        lr_w;                                                                                      \
     })
-#define lr_store_explicit(p, v, o, word)                                                        \
-    __extension__({                                                                             \
-        __auto_type lr_q = (p);                                                                 \
-        unsigned lr_o = lr_owner_at(word, (uintptr_t)lr_q);                                     \
-        __typeof__((void)0, *lr_q) lr_w = (v);                                                  \
-        uint64_t lr_n = LR_WORTH(lr_w);                                                         \
-        atomic_store_explicit(lr_q, lr_w, o);                                                   \
-        LR_NOTE_OF(write, word, LR_PART_left, lr_n);                                            \
+#define lr_store_explicit(p, v, o, word)                                                           \
+    __extension__({                                                                                \
+        __auto_type lr_q = (p);                                                                    \
+        unsigned lr_o = lr_owner_at(word, (uintptr_t)lr_q);                                        \
+        __typeof__((void)0, *lr_q) lr_w = (v);                                                     \
+        uint64_t lr_n = LR_WORTH(lr_w);                                                            \
+        atomic_store_explicit(lr_q, lr_w, o);                                                      \
+        LR_NOTE_OF(write, word, LR_PART_left, lr_n);                                               \
     })
-#define lr_exchange_explicit(p, v, o, word)                                                     \
-    __extension__({                                                                             \
-        __auto_type lr_q = (p);                                                                 \
-        unsigned lr_o = lr_owner_at(word, (uintptr_t)lr_q);                                     \
-        __auto_type lr_w = atomic_exchange_explicit(lr_q, v, o);                                \
-        LR_NOTE_OF(swap, word, LR_PART_found, LR_WORTH(lr_w));                                  \
-        lr_w;                                                                                   \
+#define lr_exchange_explicit(p, v, o, word)                                                        \
+    __extension__({                                                                                \
+        __auto_type lr_q = (p);                                                                    \
+        unsigned lr_o = lr_owner_at(word, (uintptr_t)lr_q);                                        \
+        __auto_type lr_w = atomic_exchange_explicit(lr_q, v, o);                                   \
+        LR_NOTE_OF(swap, word, LR_PART_found, LR_WORTH(lr_w));                                     \
+        lr_w;                                                                                      \
     })
-#define lr_fetch_add_explicit(p, v, o, word)                                                    \
-    __extension__({                                                                             \
-        __auto_type lr_q = (p);                                                                 \
-        unsigned lr_o = lr_owner_at(word, (uintptr_t)lr_q);                                     \
-        __auto_type lr_w = atomic_fetch_add_explicit(lr_q, v, o);                               \
-        LR_NOTE_OF(add, word, LR_PART_found, LR_WORTH(lr_w));                                   \
-        lr_w;                                                                                   \
+#define lr_fetch_add_explicit(p, v, o, word)                                                       \
+    __extension__({                                                                                \
+        __auto_type lr_q = (p);                                                                    \
+        unsigned lr_o = lr_owner_at(word, (uintptr_t)lr_q);                                        \
+        __auto_type lr_w = atomic_fetch_add_explicit(lr_q, v, o);                                  \
+        LR_NOTE_OF(add, word, LR_PART_found, LR_WORTH(lr_w));                                      \
+        lr_w;                                                                                      \
     })
-#define lr_compare_exchange_explicit(p, e, d, o, f, word)                                       \
-    __extension__({                                                                             \
-        __auto_type lr_q = (p);                                                                 \
-        unsigned lr_o = lr_owner_at(word, (uintptr_t)lr_q);                                     \
-        int lr_w = atomic_compare_exchange_strong_explicit(lr_q, e, d, o, f);                   \
-        LR_NOTE_OF(cas, word, lr_w ? LR_PART_done : LR_PART_failed, 0);                         \
-        lr_w;                                                                                   \
+#define lr_compare_exchange_explicit(p, e, d, o, f, word)                                          \
+    __extension__({                                                                                \
+        __auto_type lr_q = (p);                                                                    \
+        unsigned lr_o = lr_owner_at(word, (uintptr_t)lr_q);                                        \
+        int lr_w = atomic_compare_exchange_strong_explicit(lr_q, e, d, o, f);                      \
+        LR_NOTE_OF(cas, word, lr_w ? LR_PART_done : LR_PART_failed, 0);                            \
+        lr_w;                                                                                      \
     })
 #else
 #define lr_own_record(pointer) ((void)0)
@@ -86,7 +86,7 @@ enum {
 #define lr_store_explicit(p, v, o, word) atomic_store_explicit(p, v, o)
 #define lr_exchange_explicit(p, v, o, word) atomic_exchange_explicit(p, v, o)
 #define lr_fetch_add_explicit(p, v, o, word) atomic_fetch_add_explicit(p, v, o)
-#define lr_compare_exchange_explicit(p, e, d, o, f, word)                                       \
+#define lr_compare_exchange_explicit(p, e, d, o, f, word)                                          \
     atomic_compare_exchange_strong_explicit(p, e, d, o, f)
 #endif
 #else

@@ -21,7 +21,7 @@ template <class T> inline uint64_t worth(T *pointer)
 template <class T> inline uint64_t worth(T value) { return static_cast<uint64_t>(value); }
 #define LR_FROM const char *file = __builtin_FILE(), unsigned line = __builtin_LINE()
 #define LR_OF_THIS unsigned owner = lr_owner_at(WORD, reinterpret_cast<uintptr_t>(this))
-#define LR_NOTE_THIS(step, part, value)                                                         \
+#define LR_NOTE_THIS(step, part, value)                                                            \
     lr_note_of(LR_STEP_##step, WORD, owner, part, value, file, line)
 #else
 #define LR_FROM int file = 0, int line = 0

@@ -3,20 +3,20 @@
 #define LR_CALL(call) LR_NOTE(LR_CALL_##call, LR_PLACE_none, LR_OWN, LR_PART_none, 0)
 #define LR_READ(word, found) LR_NOTE(LR_STEP_read, LR_PLACE_##word, LR_OWN, LR_PART_found, found)
 #define LR_WRITE(word, left) LR_NOTE(LR_STEP_write, LR_PLACE_##word, LR_OWN, LR_PART_left, left)
-#define LR_SWAP(word, found)                                                                    \
+#define LR_SWAP(word, found)                                                                       \
     LR_NOTE(LR_STEP_swap, LR_WORD_TO_SWAP_##word, LR_OWN, LR_PART_found, found)
-#define LR_ADD(word, found)                                                                     \
+#define LR_ADD(word, found)                                                                        \
     LR_NOTE(LR_STEP_add, LR_WORD_TO_ADD_TO_##word, LR_OWN, LR_PART_found, found)
-#define LR_CAS(word, wrote)                                                                     \
-    LR_NOTE(LR_STEP_cas, LR_WORD_TO_COMPARE_AND_SWAP_##word, LR_OWN,                            \
+#define LR_CAS(word, wrote)                                                                        \
+    LR_NOTE(LR_STEP_cas, LR_WORD_TO_COMPARE_AND_SWAP_##word, LR_OWN,                               \
             (wrote) ? LR_PART_done : LR_PART_failed, 0)
-#define LR_READ_OF(word, j, found)                                                              \
+#define LR_READ_OF(word, j, found)                                                                 \
     LR_NOTE(LR_STEP_read, LR_WORD_OF_A_RECORD_##word, lr_owner(j), LR_PART_found, found)
-#define LR_WRITE_OF(word, j, left)                                                              \
+#define LR_WRITE_OF(word, j, left)                                                                 \
     LR_NOTE(LR_STEP_write, LR_WORD_OF_A_RECORD_##word, lr_owner(j), LR_PART_left, left)
-#define LR_SECTION(count, outcome)                                                              \
+#define LR_SECTION(count, outcome)                                                                 \
     LR_NOTE(LR_STEP_section, LR_PLACE_none, LR_OWN, LR_OUTCOME_##outcome, count)
-#define LR_NOTE(word, place, owner, part, value)                                                \
+#define LR_NOTE(word, place, owner, part, value)                                                   \
     LR_DO(lr_note(lr_self, word, place, owner, part, (uint64_t)(value), __FILE__, __LINE__))
 #define LR_RECORD(first, pointer) ((pointer) ? (uint64_t)((pointer) - (first)) + 1 : (uint64_t)0)
 #define LR_JOIN() LR_DO((void)(lr_self->turn.joined = 1))

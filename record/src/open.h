@@ -4,7 +4,9 @@ static inline int lr_is_lock(const char *lock)
 {
     static const char *const locks[] = {
         /* generated: locks */
+        /* clang-format off */
         "ticket", "mcs", "rw-simple", "rw-fifo",
+        /* clang-format on */
         /* end */
     };
     for (size_t i = 0; lock && i < sizeof locks / sizeof locks[0]; i++)
@@ -16,7 +18,9 @@ static inline int lr_is_lock(const char *lock)
 static inline int lr_is_wrong(const char *lock, unsigned threads, unsigned bits, size_t moves)
 {
     /* generated: locks */
+    /* clang-format off */
     static const char locks[] = "ticket, mcs, rw-simple or rw-fifo";
+    /* clang-format on */
     /* end */
     if (!lr_is_lock(lock))
         lr_say("there is no lock '%s': %s", lock ? lock : "", locks);

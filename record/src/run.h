@@ -25,7 +25,7 @@ typedef struct lr_kind {
 } lr_kind;
 
 typedef struct lr_move {
-    uint64_t value; /* what was found or left; the count of a section */
+    uint64_t value;   /* what was found or left; the count of a section */
     const char *file; /* where it was noted, and in which line */
     lr_kind kind;
     uint16_t line;
@@ -99,19 +99,19 @@ typedef struct lr_run {
 
     /* One thread at a time: only the thread whose turn it is touches these. */
     unsigned holder;
-    uint64_t inside; /* the threads between lr_begin and lr_end, a bit for each */
-    uint64_t parked; /* those that wait for a condition */
-    uint64_t stuck;  /* those that polled in vain, and nobody moved since */
+    uint64_t inside;       /* the threads between lr_begin and lr_end, a bit for each */
+    uint64_t parked;       /* those that wait for a condition */
+    uint64_t stuck;        /* those that polled in vain, and nobody moved since */
     size_t turns, in_vain; /* in_vain: how many of the last turns made no step but polls */
     int hangs;
     unsigned char *order; /* whose each move is, up to the first that was dropped */
     size_t ordered;
-    int is_cut; /* a move was dropped */
+    int is_cut;        /* a move was dropped */
     unsigned spurious; /* one turn in so many wakes a thread for nothing */
     size_t *changes;   /* with LR_PCT: at which turns the thread that runs becomes the last */
     lr_line *lines;    /* of the schedule that is followed */
     size_t lines_count, at;
-    int is_at_end; /* every line was made: each thread may come to its end */
+    int is_at_end;            /* every line was made: each thread may come to its end */
     const unsigned char *way; /* what to choose first */
     size_t way_length;
     lr_choice *choices;
@@ -174,8 +174,10 @@ static inline const char *lr_word(unsigned word)
 {
     static const char *const words[] = {
         /* generated: calls, steps */
+        /* clang-format off */
         "acquire", "release", "rlock", "runlock", "wlock", "wunlock", "downgrade", "read", "write",
         "swap", "cas", "add", "section",
+        /* clang-format on */
         /* end */
     };
     return words[word];

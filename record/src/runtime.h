@@ -28,18 +28,18 @@ static inline uint8_t *lt_range(const wasm_rt_memory_t *memory, u64 address, u64
     return memory->data + address;
 }
 
-#define LT_LOAD(name, stored, answer)                                                           \
-    static inline answer name(const wasm_rt_memory_t *memory, u64 address)                      \
-    {                                                                                           \
-        stored found;                                                                           \
-        memcpy(&found, lt_range(memory, address, sizeof found), sizeof found);                  \
-        return found;                                                                           \
+#define LT_LOAD(name, stored, answer)                                                              \
+    static inline answer name(const wasm_rt_memory_t *memory, u64 address)                         \
+    {                                                                                              \
+        stored found;                                                                              \
+        memcpy(&found, lt_range(memory, address, sizeof found), sizeof found);                     \
+        return found;                                                                              \
     }
-#define LT_STORE(name, stored, given)                                                           \
-    static inline void name(const wasm_rt_memory_t *memory, u64 address, given value)           \
-    {                                                                                           \
-        stored left = (stored)value;                                                            \
-        memcpy(lt_range(memory, address, sizeof left), &left, sizeof left);                     \
+#define LT_STORE(name, stored, given)                                                              \
+    static inline void name(const wasm_rt_memory_t *memory, u64 address, given value)              \
+    {                                                                                              \
+        stored left = (stored)value;                                                               \
+        memcpy(lt_range(memory, address, sizeof left), &left, sizeof left);                        \
     }
 
 LT_LOAD(i32_load, u32, u32)

@@ -57,8 +57,8 @@ static inline void lr_print_head(lr_text *text, const lr_run *run)
 static inline const char *lr_end_of(const lr_run *run, const lr_log *log)
 {
     if (lr_count_of(log->ended)) return "has ended";
-    int was_stopped = run->is_cut || run->is_crashed || (LR_TURNS && !run->hangs) ||
-                      lr_count_of(log->dropped);
+    int was_stopped =
+        run->is_cut || run->is_crashed || (LR_TURNS && !run->hangs) || lr_count_of(log->dropped);
     return was_stopped ? "was stopped" : "has not ended";
 }
 

@@ -68,8 +68,8 @@ static inline int lr_read_schedule(lr_run *run, FILE *file, const char *path)
         if (!lock[0] && !lr_read_header(text, lock, &run->threads, &bits)) break;
         if (run->threads < 1 || run->threads > LR_THREADS) break;
         if (strcmp(lock, run->lock) || bits != run->bits) {
-            lr_say("%s: it is of the lock %s with %u bits, and not of %s with %u", path, lock,
-                   bits, run->lock, run->bits);
+            lr_say("%s: it is of the lock %s with %u bits, and not of %s with %u", path, lock, bits,
+                   run->lock, run->bits);
             return EINVAL;
         }
         if (!strncmp(text, "lock ", 5)) continue;
@@ -132,8 +132,10 @@ static inline int lr_names_in(const char *folder, char ***names)
         size_t length = strlen(entry->d_name) + 1;
         char **more = (char **)realloc(*names, ((size_t)count + 1) * sizeof(char *));
         if (more) *names = more;
-        if (!more || !(more[count] = (char *)malloc(length))) count = -2;
-        else memcpy(more[count], entry->d_name, length);
+        if (!more || !(more[count] = (char *)malloc(length)))
+            count = -2;
+        else
+            memcpy(more[count], entry->d_name, length);
         count++;
     }
     closedir(open);

@@ -8,21 +8,24 @@ static inline const char *lr_text_of(char *line, const lr_move *move)
     static const char *const places[] = {
         "",
         /* generated: places */
+        /* clang-format off */
         " next_ticket", " now_serving", " tail", " next", " locked",
+        /* clang-format on */
         /* end */
     };
     static const char *const parts[] = {
         "",
         /* generated: parts, outcomes */
+        /* clang-format off */
         " found", " left", " done", " failed", " moved", " waits", " entered", " left",
+        /* clang-format on */
         /* end */
     };
     const lr_kind *kind = &move->kind;
     int has_value = kind->part == LR_PART_found || kind->part == LR_PART_left;
     char owner[16] = "", count[24] = "", value[24] = "";
     if (kind->owner != LR_OWN) snprintf(owner, sizeof owner, " of %u", (unsigned)kind->owner);
-    if (kind->word == LR_STEP_section)
-        snprintf(count, sizeof count, " %" PRIu64, move->value);
+    if (kind->word == LR_STEP_section) snprintf(count, sizeof count, " %" PRIu64, move->value);
     if (has_value) snprintf(value, sizeof value, " %" PRIu64, move->value);
     snprintf(line, LR_LINE, "%s%s%s%s%s%s", lr_word(kind->word), places[kind->place], owner, count,
              parts[kind->part], value);

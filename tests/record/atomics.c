@@ -26,7 +26,12 @@ static void end(const char *name, size_t due)
 
 #define HAS_POINTS(due, ...) (begin(), (void)(__VA_ARGS__), end(#__VA_ARGS__, due))
 #define HAS_ONE(...) HAS_POINTS(1, __VA_ARGS__)
-#define STATEMENT(...) do { begin(); __VA_ARGS__; end(#__VA_ARGS__, 1); } while (0)
+#define STATEMENT(...)                                                                             \
+    do {                                                                                           \
+        begin();                                                                                   \
+        __VA_ARGS__;                                                                               \
+        end(#__VA_ARGS__, 1);                                                                      \
+    } while (0)
 
 static _Atomic unsigned word;
 static _Atomic(int *) pointer;
@@ -76,8 +81,8 @@ static void operations_of_compilers(void)
     HAS_ONE(__atomic_load_n(&quick, __ATOMIC_SEQ_CST));
     HAS_ONE(__atomic_exchange_n(&plain, 3, __ATOMIC_SEQ_CST));
     HAS_ONE(__atomic_compare_exchange_n(&plain, &other, 7, 0, __ATOMIC_SEQ_CST, __ATOMIC_SEQ_CST));
-    HAS_ONE(__atomic_compare_exchange(&plain, &other, &third, 0, __ATOMIC_SEQ_CST,
-                                      __ATOMIC_SEQ_CST));
+    HAS_ONE(
+        __atomic_compare_exchange(&plain, &other, &third, 0, __ATOMIC_SEQ_CST, __ATOMIC_SEQ_CST));
     HAS_ONE(__atomic_fetch_add(&plain, 1, __ATOMIC_SEQ_CST));
     HAS_ONE(__atomic_fetch_sub(&plain, 1, __ATOMIC_SEQ_CST));
     HAS_ONE(__atomic_fetch_and(&plain, 1, __ATOMIC_SEQ_CST));

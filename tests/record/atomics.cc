@@ -20,7 +20,9 @@ template <class Work, class T> static void has_one(const char *name, Work work, 
     printf("%s: %zu points, %s\n", name, run->turns - before, is_well ? "well" : "not well");
 }
 
-#define HAS_ONE(due, ...) has_one(#__VA_ARGS__, [&] { return __VA_ARGS__; }, due)
+#define HAS_ONE(due, ...)                                                                          \
+    has_one(                                                                                       \
+        #__VA_ARGS__, [&] { return __VA_ARGS__; }, due)
 
 static void numbers()
 {

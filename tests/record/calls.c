@@ -70,6 +70,6 @@ int main(void)
     (void)twice, (void)start, (void)keeps_its_turn, (void)waits_for_ever, (void)polls_for_ever;
     (void)wakes_one;
     run = lr_open("mcs", 2, 64, 100, 1, NULL);
-    BODY
+    BODY;
     return 0;
 }

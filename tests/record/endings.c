@@ -27,9 +27,7 @@ static void reset(void) { next_ticket = now_serving = 0; }
 static void one_round(unsigned thread, unsigned round)
 {
     acquire();
-    if (thread == 1 && round == 3) {
-        BODY;
-    }
+    if (thread == 1 && round == 3) { BODY; }
     LR_SWITCH();
     release();
 }

@@ -35,8 +35,8 @@ static int try_runs(const lr_driver *driver, int count, char **words)
     unsigned refused = 0, rounds = (unsigned)atoi(words[2]), seeds = (unsigned)atoi(words[3]);
     (void)count;
     for (unsigned seed = 1; seed <= seeds; seed++) {
-        lr_run *run = lr_open(LOCK, (unsigned)atoi(words[1]), BITS, (size_t)rounds * LR_ROUND,
-                              seed, NULL);
+        lr_run *run =
+            lr_open(LOCK, (unsigned)atoi(words[1]), BITS, (size_t)rounds * LR_ROUND, seed, NULL);
         if (!run) _Exit(3);
         unsigned missing = lr_go(run, driver, rounds, 10);
         refused += lr_check(run) || run->said[0];
@@ -73,9 +73,10 @@ static int all_end(lr_run *run)
 static int try_runs(const lr_driver *driver, int count, char **words)
 {
     unsigned rounds = (unsigned)atoi(words[2]);
-    lr_run *run = count == 5 ? lr_open(LOCK, (unsigned)atoi(words[1]), BITS,
-                                       (size_t)rounds * LR_ROUND, strtoul(words[3], NULL, 10),
-                                       words[4]) : NULL;
+    lr_run *run = count == 5
+                      ? lr_open(LOCK, (unsigned)atoi(words[1]), BITS, (size_t)rounds * LR_ROUND,
+                                strtoul(words[3], NULL, 10), words[4])
+                      : NULL;
     if (!run) return 3;
     run->driver = driver;
     run->rounds = rounds;

@@ -144,13 +144,21 @@ def due_in(lists, form, margin):
                 break_long_words=False).replace("\0", " ") + "\n"
 
 
+def filled(path, region, lists, form):
+    """A region with its text, which clang-format leaves as it is."""
+    text, margin = due_in(lists, form, region[2]), region[2]
+    if path.endswith((".c", ".h")):
+        text = f"{margin}/* clang-format off */\n{text}{margin}/* clang-format on */\n"
+    return region["head"] + text + region["end"]
+
+
 def faults_in(path, is_check):
     """What is wrong with a file. Its regions are compared if this is a check, and else filled."""
     text, forms = (TOP / path).read_text(encoding="utf-8"), iter(REGIONS[path])
     marked, due = [it["lists"] for it in REGION.finditer(text)], [it[0] for it in REGIONS[path]]
     if marked != due:
         return [f"{path}: it has the regions {marked}, due {due}"]
-    due = REGION.sub(lambda it: it["head"] + due_in(*next(forms), it[2]) + it["end"], text)
+    due = REGION.sub(lambda it: filled(path, it, *next(forms)), text)
     if not is_check:
         (TOP / path).write_text(due, encoding="utf-8")
     lines = enumerate(zip([*text.splitlines(), ""], [*due.splitlines(), ""]), 1)
