@@ -11,7 +11,7 @@ static inline lr_progress lr_progress_of(const lr_run *run)
 {
     lr_progress progress = {0, lr_count_of(run->turns)};
     for (unsigned t = 0; t < run->threads; t++)
-        progress.moves += lr_count_of(run->logs[t].count) + lr_count_of(run->logs[t].ended);
+        progress.moves += lr_length_of(&run->logs[t]) + (size_t)lr_count_of(run->logs[t].ended);
     return progress;
 }
 

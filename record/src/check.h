@@ -9,10 +9,10 @@
 static inline int lr_is_on_word(const lr_move *move, unsigned thread, const lr_move *other,
                                 unsigned by)
 {
-    if (move->kind.place != other->kind.place || !move->kind.place) return 0;
-    if (move->kind.place != LR_PLACE_next && move->kind.place != LR_PLACE_locked) return 1;
-    return (move->kind.owner == LR_OWN ? thread : move->kind.owner) ==
-           (other->kind.owner == LR_OWN ? by : other->kind.owner);
+    unsigned place = lr_move_place(move), own = lr_move_owner(move), others = lr_move_owner(other);
+    if (place != lr_move_place(other) || !place) return 0;
+    if (place != LR_PLACE_next && place != LR_PLACE_locked) return 1;
+    return (own == LR_OWN ? thread : own) == (others == LR_OWN ? by : others);
 }
 
 /* What the lock had in the word of the move at a place in the order, after the moves before it. */
@@ -47,7 +47,8 @@ static inline void lr_tell_fault(lr_run *run, const struct lt_answer *answer,
     lr_tell(run->said, "refused at line %" PRIu64 " of the trace", answer->line);
     if (at < run->ordered) {
         const lr_move *move = lr_move_at(run, at);
-        lr_tell(run->said, ", %s: '%u %s'", lr_where(where, move), (unsigned)run->order[at],
+        unsigned by = run->order[at];
+        lr_tell(run->said, ", %s: '%u %s'", lr_where(where, &run->logs[by], move), by,
                 lr_text_of(line, move));
     }
     lr_tell(run->said, ": %.*s", (int)(size < sizeof why ? size : sizeof why), (const char *)why);

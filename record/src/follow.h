@@ -55,14 +55,14 @@ static inline void lr_made(lr_log *log, unsigned word)
     char at[LR_LINE];
     if (run->at == run->lines_count) {
         lr_tell(run->said, "thread %u made '%s' after the last line, at %s", log->thread,
-                lr_word(word), lr_where(at, &log->noted));
+                lr_word(word), lr_where(at, log, &log->noted));
     } else if (line->thread == log->thread && line->word == word) {
         run->at++;
         return;
     } else {
         lr_tell(run->said, "line %u is '%u %s', and thread %u made '%s' at %s", line->number,
                 (unsigned)line->thread, lr_word(line->word), log->thread, lr_word(word),
-                lr_where(at, &log->noted));
+                lr_where(at, log, &log->noted));
     }
     lr_stop(log);
 }

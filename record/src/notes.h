@@ -34,14 +34,14 @@ static inline unsigned lr_owner(int64_t thread)
    much as all the rest. */
 #define LR_AT_ONCE static inline __attribute__((always_inline))
 
-LR_AT_ONCE int lr_waits(lr_move move) { return move.kind.part == LR_OUTCOME_waits; }
+LR_AT_ONCE int lr_waits(lr_move move) { return lr_move_part(&move) == LR_OUTCOME_waits; }
 
-/* Whether a move is a poll that found what another move did. A section that waits has no value. */
+/* Whether a move is a poll that found what another move did, wherever they were noted. A section
+   that waits has no value. */
 LR_AT_ONCE int lr_is_same(lr_move move, const lr_move *other)
 {
-    if (move.kind.word != LR_STEP_read && !lr_waits(move)) return 0;
-    return move.kind.word == other->kind.word && move.kind.place == other->kind.place &&
-           move.kind.part == other->kind.part && move.kind.owner == other->kind.owner &&
+    if (lr_move_word(&move) != LR_STEP_read && !lr_waits(move)) return 0;
+    return !((move.kind ^ other->kind) << (64 - LR_AT_FILE)) &&
            (lr_waits(move) || move.value == other->value);
 }
 
@@ -57,19 +57,40 @@ LR_AT_ONCE int lr_is_left_out(const lr_log *log, const lr_move *end, lr_move mov
     return lr_is_same(move, &end[-1]) && lr_is_same(move, &end[-2]);
 }
 
-/* Counts a move for which there is no room. A thread that is in no run has none for its first. */
+/* Says that a thread notes which is in no run, and ends the program. */
+__attribute__((cold)) static inline void lr_end_outside(const char *file, unsigned line)
+{
+    char at[LR_LINE];
+    lr_say("a step is noted before lr_begin, or after lr_end, at %s", lr_at(at, file, line));
+    _Exit(2);
+}
+
+/* Looks up another file than that of the thread's last note. A thread that is in no run has none.
+   Files from LR_FILES on share the last number. */
+__attribute__((cold)) static inline void lr_turn_to(lr_log *log, const char *file, unsigned line)
+{
+    unsigned number = 1;
+    if (log == &lr_outside) lr_end_outside(file, line);
+    while (number < LR_FILES - 1 && log->files[number] && log->files[number] != file) number++;
+    log->files[number] = log->file = file;
+    log->file_bits = (uint64_t)number << LR_AT_FILE;
+}
+
+/* A move as it is written. Until then its kind is known when it is compiled. */
+LR_AT_ONCE lr_move lr_filed(const lr_log *log, lr_move move)
+{
+    move.kind |= log->file_bits;
+    return move;
+}
+
+/* Counts a move for which there is no room. */
 __attribute__((cold)) static inline void lr_drop(lr_log *log, lr_move move)
 {
-    if (log == &lr_outside) {
-        char at[LR_LINE];
-        lr_say("a step is noted before lr_begin, or after lr_end, at %s", lr_where(at, &move));
-        _Exit(2);
-    }
     size_t dropped = lr_count_of(log->dropped);
-    if (!dropped) memcpy(log->last, &log->moves[log->room] - 2, sizeof log->last);
+    if (!dropped) memcpy(log->last, log->limit - 2, sizeof log->last);
     if (lr_is_left_out(log, &log->last[2], move)) return;
     log->last[0] = log->last[1];
-    log->last[1] = move;
+    log->last[1] = lr_filed(log, move);
     lr_set_count(log->dropped, dropped + 1);
     if (LR_TURNS) log->run->is_cut = 1;
 }
@@ -77,18 +98,14 @@ __attribute__((cold)) static inline void lr_drop(lr_log *log, lr_move move)
 /* Writes a move, unless it is left out or dropped. */
 LR_AT_ONCE void lr_append(lr_log *log, lr_move move)
 {
-    size_t count = lr_count_of(log->count);
-    if (count == log->room) {
+    lr_move *end = log->end;
+    if (end == log->limit) {
         lr_drop(log, move);
         return;
     }
-    lr_move *end = &log->moves[count];
     if (lr_is_left_out(log, end, move)) return;
-    end->value = move.value;
-    end->file = move.file;
-    end->kind = move.kind;
-    end->line = move.line;
-    lr_set_count(log->count, count + 1);
+    *end = lr_filed(log, move);
+    lr_set_count(log->end, end + 1);
     lr_run *run = log->run;
     if (!LR_TURNS || run->is_cut) return;
     run->order[run->ordered] = (unsigned char)log->thread;
@@ -109,7 +126,7 @@ static inline void lr_stop_if_full(lr_log *log)
 {
     if (!log->run->is_cut) return;
     lr_tell(log->run->said, "the log of thread %u is full: it has room for %zu moves", log->thread,
-            log->room);
+            lr_room_of(log));
     lr_stop(log);
 }
 
@@ -137,14 +154,14 @@ static inline void lr_after_note(lr_log *log, unsigned word, int polls)
 LR_AT_ONCE void lr_note(lr_log *log, unsigned word, unsigned place, unsigned owner, unsigned part,
                         uint64_t value, const char *file, unsigned line)
 {
+    if (log->file != file) lr_turn_to(log, file, line);
     if (place == LR_PLACE_next_ticket || place == LR_PLACE_now_serving) value &= log->mask;
-    lr_kind kind = {(uint8_t)word, (uint8_t)place, (uint8_t)part, 0, (uint16_t)owner};
-    lr_move move = {value, file, kind, (uint16_t)line};
+    lr_move move = {value, (uint64_t)line << LR_AT_LINE | (uint64_t)owner << LR_AT_OWNER |
+                               part << LR_AT_PART | place << LR_AT_PLACE | word};
 #if LR_TURNS
-    if (log == &lr_outside) lr_drop(log, move);
     lr_before_note(log, word);
     int polls = lr_is_same(move, &log->noted);
-    log->noted = move;
+    log->noted = lr_filed(log, move);
 #endif
     lr_append(log, move);
 #if LR_TURNS

@@ -67,10 +67,10 @@ static inline void lr_open_log(lr_run *run, unsigned thread, size_t moves)
     lr_log *log = &run->logs[thread];
     log->run = run;
     log->thread = thread;
-    log->room = moves;
     log->mask = ~UINT64_C(0) >> (64 - run->bits);
     log->noise = run->seed ^ (uint64_t)(thread + 1) << 48;
-    log->moves = &run->moves[thread * (moves + 2) + 2];
+    log->moves = log->end = &run->moves[thread * (moves + 2) + 2];
+    log->limit = log->moves + moves;
     sem_init(&log->turn.comes, 0, 0);
 }
 

@@ -18,18 +18,24 @@
 #include <unistd.h>
 
 enum { LR_THREADS = 64, LR_OWN = 256, LR_NOBODY = 256, LR_APART = 128, LR_SAID = 1024 };
+enum { LR_FILES = 256 };
 
-typedef struct lr_kind {
-    uint8_t word, place, part, none;
-    uint16_t owner; /* the thread whose record it is, or LR_OWN */
-} lr_kind;
-
+/* A note costs what its bytes cost, so a move has two words. From the lowest bit on the second one
+   has a word, its place and its part (8 bits each), the thread whose record it is or LR_OWN (16);
+   and where it was noted: the file's number in the thread's log (8), and the line (16). */
 typedef struct lr_move {
-    uint64_t value;   /* what was found or left; the count of a section */
-    const char *file; /* where it was noted, and in which line */
-    lr_kind kind;
-    uint16_t line;
+    uint64_t value; /* what was found or left; the count of a section */
+    uint64_t kind;
 } lr_move;
+
+enum { LR_AT_PLACE = 8, LR_AT_PART = 16, LR_AT_OWNER = 24, LR_AT_FILE = 40, LR_AT_LINE = 48 };
+
+static inline unsigned lr_move_word(const lr_move *m) { return m->kind & 0xFF; }
+static inline unsigned lr_move_place(const lr_move *m) { return m->kind >> LR_AT_PLACE & 0xFF; }
+static inline unsigned lr_move_part(const lr_move *m) { return m->kind >> LR_AT_PART & 0xFF; }
+static inline unsigned lr_move_owner(const lr_move *m) { return m->kind >> LR_AT_OWNER & 0xFFFF; }
+static inline unsigned lr_move_file(const lr_move *m) { return m->kind >> LR_AT_FILE & 0xFF; }
+static inline unsigned lr_move_line(const lr_move *m) { return (unsigned)(m->kind >> LR_AT_LINE); }
 
 /* What only the modes need in which one thread runs at a time. */
 typedef struct lr_turn {
@@ -53,10 +59,12 @@ typedef struct lr_extent {
 typedef struct lr_log {
     char apart[LR_APART]; /* keeps two threads' logs on cache lines of their own */
     struct lr_run *run;
-    lr_move *moves; /* before the first one are two that no thread makes */
-    size_t room;
-    size_t count, dropped;
-    uint64_t mask;   /* the bits of a counter */
+    lr_move *end, *limit; /* where the next move goes, and where there is no room any more */
+    const char *file;     /* of the last note */
+    uint64_t file_bits;   /* its number, as a move has it */
+    uint64_t mask;        /* the bits of a counter */
+    lr_move *moves;       /* before the first one are two that no thread makes */
+    size_t dropped;
     lr_move last[2]; /* of those that were dropped */
     lr_move noted;   /* with one thread at a time: the last note, also if it was left out */
     unsigned thread;
@@ -65,6 +73,7 @@ typedef struct lr_log {
     uint64_t noise;   /* with LR_NOISE: the state of its draws */
     lr_extent record;
     lr_turn turn;
+    const char *files[LR_FILES]; /* in which the thread noted, from 1 on */
 } lr_log;
 
 /* A line of a schedule that is followed. */
@@ -119,15 +128,21 @@ typedef struct lr_run {
 } lr_run;
 
 /* The log of the thread that runs, one variable for all files of a program. A thread that has none
-   has this one, which has no room: so only a note without room needs to ask. */
+   has this one, which has no file: so only a note in another file needs to ask. In a shared library
+   each look at it would be a call, if the library may have the variable anywhere. */
+#if defined __PIC__ && !defined __PIE__
+#define LR_ONE_FOR_ALL __attribute__((weak, tls_model("initial-exec")))
+#else
+#define LR_ONE_FOR_ALL __attribute__((weak))
+#endif
 #ifdef __cplusplus
 extern "C" {
 __attribute__((weak)) lr_log lr_outside;
-__attribute__((weak)) thread_local lr_log *lr_self = &lr_outside;
+LR_ONE_FOR_ALL thread_local lr_log *lr_self = &lr_outside;
 }
 #else
 __attribute__((weak)) lr_log lr_outside;
-__attribute__((weak)) _Thread_local lr_log *lr_self = &lr_outside;
+LR_ONE_FOR_ALL _Thread_local lr_log *lr_self = &lr_outside;
 #endif
 
 /* The number of the thread that runs. */
@@ -136,6 +151,13 @@ static inline unsigned lr_thread(void) { return lr_self->thread; }
 /* `lr_save` may read what is counted while threads still run. */
 #define lr_count_of(count) __atomic_load_n(&(count), __ATOMIC_ACQUIRE)
 #define lr_set_count(count, value) __atomic_store_n(&(count), value, __ATOMIC_RELEASE)
+
+/* How many moves a log has, and how many it has room for. */
+static inline size_t lr_length_of(const lr_log *log)
+{
+    return (size_t)(lr_count_of(log->end) - log->moves);
+}
+static inline size_t lr_room_of(const lr_log *log) { return (size_t)(log->limit - log->moves); }
 
 static inline uint64_t lr_bit(unsigned thread) { return UINT64_C(1) << thread; }
 

@@ -66,7 +66,7 @@ static inline const char *lr_end_of(const lr_run *run, const lr_log *log)
 static inline void lr_print_log(lr_text *text, const lr_log *log)
 {
     int ended = lr_count_of(log->ended);
-    size_t count = lr_count_of(log->count);
+    size_t count = lr_length_of(log);
     lr_put(text, " thread %u\n", log->thread);
     for (size_t i = 0; i < count; i++) lr_print_move(text, &log->moves[i]);
     if (ended)
@@ -199,7 +199,7 @@ static inline int lr_full_fault(const lr_run *run)
         fault = ENOBUFS;
         if (!run->said[0])
             lr_say("the log of thread %u was full: it has room for %zu moves, and dropped %zu", t,
-                   run->logs[t].room, dropped);
+                   lr_room_of(&run->logs[t]), dropped);
     }
     return fault;
 }

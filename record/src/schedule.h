@@ -155,7 +155,7 @@ static inline int lr_call_one(const lr_driver *driver, const char *path, const c
     is_wrong = lr_check(run) || is_wrong;
 #endif
     called->schedules++;
-    called->refused += is_wrong;
+    called->refused += (unsigned)is_wrong;
     called->moves += run->ordered;
     if (is_wrong) lr_say("%s: %s", path, run->said);
     if (is_wrong || !LR_CHECKS) fault = lr_save_trace(run, trace);

@@ -21,30 +21,36 @@ static inline const char *lr_text_of(char *line, const lr_move *move)
         /* clang-format on */
         /* end */
     };
-    const lr_kind *kind = &move->kind;
-    int has_value = kind->part == LR_PART_found || kind->part == LR_PART_left;
+    unsigned word = lr_move_word(move), part = lr_move_part(move), of = lr_move_owner(move);
+    int has_value = part == LR_PART_found || part == LR_PART_left;
     char owner[16] = "", count[24] = "", value[24] = "";
-    if (kind->owner != LR_OWN) snprintf(owner, sizeof owner, " of %u", (unsigned)kind->owner);
-    if (kind->word == LR_STEP_section) snprintf(count, sizeof count, " %" PRIu64, move->value);
+    if (of != LR_OWN) snprintf(owner, sizeof owner, " of %u", of);
+    if (word == LR_STEP_section) snprintf(count, sizeof count, " %" PRIu64, move->value);
     if (has_value) snprintf(value, sizeof value, " %" PRIu64, move->value);
-    snprintf(line, LR_LINE, "%s%s%s%s%s%s", lr_word(kind->word), places[kind->place], owner, count,
-             parts[kind->part], value);
+    snprintf(line, LR_LINE, "%s%s%s%s%s%s", lr_word(word), places[lr_move_place(move)], owner,
+             count, parts[part], value);
     return line;
 }
 
-/* Writes where a move was noted, without folders, into at most LR_LINE bytes. */
-static inline const char *lr_where(char *text, const lr_move *move)
+/* Writes a place in a source, without folders, into at most LR_LINE bytes. */
+static inline const char *lr_at(char *text, const char *file, unsigned line)
 {
-    const char *slash = strrchr(move->file, '/');
-    snprintf(text, LR_LINE, "%.99s:%u", slash ? slash + 1 : move->file, (unsigned)move->line);
+    const char *slash = strrchr(file, '/');
+    snprintf(text, LR_LINE, "%.99s:%u", slash ? slash + 1 : file, line);
     return text;
+}
+
+/* Writes where a move of a log was noted. */
+static inline const char *lr_where(char *text, const lr_log *log, const lr_move *move)
+{
+    return lr_at(text, log->files[lr_move_file(move)], lr_move_line(move));
 }
 
 /* The last note of a thread, also one that was left out or dropped; NULL if it made none. */
 static inline const lr_move *lr_last_of(const lr_log *log)
 {
-    size_t count = lr_count_of(log->count);
-    if (LR_TURNS) return log->noted.file ? &log->noted : NULL;
+    size_t count = lr_length_of(log);
+    if (LR_TURNS) return log->noted.kind ? &log->noted : NULL;
     if (lr_count_of(log->dropped)) return &log->last[1];
     return count ? &log->moves[count - 1] : NULL;
 }
@@ -54,5 +60,5 @@ static inline void lr_tell_last(char *text, const lr_log *log)
 {
     char line[LR_LINE], at[LR_LINE];
     const lr_move *last = lr_last_of(log);
-    if (last) lr_tell(text, " ('%s' at %s)", lr_text_of(line, last), lr_where(at, last));
+    if (last) lr_tell(text, " ('%s' at %s)", lr_text_of(line, last), lr_where(at, log, last));
 }

@@ -52,7 +52,7 @@ static int try_runs(const lr_driver *driver, int count, char **words)
 static size_t noted(lr_run *run)
 {
     size_t count = 0;
-    for (unsigned t = 0; t < run->threads; t++) count += lr_count_of(run->logs[t].count);
+    for (unsigned t = 0; t < run->threads; t++) count += lr_length_of(&run->logs[t]);
     return count;
 }
 
