@@ -159,7 +159,7 @@ test-library: $(LIBRARY) test-needs
 test-traces: $(TRACER) $(PROGRAM) $(LIBRARY) test-needs
 	$(PYTEST) $(SPREAD) -m 'not planted' tests/locktrace tests/record
 
-## test-planted | planted mistakes of recorded locks are noticed as the tables say
+## test-planted | planted mistakes of recorded locks are noticed as the tables say, right locks not
 test-planted: $(TRACER) $(PROGRAM) $(LIBRARY) test-needs
 	$(PYTEST) $(SPREAD) -m planted tests/record
 

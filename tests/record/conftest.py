@@ -1,7 +1,8 @@
 """The recorders, and the judge of what they record."""
 import pytest
 
-from recorders import RECORDERS, Judge, folder_of
+from recorders import RECORDERS, Judge, folder_of, once
+from tree import ran
 
 
 @pytest.fixture(scope="session")
@@ -18,6 +19,17 @@ def recorder(request, shared, library, locktrace):
 @pytest.fixture(scope="session")
 def judge(locktrace, lockreplay):
     return Judge(locktrace, lockreplay)
+
+
+@pytest.fixture
+def tour(shared, locktrace):
+    """The folder with a tour of three threads with a round each."""
+    def made(lock):
+        folder = shared / f"tour-{lock}"
+        once(folder.with_suffix(".made"), lambda: ran(
+            locktrace, "tour", lock.replace("_", "-"), "3", "-o", folder))
+        return folder
+    return made
 
 
 def pytest_sessionfinish(session):

@@ -1,7 +1,7 @@
 """record/locktrace.c, which any C compiler takes, beside the proved library: they answer the same.
 
-Texts are traces of random runs with one value, word or line changed, and lines that are no moves.
-Both files of record/ are what their parts make.
+Texts are those of all rows that somebody worked out, and traces of random runs with one value, word
+or line changed, and lines that are no moves. Both files of record/ are what their parts make.
 """
 import ctypes
 import random
@@ -9,8 +9,10 @@ import sys
 
 import pytest
 
+import worked_rows
 from random_runs import random_run
 from recorders import WARNINGS, once
+from transcripts import text_of, transcripts
 from tree import EXAMPLES, TOP, output, ran
 
 sys.path.append(str(EXAMPLES / "bindings"))
@@ -20,6 +22,7 @@ pytestmark = pytest.mark.slow
 
 TEXTS = 10_000
 ROOM = 8  # fewer than most runs have moves
+TOO_LONG = 21  # what the source alone says, of more than 65,536 moves
 WORDS = """0 1 2 3 00 255 256 lock ticket mcs rw-simple rw-fifo threads bits acquire release rlock
     runlock wlock wunlock downgrade read write swap cas add section next_ticket now_serving tail
     next locked of found left done failed moved waits entered
@@ -40,15 +43,33 @@ def both(shared, library):
             build("source", TOP / "record" / "locktrace.c"))
 
 
-def answer_of(check, text):
+def answer_of(check, text, room=ROOM):
     """All that a check says of a text."""
-    steps, answer = (Step * ROOM)(), Answer()
-    bytes_of = text.encode("latin-1")
-    fault = check.lt_check(bytes_of, ctypes.c_size_t(len(bytes_of)), steps, ctypes.c_size_t(ROOM),
+    steps, answer = (Step * room)(), Answer()
+    fault = check.lt_check(text, ctypes.c_size_t(len(text)), steps, ctypes.c_size_t(room),
                            ctypes.byref(answer))
-    made = [tuple(getattr(step, name) for name, _ in Step._fields_)
-            for step in steps[:min(answer.moves, ROOM)]]
+    made = bytes(steps)[:min(answer.moves, room) * ctypes.sizeof(Step)]
     return (fault, *(getattr(answer, name) for name, _ in Answer._fields_), made)
+
+
+def worked_texts():
+    """The files of the rows of `locktrace`, and the texts of `lockreplay`, by their names."""
+    for name, row in transcripts().items():
+        for file, lines in row.files.items():
+            yield f"{name}: {file}", text_of(lines).replace("; ", "\n").encode()
+    for row in (*worked_rows.rows(), *worked_rows.short_rows()):
+        yield row.name, row.text
+
+
+def test_worked_texts(both):
+    """Of a text with too many moves the source says so; the library makes them."""
+    texts = dict(worked_texts())
+    answers = {name: [answer_of(check, text, len(text)) for check in both]
+               for name, text in texts.items()}
+    assert {name for name, (due, found) in answers.items() if due != found} == {
+        "fault-too-long", "fault-too-many-moves"}
+    assert {found[0] for due, found in answers.values() if due != found} == {TOO_LONG}
+    assert {due[0] for due, _ in answers.values()} == {*range(21)} - {14, 15}
 
 
 def changed_line(dice, line):
@@ -80,7 +101,7 @@ def test_random_texts(both, request):
     seed = int(request.config.getoption("hypothesis_seed"))
     dice, faults = random.Random(seed), set()
     for _ in range(TEXTS // 10 if request.config.getoption("quick") else TEXTS):
-        text = changed_text(dice)
+        text = changed_text(dice).encode("latin-1")
         due, found = (answer_of(check, text) for check in both)
         assert found == due, (seed, text)
         faults.add(due[0])

@@ -13,7 +13,7 @@ import pytest
 
 import planted_table
 from mistakes import PATCHES
-from recorders import SOURCES, once, plant
+from recorders import SOURCES, plant
 from tree import TOP, ran
 
 HERE = Path(__file__).parent
@@ -102,16 +102,6 @@ def followed(said):
     """How many schedules of a tour are refused."""
     schedules, refused = re.match(r"(\d+) schedules of \d+ moves, (\d+) not", said).groups()
     return f"{refused}/{schedules}"
-
-
-@pytest.fixture
-def tour(shared, locktrace):
-    def made(lock):
-        folder = shared / f"tour-{lock}"
-        once(folder.with_suffix(".made"), lambda: ran(
-            locktrace, "tour", lock.replace("_", "-"), "3", "-o", folder))
-        return folder
-    return made
 
 
 @pytest.mark.planted

@@ -1,0 +1,110 @@
+"""Right locks in C, C++ and Rust: none of 100 runs is refused, in any mode.
+
+A run of one thread at a time is checked, and the logs of threads that run as they like have an
+order. Of a tour with fewer schedules than that, all are followed.
+"""
+import os
+import re
+import shutil
+
+import pytest
+
+from recorders import IN_C_PLUS_PLUS, RECORDERS, SOURCES, compile_c
+from test_planted import MODES, REAL_MODES
+from tree import ran
+
+from test_modes import HERE
+
+pytestmark = pytest.mark.planted
+
+RUNS = 100
+REAL, SEEDED, EXPLORED = (4, 300), (3, 30), (3, 2, 2)  # threads and rounds, and preemptions
+SOURCES_OF = {
+    "gcc": [*(SOURCES / f"{name}.c" for name in RECORDERS["c"].examples), HERE / "noted.c"],
+    "g++": [*(SOURCES / f"{name}.c" for name in IN_C_PLUS_PLUS), HERE / "noted.cc"],
+}
+IN_RUST = {"free": REAL, "noise": REAL, "ordered": REAL, "seed": SEEDED, "wakes": SEEDED,
+           "pct": SEEDED}
+# ck_ticket makes two published steps by one operation, and noted has no calls to follow.
+FOLLOWS_NOTHING = ("ck_ticket", "noted")
+
+
+def first_schedules(tour, lock, folder):
+    """A folder with the first schedules of a lock's tour, and how many these are."""
+    paths = sorted(tour(lock).glob("*.schedule"))[:RUNS]
+    (folder / "schedules").mkdir()
+    for path in paths:
+        shutil.copy(path, folder / "schedules")
+    return folder / "schedules", len(paths)
+
+
+def is_ordered(judge, folder, words):
+    """Whether a run of threads that run as they like ends, and its logs have an order."""
+    shutil.rmtree(folder, ignore_errors=True)
+    folder.mkdir()
+    return ran(*words, folder).returncode == 0 and judge.order(folder)[1] == 0
+
+
+def refused_in_c(judge, program, mode, folder):
+    """The numbers of the runs of a seed or of free threads that are refused."""
+    refused = []
+    for number in range(1, RUNS + 1):
+        words = [*program, *(REAL if mode in REAL_MODES else SEEDED), number]
+        if mode in REAL_MODES:
+            is_well = is_ordered(judge, folder / "logs", words)
+        else:
+            is_well = ran(*words, folder / "logs").returncode == 0
+        refused += [] if is_well else [number]
+    return refused
+
+
+@pytest.mark.parametrize("mode", MODES)
+@pytest.mark.parametrize("compiler, source", [
+    (compiler, source) for compiler, sources in SOURCES_OF.items() for source in sources],
+    ids=lambda it: getattr(it, "name", it))
+def test_in_c(library, judge, tour, tmp_path, record_property, compiler, source, mode):
+    if mode == "FOLLOW" and source.stem in FOLLOWS_NOTHING:
+        pytest.skip("it follows no schedule")
+    assert compile_c(compiler, source, tmp_path / "program", *MODES[mode],
+                     library=None if mode in REAL_MODES else library) == ""
+    program, logs = [tmp_path / "program"], tmp_path / "logs"
+    if mode not in REAL_MODES:  # one thread at a time is fastest on one core
+        cores = sorted(os.sched_getaffinity(0))
+        program = ["taskset", "-c", cores[len(mode + source.name) % len(cores)], *program]
+    count = RUNS
+    if mode == "EXPLORE":
+        done = ran(*program, *EXPLORED, logs, RUNS)
+        assert re.match(f"{RUNS} runs with up to .*, not all of them\n$", done.stdout), done.stdout
+    elif mode == "FOLLOW":
+        schedules, count = first_schedules(tour, source.stem.removeprefix("ck_"), tmp_path)
+        logs.mkdir()
+        done = ran(*program, schedules, logs)
+        assert re.match(f"{count} schedules of .* moves, 0 not followed\n$", done.stdout)
+    else:
+        assert refused_in_c(judge, program, mode, tmp_path) == []
+    record_property("tried", f"{count} runs")
+
+
+@pytest.mark.parametrize("recorder", ["rust"], indirect=True)
+@pytest.mark.parametrize("mode", [*IN_RUST, "explore", "follow"])
+@pytest.mark.parametrize("example", RECORDERS["rust"].examples)
+def test_in_rust(recorder, judge, tour, tmp_path, record_property, example, mode):
+    command, count = recorder.command(example, mode), RUNS
+    if mode == "explore":
+        done = ran(*command, *EXPLORED, tmp_path, RUNS)
+        assert done.stdout.startswith(f"{RUNS} runs with up to "), done.stderr
+    elif mode == "follow":
+        schedules, count = first_schedules(tour, example, tmp_path)
+        done = ran(*command, schedules, tmp_path)
+        assert done.stdout.startswith(f"{count} schedules of ")
+    elif mode in recorder.traced:
+        statuses = [ran(*command, *IN_RUST[mode], number, tmp_path / str(number)).returncode
+                    for number in range(RUNS)]
+        assert statuses == [0] * RUNS
+    else:
+        assert [number for number in range(RUNS) if not is_ordered(
+            judge, tmp_path / "logs", [*command, *IN_RUST[mode], number])] == []
+    if mode in recorder.traced or mode in ("explore", "follow"):
+        traces = list(tmp_path.glob("**/*.trace"))
+        assert len(traces) == count and judge.accepts(traces)
+    record_property("tried", f"{count} runs")
