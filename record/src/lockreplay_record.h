@@ -42,8 +42,9 @@
      LR_CHECK        with SEED and FOLLOW: each run is checked as with EXPLORE
      LR_NOISE        with VALUES: threads are held up at one note in eight, or in LR_NOISE
      LR_PCT=d        with SEED: few changes of the turn, at drawn places; LR_STEPS=k
-     LR_SPURIOUS=n   with SEED: one turn in n wakes a thread of LR_WAIT that nobody signalled; 0:
-                     none. Else one in 8 does with an even seed
+     LR_SPURIOUS=n   with SEED: one turn in n wakes a thread of LR_WAIT that nobody signalled; else
+                     one in 8 does with an even seed. EXPLORE wakes such a thread in the place of a
+                     preemption. 0: none is woken
      LR_PATIENCE=n   a run hangs after so many turns with nothing but repeated polls
      LR_MOVES=n      with EXPLORE: room for so many moves of a thread (4,096)
 

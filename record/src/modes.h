@@ -38,8 +38,8 @@
 #if defined LR_STEPS && !defined LR_PCT
 #error "LR_STEPS is for LR_PCT: about how many turns a run has"
 #endif
-#if defined LR_SPURIOUS && !LR_SEEDED
-#error "LR_SPURIOUS is for LR_MODE=SEED: one turn in LR_SPURIOUS wakes a thread for nothing"
+#if defined LR_SPURIOUS && !(LR_SEEDED || LR_EXPLORES)
+#error "LR_SPURIOUS is for SEED and EXPLORE: threads are woken for nothing, or with 0 are not"
 #endif
 #if defined LR_CHECK && !LR_TURNS
 #error "LR_CHECK is for SEED, FOLLOW and EXPLORE: `locktrace order` checks what VALUES records"

@@ -82,9 +82,10 @@ typedef struct lr_line {
     unsigned number; /* in its file, from 1 */
 } lr_line;
 
-/* What was chosen in a run that is explored: of `options` the one that goes on. */
+/* What was chosen in a run that is explored: the one that goes on, of those who can, and of those
+   who wait for a signal that was not given. */
 typedef struct lr_choice {
-    uint64_t options;
+    uint64_t options, asleep;
     uint16_t chosen, current; /* current: who would have gone on, or LR_NOBODY */
 } lr_choice;
 

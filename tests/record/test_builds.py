@@ -21,7 +21,7 @@ SANITIZERS = ["address,undefined", "thread"]
 # Which of a macro's arguments is done without the header.
 MONITOR = {"LR_LOCK": 0, "LR_UNLOCK": 0, "LR_WAIT": 2, "LR_SIGNAL": 1, "LR_BROADCAST": 1}
 OPTIONS = {"OFF": [], "VALUES": ["-DLR_NOISE"], "SEED": ["-DLR_PCT=3", "-DLR_SPURIOUS=9"],
-           "FOLLOW": ["-DLR_CHECK"], "EXPLORE": ["-DLR_MOVES=9"]}
+           "FOLLOW": ["-DLR_CHECK"], "EXPLORE": ["-DLR_MOVES=9", "-DLR_SPURIOUS=0"]}
 IN_C = RECORDERS["c"].examples
 # Every compiler with the examples that it builds
 BUILDS = [(compiler, example) for compiler in COMPILERS

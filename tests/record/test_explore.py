@@ -5,14 +5,15 @@ with a mistake some run has to be refused or to hang, with as many preemptions a
 no fewer. Examples can check their runs by themselves, and then refuse the same.
 """
 import re
+import shutil
 from collections import Counter
 
 import pytest
 
 from explored_runs import runs_of
-from mistakes import IN_C, IN_RUST
-from recorders import RECORDERS, words_of
-from tree import ran
+from mistakes import IN_C, IN_RUST, PATCHES
+from recorders import RECORDERS, SOURCES, compile_c, plant, words_of
+from tree import TOP, ran
 
 pytestmark = pytest.mark.slow
 
@@ -92,3 +93,20 @@ def test_search_in_c(recorder, tmp_path, example, name, counts, said):
     assert said in done.stdout
     assert done.returncode == (1 if mistake else 0)
     assert (tmp_path / "run.trace").exists() == bool(mistake)
+
+
+@pytest.mark.parametrize("flags, is_refused", [([], True), (["-DLR_SPURIOUS=0"], False)], ids=str)
+def test_wake_for_nothing(library, tmp_path, flags, is_refused):
+    """A writer that waits for its one reader, and does not look again, is wrong if it wakes up
+    though nobody has signalled; and in no other run."""
+    shutil.copytree(SOURCES, tmp_path / SOURCES.relative_to(TOP))
+    (tmp_path / "record").symlink_to(TOP / "record")
+    plant(PATCHES / "c" / "rw_fifo" / "writer-waits-once-for-readers.patch", tmp_path)
+    assert compile_c("gcc", tmp_path / SOURCES.relative_to(TOP) / "rw_fifo.c", tmp_path / "it",
+                     "-DLR_MODE=EXPLORE", *flags, library=library) == ""
+    done = ran(tmp_path / "it", 2, 2, 2, tmp_path)
+    assert done.returncode == int(is_refused)
+    assert ("the last one is refused" if is_refused else ", all of them\n") in done.stdout
+    if is_refused:
+        again = ran(tmp_path / "it", 2, 2, "again", tmp_path / "run.trace")
+        assert (again.stdout, again.returncode) == (done.stdout.splitlines(True)[1], 1)

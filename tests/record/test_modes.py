@@ -29,7 +29,7 @@ WORDS = [
         ("-DLR_PCT=3", "OFF VALUES FOLLOW EXPLORE", "LR_PCT is for LR_MODE=SEED"),
         ("-DLR_PCT=0", "SEED", "LR_PCT is the depth of a mistake: LR_PCT=1 and so on"),
         ("-DLR_STEPS=9", "OFF VALUES SEED FOLLOW EXPLORE", "LR_STEPS is for LR_PCT"),
-        ("-DLR_SPURIOUS=9", "OFF VALUES FOLLOW EXPLORE", "LR_SPURIOUS is for LR_MODE=SEED"),
+        ("-DLR_SPURIOUS=9", "OFF VALUES FOLLOW", "LR_SPURIOUS is for SEED and EXPLORE"),
         ("-DLR_CHECK", "OFF VALUES", "LR_CHECK is for SEED, FOLLOW and EXPLORE"),
         ("-DLR_PATIENCE=9", "OFF VALUES FOLLOW", "LR_PATIENCE is for SEED and EXPLORE"),
         ("-DLR_MOVES=9", "OFF VALUES SEED FOLLOW", "LR_MOVES is for LR_MODE=EXPLORE"),
