@@ -208,6 +208,38 @@ static void two_runs_have_two_numbers(void)
     lr_close(other);
 }
 
+/* Notes that thread 0 waits for thread 1's grant, in a line of a file. */
+static void poll_at(const char *file, unsigned line)
+{
+    lr_note(lr_self, LR_STEP_read, LR_PLACE_locked, 1, LR_PART_found, 1, file, line);
+}
+
+/* Where the last move that was written was noted. A poll is the same in another file. */
+static void a_move_has_its_place(void)
+{
+    enum { FILES = 300 };
+    static char names[FILES][16];
+    char at[LR_LINE], due[LR_LINE];
+    lr_run *run = lr_open("mcs", 2, 64, 3 * FILES, 0, NULL);
+    lr_log *log = lr_log_of(run, 0);
+    lr_self = log;
+    for (unsigned i = 0; i < FILES; i++) {
+        snprintf(names[i], sizeof names[i], "a/%u.h", i);
+        poll_at(names[i], 65535);
+        poll_at(names[0], 7);
+        poll_at(names[i], 9);
+        LR_CALL(acquire);
+        check("a third poll is left out", log->end - log->moves == 3 * (long)i + 3);
+        snprintf(due, sizeof due, "%u.h:65535", i);
+        if (i < 250) check("a first poll's place", !strcmp(lr_where(at, log, &log->end[-3]), due));
+        check("a second poll's place", !strcmp(lr_where(at, log, &log->end[-2]), "0.h:7"));
+    }
+    check("the kind of a move",
+          !strcmp(lr_text_of(at, &log->moves[1]), "read locked of 1 found 1"));
+    lr_self = &lr_outside;
+    lr_close(run);
+}
+
 static void a_log_that_has_not_ended_says_so(void)
 {
     lr_run *run = one_thread("ticket", 64, 2);
@@ -246,6 +278,7 @@ int main(int count, char **words)
     a_full_log_counts_what_it_drops();
     what_an_earlier_run_left_is_taken_away();
     two_runs_have_two_numbers();
+    a_move_has_its_place();
     a_log_that_has_not_ended_says_so();
     what_cannot_be_opened_or_saved();
     return failed;
