@@ -1,6 +1,7 @@
 /* Each atomic operation of C, of GCC and of Clang has one point before it. C11.
 
-   Prints each operation that has none or more, and ends with 1 if one did. */
+   Prints each operation that has none or more, and ends with 1 if one did. Operators of an `_Atomic`
+   variable and of a `volatile` one have none. */
 #include <stdatomic.h>
 #include <stddef.h>
 
@@ -117,6 +118,14 @@ static void older_operations(void)
     STATEMENT(__sync_lock_release(&plain));
 }
 
+/* No macro sees these, as docs/RECORDING.md says. */
+static void operators(void)
+{
+    HAS_POINTS(0, word++);
+    HAS_POINTS(0, word = word + 1);
+    HAS_POINTS(0, quick = quick + 1);
+}
+
 int main(void)
 {
     run = lr_open("ticket", 1, 64, 10, 1, NULL);
@@ -125,6 +134,7 @@ int main(void)
     c11_operations();
     operations_of_compilers();
     older_operations();
+    operators();
     HAS_POINTS(2, __atomic_exchange_n(&plain, __atomic_load_n(&other, __ATOMIC_SEQ_CST) + 1,
                                       __ATOMIC_SEQ_CST));
     LR_READ(now_serving, 1);
