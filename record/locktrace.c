@@ -17431,6 +17431,7 @@ static int lt_keeps(struct lt_schedule *schedule, const uint8_t *line, size_t le
         *kept = 0;
     } else if (!schedule->has_header) {
         schedule->has_header = 1;
+        if (length > LT_LINE) *kept = 1; /* one byte is a bad header too */
     } else {
         if (!lt_cut(&words, line, length) || !lt_read_move(&words, &seen)) return 0;
         *kept = strlen(words.word[0]) + 1 + strlen(words.word[1]);

@@ -5,6 +5,7 @@ or line changed, and lines that are no moves. Both files of record/ are what the
 """
 import ctypes
 import random
+import re
 import sys
 
 import pytest
@@ -22,12 +23,12 @@ pytestmark = pytest.mark.slow
 
 TEXTS = 10_000
 ROOM = 8  # fewer than most runs have moves
-TOO_LONG = 21  # what the source alone says, of more than 65,536 moves
+MOST, TOO_LONG = 65536, 21  # what the source alone says, of a trace with more moves
 WORDS = """0 1 2 3 00 255 256 lock ticket mcs rw-simple rw-fifo threads bits acquire release rlock
     runlock wlock wunlock downgrade read write swap cas add section next_ticket now_serving tail
     next locked of found left done failed moved waits entered
     18446744073709551615 18446744073709551616
-    -1 # x""".split()
+    -1 # x""".split() + ["1" * 90]  # which makes a line too long
 
 
 @pytest.fixture(scope="session")
@@ -66,9 +67,9 @@ def test_worked_texts(both):
     texts = dict(worked_texts())
     answers = {name: [answer_of(check, text, len(text)) for check in both]
                for name, text in texts.items()}
-    assert {name for name, (due, found) in answers.items() if due != found} == {
-        "fault-too-long", "fault-too-many-moves"}
-    assert {found[0] for due, found in answers.values() if due != found} == {TOO_LONG}
+    long = {name for name, text in texts.items() if len(re.findall(rb"(?m)^\d", text)) > MOST}
+    assert {name for name, (due, found) in answers.items() if due != found} == long
+    assert {answers[name][1][0] for name in long} == {TOO_LONG}
     assert {due[0] for due, _ in answers.values()} == {*range(21)} - {14, 15}
 
 
