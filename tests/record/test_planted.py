@@ -24,7 +24,7 @@ SEEDED = ("3", "30")
 SHORT = ("3", "4")  # what PCT is for
 EXPLORED = ("3", "1", "2")  # threads, rounds and preemptions
 MOST = "3000"  # runs that are explored
-ENOUGH = 38  # mistakes that have to be noticed in all runs of one mode
+ENOUGH = 70  # mistakes that have to be noticed in all runs of one mode
 CHECKED = ["-DLR_MODE=SEED", "-DLR_CHECK"]
 MODES = {
     "VALUES": ["-DLR_MODE=VALUES"],
